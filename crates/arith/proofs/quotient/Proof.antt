@@ -1,0 +1,42 @@
+-- `arith::quotient` meets its contract. Assumes nothing.
+use mathlib.Core.Path.{ap, sym, _∙_}
+use Prim.Native.Nat.{ℕ, _<_}
+use native.Mathlib.Omega.{arith}
+use borrow.Author.Needs.{needs}
+use lib.IntN.{ℤ}
+use lib.Signed.{quotZ}
+use Rattle.arith.specs.Values.{int32, arithmetic}
+use Rattle.arith.proofs.Laws.{widens, quot-fits, op-fits, op-is, zero-bits, nonzero-bits, by-nonzero}
+use Rattle.arith.proofs.quotient.Statement.{statement}
+use Rattle.arith.proofs.quotient.Tie as tie
+
+cast-x : tie.Need-cast-x
+cast-x c = widens (c .fits .a)
+
+cast-y : tie.Need-cast-y
+cast-y c = widens (c .fits .b)
+
+returns : tie.Need-returns
+unfolding arithmetic
+returns c = rw (zero-bits (c .before .fits .b) (c .if1 .taken))
+
+div-narrow : tie.Need-div-narrow
+div-narrow c =
+    let f = c .before .fits in
+    let n = c .if1 .left in
+    (omega arith, op-fits quotZ (f .a) (f .b) (quot-fits (f .a) (f .b)))
+
+narrow-requires : tie.Need-narrow-requires
+narrow-requires c κs = search needs
+
+returns-2 : tie.Need-returns-2
+unfolding arithmetic
+returns-2 c =
+    let s = c .before .before in
+    let f = s .fits in
+    c .narrow .ensures
+    ∙ ap int32 (op-is quotZ (f .a) (f .b) (quot-fits (f .a) (f .b)))
+    ∙ sym (by-nonzero (s .args .b) (λ d. int32 (quotZ (s .args .a) d)) (nonzero-bits (f .b) (c .before .if1 .left)))
+
+pub quotient-spec : {M : Type 1} → statement M
+quotient-spec = tie.close (tie.spec cast-x cast-y returns div-narrow narrow-requires returns-2)

@@ -1,0 +1,89 @@
+-- What is written is read back, and what is read is what would be written: the shortest form is one. Assumes nothing.
+use mathlib.Core.Path.{_≡_, refl, sym, ap, subst, _∙_}
+use mathlib.Core.Bool.{Bool, true, false, cond}
+use mathlib.Core.List.{List, [], _∷_, _++_, append-assoc}
+use Prim.Native.Nat.{ℕ, zero, suc, _+_, _*_, _-_, _/_, _%_, _^_, _≤_, _<_}
+use native.Mathlib.Nat.{pow-suc, le-trans}
+use native.Mathlib.Numerals.{add-one}
+use native.Mathlib.Omega.{arith}
+use lib.Dec.{leb, ltb, lit<, lit≤}
+use lib.ListN.{length, getD, take, drop, set}
+use lib.Seq.{sets, sets-eq, drop-at, length-take-le}
+use borrow.Author.Tests.{lt-ltb, le-ltb, ltb-true, ltb-false}
+use Rattle.leb128.specs.Numbers.{groups, number, Found, found, none, grouped, numberIn, Read, got, nothing, _then_, below32, numberAt, zigzag, unzigzag, signedAt}
+use Rattle.leb128.proofs.Laws.{Bytes, Sized, sized, lower}
+
+after-nonzero : (low v k : ℕ) → 1 ≤ v → grouped low (found v k) ≡ found (low + v * 128) (k + 1)
+unfolding grouped
+after-nonzero low zero k h = absurd (omega arith)
+after-nonzero low (suc v) k h = refl
+
+read-last : (n : ℕ) (rest : List ℕ) → n < 128 → numberIn (n ∷ rest) ≡ found n 1
+unfolding numberIn
+read-last n rest h = rw (lt-ltb n 128 h)
+
+-- ---- what is written is read back
+read-back : (k n : ℕ) (rest : List ℕ) → n < 128 ^ suc k → numberIn (groups k n ++ rest) ≡ found n (length (groups k n))
+unfolding groups numberIn
+read-back zero n rest h = read-last n rest h
+read-back (suc k) n rest h = by (ltb n 128) (ltb-true n 128) (ltb-false n 128) (read-back k (n / 128) rest (lower k n h)) where
+  by : (t : Bool) → (t ≡ true → n < 128) → (t ≡ false → 128 ≤ n) → numberIn (groups k (n / 128) ++ rest) ≡ found (n / 128) (length (groups k (n / 128)))
+      → numberIn (cond t (n ∷ []) ((128 + n % 128) ∷ groups k (n / 128)) ++ rest) ≡ found n (length (cond t (n ∷ []) ((128 + n % 128) ∷ groups k (n / 128))))
+  by true y m ih = read-last n rest (y refl)
+  by false y m ih =
+      let big : 128 ≤ n = m refl in
+      let low : 128 + n % 128 - 128 ≡ n % 128 = omega arith in
+      let whole : n % 128 + n / 128 * 128 ≡ n = omega arith in
+      rw (le-ltb (128 + n % 128) 128 (omega arith), ih, low, after-nonzero (n % 128) (n / 128) (length (groups k (n / 128))) (omega arith), whole, add-one)
+
+pub round-trip : (n : ℕ) (rest : List ℕ) → n < 2 ^ 35 → numberIn (number n ++ rest) ≡ found n (length (number n))
+unfolding number
+round-trip n rest h = read-back 4 n rest h
+
+-- ---- what is read is the shortest form
+group-one : (k n : ℕ) → n < 128 → groups k n ≡ n ∷ []
+unfolding groups
+group-one zero n h = refl
+group-one (suc k) n h = rw (lt-ltb n 128 h)
+
+abbrev Spelled : List ℕ → Found → Type 0
+Spelled s (found v k) = (f : ℕ) → k ≤ suc f → groups f v ≡ take k s
+Spelled s none = Unit
+
+spelled-after : (b : ℕ) (s : List ℕ) (r : Found) → 128 ≤ b → b < 256 → Sized r → Spelled s r → Spelled (b ∷ s) (grouped (b - 128) r)
+unfolding grouped groups
+spelled-after b s none l h z w = tt
+spelled-after b s (found zero k) l h z w = tt
+spelled-after b s (found (suc v) k) l h z w = by where
+  by : (f : ℕ) → k + 1 ≤ suc f → groups f (b - 128 + suc v * 128) ≡ take (k + 1) (b ∷ s)
+  by zero g = absurd (omega (arith, z .0))
+  by (suc f) g =
+      let q : (b - 128 + suc v * 128) / 128 ≡ suc v = omega arith in
+      let m : 128 + (b - 128 + suc v * 128) % 128 ≡ b = omega arith in
+      rw (le-ltb (b - 128 + suc v * 128) 128 (omega arith), q, m, add-one, w f (omega arith))
+
+spelled-cond : (t : Bool) (b : ℕ) (s : List ℕ) (r : Found) → (t ≡ true → b < 128) → (t ≡ false → 128 ≤ b) → b < 256 → Sized r → Spelled s r → Spelled (b ∷ s) (cond t (found b 1) (grouped (b - 128) r))
+spelled-cond true b s r y n h z w = λ f g. group-one f b (y refl)
+spelled-cond false b s r y n h z w = spelled-after b s r (n refl) h z w
+
+spelled : (s : List ℕ) → Bytes s → Spelled s (numberIn s)
+unfolding numberIn
+spelled [] h = tt
+spelled (b ∷ s) h =
+    spelled-cond (ltb b 128) b s (numberIn s) (ltb-true b 128) (ltb-false b 128) (h 0) (sized s (λ i. h (suc i))) (spelled s (λ i. h (suc i)))
+
+pub shortest : (s : List ℕ) (v k : ℕ) → Bytes s → numberIn s ≡ found v k → k ≤ 5 → number v ≡ take k s
+unfolding number
+shortest s v k h e g = subst (Spelled s) e (spelled s h) 4 g
+
+-- ---- two runs of stores, one behind the other, are one run
+pub sets-join : {A : Type 0} (l : List A) (i : ℕ) (a b : List A) → sets (sets l i a) (i + length a) b ≡ sets l i (a ++ b)
+sets-join l i [] b = ap (λ (k : ℕ). sets l k b) (omega arith)
+sets-join l i (x ∷ a) b = ap (λ (k : ℕ). sets (sets (set l i x) (suc i) a) k b) (omega arith) ∙ sets-join (set l i x) (suc i) a b
+
+-- ---- what `put` wrote where there was room, `number` reads
+pub written : (out : List ℕ) (at n : ℕ) → n < 2 ^ 32 → at + length (number n) ≤ length out → numberAt (sets out at (number n)) at ≡ got n (at + length (number n))
+unfolding numberAt below32
+written out at n h room =
+    let front : drop at (take at out ++ (number n ++ drop (at + length (number n)) out)) ≡ number n ++ drop (at + length (number n)) out = drop-at (take at out) _ at (length-take-le at out (omega arith)) in
+    rw (sets-eq (number n) out at room, append-assoc, front, round-trip n (drop (at + length (number n)) out) (omega arith), lt-ltb n (2 ^ 32) h)

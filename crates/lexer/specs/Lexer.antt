@@ -1,0 +1,155 @@
+-- Reading tokens by longest match. Document 01, "The text", first paragraph. Assumes nothing.
+use Prim.Native.Nat.{ℕ, zero, suc, _+_, _-_, _*_, _%_}
+use mathlib.Core.Bool.{Bool, true, false, _&&_}
+use mathlib.Core.List.{List, [], _∷_}
+use lib.ListN.{length, getD, drop}
+use lib.Dec.{ltb, leb, eqb}
+use Rattle.limits.specs.Limits.{spellingLimit}
+use Rattle.lexer.specs.Bytes.{pick, bytes, part, sameBytes}
+use Rattle.lexer.specs.Token.{Kind, unknown, ending, name, previous, digits, inputWord, varWord, initWord, modWord, nextWord, dots, arrow, lessEqual, greaterEqual, notEqual, semicolon, colon, openRound, closeRound, openSquare, closeSquare, tilde, ampersand, bar, equals, less, greater, plus, minus, star, slash, is, Read, token, fault}
+
+-- ---- bytes
+
+-- space, tab, LF and CR separate
+unfoldable pub isSpace : ℕ → Bool
+isSpace b = pick (eqb b 32) true (pick (eqb b 9) true (pick (eqb b 10) true (eqb b 13)))
+
+unfoldable pub isDigit : ℕ → Bool
+isDigit b = leb 48 b && ltb b 58
+
+unfoldable pub isLetter : ℕ → Bool
+isLetter b = pick (leb 65 b && ltb b 91) true (leb 97 b && ltb b 123)
+
+unfoldable pub isAlphanumeric : ℕ → Bool
+isAlphanumeric b = pick (isLetter b) true (isDigit b)
+
+-- ---- runs
+
+-- the end of a run of such bytes that has come to i, with l the rest of the text from there
+unfoldable pub runOn : (ℕ → Bool) → List ℕ → ℕ → ℕ
+runOn p [] i = i
+runOn p (b ∷ l) i = let r = runOn p l (i + 1) in pick (p b) r i
+
+unfoldable pub runEnd : (ℕ → Bool) → List ℕ → ℕ → ℕ
+runEnd p text at = runOn p (drop at text) at
+
+-- ---- names
+
+-- two names are the same when their bytes are the same
+unfoldable pub sameName : List ℕ → List ℕ → Bool
+sameName a b = sameBytes a b
+
+-- a word of the grammar
+pub record Word : Type 0 where
+  pub spelling : List ℕ
+  pub kind : Kind
+
+abbrev pub words : List Word
+words =
+    record { spelling = bytes "input"; kind = inputWord }
+    ∷ record { spelling = bytes "var"; kind = varWord }
+    ∷ record { spelling = bytes "init"; kind = initWord }
+    ∷ record { spelling = bytes "mod"; kind = modWord }
+    ∷ record { spelling = bytes "GX"; kind = nextWord }
+    ∷ []
+
+abbrev pub wordIn : List Word → List ℕ → Kind
+wordIn [] run = name
+wordIn (w ∷ ws) run = let r = wordIn ws run in pick (sameBytes run (w .spelling)) (w .kind) r
+
+-- what a run of letters and digits that begins with a letter is: a word of the grammar, else a name
+unfoldable pub wordOf : List ℕ → Kind
+wordOf run = wordIn words run
+
+-- a name that begins at s and ends before n is over-long
+unfoldable pub overLong : ℕ → ℕ → Bool
+overLong s n = ltb spellingLimit (n - s)
+
+-- ---- signs
+
+-- the sign that two bytes make
+unfoldable pub pairOf : ℕ → ℕ → Kind
+pairOf a b =
+    pick (eqb b 46 && eqb a 46) dots
+    (pick (eqb b 62 && eqb a 45) arrow
+    (pick (eqb b 61 && eqb a 60) lessEqual
+    (pick (eqb b 61 && eqb a 62) greaterEqual
+    (pick (eqb b 62 && eqb a 60) notEqual unknown))))
+
+-- the sign that one byte makes
+unfoldable pub signOf : ℕ → Kind
+signOf b =
+    pick (eqb b 59) semicolon
+    (pick (eqb b 58) colon
+    (pick (eqb b 40) openRound
+    (pick (eqb b 41) closeRound
+    (pick (eqb b 91) openSquare
+    (pick (eqb b 93) closeSquare
+    (pick (eqb b 126) tilde
+    (pick (eqb b 38) ampersand
+    (pick (eqb b 124) bar
+    (pick (eqb b 61) equals
+    (pick (eqb b 60) less
+    (pick (eqb b 62) greater
+    (pick (eqb b 43) plus
+    (pick (eqb b 45) minus
+    (pick (eqb b 42) star
+    (pick (eqb b 47) slash unknown)))))))))))))))
+
+-- a token, unless it is of no kind
+unfoldable pub readOf : Kind → ℕ → ℕ → Read
+readOf k s n = pick (is k unknown) (fault s) (token k s n)
+
+-- the longer of the signs at s, whose first bytes are a and b
+unfoldable pub signAt : ℕ → ℕ → ℕ → Read
+signAt a b s =
+    let one = readOf (signOf a) s (s + 1) in
+    let two = token (pairOf a b) s (s + 2) in
+    pick (is (pairOf a b) unknown) one two
+
+-- ---- tokens
+
+-- a run of letters and digits at s
+unfoldable pub wordAt : List ℕ → ℕ → Read
+wordAt text s = let e = runEnd isAlphanumeric text s in token (wordOf (part text s e)) s e
+
+unfoldable pub digitsAt : List ℕ → ℕ → Read
+digitsAt text s = token digits s (runEnd isDigit text s)
+
+-- `_` at s makes a previous-value token with the name directly after it, and is lone before anything else
+unfoldable pub previousAt : List ℕ → ℕ → Read
+previousAt text s =
+    let e = runEnd isAlphanumeric text (s + 1) in
+    let named = pick (is (wordOf (part text (s + 1) e)) name) (token previous s e) (fault s) in
+    pick (isLetter (getD text (s + 1) 0)) named (fault s)
+
+-- the token whose first byte, b, is at s
+unfoldable pub tokenOf : List ℕ → ℕ → ℕ → Read
+tokenOf text s b =
+    let word = wordAt text s in
+    let number = digitsAt text s in
+    let underscore = previousAt text s in
+    let sign = signAt b (getD text (s + 1) 0) s in
+    pick (isLetter b) word (pick (isDigit b) number (pick (eqb b 95) underscore sign))
+
+-- the token at s, past the space
+unfoldable pub tokenPast : List ℕ → ℕ → Read
+tokenPast text s =
+    let t = tokenOf text s (getD text s 0) in
+    pick (ltb s (length text)) t (token ending s s)
+
+-- the first token at or after `at`
+unfoldable pub tokenAt : List ℕ → ℕ → Read
+tokenAt text at = tokenPast text (runEnd isSpace text at)
+
+-- ---- equality of tokens: the same kind, the same spelling. (Names, numbers and signs are compared as names are.)
+unfoldable pub sameToken : List ℕ → Kind → ℕ → ℕ → Kind → ℕ → ℕ → Bool
+sameToken text k s n k2 s2 n2 = let r = sameName (part text s n) (part text s2 n2) in pick (is k k2) r false
+
+-- ---- the value of a run of digits, after the value v; a digit's byte is 48 and its value, so its lower half is the value
+unfoldable pub valueOn : List ℕ → ℕ → ℕ
+valueOn [] v = v
+valueOn (b ∷ l) v = valueOn l (10 * v + b % 16)
+
+unfoldable pub valueOf : List ℕ → ℕ
+valueOf l = valueOn l 0

@@ -1,0 +1,278 @@
+-- The reference scan's new state satisfies every formula at its place, and is the only state of its length and inputs that does.
+-- Assumes nothing.
+use Prim.Native.Nat.{ℕ, zero, suc, _<_, _≤_}
+use native.Mathlib.Omega.{arith}
+use native.Mathlib.Decide.{ℕ-discrete}
+use mathlib.Core.Path.{_≡_, refl, sym, ap, _∙_, subst}
+use mathlib.Core.Logic.{_≢_}
+use mathlib.Core.Bool.{Bool, true, false, not, _&&_, _||_, true≢false, false≢true}
+use mathlib.Core.List.{List, [], _∷_, _++_, map}
+use mathlib.Core.Option.{Option, none, some}
+use lib.Dec.{T, ltb, ltb→lt}
+use lib.IntN.{ℤ, pos, negsuc}
+use lib.ListN.{length, getD, set, drop, length-set}
+use lib.Seq.{drop-nil, getD-set-same, getD-set-other, ext-getD}
+use Rattle.arith.specs.Values.{Outcome, ok, refusal, _>>=_, require, eqZ, arithmetic, negation, compares}
+use Rattle.semantics.specs.Program.{Range, Expression, constant, current, previous, operation, negate, Condition, comparison, negated, both, either, Case, Rule, function, change, target, UsableE, UsableC, UsableK, UsableR, OrderedRules, AgreesR, AgreesAll, allTrue, within}
+use Rattle.semantics.specs.Formula.{State, at, evalE, evalC, Formula, equation, chosen, anyCase, anyCondition, changeFormula, noChangeFormula, functionFormula, formulasOfRule, formulasOfRules, Holds, All}
+use Rattle.semantics.specs.ReferenceScan.{noRange, allWithin, rangeAt, ranged, picked, tryCase, tryCases, orPrevious, newValue, scanRules}
+use Rattle.arith.proofs.Basics.{and-left, and-right, and-T, T-true, true-T, eqZ-self, eqZ-true, ok≢refusal, ok-inj, Bound, bound, unbind, passed, bind-cong, bind-assoc, or-true, or-false, or-second, not-true, T-not-false}
+
+abbrev conditions : List Case → List Condition
+conditions ks = map (λ k. k .condition) ks
+
+-- the formulas of a rule hold at a place
+unfoldable pub HoldsRule : State → State → Rule → Type 0
+HoldsRule s t r = All (λ f. Holds f s t) (formulasOfRule r)
+
+abbrev pub HoldsAll : State → State → List Rule → Type 0
+HoldsAll s t [] = Unit {0}
+HoldsAll s t (r ∷ rs) = HoldsRule s t r × HoldsAll s t rs
+
+-- a and b have the same known values
+abbrev pub Agree : List Bool → State → State → Type 0
+Agree known a b = (i : ℕ) → getD known i false ≡ true → at a i ≡ at b i
+
+module _ (known : List Bool) (s a b : State) (agree : Agree known a b) where
+  pub evalE-agree : (e : Expression) → UsableE known e → evalE s a e ≡ evalE s b e
+  evalE-agree (constant z) u = refl
+  evalE-agree (current i) u = ap ok (agree i u)
+  evalE-agree (previous i) u = refl
+  evalE-agree (operation o x y) u = rw (evalE-agree x (u .0), evalE-agree y (u .1))
+  evalE-agree (negate x) u = rw (evalE-agree x u)
+
+  pub evalC-agree : (c : Condition) → UsableC known c → evalC s a c ≡ evalC s b c
+  evalC-agree (comparison o x y) u = rw (evalE-agree x (u .0), evalE-agree y (u .1))
+  evalC-agree (negated x) u = rw (evalC-agree x u)
+  evalC-agree (both x y) u = rw (evalC-agree x (u .0), evalC-agree y (u .1))
+  evalC-agree (either x y) u = rw (evalC-agree x (u .0), evalC-agree y (u .1))
+
+  tryCase-agree : (ns : List Range) (v : ℕ) (found : Option ℤ) (e : Expression) (c : Bool) → UsableE known e → tryCase ns s a v found e c ≡ tryCase ns s b v found e c
+  tryCase-agree ns v found e false u = refl
+  tryCase-agree ns v (some y) e true u = refl
+  tryCase-agree ns v none e true u = rw (evalE-agree e u)
+
+  tryCases-agree : (ns : List Range) (v : ℕ) (found : Option ℤ) (ks : List Case) → UsableK known ks → tryCases ns s a v found ks ≡ tryCases ns s b v found ks
+  tryCases-agree ns v found [] u = refl
+  tryCases-agree ns v found (k ∷ ks) u =
+      bind-cong (evalC-agree (k .condition) (u .0)) λ c. bind-cong (tryCase-agree ns v found (k .value) c (u .1)) λ f. tryCases-agree ns v f ks (u .2)
+
+  newValue-agree : (ns : List Range) (r : Rule) → UsableR known r → newValue ns s a r ≡ newValue ns s b r
+  unfolding newValue
+  newValue-agree ns (function v e) u = rw (evalE-agree e u)
+  newValue-agree ns (change v ks cs) u = rw (tryCases-agree ns v none ks u)
+
+-- ---- one rule
+
+-- What the cases of an accepted rule found, and the values of the two lists that the rule's formulas are made of.
+data Tried (ns : List Range) (s t : State) (v : ℕ) (ks : List Case) : Option ℤ → Type 0 where
+  noneHeld : anyCondition (conditions ks) s t ≡ ok false → anyCase v ks s t ≡ ok false → Tried ns s t v ks none
+  oneHeld : (z : ℤ) → T (within (rangeAt ns v) z) → eqZ z (at s v) ≡ false → anyCondition (conditions ks) s t ≡ ok true → anyCase v ks s t ≡ ok (eqZ (at t v) z) → Tried ns s t v ks (some z)
+
+-- no further case holds after one that did
+data Quiet (s t : State) (v : ℕ) (ks : List Case) (y : ℤ) (f : Option ℤ) : Type 0 where
+  quiet : f ≡ some y → anyCondition (conditions ks) s t ≡ ok false → anyCase v ks s t ≡ ok false → Quiet s t v ks y f
+
+quiet-cons : (s t : State) (v : ℕ) (k : Case) (ks : List Case) (y : ℤ) (f : Option ℤ) → evalC s t (k .condition) ≡ ok false → Quiet s t v ks y f → Quiet s t v (k ∷ ks) y f
+quiet-cons s t v k ks y f p (quiet e c a) = quiet e (rw (p, c)) (rw (p, a))
+
+tried-cons : (ns : List Range) (s t : State) (v : ℕ) (k : Case) (ks : List Case) (f : Option ℤ) → evalC s t (k .condition) ≡ ok false → Tried ns s t v ks f → Tried ns s t v (k ∷ ks) f
+tried-cons ns s t v k ks f p (noneHeld c a) = noneHeld (rw (p, c)) (rw (p, a))
+tried-cons ns s t v k ks f p (oneHeld z w d c a) = oneHeld z w d (rw (p, c)) (rw (p, a))
+
+module _ (ns : List Range) (s t : State) (v : ℕ) where
+  after-case : (k : Case) (ks : List Case) (y : ℤ) (f : Option ℤ)
+      → Bound (evalC s t (k .condition)) (λ c. tryCase ns s t v (some y) (k .value) c >>= λ g. tryCases ns s t v g ks) f
+      → (tryCases ns s t v (some y) ks ≡ ok f → Quiet s t v ks y f) → Quiet s t v (k ∷ ks) y f
+  after-case k ks y f (bound true p q) ih = ok≢refusal f 15 (sym q)
+  after-case k ks y f (bound false p q) ih = quiet-cons s t v k ks y f p (ih q)
+
+  after : (ks : List Case) (y : ℤ) (f : Option ℤ) → tryCases ns s t v (some y) ks ≡ ok f → Quiet s t v ks y f
+  after [] y f e = quiet (sym (ok-inj e)) refl refl
+  after (k ∷ ks) y f e = after-case k ks y f (unbind (evalC s t (k .condition)) _ f e) λ q. after ks y f q
+
+  picked-is : (x z : ℤ) → picked ns s v x ≡ ok z → (x ≡ z) × (eqZ z (at s v) ≡ false) × T (within (rangeAt ns v) z)
+  unfolding picked
+  picked-is x z e =
+      let go : Bound (require (not (eqZ x (at s v))) 16 x) (λ y. ranged ns v y) z → (x ≡ z) × (eqZ z (at s v) ≡ false) × T (within (rangeAt ns v) z) =
+      elim [
+        | bound y p q ↦
+            let a = passed (not (eqZ x (at s v))) 16 x y p in
+            let b = passed (within (rangeAt ns v) y) 17 y z q in
+            (a .1 ∙ b .1, rw (← (a .1 ∙ b .1)) (T-not-false (eqZ x (at s v)) (a .0)), rw (← (b .1)) (b .0))
+      ] in
+      go (unbind (require (not (eqZ x (at s v))) 16 x) (λ y. ranged ns v y) z e)
+
+  held : (k : Case) (ks : List Case) (x z : ℤ) (f : Option ℤ) → evalC s t (k .condition) ≡ ok true → evalE s t (k .value) ≡ ok x → picked ns s v x ≡ ok z
+      → Quiet s t v ks z f → Tried ns s t v (k ∷ ks) f
+  held k ks x z f p q w (quiet e c a) =
+      let d = picked-is x z w in
+      rw e (oneHeld z (d .2) (d .1) (rw (p, c)) (rw (p, q, a, or-false) (rw (d .0))))
+
+  tried-case : (k : Case) (ks : List Case) (f : Option ℤ)
+      → Bound (evalC s t (k .condition)) (λ c. tryCase ns s t v none (k .value) c >>= λ g. tryCases ns s t v g ks) f
+      → (tryCases ns s t v none ks ≡ ok f → Tried ns s t v ks f) → Tried ns s t v (k ∷ ks) f
+  tried-case k ks f (bound false p q) ih = tried-cons ns s t v k ks f p (ih q)
+  tried-case k ks f (bound true p q) ih = go (unbind (evalE s t (k .value)) _ f (rw bind-assoc at q))
+    where
+      go₁ : (x : ℤ) → evalE s t (k .value) ≡ ok x → Bound (picked ns s v x) (λ z. tryCases ns s t v (some z) ks) f → Tried ns s t v (k ∷ ks) f
+      go₁ x q₁ (bound z q₂ q₃) = held k ks x z f p q₁ q₂ (after ks z f q₃)
+
+      go : Bound (evalE s t (k .value)) (λ x. picked ns s v x >>= (λ z. ok (some z)) >>= λ g. tryCases ns s t v g ks) f → Tried ns s t v (k ∷ ks) f
+      go (bound x q₁ q₂) = go₁ x q₁ (unbind (picked ns s v x) _ f (rw bind-assoc at q₂))
+
+  tried : (ks : List Case) (f : Option ℤ) → tryCases ns s t v none ks ≡ ok f → Tried ns s t v ks f
+  tried [] f e = subst (λ g. Tried ns s t v [] g) (ok-inj e) (noneHeld refl refl)
+  tried (k ∷ ks) f e = tried-case k ks f (unbind (evalC s t (k .condition)) _ f e) λ q. tried ks f q
+
+-- The formulas of a rule hold at a place exactly if its variable has the reference scan's new value there.
+module _ (ns : List Range) (s t : State) where
+  change-holds : (v : ℕ) (ks : List Case) (cs : List Condition) (f : Option ℤ) → cs ≡ conditions ks → Tried ns s t v ks f → at t v ≡ orPrevious s v f → HoldsRule s t (change v ks cs)
+  unfolding HoldsRule formulasOfRule changeFormula noChangeFormula
+  change-holds v ks cs f same (noneHeld c a) h = (rw (a, h, eqZ-self), (rw (same, c, or-true), tt))
+  change-holds v ks cs f same (oneHeld z w d c a) h = (rw (a, h, eqZ-self, or-true), (rw (same, c, h, d), tt))
+
+  change-value : (v : ℕ) (ks : List Case) (cs : List Condition) (f : Option ℤ) → cs ≡ conditions ks → Tried ns s t v ks f → HoldsRule s t (change v ks cs) → at t v ≡ orPrevious s v f
+  unfolding HoldsRule formulasOfRule changeFormula noChangeFormula
+  change-value v ks cs f same (noneHeld c a) h = eqZ-true (at t v) (at s v) (ok-inj (rw (a, or-false) at (h .0)))
+  change-value v ks cs f same (oneHeld z w d c a) h =
+      eqZ-true (at t v) z (or-second _ _ (not-true (eqZ (at t v) (at s v)) (ok-inj (rw (same, c, or-false) at (h .1 .0)))) (ok-inj (rw a at (h .0))))
+
+  function-value : (v : ℕ) (e : Expression) (z : ℤ) → newValue ns s t (function v e) ≡ ok z → evalE s t e ≡ ok z
+  unfolding newValue
+  function-value v e z h =
+      let go : Bound (evalE s t e) (λ y. ranged ns v y) z → evalE s t e ≡ ok z =
+      elim [ bound y p q ↦ p ∙ ap ok (passed (within (rangeAt ns v) y) 17 y z q .1) ] in
+      go (unbind (evalE s t e) (λ y. ranged ns v y) z h)
+
+  rule-holds : (r : Rule) (z : ℤ) → AgreesR r → newValue ns s t r ≡ ok z → at t (target r) ≡ z → HoldsRule s t r
+  unfolding HoldsRule formulasOfRule functionFormula newValue
+  rule-holds (function v e) z same h k = (rw (function-value v e z h, k, eqZ-self), tt)
+  rule-holds (change v ks cs) z same h k = go (unbind (tryCases ns s t v none ks) _ z h)
+    where
+      go : Bound (tryCases ns s t v none ks) (λ f. ok (orPrevious s v f)) z → HoldsRule s t (change v ks cs)
+      go (bound f p q) = change-holds v ks cs f same (tried ns s t v ks f p) (k ∙ sym (ok-inj q))
+
+  rule-value : (r : Rule) (z : ℤ) → AgreesR r → newValue ns s t r ≡ ok z → HoldsRule s t r → at t (target r) ≡ z
+  unfolding HoldsRule formulasOfRule functionFormula newValue
+  rule-value (function v e) z same h k = eqZ-true (at t v) z (ok-inj (rw (function-value v e z h) at (k .0)))
+  rule-value (change v ks cs) z same h k = go (unbind (tryCases ns s t v none ks) _ z h)
+    where
+      go : Bound (tryCases ns s t v none ks) (λ f. ok (orPrevious s v f)) z → at t v ≡ z
+      go (bound f p q) = change-value v ks cs f same (tried ns s t v ks f p) k ∙ ok-inj q
+
+-- ---- ranges
+
+noRange-within : (z : ℤ) → z ≡ pos 0 → T (within noRange z)
+unfolding within
+noRange-within z e = rw e tt
+
+pub allWithin-at : (ns : List Range) (zs : State) → length zs ≡ length ns → T (allWithin ns zs) → (i : ℕ) → T (within (rangeAt ns i) (at zs i))
+allWithin-at [] [] l t i = noRange-within (pos 0) refl
+allWithin-at [] (z ∷ zs) l t i = let f : ⊥ = omega arith in absurd f
+allWithin-at (n ∷ ns) [] l t i = let f : ⊥ = omega arith in absurd f
+allWithin-at (n ∷ ns) (z ∷ zs) l t zero = and-left (within n z) (allWithin ns zs) t
+allWithin-at (n ∷ ns) (z ∷ zs) l t (suc i) = allWithin-at ns zs (omega arith) (and-right (within n z) (allWithin ns zs) t) i
+
+pub allWithin-set : (ns : List Range) (zs : State) (i : ℕ) (z : ℤ) → T (allWithin ns zs) → T (within (rangeAt ns i) z) → T (allWithin ns (set zs i z))
+allWithin-set [] zs i z t w = tt
+allWithin-set (n ∷ ns) [] zero z t w = tt
+allWithin-set (n ∷ ns) [] (suc i) z t w = tt
+allWithin-set (n ∷ ns) (y ∷ ys) zero z t w = and-T (within n z) (allWithin ns ys) w (and-right (within n y) (allWithin ns ys) t)
+allWithin-set (n ∷ ns) (y ∷ ys) (suc i) z t w =
+    and-T (within n y) (allWithin ns (set ys i z)) (and-left (within n y) (allWithin ns ys) t) (allWithin-set ns ys i z (and-right (within n y) (allWithin ns ys) t) w)
+
+allWithin-nil : (ns : List Range) → T (allWithin ns [])
+allWithin-nil [] = tt
+allWithin-nil (n ∷ ns) = tt
+
+pub allWithin-inputs : (ns : List Range) (row s : State) → T (allWithin ns row) → T (allWithin ns s) → T (allWithin ns (row ++ drop (length row) s))
+allWithin-inputs [] row s a b = tt
+allWithin-inputs (n ∷ ns) [] s a b = b
+allWithin-inputs (n ∷ ns) (z ∷ zs) [] a b =
+    and-T (within n z) (allWithin ns (zs ++ [])) (and-left (within n z) (allWithin ns zs) a) (rw drop-nil at (allWithin-inputs ns zs [] (and-right (within n z) (allWithin ns zs) a) (allWithin-nil ns)))
+allWithin-inputs (n ∷ ns) (z ∷ zs) (y ∷ ys) a b =
+    and-T (within n z) (allWithin ns (zs ++ drop (length zs) ys)) (and-left (within n z) (allWithin ns zs) a)
+    (allWithin-inputs ns zs ys (and-right (within n z) (allWithin ns zs) a) (and-right (within n y) (allWithin ns ys) b))
+
+module _ (ns : List Range) (s : State) (size : length s ≡ length ns) (ranges : T (allWithin ns s)) where
+  newValue-within : (t : State) (r : Rule) (z : ℤ) → newValue ns s t r ≡ ok z → T (within (rangeAt ns (target r)) z)
+  unfolding newValue
+  newValue-within t (function v e) z h =
+      let go : Bound (evalE s t e) (λ y. ranged ns v y) z → T (within (rangeAt ns v) z) =
+      elim [ bound y p q ↦ let b = passed (within (rangeAt ns v) y) 17 y z q in rw (← (b .1)) (b .0) ] in
+      go (unbind (evalE s t e) (λ y. ranged ns v y) z h)
+  newValue-within t (change v ks cs) z h = go (unbind (tryCases ns s t v none ks) _ z h)
+    where
+      go₁ : (f : Option ℤ) → Tried ns s t v ks f → T (within (rangeAt ns v) (orPrevious s v f))
+      go₁ f (noneHeld c a) = allWithin-at ns s size ranges v
+      go₁ f (oneHeld y w d c a) = w
+
+      go : Bound (tryCases ns s t v none ks) (λ f. ok (orPrevious s v f)) z → T (within (rangeAt ns v) z)
+      go (bound f p q) = rw (← (ok-inj q)) (go₁ f (tried ns s t v ks f p))
+
+  pub scan-within : (rs : List Rule) (t u : State) → scanRules ns s t rs ≡ ok u → T (allWithin ns t) → T (allWithin ns u) × (length u ≡ length t)
+  scan-within [] t u e w = (rw (← (ok-inj e)) w, rw (ok-inj e))
+  scan-within (r ∷ rs) t u e w = go (λ z q w₁. scan-within rs (set t (target r) z) u q w₁) (unbind (newValue ns s t r) _ u e)
+    where
+      go : ((z : ℤ) → scanRules ns s (set t (target r) z) rs ≡ ok u → T (allWithin ns (set t (target r) z)) → T (allWithin ns u) × (length u ≡ length (set t (target r) z)))
+          → Bound (newValue ns s t r) (λ z. scanRules ns s (set t (target r) z) rs) u → T (allWithin ns u) × (length u ≡ length t)
+      go ih (bound z p q) =
+          let h = ih z q (allWithin-set ns t (target r) z w (newValue-within t r z p)) in
+          (h .0, h .1 ∙ length-set t (target r) z)
+
+-- ---- the rules in order
+
+-- every id is known in the end
+all-true : (bs : List Bool) → T (allTrue bs) → (i : ℕ) → i < length bs → getD bs i false ≡ true
+all-true [] h i k = let b : ⊥ = omega arith in absurd b
+all-true (b ∷ bs) h zero k = T-true b (and-left b (allTrue bs) h)
+all-true (b ∷ bs) h (suc i) k = all-true bs (and-right b (allTrue bs) h) i (omega arith)
+
+known≢ : (known : List Bool) (i v : ℕ) → getD known i false ≡ true → getD known v false ≡ false → i ≢ v
+known≢ known i v p q e = false≢true (sym q ∙ rw e at p)
+
+-- after a rule, its variable is known too
+agree-set : (known : List Bool) (a b : State) (v : ℕ) (z : ℤ) → length a ≡ length known → v < length known → Agree known a b → at b v ≡ z
+    → Agree (set known v true) (set a v z) b
+agree-set known a b v z l h agree e i k = go (ℕ-discrete i v)
+  where
+    go : Dec (i ≡ v) → at (set a v z) i ≡ at b i
+    go (yes p) = rw p (getD-set-same a v z (pos 0) (omega arith) ∙ sym e)
+    go (no p) = getD-set-other a v i z (pos 0) p ∙ agree i (sym (getD-set-other known v i true false p) ∙ k)
+
+module _ (ns : List Range) (s : State) where
+  holds-step : (r : Rule) (rs : List Rule) (known : List Bool) (t u : State) (z : ℤ) → length t ≡ length known → OrderedRules known (r ∷ rs) → AgreesR r → newValue ns s t r ≡ ok z
+      → Agree (set known (target r) true) (set t (target r) z) u × HoldsAll s u rs
+      → Agree known t u × HoldsAll s u (r ∷ rs)
+  holds-step r rs known t u z l o same p ih =
+      let v = target r in
+      let d₀ : v < length known = ltb→lt v (length known) (o .1) in
+      let agree : Agree known t u = λ i k.
+      let d : i ≢ v = known≢ known i v k (o .2) in
+      sym (getD-set-other t v i z (pos 0) d) ∙ ih .0 i (getD-set-other known v i true false d ∙ k) in
+      let new : at u v ≡ z = sym (ih .0 v (getD-set-same known v true false d₀)) ∙ getD-set-same t v z (pos 0) (omega arith) in
+      (agree, (rule-holds ns s u r z same (sym (newValue-agree known s t u agree ns r (o .0)) ∙ p) new, ih .1))
+
+  -- The state found holds the values known, and every formula.
+  pub scan-holds : (rs : List Rule) (known : List Bool) (t u : State) → length t ≡ length known → OrderedRules known rs → AgreesAll rs → scanRules ns s t rs ≡ ok u
+      → Agree known t u × HoldsAll s u rs
+  scan-holds [] known t u l o same e = ((λ i k. rw (ok-inj e)), tt)
+  scan-holds (r ∷ rs) known t u l o same e = go (λ z q. scan-holds rs (set known (target r) true) (set t (target r) z) u (simp length-set l) (o .3) (same .1) q) (unbind (newValue ns s t r) _ u e)
+    where
+      go : ((z : ℤ) → scanRules ns s (set t (target r) z) rs ≡ ok u → Agree (set known (target r) true) (set t (target r) z) u × HoldsAll s u rs)
+          → Bound (newValue ns s t r) (λ z. scanRules ns s (set t (target r) z) rs) u → Agree known t u × HoldsAll s u (r ∷ rs)
+      go ih (bound z p q) = holds-step r rs known t u z l o (same .0) p (ih z q)
+
+  -- A state that holds the values known, and every formula, is the state found.
+  pub scan-value : (rs : List Rule) (known : List Bool) (t u w : State) → length t ≡ length known → length w ≡ length known → OrderedRules known rs → AgreesAll rs
+      → scanRules ns s t rs ≡ ok u → Agree known t w → HoldsAll s w rs → w ≡ u
+  scan-value [] known t u w l m o same e agree h =
+      ext-getD (pos 0) w t (m ∙ sym l) (λ i k. sym (agree i (all-true known o i (omega arith)))) ∙ ok-inj e
+  scan-value (r ∷ rs) known t u w l m o same e agree h =
+      go (λ z q a. scan-value rs (set known (target r) true) (set t (target r) z) u w (simp length-set l) (simp length-set m) (o .3) (same .1) q a (h .1)) (unbind (newValue ns s t r) _ u e)
+    where
+      go : ((z : ℤ) → scanRules ns s (set t (target r) z) rs ≡ ok u → Agree (set known (target r) true) (set t (target r) z) w → w ≡ u)
+          → Bound (newValue ns s t r) (λ z. scanRules ns s (set t (target r) z) rs) u → w ≡ u
+      go ih (bound z p q) =
+          ih z q (agree-set known t w (target r) z l (ltb→lt (target r) (length known) (o .1)) agree (rule-value ns s w r z (same .0) (sym (newValue-agree known s t w agree ns r (o .0)) ∙ p) (h .0)))
