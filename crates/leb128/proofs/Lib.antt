@@ -1,3 +1,3 @@
 pub mod Laws
-pub mod RoundTrip
 pub mod Signs
+pub mod RoundTrip

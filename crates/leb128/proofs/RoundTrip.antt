@@ -6,12 +6,16 @@ use Prim.Native.Nat.{ℕ, zero, suc, _+_, _*_, _-_, _/_, _%_, _^_, _≤_, _<_}
 use native.Mathlib.Nat.{pow-suc, le-trans}
 use native.Mathlib.Numerals.{add-one}
 use native.Mathlib.Omega.{arith}
-use lib.Dec.{leb, ltb, lit<, lit≤}
+use lib.Dec.{T, leb, ltb, lit<, lit≤}
+use lib.IntN.{ℤ}
 use lib.ListN.{length, getD, take, drop, set}
-use lib.Seq.{sets, sets-eq, drop-at, length-take-le}
+use lib.Seq.{sets, sets-eq, drop-at, drop-drop, drop-append-seam, length-take-le}
 use borrow.Author.Tests.{lt-ltb, le-ltb, ltb-true, ltb-false}
 use Rattle.leb128.specs.Numbers.{groups, number, Found, found, none, grouped, numberIn, Read, got, nothing, _then_, below32, numberAt, zigzag, unzigzag, signedAt}
+use Rattle.arith.specs.Values.{isInt32}
+use Rattle.arith.proofs.Laws.{int32-fits}
 use Rattle.leb128.proofs.Laws.{Bytes, Sized, sized, lower}
+use Rattle.leb128.proofs.Signs.{unzigzag-zigzag, zigzag-below}
 
 after-nonzero : (low v k : ℕ) → 1 ≤ v → grouped low (found v k) ≡ found (low + v * 128) (k + 1)
 unfolding grouped
@@ -87,3 +91,34 @@ unfolding numberAt below32
 written out at n h room =
     let front : drop at (take at out ++ (number n ++ drop (at + length (number n)) out)) ≡ number n ++ drop (at + length (number n)) out = drop-at (take at out) _ at (length-take-le at out (omega arith)) in
     rw (sets-eq (number n) out at room, append-assoc, front, round-trip n (drop (at + length (number n)) out) (omega arith), lt-ltb n (2 ^ 32) h)
+
+-- ---- numbers at a place of an image
+
+-- bytes that begin with xs at a place have the rest behind them
+pub drop-behind : (bytes : List ℕ) (at : ℕ) (xs rest : List ℕ) → drop at bytes ≡ xs ++ rest → drop (at + length xs) bytes ≡ rest
+drop-behind bytes at xs rest h = sym (drop-drop (length xs) at bytes) ∙ ap (drop (length xs)) h ∙ drop-append-seam xs rest
+
+pub number-at : (bytes : List ℕ) (at n : ℕ) (rest : List ℕ) → n < 2 ^ 32 → drop at bytes ≡ number n ++ rest → numberAt bytes at ≡ got n (at + length (number n))
+unfolding numberAt below32
+number-at bytes at n rest l h = rw (h, round-trip n rest (omega arith), lt-ltb n (2 ^ 32) l)
+
+pub zigzag-small : (z : ℤ) → T (isInt32 z) → zigzag z < 2 ^ 32
+zigzag-small z t = zigzag-below z (int32-fits t)
+
+pub signed-at : (bytes : List ℕ) (at : ℕ) (z : ℤ) (rest : List ℕ) → T (isInt32 z) → drop at bytes ≡ number (zigzag z) ++ rest
+    → signedAt bytes at ≡ got z (at + length (number (zigzag z)))
+unfolding signedAt
+signed-at bytes at z rest l h = rw (number-at bytes at (zigzag z) rest (zigzag-small z l) h, unzigzag-zigzag)
+
+-- a place behind is behind
+pub number-next : (bytes : List ℕ) (at n next : ℕ) → numberAt bytes at ≡ got n next → at ≤ next
+unfolding numberAt below32
+number-next bytes at n next e = go (numberIn (drop at bytes)) e
+  where
+    go₁ : (v k : ℕ) (b : Bool) → cond b (got v (at + k)) nothing ≡ got n next → at ≤ next
+    go₁ v k true q = let w : at + k ≡ next = cc in omega arith
+    go₁ v k false q = let z : _≡_ {A = ℕ} 0 1 = cc in omega arith
+
+    go : (f : Found) → below32 at f ≡ got n next → at ≤ next
+    go none q = let z : _≡_ {A = ℕ} 0 1 = cc in omega arith
+    go (found v k) q = go₁ v k (ltb v (2 ^ 32)) q

@@ -36,31 +36,31 @@ mirror-pos zero = refl
 mirror-pos (suc n) = ap negsuc (omega arith)
 
 -- ---- there and back
-pub signed-unsigned : (z : ℤ) → unzigzag (zigzag z) ≡ z
+pub unzigzag-zigzag : (z : ℤ) → unzigzag (zigzag z) ≡ z
 unfolding unzigzag zigzag
-signed-unsigned (pos n) =
+unzigzag-zigzag (pos n) =
     let m : 2 * n % 2 ≡ 0 = omega arith in
     let d : 2 * n / 2 ≡ n = omega arith in
     rw (m, d)
-signed-unsigned (negsuc n) =
+unzigzag-zigzag (negsuc n) =
     let m : (2 * n + 1) % 2 ≡ 1 = omega arith in
     let d : (2 * n + 1) / 2 ≡ n = omega arith in
     rw (m, d)
 
-pub unsigned-signed : (u : ℕ) → zigzag (unzigzag u) ≡ u
+pub zigzag-unzigzag : (u : ℕ) → zigzag (unzigzag u) ≡ u
 unfolding unzigzag zigzag
-unsigned-signed u = by (eqb (u % 2) 0) (eqb-true (u % 2) 0) (λ e. let h = eqb-false (u % 2) 0 e in omega arith) where
+zigzag-unzigzag u = by (eqb (u % 2) 0) (eqb-true (u % 2) 0) (λ e. let h = eqb-false (u % 2) 0 e in omega arith) where
   by : (t : Bool) → (t ≡ true → u % 2 ≡ 0) → (t ≡ false → u % 2 ≡ 1) → zigzag (cond t (pos (u / 2)) (negsuc (u / 2))) ≡ u
   by true y n = let h = y refl in omega arith
   by false y n = let h = n refl in omega arith
 
 -- ---- the unsigned form is below 2 ^ 32 exactly where the number is in the signed 32-bit range
-pub unsigned-below : (z : ℤ) → SFits w32 z → zigzag z < 2 ^ 32
+pub zigzag-below : (z : ℤ) → SFits w32 z → zigzag z < 2 ^ 32
 unfolding zigzag
-unsigned-below (pos n) f = let h : n < 2 ^ 31 = f .sfits in omega arith
-unsigned-below (negsuc n) f = let h : n < 2 ^ 31 = f .sfits in omega arith
+zigzag-below (pos n) f = let h : n < 2 ^ 31 = f .sfits in omega arith
+zigzag-below (negsuc n) f = let h : n < 2 ^ 31 = f .sfits in omega arith
 
-pub unsigned-fits : (z : ℤ) → zigzag z < 2 ^ 32 → SFits w32 z
+pub zigzag-fits : (z : ℤ) → zigzag z < 2 ^ 32 → SFits w32 z
 unfolding zigzag
-unsigned-fits (pos n) h = record { sfits = omega arith }
-unsigned-fits (negsuc n) h = record { sfits = omega arith }
+zigzag-fits (pos n) h = record { sfits = omega arith }
+zigzag-fits (negsuc n) h = record { sfits = omega arith }

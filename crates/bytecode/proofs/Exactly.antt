@@ -1,0 +1,299 @@
+-- Check answers sound exactly if the image is sound. Assumes nothing.
+use Prim.Native.Nat.{ℕ, zero, suc, _+_, _≤_, _<_}
+use native.Mathlib.Omega.{arith}
+use mathlib.Core.Path.{_≡_, refl, sym, ap, _∙_, subst}
+use mathlib.Core.Bool.{Bool, true, false, not, _&&_, cond}
+use mathlib.Core.List.{List, [], _∷_, _++_}
+use mathlib.Core.Option.{Option, none, some}
+use lib.Dec.{T, eqb, leb, ltb, ltb→lt, lt→ltb, le→leb, leb→le, eqb→eq, eqb-refl}
+use lib.IntN.{ℤ}
+use lib.ListN.{length, getD, set, drop}
+use lib.Signed.{leZ}
+use borrow.Author.Tests.{lt-ltb, le-ltb, ltb-true, ltb-false}
+use Rattle.limits.specs.Answer.{Answer, accepted, refused, _andThen_}
+use Rattle.arith.specs.Values.{isInt32}
+use Rattle.semantics.specs.Program.{Range, allTrue}
+use Rattle.arith.proofs.Basics.{T-true, true-T, and-left, and-right, and-T, T-not-false}
+use Rattle.leb128.specs.Numbers.{Read, got, nothing, numberAt, signedAt}
+use Rattle.bytecode.specs.Instructions.{Instruction, constant, current, previous, operation, negate, comparison, negated, both, either, gate, pick, assign, settle, fetch}
+use Rattle.bytecode.specs.Translation.{RangeFits, RangesFit}
+use Rattle.bytecode.specs.Check.{Sort, number, truth, Known, known, guard, held, one, empty, unset, closed, fresh, opened, advance, complete, tested, item, checkRanges, Header, checkHeader, ends, ifSome, checkCode, atStart, checkBody, checkOf}
+use Rattle.bytecode.specs.Counting.{headerOf, codeOf, counted, countFrom, instructionsIn}
+use Rattle.bytecode.specs.Internal.{heldBy, gateBy, picksBy, idsBy, leftBy, leftByAll, Allowed, Finished, RangesAt, Spells, SoundByPlace}
+use Rattle.bytecode.proofs.RoundTrip.{fetch-next}
+use Rattle.bytecode.proofs.Soundness.{_continue_, advances, none≢some, guard-some, continue-some}
+use Rattle.bytecode.proofs.Walk.{HeaderFits, SoundImage, check-sound, Item, passes, item-accepted, Stepped, check-stepped, check-ended, refused≢accepted}
+
+-- ---- one instruction
+
+some-inj : {A : Type 0} {a b : A} → some a ≡ some b → a ≡ b
+some-inj e = cc
+
+one-shape : (x : Sort) (vs : List Sort) (k : List Sort → Option Known) (d : Known) → one x vs k ≡ some d → (rest : List Sort) × (vs ≡ x ∷ rest) × (k rest ≡ some d)
+one-shape number [] k d e = none≢some d e
+one-shape number (number ∷ vs) k d e = (vs, refl, e)
+one-shape number (truth ∷ vs) k d e = none≢some d e
+one-shape truth [] k d e = none≢some d e
+one-shape truth (number ∷ vs) k d e = none≢some d e
+one-shape truth (truth ∷ vs) k d e = (vs, refl, e)
+
+empty-is : (vs : List Sort) → T (empty vs) → vs ≡ []
+empty-is [] h = refl
+empty-is (v ∷ vs) h = absurd h
+
+closed-is : (o : Option ℕ) → T (closed o) → o ≡ none
+closed-is none h = refl
+closed-is (some u) h = absurd h
+
+opened-is : (o : Option ℕ) (v : ℕ) → T (opened o v) → o ≡ some v
+opened-is none v h = absurd h
+opened-is (some u) v h = ap some (eqb→eq u v h)
+
+record Kept (i : Instruction) (c d : Known) : Type 0 where
+  allowed : Allowed i c
+  left : leftBy i c ≡ d
+
+-- what an instruction that keeps soundness needed, and leaves
+allowed-by : (i : Instruction) (vs : List Sort) (g : Bool) (o : Option ℕ) (ids : List Bool) (d : Known) → advance i (known vs g o ids) ≡ some d → Kept i (known vs g o ids) d
+allowed-by (constant z) vs g o ids d e =
+    let h = guard-some (isInt32 z && ltb (length vs) 40) _ d e in
+    record { allowed = (and-left (isInt32 z) _ (h .0), ltb→lt (length vs) 40 (and-right (isInt32 z) _ (h .0))); left = h .1 }
+allowed-by (current i) vs g o ids d e =
+    let h = guard-some (getD ids i false && ltb (length vs) 40) _ d e in
+    record { allowed = (T-true _ (and-left (getD ids i false) _ (h .0)), ltb→lt (length vs) 40 (and-right (getD ids i false) _ (h .0))); left = h .1 }
+allowed-by (previous i) vs g o ids d e =
+    let h = guard-some (ltb i (length ids) && ltb (length vs) 40) _ d e in
+    record { allowed = (ltb→lt i (length ids) (and-left (ltb i (length ids)) _ (h .0)), ltb→lt (length vs) 40 (and-right (ltb i (length ids)) _ (h .0))); left = h .1 }
+allowed-by (operation x) vs g o ids d e =
+    let a = one-shape number vs _ d e in
+    let b = one-shape number (a .0) _ d (a .2) in
+    let s : vs ≡ number ∷ number ∷ b .0 = a .1 ∙ ap {B = List Sort} (λ l. number ∷ l) (b .1) in
+    record { allowed = (b .0, s); left = rw s (some-inj (b .2)) }
+allowed-by negate vs g o ids d e = let a = one-shape number vs _ d e in record { allowed = (a .0, a .1); left = rw (a .1) (some-inj (a .2)) }
+allowed-by (comparison x) vs g o ids d e =
+    let a = one-shape number vs _ d e in
+    let b = one-shape number (a .0) _ d (a .2) in
+    let h = guard-some (not g) _ d (b .2) in
+    let s : vs ≡ number ∷ number ∷ b .0 = a .1 ∙ ap {B = List Sort} (λ l. number ∷ l) (b .1) in
+    record { allowed = (T-not-false g (h .0), b .0, s); left = rw s (h .1) }
+allowed-by negated vs g o ids d e =
+    let a = one-shape truth vs _ d e in
+    let h = guard-some (not g) _ d (a .2) in
+    record { allowed = (T-not-false g (h .0), a .0, a .1); left = rw (a .1) (h .1) }
+allowed-by both vs g o ids d e =
+    let a = one-shape truth vs _ d e in
+    let b = one-shape truth (a .0) _ d (a .2) in
+    let h = guard-some (not g) _ d (b .2) in
+    let s : vs ≡ truth ∷ truth ∷ b .0 = a .1 ∙ ap {B = List Sort} (λ l. truth ∷ l) (b .1) in
+    record { allowed = (T-not-false g (h .0), b .0, s); left = rw s (h .1) }
+allowed-by either vs g o ids d e =
+    let a = one-shape truth vs _ d e in
+    let b = one-shape truth (a .0) _ d (a .2) in
+    let h = guard-some (not g) _ d (b .2) in
+    let s : vs ≡ truth ∷ truth ∷ b .0 = a .1 ∙ ap {B = List Sort} (λ l. truth ∷ l) (b .1) in
+    record { allowed = (T-not-false g (h .0), b .0, s); left = rw s (h .1) }
+allowed-by gate vs g o ids d e =
+    let a = one-shape truth vs _ d e in
+    let h = guard-some (not g && empty (a .0)) _ d (a .2) in
+    let s : vs ≡ truth ∷ [] = a .1 ∙ ap {B = List Sort} (λ l. truth ∷ l) (empty-is (a .0) (and-right (not g) _ (h .0))) in
+    record { allowed = (T-not-false g (and-left (not g) _ (h .0)), s); left = rw s (h .1) }
+allowed-by (pick v) vs g o ids d e =
+    let a = one-shape number vs _ d e in
+    let h = guard-some (g && empty (a .0) && unset ids v && fresh o v) _ d (a .2) in
+    let q = and-left (g && empty (a .0) && unset ids v) (fresh o v) (h .0) in
+    let r = and-left (g && empty (a .0)) (unset ids v) q in
+    let s : vs ≡ number ∷ [] = a .1 ∙ ap {B = List Sort} (λ l. number ∷ l) (empty-is (a .0) (and-right g _ r)) in
+    record { allowed = (T-true g (and-left g _ r), s, and-right (g && empty (a .0)) (unset ids v) q, and-right (g && empty (a .0) && unset ids v) (fresh o v) (h .0)); left = rw s (h .1) }
+allowed-by (assign v) vs g o ids d e =
+    let a = one-shape number vs _ d e in
+    let h = guard-some (not g && empty (a .0) && unset ids v && closed o) _ d (a .2) in
+    let q = and-left (not g && empty (a .0) && unset ids v) (closed o) (h .0) in
+    let r = and-left (not g && empty (a .0)) (unset ids v) q in
+    let s : vs ≡ number ∷ [] = a .1 ∙ ap {B = List Sort} (λ l. number ∷ l) (empty-is (a .0) (and-right (not g) _ r)) in
+    let f : g ≡ false = T-not-false g (and-left (not g) _ r) in
+    let c : o ≡ none = closed-is o (and-right (not g && empty (a .0) && unset ids v) (closed o) (h .0)) in
+    record { allowed = (f, s, and-right (not g && empty (a .0)) (unset ids v) q, c); left = rw (s, f, c) (h .1) }
+allowed-by (settle v) vs g o ids d e =
+    let h = guard-some (not g && empty vs && unset ids v && opened o v) _ d e in
+    let q = and-left (not g && empty vs && unset ids v) (opened o v) (h .0) in
+    let r = and-left (not g && empty vs) (unset ids v) q in
+    let s : vs ≡ [] = empty-is vs (and-right (not g) _ r) in
+    let f : g ≡ false = T-not-false g (and-left (not g) _ r) in
+    record { allowed = (f, s, and-right (not g && empty vs) (unset ids v) q, opened-is o v (and-right (not g && empty vs && unset ids v) (opened o v) (h .0))); left = rw (s, f) (h .1) }
+
+-- an instruction that is allowed keeps soundness
+advance-allowed : (i : Instruction) (vs : List Sort) (g : Bool) (o : Option ℕ) (ids : List Bool) → Allowed i (known vs g o ids) → advance i (known vs g o ids) ≡ some (leftBy i (known vs g o ids))
+advance-allowed (constant z) vs g o ids a = rw (T-true (isInt32 z) (a .0), lt-ltb (length vs) 40 (a .1))
+advance-allowed (current i) vs g o ids a = rw (a .0, lt-ltb (length vs) 40 (a .1))
+advance-allowed (previous i) vs g o ids a = rw (lt-ltb i (length ids) (a .0), lt-ltb (length vs) 40 (a .1))
+advance-allowed (operation x) vs g o ids a = rw (a .1)
+advance-allowed negate vs g o ids a = rw (a .1)
+advance-allowed (comparison x) vs g o ids a = rw (a .0, a .2)
+advance-allowed negated vs g o ids a = rw (a .0, a .2)
+advance-allowed both vs g o ids a = rw (a .0, a .2)
+advance-allowed either vs g o ids a = rw (a .0, a .2)
+advance-allowed gate vs g o ids a = rw (a .0, a .1)
+advance-allowed (pick v) vs g o ids a = rw (a .0, a .1, T-true (unset ids v) (a .2), T-true (fresh o v) (a .3))
+advance-allowed (assign v) vs g o ids a = rw (a .0, a .1, T-true (unset ids v) (a .2), a .3)
+advance-allowed (settle v) vs g o ids a = rw (a .0, a .1, T-true (unset ids v) (a .2), a .3, T-true (eqb v v) (eqb-refl v))
+
+kept-by : (i : Instruction) (c d : Known) → advance i c ≡ some d → Kept i c d
+kept-by i (known vs g o ids) d e = allowed-by i vs g o ids d e
+
+allowed-advances : (i : Instruction) (c : Known) → Allowed i c → advance i c ≡ some (leftBy i c)
+allowed-advances i (known vs g o ids) a = advance-allowed i vs g o ids a
+
+finished-by : (c : Known) → complete c ≡ true → Finished c
+finished-by (known vs g o ids) e =
+    let h = true-T _ e in
+    let q = and-left (empty vs && not g && closed o) (allTrue ids) h in
+    let r = and-left (empty vs && not g) (closed o) q in
+    (empty-is vs (and-left (empty vs) _ r), T-not-false g (and-right (empty vs) _ r), closed-is o (and-right (empty vs && not g) (closed o) q), and-right (empty vs && not g && closed o) (allTrue ids) h)
+
+complete-if : (c : Known) → Finished c → complete c ≡ true
+complete-if (known vs g o ids) f = rw (f .0, f .1, f .2, T-true (allTrue ids) (f .3))
+
+-- ---- the instructions in a row
+
+abbrev pub Places : List Instruction → Known → Type 0
+Places [] c = Unit {0}
+Places (i ∷ is) c = Allowed i c × Places is (leftBy i c)
+
+places-at : (is : List Instruction) (c : Known) → Places is c → (before : List Instruction) (i : Instruction) (after : List Instruction) → is ≡ before ++ i ∷ after → Allowed i (leftByAll before c)
+places-at [] c p [] i after e = let z : _≡_ {A = ℕ} 0 1 = cc in let f : ⊥ = omega arith in absurd f
+places-at [] c p (b ∷ before) i after e = let z : _≡_ {A = ℕ} 0 1 = cc in let f : ⊥ = omega arith in absurd f
+places-at (j ∷ is) c p [] i after e = let q : j ≡ i = cc in rw q at (p .0)
+places-at (j ∷ is) c p (b ∷ before) i after e =
+    let q : j ≡ b = cc in
+    let r : is ≡ before ++ i ∷ after = cc in
+    rw q at (places-at is (leftBy j c) (p .1) before i after r)
+
+pub at-places : (is : List Instruction) (c : Known) → ((before : List Instruction) (i : Instruction) (after : List Instruction) → is ≡ before ++ i ∷ after → Allowed i (leftByAll before c)) → Places is c
+at-places [] c h = tt
+at-places (j ∷ is) c h = (h [] j is refl, at-places is (leftBy j c) (λ before i after e. h (j ∷ before) i after (ap {B = List Instruction} (λ l. j ∷ l) e)))
+
+-- ---- the code
+
+-- what the walk found
+record Walked (code : List ℕ) (at : ℕ) (c : Known) : Type 0 where
+  instructions : List Instruction
+  spells : Spells code at instructions
+  places : Places instructions c
+  ends : Finished (leftByAll instructions c)
+
+walked-step : (base : ℕ) (code : List ℕ) (f at : ℕ) (c : Known) (x : Stepped base code f at c) → Walked code (x .next) (x .after) → Walked code at c
+walked-step base code f at c x w =
+    let k = kept-by (x .instruction) c (x .after) (x .advanced) in
+    let p : Places (w .instructions) (leftBy (x .instruction) c) = rw (k .left) (w .places) in
+    let q : Finished (leftByAll (w .instructions) (leftBy (x .instruction) c)) = rw (k .left) (w .ends) in
+    record { instructions = x .instruction ∷ w .instructions; spells = (x .next, x .fetched, w .spells); places = (k .allowed, p); ends = q }
+
+walked : (base : ℕ) (code : List ℕ) (f at : ℕ) (c : Known) → length code ≤ at + f → checkCode base code f at c ≡ accepted tt → Walked code at c
+walked base code zero at c l e = record { instructions = []; spells = omega arith; places = tt; ends = finished-by c (check-ended base code zero at c (omega arith) e) }
+walked base code (suc f) at c l e = inside (ltb at (length code)) refl (λ next c₁ k q. walked base code f next c₁ k q)
+  where
+    inside : (b : Bool) → ltb at (length code) ≡ b → ((next : ℕ) (c₁ : Known) → length code ≤ next + f → checkCode base code f next c₁ ≡ accepted tt → Walked code next c₁) → Walked code at c
+    inside true b ih =
+        let x = check-stepped base code f at c (ltb-true at (length code) b) e in
+        walked-step base code f at c x (ih (x .next) (x .after) (omega (arith, fetch-next code at (x .instruction) (x .next) (x .fetched) .1)) (x .goes))
+    inside false b ih =
+        let k : length code ≤ at = ltb-false at (length code) b in
+        record { instructions = []; spells = k; places = tt; ends = finished-by c (check-ended base code (suc f) at c k e) }
+
+walks : (base : ℕ) (code : List ℕ) (f at : ℕ) (is : List Instruction) (c : Known) → length code ≤ at + f → Spells code at is → Places is c → Finished (leftByAll is c) → checkCode base code f at c ≡ accepted tt
+walks base code zero at [] c l s p e = rw (complete-if c e)
+walks base code (suc f) at [] c l s p e = rw (le-ltb at (length code) s, complete-if c e)
+walks base code zero at (i ∷ is) c l s p e = let b : ⊥ = omega (arith, fetch-next code at i (s .0) (s .1) .0) in absurd b
+walks base code (suc f) at (i ∷ is) c l s p e =
+    let n = fetch-next code at i (s .0) (s .1) in
+    rw (lt-ltb at (length code) (n .0), s .1, allowed-advances i c (p .0)) (walks base code f (s .0) is (leftBy i c) (omega (arith, n .1)) (s .2) (p .1) e)
+
+-- ---- the header
+
+item-passes : {A B : Type 0} (o : Read A) (at : ℕ) (test : A → Bool) (k : A → ℕ → Answer B) (a : A) (next : ℕ) → o ≡ got a next → T (test a) → item o at test k ≡ k a next
+item-passes o at test k a next e t = rw e (rw (T-true (test a) t))
+
+ranges-pass : {B : Type 0} (bytes : List ℕ) (at : ℕ) (ns : List Range) (end : ℕ) (k : List Range → ℕ → Answer B) → RangesAt bytes at ns end → RangesFit ns → checkRanges bytes (length ns) at k ≡ k ns end
+ranges-pass bytes at [] end k r f = rw r
+ranges-pass bytes at (n ∷ ns) end k r f =
+    item-passes (signedAt bytes at) at isInt32 _ (n .low) (r .0) (r .3) (f .0 .0)
+    ∙ item-passes (signedAt bytes (r .0)) (r .0) (λ h. isInt32 h && leZ (n .low) h) _ (n .high) (r .1) (r .4) (f .0 .1)
+    ∙ item-passes (signedAt bytes (r .1)) (r .1) (λ z. isInt32 z && leZ (n .low) z && leZ z (n .high)) _ (n .start) (r .2) (r .5) (f .0 .2)
+    ∙ ranges-pass bytes (r .2) ns end (λ ms next. k (n ∷ ms) next) (r .6) (f .1)
+
+header-passes : (bytes : List ℕ) (x : SoundByPlace bytes) → checkHeader bytes ≡ accepted (x .header)
+unfolding checkHeader
+header-passes bytes x =
+    let few : x .header .inputs + x .variables ≤ 64 = x .few in
+    item-passes (numberAt bytes 0) 0 (λ k. leb k 64) _ (x .header .inputs) (x .at₁) (x .inputs-read) (le→leb (x .header .inputs) 64 (omega arith))
+    ∙ item-passes (numberAt bytes (x .at₁)) (x .at₁) (λ m. leb (x .header .inputs + m) 64) _ (x .variables) (x .at₂) (x .variables-read) (le→leb (x .header .inputs + x .variables) 64 few)
+    ∙ rw (← (x .size)) (ranges-pass bytes (x .at₂) (x .header .ranges) (x .header .place) (λ ns next. accepted (record { inputs = x .header .inputs; ranges = ns; place = next })) (x .ranges-read) (x .fit))
+
+body-passes : (bytes : List ℕ) (x : SoundByPlace bytes) → checkBody bytes (x .header) ≡ accepted tt
+unfolding checkBody
+body-passes bytes x =
+    walks (x .header .place) (drop (x .header .place) bytes) (length (drop (x .header .place) bytes)) 0 (x .code) (atStart (x .header)) (omega arith) (x .spells)
+    (at-places (x .code) (atStart (x .header)) (x .places)) (x .ends)
+
+-- a sound image is answered sound
+pub sound-accepted : (bytes : List ℕ) → SoundByPlace bytes → checkOf bytes ≡ accepted tt
+unfolding checkOf
+sound-accepted bytes x =
+    let l : leb (length bytes) 65536 ≡ true = T-true (leb (length bytes) 65536) (le→leb (length bytes) 65536 (x .short)) in
+    rw (l, header-passes bytes x) (body-passes bytes x)
+
+body-walked : (bytes : List ℕ) (h : Header) → checkBody bytes h ≡ accepted tt → Walked (drop (h .place) bytes) 0 (atStart h)
+unfolding checkBody
+body-walked bytes h e = walked (h .place) (drop (h .place) bytes) (length (drop (h .place) bytes)) 0 (atStart h) (omega arith) e
+
+-- an image that is answered sound is sound
+pub accepted-sound : (bytes : List ℕ) → checkOf bytes ≡ accepted tt → SoundByPlace bytes
+accepted-sound bytes e =
+    let y = check-sound bytes e in
+    let w = body-walked bytes (y .header) (y .body) in
+    record {
+      short = y .short;
+      header = y .header;
+      variables = y .fits .variables;
+      at₁ = y .fits .at₁;
+      at₂ = y .fits .at₂;
+      inputs-read = y .fits .inputs-read;
+      variables-read = y .fits .variables-read;
+      ranges-read = y .fits .stands;
+      size = y .fits .size;
+      few = y .fits .total;
+      fit = y .fits .fit;
+      code = w .instructions;
+      spells = w .spells;
+      places = places-at (w .instructions) (atStart (y .header)) (w .places);
+      ends = w .ends;
+    }
+
+-- ---- the count of instructions
+
+count-spelled : (code : List ℕ) (f at : ℕ) (is : List Instruction) → length code ≤ at + f → Spells code at is → countFrom code f at ≡ length is
+count-spelled code zero at [] l s = refl
+count-spelled code (suc f) at [] l s = go (fetch code at) refl
+  where
+    go : (r : Read Instruction) → fetch code at ≡ r → counted r (λ next. countFrom code f next) ≡ 0
+    go nothing e = refl
+    go (got i next) e = let b : ⊥ = omega (arith, fetch-next code at i next e .0) in absurd b
+count-spelled code zero at (i ∷ is) l s = let b : ⊥ = omega (arith, fetch-next code at i (s .0) (s .1) .0) in absurd b
+count-spelled code (suc f) at (i ∷ is) l s =
+    let n = fetch-next code at i (s .0) (s .1) in
+    let h : countFrom code f (s .0) ≡ length is = count-spelled code f (s .0) is (omega (arith, n .1)) (s .2) in
+    rw (s .1) (omega arith)
+
+header-of-sound : (bytes : List ℕ) (x : SoundByPlace bytes) → headerOf bytes ≡ x .header
+unfolding headerOf
+header-of-sound bytes x = rw (header-passes bytes x)
+
+code-of-sound : (bytes : List ℕ) (x : SoundByPlace bytes) → codeOf bytes ≡ drop (x .header .place) bytes
+unfolding codeOf
+code-of-sound bytes x = rw (header-of-sound bytes x)
+
+-- the count taken from the bytes is the number of instructions in the code
+pub instructions-counted : (bytes : List ℕ) (x : SoundByPlace bytes) → instructionsIn bytes ≡ length (x .code)
+unfolding instructionsIn
+instructions-counted bytes x =
+    rw (code-of-sound bytes x) (count-spelled (drop (x .header .place) bytes) (length (drop (x .header .place) bytes)) 0 (x .code) (omega arith) (x .spells))

@@ -1,0 +1,145 @@
+-- Instructions are read back from their bytes, wherever they stand. Assumes nothing.
+use Prim.Native.Nat.{ℕ, zero, suc, _+_, _-_, _*_, _/_, _%_, _^_, _≤_, _<_}
+use native.Mathlib.Omega.{arith}
+use mathlib.Core.Path.{_≡_, refl, sym, ap, ap₂, _∙_, subst}
+use mathlib.Core.Bool.{Bool, true, false, not, cond, _&&_}
+use mathlib.Core.List.{List, [], _∷_, _++_, append-assoc}
+use mathlib.Core.Option.{Option, none, some}
+use lib.Dec.{T, eqb, ltb, ltb→lt}
+use lib.IntN.{ℤ, pos, negsuc}
+use lib.ListN.{length, getD, drop, length-append, length-drop}
+use lib.Seq.{drop-drop, drop-append-seam, getD-drop}
+use borrow.Author.Tests.{lt-ltb, le-ltb, ltb-true, ltb-false}
+use Rattle.arith.specs.Values.{isInt32, Operation, add, subtract, multiply, divide, modulo, Comparison, equal, notEqual, less, lessEqual, greater, greaterEqual}
+use Rattle.arith.proofs.Basics.{T-true, true-T}
+use Rattle.leb128.specs.Numbers.{number, zigzag, Read, got, nothing, _then_, numberAt}
+use Rattle.leb128.proofs.Signs.{unzigzag-zigzag}
+use Rattle.leb128.proofs.RoundTrip.{drop-behind, number-at, number-next, zigzag-small}
+use Rattle.bytecode.specs.Instructions.{Instruction, constant, current, previous, operation, negate, comparison, negated, both, either, gate, pick, assign, settle, encode, encodeAll, instructionOf, hasOperand, decoded, fetchCode, fetch}
+
+-- ---- instructions
+
+-- the operand is below 2 ^ 32
+abbrev pub Small : Instruction → Type 0
+Small (constant z) = T (isInt32 z)
+Small (current i) = i < 2 ^ 32
+Small (previous i) = i < 2 ^ 32
+Small (operation o) = Unit {0}
+Small negate = Unit {0}
+Small (comparison o) = Unit {0}
+Small negated = Unit {0}
+Small both = Unit {0}
+Small either = Unit {0}
+Small gate = Unit {0}
+Small (pick i) = i < 2 ^ 32
+Small (assign i) = i < 2 ^ 32
+Small (settle i) = i < 2 ^ 32
+
+abbrev pub AllSmall : List Instruction → Type 0
+AllSmall [] = Unit {0}
+AllSmall (i ∷ is) = Small i × AllSmall is
+
+pub record Begins (bytes : List ℕ) (at b : ℕ) (rest : List ℕ) : Type 0 where
+  pub inside : at < length bytes
+  pub first : getD bytes at 0 ≡ b
+  pub behind : drop (at + 1) bytes ≡ rest
+
+pub begins : (bytes : List ℕ) (at b : ℕ) (rest : List ℕ) → drop at bytes ≡ b ∷ rest → Begins bytes at b rest
+begins bytes at b rest h =
+    let l : length (drop at bytes) ≡ suc (length rest) = ap length h in
+    let k : length bytes - at ≡ suc (length rest) = rw length-drop at l in
+    let z : at + 0 ≡ at = omega arith in
+    record {
+      inside = omega arith;
+      first = rw z at (sym (getD-drop at bytes 0 0) ∙ ap {A = List ℕ} (λ l. getD l 0 0) h);
+      behind = drop-behind bytes at (b ∷ []) rest h;
+    }
+
+alone : (bytes : List ℕ) (at c : ℕ) (i : Instruction) (rest : List ℕ) → hasOperand c ≡ false → instructionOf c 0 ≡ some i → drop at bytes ≡ c ∷ rest
+    → fetch bytes at ≡ got i (at + 1)
+unfolding fetch
+alone bytes at c i rest o e h =
+    let b = begins bytes at c rest h in
+    rw (lt-ltb at (length bytes) (b .inside), b .first, o, e)
+
+with-number : (bytes : List ℕ) (at c n : ℕ) (i : Instruction) (rest : List ℕ) → hasOperand c ≡ true → n < 2 ^ 32 → instructionOf c n ≡ some i
+    → drop at bytes ≡ c ∷ number n ++ rest → fetch bytes at ≡ got i (at + suc (length (number n)))
+unfolding fetch
+with-number bytes at c n i rest o l e h =
+    let b = begins bytes at c (number n ++ rest) h in
+    let q : at + 1 + length (number n) ≡ at + suc (length (number n)) = omega arith in
+    rw (lt-ltb at (length bytes) (b .inside), b .first, o, number-at bytes (at + 1) n rest l (b .behind), e, q)
+
+pub fetch-encoded : (bytes : List ℕ) (at : ℕ) (i : Instruction) (rest : List ℕ) → Small i → drop at bytes ≡ encode i ++ rest → fetch bytes at ≡ got i (at + length (encode i))
+unfolding instructionOf
+fetch-encoded bytes at (constant z) rest l h = with-number bytes at 1 (zigzag z) (constant z) rest refl (zigzag-small z l) (rw unzigzag-zigzag) h
+fetch-encoded bytes at (current i) rest l h = with-number bytes at 2 i (current i) rest refl l refl h
+fetch-encoded bytes at (previous i) rest l h = with-number bytes at 3 i (previous i) rest refl l refl h
+fetch-encoded bytes at (operation add) rest l h = alone bytes at 4 (operation add) rest refl refl h
+fetch-encoded bytes at (operation subtract) rest l h = alone bytes at 5 (operation subtract) rest refl refl h
+fetch-encoded bytes at (operation multiply) rest l h = alone bytes at 6 (operation multiply) rest refl refl h
+fetch-encoded bytes at (operation divide) rest l h = alone bytes at 7 (operation divide) rest refl refl h
+fetch-encoded bytes at (operation modulo) rest l h = alone bytes at 8 (operation modulo) rest refl refl h
+fetch-encoded bytes at negate rest l h = alone bytes at 9 negate rest refl refl h
+fetch-encoded bytes at (comparison equal) rest l h = alone bytes at 10 (comparison equal) rest refl refl h
+fetch-encoded bytes at (comparison notEqual) rest l h = alone bytes at 11 (comparison notEqual) rest refl refl h
+fetch-encoded bytes at (comparison less) rest l h = alone bytes at 12 (comparison less) rest refl refl h
+fetch-encoded bytes at (comparison lessEqual) rest l h = alone bytes at 13 (comparison lessEqual) rest refl refl h
+fetch-encoded bytes at (comparison greater) rest l h = alone bytes at 14 (comparison greater) rest refl refl h
+fetch-encoded bytes at (comparison greaterEqual) rest l h = alone bytes at 15 (comparison greaterEqual) rest refl refl h
+fetch-encoded bytes at negated rest l h = alone bytes at 16 negated rest refl refl h
+fetch-encoded bytes at both rest l h = alone bytes at 17 both rest refl refl h
+fetch-encoded bytes at either rest l h = alone bytes at 18 either rest refl refl h
+fetch-encoded bytes at gate rest l h = alone bytes at 19 gate rest refl refl h
+fetch-encoded bytes at (pick i) rest l h = with-number bytes at 20 i (pick i) rest refl l refl h
+fetch-encoded bytes at (assign i) rest l h = with-number bytes at 21 i (assign i) rest refl l refl h
+fetch-encoded bytes at (settle i) rest l h = with-number bytes at 22 i (settle i) rest refl l refl h
+
+pub length-encode : (i : Instruction) → 1 ≤ length (encode i)
+length-encode (constant z) = omega arith
+length-encode (current i) = omega arith
+length-encode (previous i) = omega arith
+length-encode (operation o) = omega arith
+length-encode negate = omega arith
+length-encode (comparison o) = omega arith
+length-encode negated = omega arith
+length-encode both = omega arith
+length-encode either = omega arith
+length-encode gate = omega arith
+length-encode (pick i) = omega arith
+length-encode (assign i) = omega arith
+length-encode (settle i) = omega arith
+
+-- an encoded instruction stands inside the bytes
+pub encoded-inside : (bytes : List ℕ) (at : ℕ) (i : Instruction) (rest : List ℕ) → drop at bytes ≡ encode i ++ rest → at < length bytes
+encoded-inside bytes at i rest h =
+    let l : length (drop at bytes) ≡ length (encode i ++ rest) = ap length h in
+    let k : length bytes - at ≡ length (encode i ++ rest) = rw length-drop at l in
+    let j : length (encode i ++ rest) ≡ length (encode i) + length rest = length-append (encode i) rest in
+    omega (arith, length-encode i)
+
+-- ---- a place behind is behind
+
+-- an instruction has at least one byte
+pub fetch-next : (bytes : List ℕ) (at : ℕ) (i : Instruction) (next : ℕ) → fetch bytes at ≡ got i next → (at < length bytes) × (at < next)
+unfolding fetch
+fetch-next bytes at i next e = inside (ltb at (length bytes)) refl e
+  where
+    code : ℕ
+    code = getD bytes at 0
+
+    plain : (o : Option Instruction) (to : ℕ) → decoded o to ≡ got i next → at + 1 ≤ to → at < next
+    plain none to q l = let z : _≡_ {A = ℕ} 0 1 = cc in omega arith
+    plain (some j) to q l = let w : to ≡ next = cc in omega arith
+
+    numbered : (r : Read ℕ) → numberAt bytes (at + 1) ≡ r → (r then λ n to. decoded (instructionOf (getD bytes at 0) n) to) ≡ got i next → at < next
+    numbered nothing h q = let z : _≡_ {A = ℕ} 0 1 = cc in omega arith
+    numbered (got n to) h q = plain (instructionOf (getD bytes at 0) n) to q (number-next bytes (at + 1) n to h)
+
+    behind : (b : Bool) → cond b (numberAt bytes (at + 1) then λ n to. decoded (instructionOf (getD bytes at 0) n) to) (decoded (instructionOf (getD bytes at 0) 0) (at + 1)) ≡ got i next → at < next
+    behind true q = numbered (numberAt bytes (at + 1)) refl q
+    behind false q = plain (instructionOf (getD bytes at 0) 0) (at + 1) q (omega arith)
+
+    inside : (b : Bool) → ltb at (length bytes) ≡ b → cond b (fetchCode bytes (getD bytes at 0) (at + 1)) nothing ≡ got i next → (at < length bytes) × (at < next)
+    inside true h q = (ltb-true at (length bytes) h, behind (hasOperand (getD bytes at 0)) q)
+    inside false h q = let z : _≡_ {A = ℕ} 0 1 = cc in let f : ⊥ = omega arith in absurd f

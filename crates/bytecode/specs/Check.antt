@@ -1,0 +1,152 @@
+-- Sound images, and the place where an image breaks soundness. Document 01, "The image" (Sound) and refusal 11. Assumes nothing.
+use Prim.Native.Nat.{ℕ, zero, suc, _+_}
+use mathlib.Core.Bool.{Bool, true, false, not, _&&_, cond}
+use mathlib.Core.List.{List, [], _∷_}
+use mathlib.Core.Option.{Option, none, some}
+use lib.Dec.{eqb, leb, ltb}
+use lib.IntN.{ℤ}
+use lib.ListN.{length, getD, set, drop}
+use lib.Signed.{leZ}
+use Rattle.limits.specs.Limits.{stackLimit, nameLimit, imageLimit, tooLong, brokenImage}
+use Rattle.limits.specs.Answer.{Answer, accepted, refused, _andThen_}
+use Rattle.arith.specs.Values.{isInt32}
+use Rattle.semantics.specs.Program.{Range, allTrue, knownFirst}
+use Rattle.leb128.specs.Numbers.{Read, got, nothing, numberAt, signedAt}
+use Rattle.bytecode.specs.Instructions.{Instruction, constant, current, previous, operation, negate, comparison, negated, both, either, gate, pick, assign, settle, fetch}
+
+-- ---- one instruction
+
+-- operands of the right sort, numbers or yes-no
+pub data Sort : Type 0 where
+  number truth : Sort
+
+-- What is known before an instruction: the sorts of the values held; whether a gate awaits its pick; the variable whose picks
+-- await their settle; and of each id whether its current value may be used.
+pub data Known : Type 0 where
+  known : List Sort → Bool → Option ℕ → List Bool → Known
+
+abbrev pub guard : Bool → Known → Option Known
+guard true c = some c
+guard false c = none
+
+-- never over 40 values held
+abbrev pub held : Sort → List Sort → Bool → Option ℕ → List Bool → Bool → Option Known
+held x vs g o ids b = guard (b && ltb (length vs) stackLimit) (known (x ∷ vs) g o ids)
+
+-- an operand on top, of the right sort
+abbrev pub one : Sort → List Sort → (List Sort → Option Known) → Option Known
+one number [] k = none
+one number (number ∷ vs) k = k vs
+one number (truth ∷ vs) k = none
+one truth [] k = none
+one truth (number ∷ vs) k = none
+one truth (truth ∷ vs) k = k vs
+
+abbrev pub empty : List Sort → Bool
+empty [] = true
+empty (x ∷ vs) = false
+
+-- a declared variable, no input, neither settled nor let
+abbrev pub unset : List Bool → ℕ → Bool
+unset ids v = ltb v (length ids) && not (getD ids v false)
+
+-- no picks await a settle
+abbrev pub closed : Option ℕ → Bool
+closed none = true
+closed (some u) = false
+
+-- picks of v may follow
+abbrev pub fresh : Option ℕ → ℕ → Bool
+fresh none v = true
+fresh (some u) v = eqb u v
+
+-- picks of v await their settle
+abbrev pub opened : Option ℕ → ℕ → Bool
+opened none v = false
+opened (some u) v = eqb u v
+
+-- One instruction keeps soundness, or breaks it. Gate finds just one yes-no; pick and let just one number, settle none. Between a
+-- gate and its pick stand only codes 1 to 9. Picks are followed by the settle of the same id.
+abbrev pub advance : Instruction → Known → Option Known
+advance (constant z) (known vs g o ids) = held number vs g o ids (isInt32 z)
+advance (current i) (known vs g o ids) = held number vs g o ids (getD ids i false)
+advance (previous i) (known vs g o ids) = held number vs g o ids (ltb i (length ids))
+advance (operation x) (known vs g o ids) = one number vs λ vs₁. one number vs₁ λ vs₂. some (known (number ∷ vs₂) g o ids)
+advance negate (known vs g o ids) = one number vs λ vs₁. some (known (number ∷ vs₁) g o ids)
+advance (comparison x) (known vs g o ids) = one number vs λ vs₁. one number vs₁ λ vs₂. guard (not g) (known (truth ∷ vs₂) g o ids)
+advance negated (known vs g o ids) = one truth vs λ vs₁. guard (not g) (known (truth ∷ vs₁) g o ids)
+advance both (known vs g o ids) = one truth vs λ vs₁. one truth vs₁ λ vs₂. guard (not g) (known (truth ∷ vs₂) g o ids)
+advance either (known vs g o ids) = one truth vs λ vs₁. one truth vs₁ λ vs₂. guard (not g) (known (truth ∷ vs₂) g o ids)
+advance gate (known vs g o ids) = one truth vs λ vs₁. guard (not g && empty vs₁) (known [] true o ids)
+advance (pick v) (known vs g o ids) = one number vs λ vs₁. guard (g && empty vs₁ && unset ids v && fresh o v) (known [] false (some v) ids)
+advance (assign v) (known vs g o ids) = one number vs λ vs₁. guard (not g && empty vs₁ && unset ids v && closed o) (known [] false none (set ids v true))
+advance (settle v) (known vs g o ids) = guard (not g && empty vs && unset ids v && opened o v) (known [] false none (set ids v true))
+
+-- nothing missing at the end
+abbrev pub complete : Known → Bool
+complete (known vs g o ids) = empty vs && not g && closed o && allTrue ids
+
+-- ---- the header
+
+abbrev pub tested : {B : Type 0} → Bool → ℕ → Answer B → Answer B
+tested true at a = a
+tested false at a = refused brokenImage at
+
+-- Something that stands at a place and passes its test; else 11 with that place. What is cut short breaks at its own first byte.
+abbrev pub item : {A B : Type 0} → Read A → ℕ → (A → Bool) → (A → ℕ → Answer B) → Answer B
+item nothing at test k = refused brokenImage at
+item (got a next) at test k = tested (test a) at (k a next)
+
+-- low ≤ start ≤ high, all in signed 32-bit range
+abbrev pub checkRanges : {B : Type 0} → List ℕ → ℕ → ℕ → (List Range → ℕ → Answer B) → Answer B
+checkRanges bytes zero at k = k [] at
+checkRanges bytes (suc m) at k =
+    item (signedAt bytes at) at isInt32 λ l at₁.
+    item (signedAt bytes at₁) at₁ (λ h. isInt32 h && leZ l h) λ h at₂.
+    item (signedAt bytes at₂) at₂ (λ z. isInt32 z && leZ l z && leZ z h) λ z at₃.
+    checkRanges bytes m at₃ λ ns next. k (record { low = l; high = h; start = z } ∷ ns) next
+
+-- what a header says, and the place where the code begins
+pub record Header : Type 0 where
+  pub inputs : ℕ
+  pub ranges : List Range
+  pub place : ℕ
+
+-- at most 64 names
+unfoldable pub checkHeader : List ℕ → Answer Header
+checkHeader bytes =
+    item (numberAt bytes 0) 0 (λ k. leb k nameLimit) λ k at₁.
+    item (numberAt bytes at₁) at₁ (λ m. leb (k + m) nameLimit) λ m at₂.
+    checkRanges bytes (k + m) at₂ λ ns next. accepted (record { inputs = k; ranges = ns; place = next })
+
+-- ---- the code
+
+-- 11, with the image length where something is only missing there
+abbrev pub ends : Bool → ℕ → Answer (Unit {0})
+ends true at = accepted tt
+ends false at = refused brokenImage at
+
+abbrev pub ifSome : Option Known → ℕ → (Known → Answer (Unit {0})) → Answer (Unit {0})
+ifSome none at k = refused brokenImage at
+ifSome (some c) at k = k c
+
+-- the walk over at most f instructions of the code, from a place on; the code begins at `base` of the image
+abbrev pub checkCode : ℕ → List ℕ → ℕ → ℕ → Known → Answer (Unit {0})
+checkCode base code zero at c = ends (complete c) (base + at)
+checkCode base code (suc f) at c =
+    cond (ltb at (length code))
+    (item (fetch code at) (base + at) (λ i. true) λ i next. ifSome (advance i c) (base + at) λ c₁. checkCode base code f next c₁)
+    (ends (complete c) (base + at))
+
+-- nothing held, no gate, no picks; the inputs known
+abbrev pub atStart : Header → Known
+atStart h = known [] false none (knownFirst (h .inputs) (length (h .ranges)))
+
+-- The code is the rest of the image after the header; each instruction has at least one byte.
+unfoldable pub checkBody : List ℕ → Header → Answer (Unit {0})
+checkBody bytes h = let code = drop (h .place) bytes in checkCode (h .place) code (length code) 0 (atStart h)
+
+-- Check tests 9 (place 0), then 11, with the place of the first header number or instruction that breaks soundness. Its success
+-- carries nothing.
+unfoldable pub checkOf : List ℕ → Answer (Unit {0})
+checkOf bytes = cond (leb (length bytes) imageLimit) (checkHeader bytes andThen λ h. checkBody bytes h) (refused tooLong 0)

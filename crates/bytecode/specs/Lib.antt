@@ -1,0 +1,7 @@
+pub mod Instructions
+pub mod Translation
+pub mod Check
+pub mod Counting
+pub mod Internal
+pub mod Sound
+pub mod Nesting

@@ -1,0 +1,259 @@
+-- The run of sound code is refused by 14 to 17 only: no operand is ever missing, never over 40 values are held, and every id is
+-- declared. Assumes nothing.
+use Prim.Native.Nat.{ℕ, zero, suc, _+_, _≤_, _<_}
+use native.Mathlib.Omega.{arith}
+use mathlib.Core.Path.{_≡_, refl, sym, ap, _∙_, subst}
+use mathlib.Core.Bool.{Bool, true, false, not, _&&_, _||_, false≢true, cond}
+use mathlib.Core.List.{List, [], _∷_}
+use mathlib.Core.Option.{Option, none, some}
+use lib.Dec.{T, ltb, eqb, ltb→lt}
+use lib.IntN.{ℤ, pos, negℤ, _+ℤ_, _-ℤ_, _*ℤ_}
+use lib.ListN.{length, getD, set, length-set}
+use lib.Signed.{quotZ}
+use borrow.Author.Tests.{lt-ltb, le-ltb, ltb-true, ltb-false}
+use Rattle.limits.specs.Answer.{Answer, accepted, refused}
+use Rattle.arith.specs.Values.{Outcome, ok, refusal, _>>=_, require, eqZ, isInt32, int32, nonZero, Operation, add, subtract, multiply, divide, modulo, arithmetic, negation, compares}
+use Rattle.semantics.specs.Program.{Range, within}
+use Rattle.semantics.specs.Formula.{State, at}
+use Rattle.semantics.specs.ReferenceScan.{rangeAt, ranged, picked}
+use Rattle.arith.proofs.Basics.{T-true, true-T, and-left, and-right, ok≢refusal}
+use Rattle.leb128.specs.Numbers.{Read, got, nothing}
+use Rattle.bytecode.specs.Instructions.{Instruction, constant, current, previous, operation, negate, comparison, negated, both, either, gate, pick, assign, settle, fetch}
+use Rattle.bytecode.specs.Check.{Sort, Known, known, guard, held, one, empty, unset, closed, fresh, opened, advance, checkCode}
+use Rattle.bytecode.proofs.RoundTrip.{fetch-next}
+use Rattle.bytecode.proofs.Soundness.{none≢some, guard-some, one-some, idsOf, known-inside, advance-small}
+use Rattle.bytecode.proofs.Walk.{Stepped, check-stepped}
+use Rattle.machine.specs.Step.{Machine, machine, bit, yes, push, pop, gated, settled, isPick, declared, perform, step}
+use Rattle.machine.specs.Runs.{Ran, ran, afterStep, afterFetch, run}
+
+-- a refusal of the rules at work: 14, 15, 16 or 17
+pub record ByRules (k : ℕ) : Type 0 where
+  pub least : 14 ≤ k
+  pub most : k ≤ 17
+
+-- how a run of sound code may end
+abbrev pub RefusedByRules : Outcome Machine → Type 0
+RefusedByRules (ok m) = Unit {0}
+RefusedByRules (refusal k) = ByRules k
+
+-- As many values are held as the walk knows of; where instructions are passed over, a gate awaits its pick and nothing is held.
+abbrev pub Matches : Known → Machine → Type 0
+Matches (known vs g o ids) (machine false c ms t) = length ms ≡ length vs
+Matches (known vs g o ids) (machine true c ms t) = (g ≡ true) × (ms ≡ [])
+
+abbrev Kept : Known → Outcome Machine → Type 0
+Kept d (ok m) = Matches d m
+Kept d (refusal k) = ByRules k
+
+-- ---- refusals of the operations
+
+require-number : {A : Type 0} (b : Bool) (n : ℕ) (x : A) (k : ℕ) → require b n x ≡ refusal k → n ≡ k
+require-number true n x k e = ok≢refusal x k e
+require-number false n x k e = cc
+
+bind-number : {A B : Type 0} (o : Outcome A) (f : A → Outcome B) (k : ℕ) → (o >>= f) ≡ refusal k → ((j : ℕ) → o ≡ refusal j → ByRules j) → ((a : A) → f a ≡ refusal k → ByRules k) → ByRules k
+bind-number (ok a) f k e h g = g a e
+bind-number (refusal j) f k e h g = let q : j ≡ k = cc in subst ByRules q (h j refl)
+
+by-rules : (n k : ℕ) → 14 ≤ n → n ≤ 17 → n ≡ k → ByRules k
+by-rules n k a b e = record { least = omega arith; most = omega arith }
+
+int32-rules : (z : ℤ) (k : ℕ) → int32 z ≡ refusal k → ByRules k
+int32-rules z k e = by-rules 14 k (omega arith) (omega arith) (require-number (isInt32 z) 14 z k e)
+
+nonZero-rules : (z : ℤ) (k : ℕ) → nonZero z ≡ refusal k → ByRules k
+nonZero-rules z k e = by-rules 14 k (omega arith) (omega arith) (require-number (not (eqZ z (pos 0))) 14 z k e)
+
+arithmetic-rules : (o : Operation) (a b : ℤ) (k : ℕ) → arithmetic o a b ≡ refusal k → ByRules k
+unfolding arithmetic
+arithmetic-rules add a b k e = int32-rules (a +ℤ b) k e
+arithmetic-rules subtract a b k e = int32-rules (a -ℤ b) k e
+arithmetic-rules multiply a b k e = int32-rules (a *ℤ b) k e
+arithmetic-rules divide a b k e = bind-number (nonZero b) _ k e (λ j h. nonZero-rules b j h) (λ d h. int32-rules (quotZ a d) k h)
+arithmetic-rules modulo a b k e = bind-number (nonZero b) _ k e (λ j h. nonZero-rules b j h) (λ d h. int32-rules (a -ℤ d *ℤ quotZ a d) k h)
+
+negation-rules : (a : ℤ) (k : ℕ) → negation a ≡ refusal k → ByRules k
+unfolding negation
+negation-rules a k e = int32-rules (negℤ a) k e
+
+ranged-rules : (ns : List Range) (v : ℕ) (z : ℤ) (k : ℕ) → ranged ns v z ≡ refusal k → ByRules k
+ranged-rules ns v z k e = by-rules 17 k (omega arith) (omega arith) (require-number (within (rangeAt ns v) z) 17 z k e)
+
+picked-rules : (ns : List Range) (s : State) (v : ℕ) (z : ℤ) (k : ℕ) → picked ns s v z ≡ refusal k → ByRules k
+unfolding picked
+picked-rules ns s v z k e =
+    bind-number (require (not (eqZ z (at s v))) 16 z) _ k e
+    (λ j h. by-rules 16 j (omega arith) (omega arith) (require-number (not (eqZ z (at s v))) 16 z j h)) (λ y h. ranged-rules ns v y k h)
+
+-- ---- one instruction
+
+kept-bind : {A : Type 0} (o : Outcome A) (f : A → Outcome Machine) (d : Known) → ((k : ℕ) → o ≡ refusal k → ByRules k) → ((a : A) → Kept d (f a)) → Kept d (o >>= f)
+kept-bind (ok a) f d w h = h a
+kept-bind (refusal k) f d w h = w k refl
+
+one-cons : (x y : Sort) (vs : List Sort) (k : List Sort → Option Known) (d : Known) → one x (y ∷ vs) k ≡ some d → k vs ≡ some d
+one-cons Sort.number Sort.number vs k d e = e
+one-cons Sort.number Sort.truth vs k d e = none≢some d e
+one-cons Sort.truth Sort.number vs k d e = none≢some d e
+one-cons Sort.truth Sort.truth vs k d e = e
+
+one-nil : {X : Type 0} (x : Sort) (k : List Sort → Option Known) (d : Known) → one x [] k ≡ some d → X
+one-nil Sort.number k d e = none≢some d e
+one-nil Sort.truth k d e = none≢some d e
+
+popped : (x : Sort) (ms : List ℤ) (vs : List Sort) (k : List Sort → Option Known) (f : ℤ → List ℤ → Outcome Machine) (d : Known) → length ms ≡ length vs → one x vs k ≡ some d
+    → ((z : ℤ) (ms₁ : List ℤ) (vs₁ : List Sort) → length ms₁ ≡ length vs₁ → k vs₁ ≡ some d → Kept d (f z ms₁)) → Kept d (pop ms f)
+popped x ms [] k f d l e h = one-nil x k d e
+popped x [] (v ∷ vs) k f d l e h = let b : ⊥ = omega arith in absurd b
+popped x (m ∷ ms) (v ∷ vs) k f d l e h = h m ms vs (omega arith) (one-cons x v vs k d e)
+
+moved : (c d : Known) (m : Machine) → c ≡ d → Matches c m → Matches d m
+moved c d m e h = subst (λ x. Matches x m) e h
+
+held-kept : (z : ℤ) (c : Bool) (ms : List ℤ) (t : State) (vs : List Sort) (g : Bool) (o : Option ℕ) (ids : List Bool) (b : Bool) (d : Known) → length ms ≡ length vs
+    → held Sort.number vs g o ids b ≡ some d → Kept d (push z c ms t)
+held-kept z c ms t vs g o ids b d l e =
+    let h = guard-some (b && ltb (length vs) 40) _ d e in
+    let k : length vs < 40 = ltb→lt (length vs) 40 (and-right b _ (h .0)) in
+    let q : ltb (length ms) 40 ≡ true = lt-ltb (length ms) 40 (omega arith) in
+    rw q (moved (known (Sort.number ∷ vs) g o ids) d (machine false c (z ∷ ms) t) (h .1) (ap suc l))
+
+empty-nil : (vs : List Sort) (ms : List ℤ) → length ms ≡ length vs → T (empty vs) → ms ≡ []
+empty-nil [] [] l h = refl
+empty-nil [] (m ∷ ms) l h = let b : ⊥ = omega arith in absurd b
+empty-nil (v ∷ vs) ms l h = absurd h
+
+over : (vs : List Sort) (o : Option ℕ) (ids : List Bool) (d : Known) (c : Bool) (ms : List ℤ) (t : State) → known vs true o ids ≡ d → ms ≡ [] → Matches d (machine true c ms t)
+over vs o ids d c ms t e h = let x : Matches (known vs true o ids) (machine true c ms t) = (refl, h) in moved (known vs true o ids) d (machine true c ms t) e x
+
+some-inj : {A : Type 0} {a b : A} → some a ≡ some b → a ≡ b
+some-inj e = cc
+
+-- an instruction that is passed over
+over-keeps : (i : Instruction) (vs : List Sort) (o : Option ℕ) (ids : List Bool) (d : Known) (c : Bool) (ms : List ℤ) (t : State)
+    → advance i (known vs true o ids) ≡ some d → ms ≡ [] → Matches d (machine (not (isPick i)) c ms t)
+over-keeps (constant z) vs o ids d c ms t e h = over (Sort.number ∷ vs) o ids d c ms t (guard-some (isInt32 z && ltb (length vs) 40) _ d e .1) h
+over-keeps (current i) vs o ids d c ms t e h = over (Sort.number ∷ vs) o ids d c ms t (guard-some (getD ids i false && ltb (length vs) 40) _ d e .1) h
+over-keeps (previous i) vs o ids d c ms t e h = over (Sort.number ∷ vs) o ids d c ms t (guard-some (ltb i (length ids) && ltb (length vs) 40) _ d e .1) h
+over-keeps (operation x) vs o ids d c ms t e h =
+    let a = one-some Sort.number vs _ d e in
+    let b = one-some Sort.number (a .0) _ d (a .1) in
+    over (Sort.number ∷ b .0) o ids d c ms t (some-inj (b .1)) h
+over-keeps negate vs o ids d c ms t e h = let a = one-some Sort.number vs _ d e in over (Sort.number ∷ a .0) o ids d c ms t (some-inj (a .1)) h
+over-keeps (comparison x) vs o ids d c ms t e h = let a = one-some Sort.number vs _ d e in let b = one-some Sort.number (a .0) _ d (a .1) in none≢some d (b .1)
+over-keeps negated vs o ids d c ms t e h = let a = one-some Sort.truth vs _ d e in none≢some d (a .1)
+over-keeps both vs o ids d c ms t e h = let a = one-some Sort.truth vs _ d e in let b = one-some Sort.truth (a .0) _ d (a .1) in none≢some d (b .1)
+over-keeps either vs o ids d c ms t e h = let a = one-some Sort.truth vs _ d e in let b = one-some Sort.truth (a .0) _ d (a .1) in none≢some d (b .1)
+over-keeps gate vs o ids d c ms t e h = let a = one-some Sort.truth vs _ d e in none≢some d (a .1)
+over-keeps (pick v) vs o ids d c ms t e h =
+    let a = one-some Sort.number vs _ d e in
+    moved (known [] false (some v) ids) d (machine false c ms t) (guard-some (true && empty (a .0) && unset ids v && fresh o v) _ d (a .1) .1) (rw h)
+over-keeps (assign v) vs o ids d c ms t e h = let a = one-some Sort.number vs _ d e in none≢some d (a .1)
+over-keeps (settle v) vs o ids d c ms t e h = none≢some d e
+
+second : (a b c e : Bool) → T (a && b && c && e) → T b
+second a b c e h = and-right a b (and-left (a && b) c (and-left (a && b && c) e h))
+
+third : (a b c e : Bool) → T (a && b && c && e) → T c
+third a b c e h = and-right (a && b) c (and-left (a && b && c) e h)
+
+none-held : (ms : List ℤ) → ms ≡ [] → length ms ≡ 0
+none-held ms h = rw h
+
+gate-kept : (b c : Bool) (ms : List ℤ) (t : State) (o : Option ℕ) (ids : List Bool) (d : Known) → known [] true o ids ≡ d → ms ≡ [] → Kept d (gated b c ms t)
+gate-kept false c ms t o ids d e h = over [] o ids d c ms t e h
+gate-kept true true ms t o ids d e h = record { least = omega arith; most = omega arith }
+gate-kept true false ms t o ids d e h = moved (known [] true o ids) d (machine false false ms t) e (none-held ms h)
+
+settled-kept : (v : ℕ) (z : ℤ) (c : Bool) (ms : List ℤ) (t : State) (d : Known) (o : Option ℕ) (ids : List Bool) → known [] false o ids ≡ d → ms ≡ [] → Matches d (settled v z c ms t)
+settled-kept v z true ms t d o ids e h = moved (known [] false o ids) d (machine false false ms t) e (none-held ms h)
+settled-kept v z false ms t d o ids e h = moved (known [] false o ids) d (machine false false ms (set t v z)) e (none-held ms h)
+
+module _ (ns : List Range) (s : State) where
+  declared-kept : (i : ℕ) (o : Outcome Machine) (d : Known) → i < length ns → Kept d o → Kept d (declared ns s i o)
+  declared-kept i o d l h = rw (lt-ltb i (length ns) l) h
+
+  module _ (ids : List Bool) (size : length ids ≡ length ns) where
+    unset-declared : (v : ℕ) → T (unset ids v) → v < length ns
+    unset-declared v h = omega (arith, ltb→lt v (length ids) (and-left (ltb v (length ids)) (not (getD ids v false)) h))
+
+    -- an instruction that is not passed over
+    perform-keeps : (i : Instruction) (vs : List Sort) (g : Bool) (o : Option ℕ) (d : Known) (c : Bool) (ms : List ℤ) (t : State) → length ms ≡ length vs
+        → advance i (known vs g o ids) ≡ some d → Kept d (perform ns s i c ms t)
+    perform-keeps (constant z) vs g o d c ms t l e = held-kept z c ms t vs g o ids (isInt32 z) d l e
+    perform-keeps (current i) vs g o d c ms t l e =
+        let h = guard-some (getD ids i false && ltb (length vs) 40) _ d e in
+        let k : i < length ids = known-inside ids i (T-true _ (and-left (getD ids i false) _ (h .0))) in
+        declared-kept i _ d (omega arith) (held-kept (at t i) c ms t vs g o ids (getD ids i false) d l e)
+    perform-keeps (previous i) vs g o d c ms t l e =
+        let h = guard-some (ltb i (length ids) && ltb (length vs) 40) _ d e in
+        let k : i < length ids = ltb→lt i (length ids) (and-left (ltb i (length ids)) _ (h .0)) in
+        declared-kept i _ d (omega arith) (held-kept (at s i) c ms t vs g o ids (ltb i (length ids)) d l e)
+    perform-keeps (operation x) vs g o d c ms t l e =
+        popped Sort.number ms vs _ _ d l e λ b ms₁ vs₁ l₁ e₁. popped Sort.number ms₁ vs₁ _ _ d l₁ e₁ λ a ms₂ vs₂ l₂ e₂.
+        kept-bind (arithmetic x a b) _ d (λ k h. arithmetic-rules x a b k h) λ z.
+        moved (known (Sort.number ∷ vs₂) g o ids) d (machine false c (z ∷ ms₂) t) (some-inj e₂) (ap suc l₂)
+    perform-keeps negate vs g o d c ms t l e =
+        popped Sort.number ms vs _ _ d l e λ a ms₁ vs₁ l₁ e₁.
+        kept-bind (negation a) _ d (λ k h. negation-rules a k h) λ z.
+        moved (known (Sort.number ∷ vs₁) g o ids) d (machine false c (z ∷ ms₁) t) (some-inj e₁) (ap suc l₁)
+    perform-keeps (comparison x) vs g o d c ms t l e =
+        popped Sort.number ms vs _ _ d l e λ b ms₁ vs₁ l₁ e₁. popped Sort.number ms₁ vs₁ _ _ d l₁ e₁ λ a ms₂ vs₂ l₂ e₂.
+        moved (known (Sort.truth ∷ vs₂) g o ids) d (machine false c (bit (compares x a b) ∷ ms₂) t) (guard-some (not g) _ d e₂ .1) (ap suc l₂)
+    perform-keeps negated vs g o d c ms t l e =
+        popped Sort.truth ms vs _ _ d l e λ a ms₁ vs₁ l₁ e₁.
+        moved (known (Sort.truth ∷ vs₁) g o ids) d (machine false c (bit (not (yes a)) ∷ ms₁) t) (guard-some (not g) _ d e₁ .1) (ap suc l₁)
+    perform-keeps both vs g o d c ms t l e =
+        popped Sort.truth ms vs _ _ d l e λ b ms₁ vs₁ l₁ e₁. popped Sort.truth ms₁ vs₁ _ _ d l₁ e₁ λ a ms₂ vs₂ l₂ e₂.
+        moved (known (Sort.truth ∷ vs₂) g o ids) d (machine false c (bit (yes a && yes b) ∷ ms₂) t) (guard-some (not g) _ d e₂ .1) (ap suc l₂)
+    perform-keeps either vs g o d c ms t l e =
+        popped Sort.truth ms vs _ _ d l e λ b ms₁ vs₁ l₁ e₁. popped Sort.truth ms₁ vs₁ _ _ d l₁ e₁ λ a ms₂ vs₂ l₂ e₂.
+        moved (known (Sort.truth ∷ vs₂) g o ids) d (machine false c (bit (yes a || yes b) ∷ ms₂) t) (guard-some (not g) _ d e₂ .1) (ap suc l₂)
+    perform-keeps gate vs g o d c ms t l e = popped Sort.truth ms vs _ _ d l e λ a ms₁ vs₁ l₁ e₁.
+        let q = guard-some (not g && empty vs₁) _ d e₁ in
+        gate-kept (yes a) c ms₁ t o ids d (q .1) (empty-nil vs₁ ms₁ l₁ (and-right (not g) _ (q .0)))
+    perform-keeps (pick v) vs g o d c ms t l e = popped Sort.number ms vs _ _ d l e λ x ms₁ vs₁ l₁ e₁.
+        let q = guard-some (g && empty vs₁ && unset ids v && fresh o v) _ d e₁ in
+        let nil : ms₁ ≡ [] = empty-nil vs₁ ms₁ l₁ (second g (empty vs₁) (unset ids v) (fresh o v) (q .0)) in
+        declared-kept v _ d (unset-declared v (third g (empty vs₁) (unset ids v) (fresh o v) (q .0)))
+        (kept-bind (picked ns s v x) _ d (λ k h. picked-rules ns s v x k h) λ z.
+        moved (known [] false (some v) ids) d (machine false true ms₁ (set t v z)) (q .1) (none-held ms₁ nil))
+    perform-keeps (assign v) vs g o d c ms t l e = popped Sort.number ms vs _ _ d l e λ x ms₁ vs₁ l₁ e₁.
+        let q = guard-some (not g && empty vs₁ && unset ids v && closed o) _ d e₁ in
+        let nil : ms₁ ≡ [] = empty-nil vs₁ ms₁ l₁ (second (not g) (empty vs₁) (unset ids v) (closed o) (q .0)) in
+        declared-kept v _ d (unset-declared v (third (not g) (empty vs₁) (unset ids v) (closed o) (q .0)))
+        (kept-bind (ranged ns v x) _ d (λ k h. ranged-rules ns v x k h) λ z.
+        moved (known [] false none (set ids v true)) d (machine false c ms₁ (set t v z)) (q .1) (none-held ms₁ nil))
+    perform-keeps (settle v) vs g o d c ms t l e =
+        let q = guard-some (not g && empty vs && unset ids v && opened o v) _ d e in
+        let nil : ms ≡ [] = empty-nil vs ms l (second (not g) (empty vs) (unset ids v) (opened o v) (q .0)) in
+        declared-kept v _ d (unset-declared v (third (not g) (empty vs) (unset ids v) (opened o v) (q .0)))
+        (settled-kept v (at s v) c ms t d none (set ids v true) (q .1) nil)
+
+  step-keeps : (i : Instruction) (c d : Known) (m : Machine) → length (idsOf c) ≡ length ns → advance i c ≡ some d → Matches c m → Kept d (step ns s i m)
+  step-keeps i (known vs g o ids) d (machine false c ms t) l e h = perform-keeps ids l i vs g o d c ms t h e
+  step-keeps i (known vs g o ids) d (machine true c ms t) l e h = over-keeps i vs o ids d c ms t (subst (λ b. advance i (known vs b o ids) ≡ some d) (h .0) e) (h .1)
+
+  -- the run of code that the walk finds sound, with any budget
+  pub run-by-rules : (base : ℕ) (code : List ℕ) (budget f at n : ℕ) (c : Known) (m : Machine) → length (idsOf c) ≡ length ns → length ns ≤ 64 → length code ≤ at + f
+      → checkCode base code f at c ≡ accepted tt → Matches c m → RefusedByRules (run ns s code budget at n m .last)
+  run-by-rules base code zero f at n c m i few l e h = tt
+  run-by-rules base code (suc budget) f at n c m i few l e h = inside (ltb at (length code)) refl f l e (λ f₁ next c₁ m₁ i₁ l₁ e₁ h₁. run-by-rules base code budget f₁ next (n + 1) c₁ m₁ i₁ few l₁ e₁ h₁)
+    where
+      stepped : (f₁ next : ℕ) (c₁ : Known) (o : Outcome Machine) → Kept c₁ o
+          → ((m₁ : Machine) → Matches c₁ m₁ → RefusedByRules (run ns s code budget next (n + 1) m₁ .last)) → RefusedByRules (afterStep o (n + 1) at (λ m₁. run ns s code budget next (n + 1) m₁) .last)
+      stepped f₁ next c₁ (ok m₁) k ih = ih m₁ k
+      stepped f₁ next c₁ (refusal r) k ih = k
+
+      inside : (b : Bool) → ltb at (length code) ≡ b → (f : ℕ) → length code ≤ at + f → checkCode base code f at c ≡ accepted tt
+          → ((f₁ next : ℕ) (c₁ : Known) (m₁ : Machine) → length (idsOf c₁) ≡ length ns → length code ≤ next + f₁ → checkCode base code f₁ next c₁ ≡ accepted tt → Matches c₁ m₁ → RefusedByRules (run ns s code budget next (n + 1) m₁ .last))
+          → RefusedByRules (run ns s code (suc budget) at n m .last)
+      inside false b f l e ih = rw b tt
+      inside true b zero l e ih = let x : ⊥ = omega (arith, ltb-true at (length code) b) in absurd x
+      inside true b (suc f₁) l e ih =
+          let x = check-stepped base code f₁ at c (ltb-true at (length code) b) e in
+          let a = advance-small (x .instruction) c (x .after) (omega arith) (x .advanced) in
+          let j : length (idsOf (x .after)) ≡ length (idsOf c) = a .1 in
+          rw (b, x .fetched)
+          (stepped f₁ (x .next) (x .after) (step ns s (x .instruction) m) (step-keeps (x .instruction) c (x .after) m i (x .advanced) h)
+          λ m₁ h₁. ih f₁ (x .next) (x .after) m₁ (j ∙ i) (omega (arith, fetch-next code at (x .instruction) (x .next) (x .fetched) .1)) (x .goes) h₁)
