@@ -5,7 +5,7 @@
 
 pub mod check;
 pub mod formula;
-//GEN
+pub mod generate;
 pub mod image;
 pub mod machine;
 pub mod number;

@@ -1,0 +1,33 @@
+//! Every case of the folder `cases`, byte for byte.
+
+use std::fs;
+use std::path::Path;
+
+#[test]
+fn every_case() {
+    let folder = Path::new(env!("CARGO_MANIFEST_DIR")).join("../cases");
+    let mut names = Vec::new();
+    for entry in fs::read_dir(&folder).expect("folder of cases") {
+        let path = entry.expect("entry").path();
+        if path.extension().is_some_and(|extension| extension == "in") {
+            names.push(path);
+        }
+    }
+    names.sort();
+    assert!(names.len() >= 7, "cases found: {}", names.len());
+    for input in names {
+        let bytes = fs::read(&input).expect("input");
+        let output = fs::read(input.with_extension("out")).expect("output");
+        let printed = rolvenko_model::trace(&bytes);
+        assert_eq!(
+            String::from_utf8_lossy(&printed),
+            String::from_utf8_lossy(&output),
+            "{}",
+            input.display()
+        );
+        assert_eq!(printed, output);
+        let text = fs::read(input.with_extension("txt")).expect("text");
+        assert!(bytes.starts_with(&text));
+        assert!(rolvenko_model::read_text(&text).is_ok());
+    }
+}
