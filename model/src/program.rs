@@ -1,6 +1,8 @@
 //! The tree of an accepted text. It has the shape of the grammar:
 //! "`+ -` over `* / mod` over factors", "`|` over `&` over atoms".
 
+use crate::check::Range;
+
 /// A declared name; its id is its place in `Program::names`.
 #[derive(Clone, Copy, Debug, PartialEq, Eq)]
 pub struct Name<'t> {
@@ -18,6 +20,25 @@ pub struct Program<'t> {
     pub inputs: usize,
     /// "Then the rules, in the order of work; every variable has exactly one."
     pub rules: Vec<Rule>,
+}
+
+impl Program<'_> {
+    /// Low, high and start of each name in declared order.
+    pub fn ranges(&self) -> Vec<Range> {
+        self.names
+            .iter()
+            .map(|name| Range {
+                low: name.low,
+                high: name.high,
+                start: name.start,
+            })
+            .collect()
+    }
+
+    /// The declared starts.
+    pub fn starts(&self) -> Vec<i32> {
+        self.names.iter().map(|name| name.start).collect()
+    }
 }
 
 #[derive(Clone, Debug, PartialEq, Eq)]

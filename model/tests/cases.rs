@@ -1,7 +1,8 @@
 //! Every case of the folder `cases`, byte for byte.
 
-use std::fs;
+use std::fs::{self, File};
 use std::path::Path;
+use std::process::Command;
 
 #[test]
 fn every_case() {
@@ -26,6 +27,12 @@ fn every_case() {
             input.display()
         );
         assert_eq!(printed, output);
+        let program = Command::new(env!("CARGO_BIN_EXE_trace_model"))
+            .stdin(File::open(&input).expect("input"))
+            .output()
+            .expect("trace program");
+        assert!(program.status.success());
+        assert_eq!(program.stdout, output);
         let text = fs::read(input.with_extension("txt")).expect("text");
         assert!(bytes.starts_with(&text));
         assert!(rolvenko_model::read_text(&text).is_ok());

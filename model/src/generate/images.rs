@@ -241,7 +241,9 @@ pub fn random_image(rng: &mut Rng) -> Vec<u8> {
     let variables = rng.below(3) as u8;
     let mut image = vec![inputs, variables];
     for _ in 0..inputs + variables {
-        image.extend([rng.below(2) as u8, 4, rng.below(5) as u8]);
+        // Low 0 or -1, high 2, start 0, or now and then -1, 1, -2 or 2.
+        let start = if rng.chance(10) { rng.below(5) } else { 0 };
+        image.extend([rng.below(2) as u8, 4, start as u8]);
     }
     for id in inputs..inputs + variables {
         match rng.below(4) {

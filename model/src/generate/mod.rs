@@ -7,6 +7,7 @@ mod limits;
 mod mutate;
 mod states;
 mod text;
+mod values;
 
 pub use images::{damaged_image, random_image, unsound_images, Unsound};
 pub use limits::{limit_texts, nested_condition, nested_expression, LimitText};

@@ -80,7 +80,7 @@ pub fn mutate_tokens(rng: &mut Rng, tokens: &mut Vec<Vec<u8>>) {
     }
     let at = rng.below(tokens.len());
     let other = rng.below(tokens.len());
-    match rng.below(9) {
+    match rng.below(12) {
         0 => {
             tokens.remove(at);
         }
@@ -94,6 +94,7 @@ pub fn mutate_tokens(rng: &mut Rng, tokens: &mut Vec<Vec<u8>>) {
         }
         6 => tokens.truncate(at),
         7 => toggle_previous(rng, tokens),
+        8 => change_number(rng, tokens),
         _ => statement(rng, tokens),
     }
 }
@@ -118,6 +119,17 @@ fn toggle_previous(rng: &mut Rng, tokens: &mut [Vec<u8>]) {
         token.remove(0);
     } else {
         token.insert(0, b'_');
+    }
+}
+
+/// Puts another number in the place of one.
+fn change_number(rng: &mut Rng, tokens: &mut [Vec<u8>]) {
+    const NUMBERS: [&str; 6] = ["0", "00", "1", "9", "2147483647", "2147483648"];
+    let digits: Vec<usize> = (0..tokens.len())
+        .filter(|&i| tokens[i][0].is_ascii_digit())
+        .collect();
+    if !digits.is_empty() {
+        tokens[*rng.choose(&digits)] = rng.choose(&NUMBERS).as_bytes().to_vec();
     }
 }
 

@@ -1,7 +1,6 @@
 //! Random texts that the translator accepts.
 
 use super::Rng;
-use crate::BRACKETS;
 
 /// Size and kind of random texts.
 #[derive(Clone, Copy, Debug, PartialEq, Eq)]
@@ -108,21 +107,21 @@ fn white_space(rng: &mut Rng, needed: bool, text: &mut Vec<u8>) {
     }
 }
 
-struct Declared {
-    spelling: Vec<u8>,
+pub(super) struct Declared {
+    pub(super) spelling: Vec<u8>,
     low: i64,
     high: i64,
 }
 
-struct Writer<'r> {
-    rng: &'r mut Rng,
-    shape: Shape,
-    tokens: Vec<Vec<u8>>,
-    names: Vec<Declared>,
-    inputs: usize,
-    ruled: Vec<bool>,
+pub(super) struct Writer<'r> {
+    pub(super) rng: &'r mut Rng,
+    pub(super) shape: Shape,
+    pub(super) tokens: Vec<Vec<u8>>,
+    pub(super) names: Vec<Declared>,
+    pub(super) inputs: usize,
+    pub(super) ruled: Vec<bool>,
     /// Counted brackets open now.
-    open: usize,
+    pub(super) open: usize,
 }
 
 impl Writer<'_> {
@@ -142,7 +141,7 @@ impl Writer<'_> {
         }
     }
 
-    fn put(&mut self, token: impl AsRef<[u8]>) {
+    pub(super) fn put(&mut self, token: impl AsRef<[u8]>) {
         self.tokens.push(token.as_ref().to_vec());
     }
 
@@ -213,7 +212,7 @@ impl Writer<'_> {
     }
 
     /// A number from 0 to `most`, often a small one.
-    fn constant(&mut self, most: i64) -> i64 {
+    pub(super) fn constant(&mut self, most: i64) -> i64 {
         match self.rng.below(8) {
             0 => most,
             1 | 2 => self.rng.between(0, most),
@@ -229,7 +228,7 @@ impl Writer<'_> {
     }
 
     /// Digits, now and then with zeros before them.
-    fn digits(&mut self, value: i64) {
+    pub(super) fn digits(&mut self, value: i64) {
         let zeros = if self.rng.chance(4) {
             1 + self.rng.below(3)
         } else {
@@ -316,89 +315,5 @@ impl Writer<'_> {
             };
         }
         self.signed(value);
-    }
-
-    /// `|` over `&` over atoms; `size` bounds the length.
-    fn condition(&mut self, size: usize) {
-        for part in 0..1 + self.rng.below(size) {
-            if part > 0 {
-                self.put("|");
-            }
-            for atom in 0..1 + self.rng.below(size) {
-                if atom > 0 {
-                    self.put("&");
-                }
-                self.atom(size);
-            }
-        }
-    }
-
-    fn atom(&mut self, size: usize) {
-        if self.may_open() && self.rng.chance(30) {
-            if self.rng.chance(50) {
-                self.put("~");
-            }
-            self.put("[");
-            self.open += 1;
-            self.condition(size.div_ceil(2));
-            self.open -= 1;
-            self.put("]");
-            return;
-        }
-        self.expression(size.div_ceil(2));
-        let relation = *self.rng.choose(&["=", "<>", "<", "<=", ">", ">="]);
-        self.put(relation);
-        self.expression(size.div_ceil(2));
-    }
-
-    fn expression(&mut self, size: usize) {
-        for part in 0..1 + self.rng.below(size) {
-            if part > 0 {
-                let operator = *self.rng.choose(&["+", "-"]);
-                self.put(operator);
-            }
-            for factor in 0..1 + self.rng.below(size) {
-                if factor > 0 {
-                    let operator = *self.rng.choose(&["*", "/", "mod"]);
-                    self.put(operator);
-                }
-                self.factor(size);
-            }
-        }
-    }
-
-    fn factor(&mut self, size: usize) {
-        if self.rng.chance(15) {
-            self.put("-");
-        }
-        if self.may_open() && self.rng.chance(20) {
-            self.put("(");
-            self.open += 1;
-            self.expression(size.div_ceil(2));
-            self.open -= 1;
-            self.put(")");
-            return;
-        }
-        let current: Vec<usize> = (0..self.names.len())
-            .filter(|&id| id < self.inputs || self.ruled[id])
-            .collect();
-        match self.rng.below(3) {
-            0 if !current.is_empty() => {
-                let id = *self.rng.choose(&current);
-                self.put(self.names[id].spelling.clone());
-            }
-            1 => {
-                let id = self.rng.below(self.names.len());
-                self.put([b"_", &self.names[id].spelling[..]].concat());
-            }
-            _ => {
-                let value = self.constant(self.shape.reach.max(3));
-                self.digits(value);
-            }
-        }
-    }
-
-    fn may_open(&mut self) -> bool {
-        self.open < self.shape.brackets.min(BRACKETS)
     }
 }
