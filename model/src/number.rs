@@ -54,7 +54,7 @@ pub fn from_signed(z: i64) -> u64 {
 
 /// The signed number written as `n`.
 pub fn to_signed(n: u64) -> i64 {
-    if n % 2 == 0 {
+    if n & 1 == 0 {
         (n / 2) as i64
     } else {
         -((n / 2) as i64) - 1

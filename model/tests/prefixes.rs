@@ -7,9 +7,9 @@ use rolvenko_model::generate::{mutated_text, render, token_soup, Rng, Shape};
 use rolvenko_model::token::{next_token, tokens, Kind};
 
 /// A faulty or accepted text.
-fn some_text(rng: &mut Rng, seed: u64) -> Vec<u8> {
+fn some_text(rng: &mut Rng) -> Vec<u8> {
     let shape = Shape::any(rng);
-    if seed % 10 == 0 {
+    if rng.chance(10) {
         token_soup(rng, 12)
     } else {
         mutated_text(rng, shape)
@@ -22,7 +22,7 @@ fn the_first_fault_is_answered() {
     let mut met = [0; 11];
     for seed in 0..20_000 {
         let mut rng = Rng::new(40_000_000 + seed);
-        let text = some_text(&mut rng, seed);
+        let text = some_text(&mut rng);
         let (number, place) = answer(&text);
         met[number as usize] += 1;
         if number == 0 {
@@ -57,7 +57,7 @@ fn white_space_has_no_influence() {
     let mut met = [0; 11];
     for seed in 0..10_000 {
         let mut rng = Rng::new(50_000_000 + seed);
-        let text = some_text(&mut rng, seed);
+        let text = some_text(&mut rng);
         let list = tokens(&text);
         let spellings: Vec<Vec<u8>> = list.iter().map(|t| t.spelling.to_vec()).collect();
         let again = render(&mut rng, &spellings);

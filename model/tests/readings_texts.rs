@@ -52,7 +52,10 @@ fn texts_1_number_order_in_the_list() {
     expect_in_list(2, "[_v = 0@");
     expect_in_list(2, "[_v = 0 & i = 1]@");
     expect_in_list(2, "[_v = 0 & i = 1] | [_v = 1]@");
-    // More of each kind.
+}
+
+#[test]
+fn texts_1_more_of_each_kind() {
     expect_in_list(1, "[_v = @$");
     expect_in_list(1, "@.");
     expect_in_list(2, "[_v = 0 & i = 1] | [_v = 1] @]");

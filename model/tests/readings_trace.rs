@@ -67,6 +67,10 @@ fn trace_2_rows() {
     ] {
         assert_eq!(result(line), printed, "{line:?}");
     }
+}
+
+#[test]
+fn trace_2_rows_of_two() {
     let two = "input a 0..9; input b 0..9;\n#\n";
     let head = "scan a b result\n0 0 0 0\n";
     for (line, printed) in [

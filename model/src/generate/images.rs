@@ -71,20 +71,46 @@ fn headers() -> Vec<(Breach, usize, Vec<u8>)> {
 }
 
 /// Code after `HEADER`: breach, how far before the end of the image, code.
-fn codes() -> Vec<(Breach, usize, Vec<u8>)> {
+type BrokenCode = (Breach, usize, Vec<u8>);
+
+fn codes() -> Vec<BrokenCode> {
+    let mut list = sorts();
+    list.extend(numbers());
+    list.extend(ids());
+    list.extend(held());
+    list.extend(order());
+    list.extend(intruders());
+    list.extend(missing());
+    list
+}
+
+/// `CASE` and what follows it.
+fn case(tail: &[u8]) -> Vec<u8> {
+    [&CASE[..], tail].concat()
+}
+
+fn sorts() -> Vec<BrokenCode> {
+    let wrong: [&[u8]; 10] = [
+        &[4],
+        &[1, 0, 4],
+        &[9],
+        &[1, 0, 10],
+        &[1, 0, 16],
+        &[1, 0, 1, 0, 17],
+        &[1, 0, 1, 0, 10, 9],
+        &[1, 0, 1, 0, 10, 1, 0, 12],
+        &[1, 0, 1, 0, 10, 18],
+        &[1, 0, 1, 0, 1, 0, 10, 18],
+    ];
+    wrong
+        .iter()
+        .map(|code| (Breach::WrongSort, 1, code.to_vec()))
+        .collect()
+}
+
+fn numbers() -> Vec<BrokenCode> {
     use Breach::*;
-    let case = |tail: &[u8]| [&CASE[..], tail].concat();
-    let mut list = vec![
-        (WrongSort, 1, vec![4]),
-        (WrongSort, 1, vec![1, 0, 4]),
-        (WrongSort, 1, vec![9]),
-        (WrongSort, 1, vec![1, 0, 10]),
-        (WrongSort, 1, vec![1, 0, 16]),
-        (WrongSort, 1, vec![1, 0, 1, 0, 17]),
-        (WrongSort, 1, vec![1, 0, 1, 0, 10, 9]),
-        (WrongSort, 1, vec![1, 0, 1, 0, 10, 1, 0, 12]),
-        (WrongSort, 1, vec![1, 0, 1, 0, 10, 18]),
-        (WrongSort, 1, vec![1, 0, 1, 0, 1, 0, 10, 18]),
+    vec![
         (BadConstant, 6, vec![1, 128, 128, 128, 128, 16]),
         (BadConstant, 6, vec![1, 255, 255, 255, 255, 127]),
         (BadNumber, 1, vec![1]),
@@ -95,12 +121,33 @@ fn codes() -> Vec<(Breach, usize, Vec<u8>)> {
         (UnknownCode, 1, vec![0]),
         (UnknownCode, 1, vec![23]),
         (UnknownCode, 1, vec![255]),
+    ]
+}
+
+fn ids() -> Vec<BrokenCode> {
+    use Breach::*;
+    vec![
         (UnknownId, 2, vec![2, 3]),
         (UnknownId, 2, vec![3, 3]),
         (UnknownId, 3, vec![3, 128, 1]),
         (UnknownId, 2, case(&[20, 3])),
         (UnknownId, 2, vec![1, 0, 21, 3]),
         (UnknownId, 2, vec![22, 64]),
+        (InputSet, 2, vec![1, 2, 21, 0]),
+        (InputSet, 2, case(&[20, 0])),
+        (InputSet, 2, vec![22, 0]),
+        (CurrentTooEarly, 2, vec![2, 1]),
+        (CurrentTooEarly, 2, case(&[2, 1])),
+        (CurrentTooEarly, 2, case(&[20, 1, 2, 1])),
+    ]
+}
+
+fn held() -> Vec<BrokenCode> {
+    use Breach::*;
+    vec![
+        (TooManyHeld, 2, [1, 0].repeat(HELD + 1)),
+        (TooManyHeld, 2, [2, 0].repeat(HELD + 1)),
+        (TooManyHeld, 2, [3, 0].repeat(HELD + 1)),
         (GateHeld, 1, vec![19]),
         (GateHeld, 1, vec![1, 0, 19]),
         (GateHeld, 1, vec![1, 0, 1, 0, 1, 0, 10, 19]),
@@ -110,39 +157,58 @@ fn codes() -> Vec<(Breach, usize, Vec<u8>)> {
         (PickLetHeld, 2, vec![1, 2, 1, 2, 21, 1]),
         (PickLetHeld, 2, vec![1, 2, 1, 2, 10, 21, 1]),
         (SettleHeld, 2, case(&[20, 1, 1, 2, 22, 1])),
+    ]
+}
+
+fn order() -> Vec<BrokenCode> {
+    use Breach::*;
+    let other_pick = [&[20, 1], &CASE[..], &[20, 2]].concat();
+    let late_pick = [&[20, 1, 22, 1], &CASE[..], &[20, 1]].concat();
+    let pick_after_let = [&[1, 2, 21, 1], &CASE[..], &[20, 1]].concat();
+    vec![
         (PickWithoutGate, 2, vec![1, 2, 20, 1]),
+        (PickWithoutGate, 2, case(&[20, 1, 1, 2, 20, 1])),
         (SettleWithoutPick, 2, vec![22, 1]),
+        (BetweenPickAndSettle, 2, case(&[20, 1, 1, 2, 21, 1])),
         (BetweenPickAndSettle, 2, case(&[20, 1, 1, 2, 21, 2])),
         (BetweenPickAndSettle, 2, case(&[20, 1, 22, 2])),
+        (BetweenPickAndSettle, 2, case(&other_pick)),
         (SettledAgain, 2, vec![1, 2, 21, 1, 1, 2, 21, 1]),
+        (SettledAgain, 2, vec![1, 2, 21, 1, 22, 1]),
         (SettledAgain, 2, case(&[20, 1, 22, 1, 22, 1])),
-        (InputSet, 2, vec![1, 2, 21, 0]),
-        (InputSet, 2, case(&[20, 0])),
-        (InputSet, 2, vec![22, 0]),
-        (CurrentTooEarly, 2, vec![2, 1]),
-        (CurrentTooEarly, 2, case(&[2, 1])),
-        (CurrentTooEarly, 2, case(&[20, 1, 2, 1])),
-        (Missing, 0, vec![]),
-        (Missing, 0, vec![1, 2, 21, 1]),
-        (Missing, 0, vec![1, 2, 21, 1, 1, 2]),
-        (Missing, 0, vec![1, 2, 21, 1, 1, 2, 21, 2, 1, 0]),
-        (Missing, 0, case(&[])),
-        (Missing, 0, case(&[20, 1])),
-        (Missing, 0, case(&[20, 1, 22, 1])),
-    ];
-    let second = [&[20, 1], &CASE[..], &[20, 2]].concat();
-    list.push((BetweenPickAndSettle, 2, case(&second)));
-    let after_settle = [&[20, 1, 22, 1], &CASE[..], &[20, 1]].concat();
-    list.push((SettledAgain, 2, case(&after_settle)));
+        (SettledAgain, 2, case(&[20, 1, 22, 1, 1, 2, 21, 1])),
+        (SettledAgain, 2, case(&late_pick)),
+        (SettledAgain, 2, pick_after_let),
+    ]
+}
+
+/// Every code but 1 to 9 and pick, between a gate and its pick.
+fn intruders() -> Vec<BrokenCode> {
+    let mut list = Vec::new();
     for opcode in (10..=19).chain(21..=22) {
         let number: &[u8] = if has_operand(opcode) { &[1] } else { &[] };
         let tail = [&[1, 2, opcode], number].concat();
-        list.push((BetweenGateAndPick, 1 + number.len(), case(&tail)));
-    }
-    for opcode in [1, 2, 3] {
-        list.push((TooManyHeld, 2, [opcode, 0].repeat(HELD + 1)));
+        list.push((Breach::BetweenGateAndPick, 1 + number.len(), case(&tail)));
     }
     list
+}
+
+fn missing() -> Vec<BrokenCode> {
+    let unfinished = [
+        vec![],
+        vec![1, 2, 21, 1],
+        vec![1, 2, 21, 1, 1, 2],
+        vec![1, 2, 21, 1, 1, 2, 21, 2, 1, 0],
+        case(&[]),
+        case(&[20, 1]),
+        case(&[20, 1, 22, 1]),
+        [&[1, 2, 21, 1], &CASE[..], &[20, 2]].concat(),
+        [&[1, 2, 21, 1, 1, 2, 21, 2], &CASE[..]].concat(),
+    ];
+    unfinished
+        .into_iter()
+        .map(|code| (Breach::Missing, 0, code))
+        .collect()
 }
 
 /// A sound image with some change of bytes or of instructions. It may stay sound.
