@@ -204,6 +204,7 @@ fn missing() -> Vec<BrokenCode> {
         case(&[20, 1, 22, 1]),
         [&[1, 2, 21, 1], &CASE[..], &[20, 2]].concat(),
         [&[1, 2, 21, 1, 1, 2, 21, 2], &CASE[..]].concat(),
+        [&[1, 2, 21, 1, 1, 2, 21, 2], &CASE[..6]].concat(),
     ];
     unfinished
         .into_iter()
