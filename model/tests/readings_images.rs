@@ -316,6 +316,37 @@ fn scan_7_formulas_with_14() {
     assert_eq!(found, [false, false, true, true, false]);
 }
 
+/// "Every operation works on whole numbers and its result must be in the 32-bit signed
+/// range", also where a trace holds larger numbers.
+#[test]
+fn formulas_with_large_numbers() {
+    let step = |expression: &str, i: i64, v: i64| {
+        let text = format!("input i 0..1; var v 0..1; v: GX(v = ({expression}));");
+        let program = read_text(text.as_bytes()).unwrap();
+        satisfies(&program, &[vec![0, 0], vec![i, v]])
+    };
+    let large = 1i64 << 40;
+    assert!(step("i", large, large));
+    assert!(step("i", i64::MIN, i64::MIN));
+    assert!(!step("i + 0", large, large));
+    assert!(!step("i * 1", large, large));
+    assert!(!step("i / 1", large, large));
+    assert!(!step("-i", large, -large));
+    assert!(!step("i - 1", large, large - 1));
+    assert!(!step("i * i", i64::MAX, 1));
+    assert!(step("i mod 7", large, 2));
+    assert!(step("i mod 7", -large, -2));
+    assert!(step("7 mod i", i64::MIN, 7));
+    assert!(step("i / i", i64::MIN, 1));
+    assert!(step("i / 1024", large, 1 << 30));
+    assert!(!step("i / 512", large, 1 << 31));
+    assert!(step("i / 512", -large, -(1 << 31)));
+    assert!(!step("2147483647 + i", 1, 1 << 31));
+    assert!(step("2147483647 + i", -1, (1 << 31) - 2));
+    assert!(!step("i mod 0", large, 0));
+    assert!(!step("i / 0 * 0", 0, 0));
+}
+
 /// "A number of more than five groups is broken like any other bad number".
 #[test]
 fn scan_8_five_groups() {

@@ -4,6 +4,7 @@
 mod common;
 
 use rolvenko_model::generate::{row, state, state_in_range, text, Rng, Shape};
+use rolvenko_model::program::Body;
 use rolvenko_model::{
     check, instructions, plain_scan, read_text, scan, start, translate, write_image, Program,
 };
@@ -20,9 +21,20 @@ fn translated(text: &[u8], program: &Program) -> Vec<u8> {
     buffer
 }
 
+/// "both lists of conditions equal token by token in spelling": so are their trees.
+fn same_conditions(program: &Program) {
+    for rule in &program.rules {
+        if let Body::Change { cases, unchanged } = &rule.body {
+            let conditions = cases.iter().map(|case| &case.condition);
+            assert!(conditions.eq(unchanged.iter()));
+        }
+    }
+}
+
 /// Runs a list of rows by scan and by plain scan. Counts the rows by answer.
 fn run_rows(rng: &mut Rng, text: &[u8], rows: usize, met: &mut [usize; 19]) {
     let program = read_text(text).expect("accepted text");
+    same_conditions(&program);
     let image = translated(text, &program);
     assert_eq!(check(&image), Ok(()));
     assert!(2 * image.len() <= 3 * text.len() + 4);

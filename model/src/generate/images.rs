@@ -204,6 +204,7 @@ fn missing() -> Vec<BrokenCode> {
         case(&[20, 1, 22, 1]),
         [&[1, 2, 21, 1], &CASE[..], &[20, 2]].concat(),
         [&[1, 2, 21, 1, 1, 2, 21, 2], &CASE[..]].concat(),
+        [&[1, 2, 21, 1, 1, 2, 21, 2], &CASE[..6]].concat(),
     ];
     unfinished
         .into_iter()
@@ -311,19 +312,31 @@ pub fn random_image(rng: &mut Rng) -> Vec<u8> {
         let start = if rng.chance(10) { rng.below(5) } else { 0 };
         image.extend([rng.below(2) as u8, 4, start as u8]);
     }
-    for id in inputs..inputs + variables {
-        match rng.below(4) {
-            0 => image.extend([code::CONSTANT, 2, code::LET, id]),
-            1 => {
-                for _ in 0..1 + rng.below(3) {
-                    image.extend(CASE);
-                    image.extend([code::PICK, id]);
-                }
-                image.extend([code::SETTLE, id]);
-            }
-            2 => image.extend(any_instruction(rng)),
-            _ => image.extend([code::PREVIOUS, id, code::NEGATE, code::LET, id]),
-        }
+    for variable in inputs..inputs + variables {
+        random_rule(rng, variable, inputs + variables, &mut image);
     }
     image
+}
+
+/// Instructions of a rule for `variable`, now and then with another id.
+fn random_rule(rng: &mut Rng, variable: u8, names: u8, image: &mut Vec<u8>) {
+    let id = |rng: &mut Rng| {
+        if rng.chance(15) {
+            rng.below(usize::from(names) + 1) as u8
+        } else {
+            variable
+        }
+    };
+    match rng.below(4) {
+        0 => image.extend([code::CONSTANT, 2, code::LET, id(rng)]),
+        1 => image.extend([code::PREVIOUS, id(rng), code::NEGATE, code::LET, id(rng)]),
+        2 if rng.chance(30) => image.extend(any_instruction(rng)),
+        _ => {
+            for _ in 0..1 + rng.below(3) {
+                image.extend(CASE);
+                image.extend([code::PICK, id(rng)]);
+            }
+            image.extend([code::SETTLE, id(rng)]);
+        }
+    }
 }
