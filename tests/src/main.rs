@@ -1,0 +1,35 @@
+//! Compares every service of the archive with the reference model on generated, mutated, damaged and random input.
+//!
+//!     compare [--seed N] [--seconds S] [--least N] [SERVICE ..]
+//!
+//! Prints how often each answer was met. A difference is shrunk to a small input and printed, and the exit status is 1.
+
+mod check;
+mod compare;
+
+use compare::{Options, Table};
+use std::process::ExitCode;
+
+fn main() -> ExitCode {
+    let options = match Options::read(std::env::args().skip(1)) {
+        Ok(options) => options,
+        Err(message) => {
+            eprintln!("{message}");
+            return ExitCode::from(2);
+        }
+    };
+    let services: [(&str, fn(&Options, &mut Table) -> Result<(), String>); 1] = [("check", check::run)];
+    for (name, run) in services {
+        if !options.wants(name) {
+            continue;
+        }
+        let mut table = Table::new(name);
+        let outcome = run(&options, &mut table);
+        table.print();
+        if let Err(difference) = outcome {
+            println!("{name}: DIFFERENCE\n{difference}");
+            return ExitCode::FAILURE;
+        }
+    }
+    ExitCode::SUCCESS
+}
