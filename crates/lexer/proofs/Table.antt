@@ -4,6 +4,7 @@ use mathlib.Core.List.{List, [], _∷_, _++_}
 use mathlib.Core.Option.{none, some}
 use mathlib.Core.Bool.{true, false}
 use Prim.Native.Nat.{ℕ, zero, suc, _+_, _-_, _≤_, _<_}
+use native.Mathlib.Nat.{sub-zero}
 use native.Mathlib.Numerals.{add-one}
 use native.Mathlib.Omega.{arith}
 use lib.ListN.{length, getD, drop, set, length-set}
@@ -43,6 +44,11 @@ module _ (text starts ends : List ℕ) (n i : ℕ) (t : Table starts ends n) whe
     id-none h =
         let z : n - i ≡ 0 = omega arith in
         rw (z, names-none text (drop i starts) (drop i ends))
+
+-- all of them
+pub id-start : (text starts ends : List ℕ) (n : ℕ) (w : List ℕ) → idFrom (namesOf text (drop 0 starts) (drop 0 ends) (n - 0)) w 0 ≡ idOf (namesOf text starts ends n) w
+unfolding idOf
+id-start text starts ends n w = ap (λ (m : ℕ). idFrom (namesOf text starts ends m) w 0) (sub-zero n)
 
 -- a name more
 pub names-add : (text starts ends : List ℕ) (n s e : ℕ) → n < length starts → n < length ends → namesOf text (set starts n s) (set ends n e) (suc n) ≡ namesOf text starts ends n ++ (part text s e ∷ [])

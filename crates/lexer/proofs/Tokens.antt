@@ -53,36 +53,6 @@ module _ (text : List ℕ) (s b : ℕ) (hb : b ≡ getD text (s + 1) 0) where
     unfolding previousAt
     previous-word f = rw (← hb, h, word-is, ne-eqb _ _ f)
 
--- ---- the token at `at`, from what its reader has found on its way
-
-module _ (text : List ℕ) (at s : ℕ) (hs : s ≡ runEnd isSpace text at) where
-  pub token-end : length text ≤ s → tokenRead (Is 1 s s) ≡ tokenAt text at
-  unfolding tokenAt tokenPast kindOf
-  token-end h = rw (← hs, le-ltb _ _ h)
-
-  module _ (h : s < length text) where
-    past : tokenOf text s (getD text s 0) ≡ tokenAt text at
-    unfolding tokenAt tokenPast
-    past = rw (← hs, lt-ltb _ _ h)
-
-    pub token-word : (e k : ℕ) → isLetter (getD text s 0) ≡ true → e ≡ runEnd isAlphanumeric text s → k ≡ kindNumber (wordOf (part text s e)) → tokenRead (Is k s e) ≡ tokenAt text at
-    unfolding tokenOf wordAt
-    token-word e k l he hk = rw (← past, l, numbered _ k hk, ← he)
-
-    module _ (n1 : isLetter (getD text s 0) ≡ false) where
-      pub token-digits : (e : ℕ) → isDigit (getD text s 0) ≡ true → e ≡ runEnd isDigit text s → tokenRead (Is 4 s e) ≡ tokenAt text at
-      unfolding tokenOf digitsAt kindOf
-      token-digits e d he = rw (← past, n1, d, ← he)
-
-      module _ (n2 : isDigit (getD text s 0) ≡ false) where
-        pub token-previous : (t : Token) → getD text s 0 ≡ 95 → tokenRead t ≡ previousAt text s → tokenRead t ≡ tokenAt text at
-        unfolding tokenOf
-        token-previous t e ht = rw (← past, n1, n2, eq-eqb _ _ e) ht
-
-        pub token-sign : (t : Token) (b : ℕ) → (getD text s 0 ≡ 95 → ⊥) → b ≡ getD text (s + 1) 0 → tokenRead t ≡ signAt (getD text s 0) b s → tokenRead t ≡ tokenAt text at
-        unfolding tokenOf
-        token-sign t b f hb ht = rw (← past, n1, n2, ne-eqb _ _ f, ← hb) ht
-
 -- ---- no token is of no kind
 
 abbrev Known : Read → Type 0
@@ -153,8 +123,15 @@ module _ (text : List ℕ) (at k s n : ℕ) (e : tokenRead (Is k s n) ≡ tokenA
       inside : leb at (length text) ≡ true → Lies (length text) at k s n
       inside t =
           let m = token-at-moved text at (kindOf k) s n (leb-true _ _ t) (sym e) in
-          record { some-kind = kind-known .0; known-kind = kind-known .1; after = m .0; ordered = m .1; within = λ h. m .2;
-              moved = λ f. m .3 (λ g. f (ending-number k (kind-known .1) g)) }
+          record {
+            some-kind = kind-known .0;
+            known-kind = kind-known .1;
+            after = m .0;
+            ordered = m .1;
+            within = λ h. m .2;
+            moved = λ f. m .3 (λ g. f (ending-number k (kind-known .1) g));
+          }
+
       beyond : leb at (length text) ≡ false → Lies (length text) at k s n
       beyond t =
           let l : length text < at = leb-false _ _ t in
@@ -162,9 +139,52 @@ module _ (text : List ℕ) (at k s n : ℕ) (e : tokenRead (Is k s n) ≡ tokenA
           let gk : kindOf k ≡ ending = cc in
           let gs : s ≡ at = cc in
           let gn : n ≡ at = cc in
-          record { some-kind = kind-known .0; known-kind = kind-known .1; after = omega arith; ordered = omega arith; within = λ h. absurd (omega arith);
-              moved = λ f. absurd (f (ending-number k (kind-known .1) gk)) }
+          record {
+            some-kind = kind-known .0;
+            known-kind = kind-known .1;
+            after = omega arith;
+            ordered = omega arith;
+            within = λ h. absurd (omega arith);
+            moved = λ f. absurd (f (ending-number k (kind-known .1) gk));
+          }
 
 pub placed : (text : List ℕ) (at : ℕ) (t : Token) → tokenRead t ≡ tokenAt text at → Placed (length text) at t
 placed text at (Is k s n) e = lies text at k s n e
 placed text at (Fault p) e = tt
+
+-- ---- the token at `at`, from what its reader has found on its way
+
+-- what the reader promises of its answer
+abbrev pub Answers : List ℕ → ℕ → Token → Type 0
+Answers text at t = (tokenRead t ≡ tokenAt text at) × Placed (length text) at t
+
+answers : (text : List ℕ) (at : ℕ) (t : Token) → tokenRead t ≡ tokenAt text at → Answers text at t
+answers text at t e = (e, placed text at t e)
+
+module _ (text : List ℕ) (at s : ℕ) (hs : s ≡ runEnd isSpace text at) where
+  pub token-end : length text ≤ s → Answers text at (Is 1 s s)
+  unfolding tokenAt tokenPast kindOf
+  token-end h = answers text at (Is 1 s s) (rw (← hs, le-ltb _ _ h))
+
+  module _ (h : s < length text) where
+    past : tokenOf text s (getD text s 0) ≡ tokenAt text at
+    unfolding tokenAt tokenPast
+    past = rw (← hs, lt-ltb _ _ h)
+
+    pub token-word : (e k : ℕ) → isLetter (getD text s 0) ≡ true → e ≡ runEnd isAlphanumeric text s → k ≡ kindNumber (wordOf (part text s e)) → Answers text at (Is k s e)
+    unfolding tokenOf wordAt
+    token-word e k l he hk = answers text at (Is k s e) (rw (← past, l, numbered _ k hk, ← he))
+
+    module _ (n1 : isLetter (getD text s 0) ≡ false) where
+      pub token-digits : (e : ℕ) → isDigit (getD text s 0) ≡ true → e ≡ runEnd isDigit text s → Answers text at (Is 4 s e)
+      unfolding tokenOf digitsAt kindOf
+      token-digits e d he = answers text at (Is 4 s e) (rw (← past, n1, d, ← he))
+
+      module _ (n2 : isDigit (getD text s 0) ≡ false) (t : Token) where
+        pub token-previous : getD text s 0 ≡ 95 → tokenRead t ≡ previousAt text s → Answers text at t
+        unfolding tokenOf
+        token-previous e ht = answers text at t (rw (← past, n1, n2, eq-eqb _ _ e) ht)
+
+        pub token-sign : (b : ℕ) → (getD text s 0 ≡ 95 → ⊥) → b ≡ getD text (s + 1) 0 → tokenRead t ≡ signAt (getD text s 0) b s → Answers text at t
+        unfolding tokenOf
+        token-sign b f hb ht = answers text at t (rw (← past, n1, n2, ne-eqb _ _ f, ← hb) ht)

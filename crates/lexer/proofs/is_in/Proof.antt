@@ -1,43 +1,36 @@
+-- `lexer::is_in` meets its contract. Assumes nothing.
 use borrow.Author.Needs.{needs}
+use mathlib.Core.Path.{sym, _∙_}
+use borrow.Author.Tests.{ne-eqb}
+use Rattle.lexer.specs.Lexer.{isAlphanumeric}
 use Rattle.lexer.proofs.is_in.Statement.{statement}
 use Rattle.lexer.proofs.is_in.Tie as tie
-use Rattle.lexer.proofs.is_in.Reads as reads
-use Rattle.lexer.proofs.is_in.Lts as lts
-use Rattle.lexer.proofs.is_digit.Reads as is-digit-reads
-use Rattle.lexer.proofs.is_letter.Reads as is-letter-reads
-use Rattle.lexer.proofs.is_space.Reads as is-space-reads
 
--- src/lib.rt:112:9
 is-space-requires : tie.Need-is-space-requires
 is-space-requires c κs = search needs
 
--- src/lib.rt:112:9
 returns : tie.Need-returns
-returns c = ?
+returns c = rw (c .before .if1 .taken) (c .is-space .ensures)
 
--- src/lib.rt:115:9
 is-digit-requires : tie.Need-is-digit-requires
 is-digit-requires c κs = search needs
 
--- src/lib.rt:115:9
 returns-2 : tie.Need-returns-2
-returns-2 c = ?
+returns-2 c = rw (c .before .if2 .taken) (c .is-digit .ensures)
 
--- src/lib.rt:117:8
 is-letter-requires : tie.Need-is-letter-requires
 is-letter-requires c κs = search needs
 
--- src/lib.rt:118:9
 returns-3 : tie.Need-returns-3
-returns-3 c = ?
+unfolding isAlphanumeric
+returns-3 c = rw (ne-eqb _ _ (c .before .before .before .if1 .left), ne-eqb _ _ (c .before .before .if2 .left), sym (c .before .is-letter .ensures) ∙ c .if3 .taken)
 
--- src/lib.rt:120:5
 is-digit-requires-2 : tie.Need-is-digit-requires-2
 is-digit-requires-2 c κs = search needs
 
--- src/lib.rt:108:1
 returns-4 : tie.Need-returns-4
-returns-4 c = ?
+unfolding isAlphanumeric
+returns-4 c = rw (ne-eqb _ _ (c .before .before .before .before .if1 .left), ne-eqb _ _ (c .before .before .before .if2 .left), sym (c .before .before .is-letter .ensures) ∙ c .before .if3 .left) (c .is-digit2 .ensures)
 
 pub is-in-spec : {M : Type 1} → statement M
 is-in-spec =

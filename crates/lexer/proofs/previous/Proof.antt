@@ -1,49 +1,40 @@
+-- `lexer::previous` meets its contract. Assumes nothing.
 use borrow.Author.Needs.{needs}
+use mathlib.Core.Path.{ap, sym, _∙_}
+use mathlib.Core.List.{List}
+use Prim.Native.Nat.{ℕ}
+use Rattle.lexer.specs.Token.{kindNumber}
+use Rattle.lexer.specs.Lexer.{wordOf}
+use Rattle.lexer.proofs.Tokens.{previous-lone, previous-name, previous-word}
 use Rattle.lexer.proofs.previous.Statement.{statement}
 use Rattle.lexer.proofs.previous.Tie as tie
-use Rattle.lexer.proofs.previous.Reads as reads
-use Rattle.lexer.proofs.previous.Lts as lts
-use Rattle.lexer.proofs.byte_at.Reads as byte-at-reads
-use Rattle.lexer.proofs.is_letter.Reads as is-letter-reads
-use Rattle.lexer.proofs.name.Reads as name-reads
-use Rattle.lexer.proofs.run.Reads as run-reads
-use Rattle.lexer.proofs.word.Reads as word-reads
 
--- src/lib.rt:294:16
 add-from : tie.Need-add-from
 add-from c = search needs
 
--- src/lib.rt:295:18
 byte-at-requires : tie.Need-byte-at-requires
 byte-at-requires c κs = search needs
 
--- src/lib.rt:295:8
 is-letter-requires : tie.Need-is-letter-requires
 is-letter-requires c κs = search needs
 
--- src/lib.rt:296:13
 run-requires : tie.Need-run-requires
 run-requires c κs = search needs
 
--- src/lib.rt:297:17
 name-requires : tie.Need-name-requires
 name-requires c κs = search needs
 
--- src/lib.rt:297:12
 word-requires : tie.Need-word-requires
 word-requires c κs = search needs
 
--- src/lib.rt:298:13
 returns : tie.Need-returns
-returns c = ?
+returns c = previous-name (c .before .before .before .before .before .before .before .before .args .text .now) (c .before .before .before .before .before .before .before .before .args .s) _ (c .before .before .before .before .before .before .byte-at .ensures) _ _ (sym (c .before .before .before .before .before .is-letter .ensures) ∙ c .before .before .before .before .if1 .taken) (c .before .before .before .run .ensures) (c .before .word .ensures ∙ ap (λ (w : List ℕ). kindNumber (wordOf w)) (c .before .before .name .ensures)) (c .if2 .taken)
 
--- src/lib.rt:300:9
 returns-2 : tie.Need-returns-2
-returns-2 c = ?
+returns-2 c = previous-word (c .before .before .before .before .before .before .before .before .args .text .now) (c .before .before .before .before .before .before .before .before .args .s) _ (c .before .before .before .before .before .before .byte-at .ensures) _ _ (sym (c .before .before .before .before .before .is-letter .ensures) ∙ c .before .before .before .before .if1 .taken) (c .before .before .before .run .ensures) (c .before .word .ensures ∙ ap (λ (w : List ℕ). kindNumber (wordOf w)) (c .before .before .name .ensures)) (c .if2 .left)
 
--- src/lib.rt:290:1
 returns-3 : tie.Need-returns-3
-returns-3 c = ?
+returns-3 c = previous-lone (c .before .before .before .before .args .text .now) (c .before .before .before .before .args .s) _ (c .before .before .byte-at .ensures) (sym (c .before .is-letter .ensures) ∙ c .if1 .left)
 
 pub previous-spec : {M : Type 1} → statement M
 previous-spec =

@@ -1,84 +1,64 @@
+-- `lexer::token_at` meets its contract. Assumes nothing.
 use borrow.Author.Needs.{needs}
+use mathlib.Core.Path.{ap, sym, _∙_}
+use mathlib.Core.List.{List}
+use Prim.Native.Nat.{ℕ}
+use Rattle.lexer.specs.Token.{kindNumber}
+use Rattle.lexer.specs.Lexer.{wordOf}
+use Rattle.lexer.proofs.Tokens.{token-end, token-word, token-digits, token-previous, token-sign}
 use Rattle.lexer.proofs.token_at.Statement.{statement}
 use Rattle.lexer.proofs.token_at.Tie as tie
-use Rattle.lexer.proofs.token_at.Reads as reads
-use Rattle.lexer.proofs.token_at.Lts as lts
-use Rattle.lexer.proofs.byte_at.Reads as byte-at-reads
-use Rattle.lexer.proofs.is_digit.Reads as is-digit-reads
-use Rattle.lexer.proofs.is_letter.Reads as is-letter-reads
-use Rattle.lexer.proofs.name.Reads as name-reads
-use Rattle.lexer.proofs.previous.Reads as previous-reads
-use Rattle.lexer.proofs.run.Reads as run-reads
-use Rattle.lexer.proofs.sign_at.Reads as sign-at-reads
-use Rattle.lexer.proofs.word.Reads as word-reads
 
--- src/lib.rt:310:9
 run-requires : tie.Need-run-requires
 run-requires c κs = search needs
 
--- src/lib.rt:312:9
 returns : tie.Need-returns
-returns c = ?
+returns c = token-end (c .before .before .before .args .text .now) (c .before .before .before .args .at) _ (c .before .run .ensures) (c .if1 .taken)
 
--- src/lib.rt:314:13
 shared-slice-read-b : tie.Need-shared-slice-read-b
 shared-slice-read-b c = search needs
 
--- src/lib.rt:315:8
 is-letter-requires : tie.Need-is-letter-requires
 is-letter-requires c κs = search needs
 
--- src/lib.rt:316:13
 run-requires-2 : tie.Need-run-requires-2
 run-requires-2 c κs = search needs
 
--- src/lib.rt:317:31
 name-requires : tie.Need-name-requires
 name-requires c κs = search needs
 
--- src/lib.rt:317:26
 word-requires : tie.Need-word-requires
 word-requires c κs = search needs
 
--- src/lib.rt:317:9
 returns-2 : tie.Need-returns-2
-returns-2 c = ?
+returns-2 c = token-word (c .before .before .before .before .before .before .before .before .before .args .text .now) (c .before .before .before .before .before .before .before .before .before .args .at) _ (c .before .before .before .before .before .before .before .run .ensures) (c .before .before .before .before .before .before .if1 .left) _ _ (sym (c .before .before .before .before .is-letter .ensures) ∙ c .before .before .before .if2 .taken) (c .before .before .run2 .ensures) (c .word .ensures ∙ ap (λ (w : List ℕ). kindNumber (wordOf w)) (c .before .name .ensures))
 
--- src/lib.rt:319:8
 is-digit-requires : tie.Need-is-digit-requires
 is-digit-requires c κs = search needs
 
--- src/lib.rt:320:37
 run-requires-3 : tie.Need-run-requires-3
 run-requires-3 c κs = search needs
 
--- src/lib.rt:320:9
 returns-3 : tie.Need-returns-3
-returns-3 c = ?
+returns-3 c = token-digits (c .before .before .before .before .before .before .before .before .before .args .text .now) (c .before .before .before .before .before .before .before .before .before .args .at) _ (c .before .before .before .before .before .before .before .run .ensures) (c .before .before .before .before .before .before .if1 .left) (sym (c .before .before .before .before .is-letter .ensures) ∙ c .before .before .before .if2 .left) _ (sym (c .before .before .is-digit .ensures) ∙ c .before .if3 .taken) (c .run3 .ensures)
 
--- src/lib.rt:323:9
 previous-requires : tie.Need-previous-requires
 previous-requires c κs = search needs
 
--- src/lib.rt:323:9
 returns-4 : tie.Need-returns-4
-returns-4 c = ?
+returns-4 c = token-previous (c .before .before .before .before .before .before .before .before .before .before .args .text .now) (c .before .before .before .before .before .before .before .before .before .before .args .at) _ (c .before .before .before .before .before .before .before .before .run .ensures) (c .before .before .before .before .before .before .before .if1 .left) (sym (c .before .before .before .before .before .is-letter .ensures) ∙ c .before .before .before .before .if2 .left) (sym (c .before .before .before .is-digit .ensures) ∙ c .before .before .if3 .left) (c .previous .result) (c .before .if4 .taken) (c .previous .ensures)
 
--- src/lib.rt:325:30
 add-byte-at : tie.Need-add-byte-at
 add-byte-at c = search needs
 
--- src/lib.rt:325:16
 byte-at-requires : tie.Need-byte-at-requires
 byte-at-requires c κs = search needs
 
--- src/lib.rt:325:5
 sign-at-requires : tie.Need-sign-at-requires
 sign-at-requires c κs = search needs
 
--- src/lib.rt:306:1
 returns-5 : tie.Need-returns-5
-returns-5 c = ?
+returns-5 c = token-sign (c .before .before .before .before .before .before .before .before .before .before .before .args .text .now) (c .before .before .before .before .before .before .before .before .before .before .before .args .at) _ (c .before .before .before .before .before .before .before .before .before .run .ensures) (c .before .before .before .before .before .before .before .before .if1 .left) (sym (c .before .before .before .before .before .before .is-letter .ensures) ∙ c .before .before .before .before .before .if2 .left) (sym (c .before .before .before .before .is-digit .ensures) ∙ c .before .before .before .if3 .left) (c .sign-at .result) _ (c .before .before .if4 .left) (c .before .byte-at .ensures) (c .sign-at .ensures)
 
 pub token-at-spec : {M : Type 1} → statement M
 token-at-spec =
