@@ -1,5 +1,5 @@
 -- The ways through the reader of tokens, and where a token that it answers stands. Assumes nothing.
-use mathlib.Core.Path.{_≡_, refl, sym, _∙_, subst}
+use mathlib.Core.Path.{_≡_, refl, ap, sym, _∙_, subst}
 use mathlib.Core.List.{List, [], _∷_}
 use mathlib.Core.Bool.{true, false}
 use Prim.Native.Nat.{ℕ, _+_, _-_, _≤_, _<_}
@@ -187,3 +187,12 @@ module _ (text : List ℕ) (at s : ℕ) (hs : s ≡ runEnd isSpace text at) wher
         pub token-sign : (b : ℕ) → (getD text s 0 ≡ 95 → ⊥) → b ≡ getD text (s + 1) 0 → tokenRead t ≡ signAt (getD text s 0) b s → Answers text at t
         unfolding tokenOf
         token-sign b f hb ht = answers text at t (rw (← past, n1, n2, ne-eqb _ _ f, ← hb) ht)
+
+-- ---- for callers: what an answer says once it is taken apart
+
+module _ (text : List ℕ) (at : ℕ) (t : Token) (a : Answers text at t) where
+  pub is-token : (k s n : ℕ) → t ≡ Is k s n → (tokenAt text at ≡ token (kindOf k) s n) × Lies (length text) at k s n
+  is-token k s n e = (sym (a .0) ∙ ap tokenRead e, subst (Placed (length text) at) e (a .1))
+
+  pub is-fault : (p : ℕ) → t ≡ Fault p → tokenAt text at ≡ fault p
+  is-fault p e = sym (a .0) ∙ ap tokenRead e
