@@ -67,7 +67,7 @@ fn short_buffers() {
     assert_eq!(translate(b" ", &mut [0]), Err(Refusal::new(10, 1)));
 }
 
-/// Start and scan of damaged images, with states and rows of any kind.
+/// Start and scan of sound and damaged images, with states and rows of any kind.
 #[test]
 fn start_and_scan_leave_the_state() {
     let mut met = [0; 19];
@@ -77,7 +77,10 @@ fn start_and_scan_leave_the_state() {
         let text = text(&mut rng, shape);
         let program = read_text(&text).unwrap();
         let sound = write_image(&program);
-        let image = damaged_image(&mut rng, &sound);
+        let image = match seed % 2 {
+            0 => damaged_image(&mut rng, &sound),
+            _ => sound,
+        };
         let ranges = program.ranges();
         let lent = state(&mut rng, &ranges);
         let row = row(&mut rng, &ranges[..program.inputs]);
@@ -106,5 +109,5 @@ fn start_and_scan_leave_the_state() {
         }
     }
     println!("refusals: {met:?}");
-    assert!(met[11] > 2000 && met[12] > 100 && met[18] > 20);
+    assert!(met[11] > 2000 && met[12..=18].iter().all(|&count| count > 50));
 }

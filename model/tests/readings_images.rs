@@ -310,6 +310,9 @@ fn scan_7_formulas_with_14() {
         assert_eq!(step(&not_needed, v), v == 0);
         assert!(!step("var v 0..1; v: GX(v = (1 / _v));", v));
     }
+    // Two cases that hold, one with 14 in its expression.
+    let both = change(&[("1 = 1", "1 / _v"), ("1 = 1", "2")]);
+    assert!((-1..4).all(|v| !step(&both, v)));
     // Two cases that hold: one of them is enough for the formula.
     let two = change(&[("1 = 1", "1"), ("1 = 1", "2")]);
     let found: Vec<bool> = (-1..4).map(|v| step(&two, v)).collect();

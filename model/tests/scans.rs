@@ -85,6 +85,20 @@ fn scan_equals_plain_scan() {
     assert_eq!(met.iter().sum::<usize>(), 48_000);
 }
 
+#[test]
+fn texts_of_many_names() {
+    let mut met = [0; 19];
+    let mut most = 0;
+    for seed in 0..150 {
+        let mut rng = Rng::new(500_000 + seed);
+        let text = text(&mut rng, Shape::MANY);
+        most = most.max(read_text(&text).expect("accepted text").names.len());
+        run_rows(&mut rng, &text, 5, &mut met);
+    }
+    println!("rows by answer: {met:?}, at most {most} names");
+    assert!(most > 55 && met.iter().sum::<usize>() == 750);
+}
+
 /// From any state in range, scan and plain scan agree; 18 and 12 of a bad state are the
 /// scan's alone.
 #[test]

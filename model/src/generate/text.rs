@@ -1,6 +1,7 @@
 //! Random texts that the translator accepts.
 
 use super::Rng;
+use crate::TEXT_LIMIT;
 
 /// Size and kind of random texts.
 #[derive(Clone, Copy, Debug, PartialEq, Eq)]
@@ -42,7 +43,16 @@ impl Shape {
         reach: 2_147_483_647,
     };
 
-    /// One of the three.
+    /// Up to 64 names.
+    pub const MANY: Shape = Shape {
+        inputs: 30,
+        variables: 34,
+        cases: 2,
+        brackets: 1,
+        reach: 99,
+    };
+
+    /// TINY, SMALL or WIDE.
     pub fn any(rng: &mut Rng) -> Shape {
         *rng.choose(&[Shape::TINY, Shape::SMALL, Shape::WIDE])
     }
@@ -50,8 +60,13 @@ impl Shape {
 
 /// A random accepted text.
 pub fn text(rng: &mut Rng, shape: Shape) -> Vec<u8> {
-    let tokens = text_tokens(rng, shape);
-    render(rng, &tokens)
+    loop {
+        let tokens = text_tokens(rng, shape);
+        let text = render(rng, &tokens);
+        if text.len() <= TEXT_LIMIT {
+            return text;
+        }
+    }
 }
 
 /// The tokens of a random accepted text.
@@ -96,8 +111,9 @@ fn merge(left: &[u8], right: &[u8]) -> bool {
         return false;
     };
     let alphanumeric = a.is_ascii_alphanumeric() && b.is_ascii_alphanumeric();
+    let digits_end = left[0].is_ascii_digit() && b.is_ascii_alphabetic();
     let pair = matches!(&[a, b], b".." | b"->" | b"<=" | b">=" | b"<>");
-    alphanumeric || pair || a == b'_'
+    alphanumeric && !digits_end || pair || a == b'_'
 }
 
 fn white_space(rng: &mut Rng, needed: bool, text: &mut Vec<u8>) {
