@@ -9,7 +9,7 @@ ghost use Rattle.limits.specs.Limits.{imageLimit, nameLimit};
 ghost use Rattle.semantics.specs.Program.{knownFirst};
 ghost use Rattle.bytecode.specs.Check.{known as knownAs, complete as completeOf, checkCode, checkOf};
 ghost use Rattle.checker.specs.Represented.{knownOf, Small};
-ghost use Rattle.checker.specs.Results.{checkedAnswer};
+ghost use Rattle.checker.specs.Results.{checkedAnswer, CheckedWithin};
 use advance::Advanced;
 use advance::Walk;
 
@@ -53,6 +53,7 @@ fn complete(w: Walk) -> bool
 fn check_code(code: &[u8], base: usize, inputs: usize, names: usize) -> Checked
     requires { ⌜ (inputs ≤ names) × (names ≤ nameLimit) × (base + length (now code) ≤ imageLimit) ⌝ }
     ensures { λ r. ⌜ checkedAnswer r ≡ checkCode base (now (code .entry)) (length (now (code .entry))) 0 (knownAs [] false none (knownFirst inputs names)) ⌝ }
+    ensures { λ r. ⌜ CheckedWithin r ⌝ }
 {
     let mut at = 0;
     let mut w = Walk {
@@ -81,6 +82,7 @@ fn check_code(code: &[u8], base: usize, inputs: usize, names: usize) -> Checked
 
 pub fn check(image: &[u8]) -> Checked
     ensures { λ r. ⌜ checkedAnswer r ≡ checkOf (now (image .entry)) ⌝ }
+    ensures { λ r. ⌜ CheckedWithin r ⌝ }
 {
     if 65536 < image.len() {
         return Checked::Refused(9, 0);

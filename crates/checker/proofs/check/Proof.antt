@@ -9,7 +9,7 @@ use Rattle.checker.proofs.check.Statement.{statement}
 use Rattle.checker.proofs.check.Tie as tie
 
 returns : tie.Need-returns
-returns c = too-long _ (c .if1 .taken)
+returns c = (too-long _ (c .if1 .taken), omega arith)
 
 header-requires : tie.Need-header-requires
 header-requires c κs = search needs
@@ -35,13 +35,15 @@ check-code-requires c κs =
     (h .inputs-named, h .few, rw (rest-of (c .before .before .before .before .before .before .before .args .image .now) (c .before .before .inputs .given .0 .1 .1 .0), length-drop) (omega (arith, h .inside, c .before .before .before .before .before .if1 .left)))
 
 returns-2 : tie.Need-returns-2
-returns-2 c = broken-header _ (c .before .before .before .before .if1 .left) _ (sym (ap headedAnswer (c .before .place .given .1)) ∙ c .before .before .before .header .ensures .0)
+returns-2 c =
+    let i = subst (HeadedWithin (length (c .before .before .before .before .before .before .args .image .now))) (c .before .place .given .1) (c .before .before .before .header .ensures .1) in
+    (broken-header _ (c .before .before .before .before .if1 .left) _ (sym (ap headedAnswer (c .before .place .given .1)) ∙ c .before .before .before .header .ensures .0), omega (arith, i, c .before .before .before .before .if1 .left))
 
 returns-3 : tie.Need-returns-3
 returns-3 c =
     let n = c .before .before .before .inputs .given .0 in
     let b = c .before .before .before .before .before .before .before .before .args .image .now in
-    rw (whole-header b (c .before .before .before .before .before .before .if1 .left) (n .0) (n .1 .0) (n .1 .1 .0) (sym (ap headedAnswer (c .before .before .before .inputs .given .1)) ∙ c .before .before .before .before .before .header .ensures .0), ← (rest-of b (n .1 .1 .0))) (c .check-code .ensures)
+    (rw (whole-header b (c .before .before .before .before .before .before .if1 .left) (n .0) (n .1 .0) (n .1 .1 .0) (sym (ap headedAnswer (c .before .before .before .inputs .given .1)) ∙ c .before .before .before .before .before .header .ensures .0), ← (rest-of b (n .1 .1 .0))) (c .check-code .ensures .0), c .check-code .ensures .1)
 
 pub check-spec : {M : Type 1} → statement M
 check-spec =

@@ -38,7 +38,7 @@ add-t17 : tie.Need-add-t17 Inv-loop μ-loop
 add-t17 c = omega (arith, c .before .before .before .before .loop .inv .inside, c .before .before .before .before .before .before .before .pre .2)
 
 returns : tie.Need-returns Inv-loop μ-loop
-returns c = walking-malformed (c .before .before .before .before .loop .inv) (c .before .before .before .loop-test .taken) (sym (c .before .before .fetch .ensures .0) ∙ ap fetchedRead (c .enum-told .given .1))
+returns c = (walking-malformed (c .before .before .before .before .loop .inv) (c .before .before .before .loop-test .taken) (sym (c .before .before .fetch .ensures .0) ∙ ap fetchedRead (c .enum-told .given .1)), omega (arith, c .before .before .before .before .loop .inv .inside, c .before .before .before .before .before .before .before .pre .2))
 
 advance-requires : tie.Need-advance-requires Inv-loop μ-loop
 advance-requires c κs = (c .before .before .before .before .before .loop .inv .small, subst (FetchedWithin (length (c .before .before .before .before .before .before .before .before .args .code .now)) (c .before .before .before .before .before .loop .at)) (c .before .byte .given .1) (c .before .before .before .fetch .ensures .1) .operand)
@@ -53,9 +53,11 @@ add-t19 : tie.Need-add-t19 Inv-loop μ-loop
 add-t19 c = omega (arith, c .before .before .before .before .before .before .before .before .loop .inv .inside, c .before .before .before .before .before .before .before .before .before .before .before .pre .2)
 
 returns-2 : tie.Need-returns-2 Inv-loop μ-loop
-returns-2 c =
-    walking-broken (c .before .before .before .before .before .before .before .before .loop .inv) (instructionOf (c .before .before .before .before .byte .given .0 .0) (c .before .before .before .before .byte .given .0 .1 .0)) (c .before .before .before .before .byte .given .0 .1 .1 .0) (c .before .before .before .before .before .before .before .loop-test .taken) (sym (c .before .before .before .before .before .before .fetch .ensures .0) ∙ ap fetchedRead (c .before .before .before .before .byte .given .1))
-    (sym (c .before .before .advance .ensures .0) ∙ ap advancedKnown (c .enum-told2 .given .1))
+returns-2 c = (
+  walking-broken (c .before .before .before .before .before .before .before .before .loop .inv) (instructionOf (c .before .before .before .before .byte .given .0 .0) (c .before .before .before .before .byte .given .0 .1 .0)) (c .before .before .before .before .byte .given .0 .1 .1 .0) (c .before .before .before .before .before .before .before .loop-test .taken) (sym (c .before .before .before .before .before .before .fetch .ensures .0) ∙ ap fetchedRead (c .before .before .before .before .byte .given .1))
+      (sym (c .before .before .advance .ensures .0) ∙ ap advancedKnown (c .enum-told2 .given .1)),
+  omega (arith, c .before .before .before .before .before .before .before .before .loop .inv .inside, c .before .before .before .before .before .before .before .before .before .before .before .pre .2),
+)
 
 loop-less : tie.Need-loop-less Inv-loop μ-loop
 loop-less c =
@@ -72,13 +74,16 @@ complete-requires : tie.Need-complete-requires Inv-loop μ-loop
 complete-requires c κs = c .before .loop .inv .small
 
 returns-3 : tie.Need-returns-3 Inv-loop μ-loop
-returns-3 c = sym (walking-ends (c .before .before .before .loop .inv) (c .before .before .loop-test .left) ∙ rw (sym (c .before .complete .ensures) ∙ c .if1 .taken))
+returns-3 c = (sym (walking-ends (c .before .before .before .loop .inv) (c .before .before .loop-test .left) ∙ rw (sym (c .before .complete .ensures) ∙ c .if1 .taken)), tt)
 
 add-t21 : tie.Need-add-t21 Inv-loop μ-loop
 add-t21 c = omega (arith, c .before .before .before .loop .inv .inside, c .before .before .before .before .before .before .pre .2)
 
 returns-4 : tie.Need-returns-4 Inv-loop μ-loop
-returns-4 c = sym (walking-ends (c .before .before .before .loop .inv) (c .before .before .loop-test .left) ∙ rw (sym (c .before .complete .ensures) ∙ c .if1 .left))
+returns-4 c = (
+  sym (walking-ends (c .before .before .before .loop .inv) (c .before .before .loop-test .left) ∙ rw (sym (c .before .complete .ensures) ∙ c .if1 .left)),
+  omega (arith, c .before .before .before .loop .inv .inside, c .before .before .before .before .before .before .pre .2),
+)
 
 pub check-code-spec : {M : Type 1} → statement M
 check-code-spec =
