@@ -35,7 +35,8 @@ fn compare(image: &[u8], table: &mut Table) -> Result<(), String> {
 }
 
 fn small_image(rng: &mut Rng) -> Vec<u8> {
-    let source = text(rng, Shape::any(rng));
+    let shape = Shape::any(rng);
+    let source = text(rng, shape);
     read_text(&source).map(|p| write_image(&p)).expect("a generated text is accepted")
 }
 

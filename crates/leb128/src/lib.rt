@@ -52,6 +52,13 @@ fn group(s: &[u8], at: usize, left: usize) -> Unsigned
 pub fn unsigned_at(s: &[u8], at: usize) -> Unsigned
     ensures { λ r. ⌜ unsignedRead r ≡ numberAt (now (s .entry)) at ⌝ }
 {
+    // most numbers of an image have one group
+    if at < s.len() {
+        let b = wide(s[at]);
+        if b < 128 {
+            return Unsigned::Number(b, at + 1);
+        }
+    }
     let Unsigned::Number(v, next) = group(s, at, 5) else {
         return Unsigned::Malformed;
     };
