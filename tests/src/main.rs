@@ -6,6 +6,9 @@
 
 mod check;
 mod compare;
+mod scan;
+mod trace;
+mod translate;
 
 use compare::{Options, Table};
 use std::process::ExitCode;
@@ -18,7 +21,8 @@ fn main() -> ExitCode {
             return ExitCode::from(2);
         }
     };
-    let services: [(&str, fn(&Options, &mut Table) -> Result<(), String>); 1] = [("check", check::run)];
+    let services: [(&str, fn(&Options, &mut Table) -> Result<(), String>); 4] =
+        [("translate", translate::run), ("check", check::run), ("scan", scan::run), ("trace", trace::run)];
     for (name, run) in services {
         if !options.wants(name) {
             continue;

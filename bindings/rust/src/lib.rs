@@ -8,9 +8,27 @@ pub struct Refusal {
     pub place: usize,
 }
 
+/// A refused scan: number, place (0 but for 9 and 11), and the steps up to and including the refusing instruction.
+#[derive(Clone, Copy, Debug, PartialEq, Eq)]
+pub struct ScanRefusal {
+    pub number: u8,
+    pub place: usize,
+    pub steps: u32,
+}
+
 mod archive {
     extern "C" {
+        pub fn rolvenko_translate(text: *const u8, text_len: usize, image: *mut u8, image_len: usize) -> u64;
         pub fn rolvenko_check(image: *const u8, image_len: usize) -> u64;
+        pub fn rolvenko_start(image: *const u8, image_len: usize, state: *mut i32, state_len: usize) -> u64;
+        pub fn rolvenko_scan(
+            image: *const u8,
+            image_len: usize,
+            state: *mut i32,
+            state_len: usize,
+            row: *const i32,
+            row_len: usize,
+        ) -> u64;
     }
 }
 
@@ -42,8 +60,45 @@ fn counted(answer: u64) -> Result<u32, Refusal> {
     }
 }
 
+/// Translates a rule text and writes its image to the first bytes of `image`; answers the image's length. A refusal (1 to 10)
+/// leaves `image` as it was; a buffer of 49,154 bytes is enough for every text.
+pub fn translate(text: &[u8], image: &mut [u8]) -> Result<usize, Refusal> {
+    // The function reads `text_len` bytes at `text` and reads and writes `image_len` bytes at `image`.
+    let answer = unsafe { archive::rolvenko_translate(text.as_ptr(), text.len(), image.as_mut_ptr(), image.len()) };
+    counted(answer).map(|length| length as usize)
+}
+
 /// Whether an image is sound; 9 or 11 with its place if not.
 pub fn check(image: &[u8]) -> Result<(), Refusal> {
     // The function reads `image_len` bytes at `image` and writes nothing.
     counted(unsafe { archive::rolvenko_check(image.as_ptr(), image.len()) }).map(|_| ())
+}
+
+/// Writes the declared starts of an image to `state`, which has one number for each name. A refusal (9, 11, 12) leaves it as it was.
+pub fn start(image: &[u8], state: &mut [i32]) -> Result<(), Refusal> {
+    // The function reads `image_len` bytes at `image` and reads and writes `state_len` numbers at `state`.
+    let answer = unsafe { archive::rolvenko_start(image.as_ptr(), image.len(), state.as_mut_ptr(), state.len()) };
+    counted(answer).map(|_| ())
+}
+
+/// Scans a row of inputs: the state becomes the next one, and the steps are answered. A refusal (9, 11 to 18) leaves the state as
+/// it was.
+pub fn scan(image: &[u8], state: &mut [i32], row: &[i32]) -> Result<u32, ScanRefusal> {
+    // As for `start`, and it reads `row_len` numbers at `row`.
+    let Parts {
+        number,
+        place,
+        count,
+    } = parts(unsafe {
+        archive::rolvenko_scan(image.as_ptr(), image.len(), state.as_mut_ptr(), state.len(), row.as_ptr(), row.len())
+    });
+    if number == 0 {
+        Ok(count)
+    } else {
+        Err(ScanRefusal {
+            number,
+            place,
+            steps: count,
+        })
+    }
 }
