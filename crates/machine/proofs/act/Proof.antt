@@ -1,0 +1,246 @@
+use borrow.Author.Needs.{needs}
+use Rattle.machine.proofs.act.Statement.{statement}
+use Rattle.machine.proofs.act.Tie as tie
+use Rattle.machine.proofs.act.Reads as reads
+use Rattle.machine.proofs.act.Lts as lts
+use Rattle.leb128.proofs.unzigzag.Reads as unzigzag-reads
+use Rattle.machine.proofs.assign.Reads as assign-reads
+use Rattle.machine.proofs.calculate.Reads as calculate-reads
+use Rattle.machine.proofs.gate.Reads as gate-reads
+use Rattle.machine.proofs.invert.Reads as invert-reads
+use Rattle.machine.proofs.load.Reads as load-reads
+use Rattle.machine.proofs.negate.Reads as negate-reads
+use Rattle.machine.proofs.pick.Reads as pick-reads
+use Rattle.machine.proofs.push.Reads as push-reads
+use Rattle.machine.proofs.relate.Reads as relate-reads
+use Rattle.machine.proofs.settle.Reads as settle-reads
+
+-- src/lib.rt:354:28
+unzigzag-requires : tie.Need-unzigzag-requires
+unzigzag-requires c κs = search needs
+
+-- src/lib.rt:354:14
+push-requires : tie.Need-push-requires
+push-requires c κs = search needs
+
+-- src/lib.rt:355:14
+load-requires : tie.Need-load-requires
+load-requires c κs = search needs
+
+-- src/lib.rt:356:14
+load-requires-2 : tie.Need-load-requires-2
+load-requires-2 c κs = search needs
+
+-- src/lib.rt:358:14
+negate-requires : tie.Need-negate-requires
+negate-requires c κs = search needs
+
+-- src/lib.rt:360:15
+invert-requires : tie.Need-invert-requires
+invert-requires c κs = search needs
+
+-- src/lib.rt:361:15
+relate-requires : tie.Need-relate-requires
+relate-requires c κs = search needs
+
+-- src/lib.rt:362:15
+relate-requires-2 : tie.Need-relate-requires-2
+relate-requires-2 c κs = search needs
+
+-- src/lib.rt:363:15
+gate-requires : tie.Need-gate-requires
+gate-requires c κs = search needs
+
+-- src/lib.rt:364:15
+pick-requires : tie.Need-pick-requires
+pick-requires c κs = search needs
+
+-- src/lib.rt:365:15
+assign-requires : tie.Need-assign-requires
+assign-requires c κs = search needs
+
+-- src/lib.rt:366:15
+settle-requires : tie.Need-settle-requires
+settle-requires c κs = search needs
+
+-- src/lib.rt:357:18
+calculate-requires : tie.Need-calculate-requires
+calculate-requires c κs = search needs
+
+-- src/lib.rt:359:20
+relate-requires-3 : tie.Need-relate-requires-3
+relate-requires-3 c κs = search needs
+
+-- src/lib.rt:346:1
+same-length : tie.Need-same-length
+same-length c = search needs
+
+-- src/lib.rt:346:1
+returns : tie.Need-returns
+returns c = ?
+
+-- src/lib.rt:346:1
+same-length-2 : tie.Need-same-length-2
+same-length-2 c = search needs
+
+-- src/lib.rt:346:1
+same-length-3 : tie.Need-same-length-3
+same-length-3 c = search needs
+
+-- src/lib.rt:346:1
+returns-2 : tie.Need-returns-2
+returns-2 c = ?
+
+-- src/lib.rt:346:1
+same-length-4 : tie.Need-same-length-4
+same-length-4 c = search needs
+
+-- src/lib.rt:346:1
+returns-3 : tie.Need-returns-3
+returns-3 c = ?
+
+-- src/lib.rt:346:1
+same-length-5 : tie.Need-same-length-5
+same-length-5 c = search needs
+
+-- src/lib.rt:346:1
+returns-4 : tie.Need-returns-4
+returns-4 c = ?
+
+-- src/lib.rt:346:1
+same-length-6 : tie.Need-same-length-6
+same-length-6 c = search needs
+
+-- src/lib.rt:346:1
+returns-5 : tie.Need-returns-5
+returns-5 c = ?
+
+-- src/lib.rt:346:1
+same-length-7 : tie.Need-same-length-7
+same-length-7 c = search needs
+
+-- src/lib.rt:346:1
+returns-6 : tie.Need-returns-6
+returns-6 c = ?
+
+-- src/lib.rt:346:1
+same-length-8 : tie.Need-same-length-8
+same-length-8 c = search needs
+
+-- src/lib.rt:346:1
+returns-7 : tie.Need-returns-7
+returns-7 c = ?
+
+-- src/lib.rt:346:1
+same-length-9 : tie.Need-same-length-9
+same-length-9 c = search needs
+
+-- src/lib.rt:346:1
+returns-8 : tie.Need-returns-8
+returns-8 c = ?
+
+-- src/lib.rt:346:1
+same-length-10 : tie.Need-same-length-10
+same-length-10 c = search needs
+
+-- src/lib.rt:346:1
+same-length-11 : tie.Need-same-length-11
+same-length-11 c = search needs
+
+-- src/lib.rt:346:1
+returns-9 : tie.Need-returns-9
+returns-9 c = ?
+
+-- src/lib.rt:346:1
+same-length-12 : tie.Need-same-length-12
+same-length-12 c = search needs
+
+-- src/lib.rt:346:1
+same-length-13 : tie.Need-same-length-13
+same-length-13 c = search needs
+
+-- src/lib.rt:346:1
+returns-10 : tie.Need-returns-10
+returns-10 c = ?
+
+-- src/lib.rt:346:1
+same-length-14 : tie.Need-same-length-14
+same-length-14 c = search needs
+
+-- src/lib.rt:346:1
+returns-11 : tie.Need-returns-11
+returns-11 c = ?
+
+-- src/lib.rt:346:1
+same-length-15 : tie.Need-same-length-15
+same-length-15 c = search needs
+
+-- src/lib.rt:346:1
+returns-12 : tie.Need-returns-12
+returns-12 c = ?
+
+-- src/lib.rt:346:1
+same-length-16 : tie.Need-same-length-16
+same-length-16 c = search needs
+
+-- src/lib.rt:346:1
+returns-13 : tie.Need-returns-13
+returns-13 c = ?
+
+-- src/lib.rt:346:1
+returns-14 : tie.Need-returns-14
+returns-14 c = ?
+
+-- src/lib.rt:346:1
+returns-15 : tie.Need-returns-15
+returns-15 c = ?
+
+pub act-spec : {M : Type 1} → statement M
+act-spec =
+    tie.close
+    (tie.spec
+    unzigzag-requires
+    push-requires
+    load-requires
+    load-requires-2
+    negate-requires
+    invert-requires
+    relate-requires
+    relate-requires-2
+    gate-requires
+    pick-requires
+    assign-requires
+    settle-requires
+    calculate-requires
+    relate-requires-3
+    same-length
+    returns
+    same-length-2
+    same-length-3
+    returns-2
+    same-length-4
+    returns-3
+    same-length-5
+    returns-4
+    same-length-6
+    returns-5
+    same-length-7
+    returns-6
+    same-length-8
+    returns-7
+    same-length-9
+    returns-8
+    same-length-10
+    same-length-11
+    returns-9
+    same-length-12
+    same-length-13
+    returns-10
+    same-length-14
+    returns-11
+    same-length-15
+    returns-12
+    same-length-16
+    returns-13
+    returns-14
+    returns-15)
