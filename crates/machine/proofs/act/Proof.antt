@@ -1,3 +1,13 @@
+use Rattle.machine.proofs.Codes.{operation-code, comparison-code, truth-comparison, related-same, no-code-first, no-code-last}
+use Rattle.machine.proofs.Changes.{names-length}
+use Rattle.machine.specs.Internal.{truthOf}
+use Rattle.machine.specs.Memory.{heldOf}
+use Rattle.bytecode.specs.Instructions.{instructionOf}
+use mir.Val.{SFits}
+use mir.Syntax.{w32}
+use mir.Facts.{toZ-ofZ}
+use lib.ListN.{length}
+use mathlib.Core.Path.{_≡_, refl, sym, ap, _∙_}
 use borrow.Author.Needs.{needs}
 use Rattle.machine.proofs.act.Statement.{statement}
 use Rattle.machine.proofs.act.Tie as tie
@@ -77,7 +87,11 @@ same-length c = search needs
 
 -- src/lib.rt:346:1
 returns : tie.Need-returns
-returns c = ?
+unfolding instructionOf
+returns c =
+    let a = c .before .before .before .before .before .args in
+    let f : SFits w32 (c .before .before .unzigzag .result) = search needs in
+    (λ ns r. c .before .push .ensures .0 ns (a .prev .now) (a .cur .now) ∙ rw (toZ-ofZ f, c .before .before .unzigzag .ensures, c .before .before .before .before .match .keys1), c .before .push .ensures .1)
 
 -- src/lib.rt:346:1
 same-length-2 : tie.Need-same-length-2
@@ -89,7 +103,10 @@ same-length-3 c = search needs
 
 -- src/lib.rt:346:1
 returns-2 : tie.Need-returns-2
-returns-2 c = ?
+unfolding instructionOf
+returns-2 c =
+    let a = c .before .before .before .before .before .args in
+    (λ ns r. c .before .load .ensures .0 (a .cur .now) ∙ rw (c .before .before .before .before .match .keys2, names-length ns (a .low .now) (a .high .now) r, c .before .before .before .before .before .pre .1 .0 .current), c .before .load .ensures .1)
 
 -- src/lib.rt:346:1
 same-length-4 : tie.Need-same-length-4
@@ -97,7 +114,10 @@ same-length-4 c = search needs
 
 -- src/lib.rt:346:1
 returns-3 : tie.Need-returns-3
-returns-3 c = ?
+unfolding instructionOf
+returns-3 c =
+    let a = c .before .before .before .before .args in
+    (λ ns r. c .before .load2 .ensures .0 (a .cur .now) ∙ rw (c .before .before .before .match .keys3, names-length ns (a .low .now) (a .high .now) r, c .before .before .before .before .pre .1 .0 .previous), c .before .load2 .ensures .1)
 
 -- src/lib.rt:346:1
 same-length-5 : tie.Need-same-length-5
@@ -105,7 +125,10 @@ same-length-5 c = search needs
 
 -- src/lib.rt:346:1
 returns-4 : tie.Need-returns-4
-returns-4 c = ?
+unfolding instructionOf
+returns-4 c =
+    let a = c .before .before .before .before .args in
+    (λ ns r. c .before .negate .ensures .0 ns (a .prev .now) (a .cur .now) ∙ rw (c .before .before .before .match .keys4), c .before .negate .ensures .1)
 
 -- src/lib.rt:346:1
 same-length-6 : tie.Need-same-length-6
@@ -113,7 +136,10 @@ same-length-6 c = search needs
 
 -- src/lib.rt:346:1
 returns-5 : tie.Need-returns-5
-returns-5 c = ?
+unfolding instructionOf
+returns-5 c =
+    let a = c .before .before .before .before .args in
+    (λ ns r. c .before .invert .ensures .0 ns (a .prev .now) (a .cur .now) ∙ rw (c .before .before .before .match .keys5), c .before .invert .ensures .1)
 
 -- src/lib.rt:346:1
 same-length-7 : tie.Need-same-length-7
@@ -121,7 +147,10 @@ same-length-7 c = search needs
 
 -- src/lib.rt:346:1
 returns-6 : tie.Need-returns-6
-returns-6 c = ?
+unfolding instructionOf truthOf
+returns-6 c =
+    let a = c .before .before .before .before .args in
+    (λ ns r. c .before .relate .ensures .0 (a .cur .now) ∙ rw (c .before .before .before .match .keys6), c .before .relate .ensures .1)
 
 -- src/lib.rt:346:1
 same-length-8 : tie.Need-same-length-8
@@ -129,7 +158,10 @@ same-length-8 c = search needs
 
 -- src/lib.rt:346:1
 returns-7 : tie.Need-returns-7
-returns-7 c = ?
+unfolding instructionOf truthOf
+returns-7 c =
+    let a = c .before .before .before .before .args in
+    (λ ns r. c .before .relate2 .ensures .0 (a .cur .now) ∙ rw (c .before .before .before .match .keys7), c .before .relate2 .ensures .1)
 
 -- src/lib.rt:346:1
 same-length-9 : tie.Need-same-length-9
@@ -137,7 +169,10 @@ same-length-9 c = search needs
 
 -- src/lib.rt:346:1
 returns-8 : tie.Need-returns-8
-returns-8 c = ?
+unfolding instructionOf
+returns-8 c =
+    let a = c .before .before .before .args in
+    (λ ns r. c .gate .ensures .0 ns (a .prev .now) (a .cur .now) ∙ rw (c .before .before .match .keys8), c .gate .ensures .1)
 
 -- src/lib.rt:346:1
 same-length-10 : tie.Need-same-length-10
@@ -149,7 +184,8 @@ same-length-11 c = search needs
 
 -- src/lib.rt:346:1
 returns-9 : tie.Need-returns-9
-returns-9 c = ?
+unfolding instructionOf
+returns-9 c = (λ ns r. c .before .pick .ensures .0 ns r ∙ rw (c .before .before .before .before .match .keys9), c .before .pick .ensures .1)
 
 -- src/lib.rt:346:1
 same-length-12 : tie.Need-same-length-12
@@ -161,7 +197,8 @@ same-length-13 c = search needs
 
 -- src/lib.rt:346:1
 returns-10 : tie.Need-returns-10
-returns-10 c = ?
+unfolding instructionOf
+returns-10 c = (λ ns r. c .before .assign .ensures .0 ns (c .before .before .before .before .before .args .prev .now) r ∙ rw (c .before .before .before .before .match .keys10), c .before .assign .ensures .1)
 
 -- src/lib.rt:346:1
 same-length-14 : tie.Need-same-length-14
@@ -169,7 +206,10 @@ same-length-14 c = search needs
 
 -- src/lib.rt:346:1
 returns-11 : tie.Need-returns-11
-returns-11 c = ?
+unfolding instructionOf
+returns-11 c =
+    let a = c .before .before .before .before .args in
+    (λ ns r. c .before .settle .ensures .0 ns (a .vals .now) (names-length ns (a .low .now) (a .high .now) r ∙ sym (c .before .before .before .before .pre .1 .0 .previous)) ∙ rw (c .before .before .before .match .keys11), c .before .settle .ensures .1)
 
 -- src/lib.rt:346:1
 same-length-15 : tie.Need-same-length-15
@@ -177,7 +217,11 @@ same-length-15 c = search needs
 
 -- src/lib.rt:346:1
 returns-12 : tie.Need-returns-12
-returns-12 c = ?
+returns-12 c =
+    let a = c .before .before .before .before .before .before .args in
+    let r = c .before .before .before .before .before .match .rest in
+    let e = operation-code (a .code) (a .n) (c .before .before .before .before .if1 .left) (c .before .before .before .if2 .taken) (r .0 .0 .0 .0 .0 .0 .0 .0 .0 .0 .1) (r .0 .0 .0 .0 .0 .0 .0 .0 .0 .1) (r .0 .0 .0 .0 .0 .0 .0 .0 .1) in
+    (λ ns q. c .before .calculate .ensures .0 ns (a .prev .now) (a .cur .now) ∙ rw e, c .before .calculate .ensures .1)
 
 -- src/lib.rt:346:1
 same-length-16 : tie.Need-same-length-16
@@ -185,15 +229,21 @@ same-length-16 c = search needs
 
 -- src/lib.rt:346:1
 returns-13 : tie.Need-returns-13
-returns-13 c = ?
+returns-13 c =
+    let a = c .before .before .before .before .before .before .before .args in
+    let e = comparison-code (a .code) (a .n) (c .before .before .before .before .if2 .left) (c .before .before .before .if3 .taken) (c .before .before .before .before .before .before .match .rest .0 .0 .0 .0 .0 .0 .0 .1) in
+    (λ ns q. c .before .relate3 .ensures .0 (a .cur .now) ∙ related-same _ _ _ (heldOf (a .vals .now) (a .m .held)) (a .cur .now) (λ x y. truth-comparison (a .code) x y (c .before .before .before .if3 .taken)) ∙ rw e, c .before .relate3 .ensures .1)
 
 -- src/lib.rt:346:1
 returns-14 : tie.Need-returns-14
-returns-14 c = ?
+returns-14 c = (λ ns r. rw (no-code-first (c .before .before .args .code) (c .before .before .args .n) (c .if1 .taken)), search needs)
 
 -- src/lib.rt:346:1
 returns-15 : tie.Need-returns-15
-returns-15 c = ?
+returns-15 c =
+    let a = c .before .before .before .before .args in
+    let r = c .before .before .before .match .rest in
+    (λ ns q. rw (no-code-last (a .code) (a .n) (c .if3 .left) (r .0 .0 .0 .0 .0 .0 .1) (r .0 .0 .0 .0 .0 .1) (r .0 .0 .0 .0 .1) (r .0 .0 .0 .1) (r .0 .0 .1) (r .0 .1) (r .1)), search needs)
 
 pub act-spec : {M : Type 1} → statement M
 act-spec =
