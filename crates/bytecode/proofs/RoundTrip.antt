@@ -71,7 +71,7 @@ with-number bytes at c n i rest o l e h =
     rw (lt-ltb at (length bytes) (b .inside), b .first, o, number-at bytes (at + 1) n rest l (b .behind), e, q)
 
 pub fetch-encoded : (bytes : List ℕ) (at : ℕ) (i : Instruction) (rest : List ℕ) → Small i → drop at bytes ≡ encode i ++ rest → fetch bytes at ≡ got i (at + length (encode i))
-unfolding instructionOf
+unfolding instructionOf hasOperand
 fetch-encoded bytes at (constant z) rest l h = with-number bytes at 1 (zigzag z) (constant z) rest refl (zigzag-small z l) (rw unzigzag-zigzag) h
 fetch-encoded bytes at (current i) rest l h = with-number bytes at 2 i (current i) rest refl l refl h
 fetch-encoded bytes at (previous i) rest l h = with-number bytes at 3 i (previous i) rest refl l refl h

@@ -88,9 +88,9 @@ instructionOf code n =
     (cond (eqb code 21) (some (assign n))
     (cond (eqb code 22) (some (settle n)) none))))))))))))
 
--- whether an operand follows the code byte
-abbrev pub hasOperand : ℕ → Bool
-hasOperand code = cond (ltb code 4) true (leb 20 code && leb code 22)
+-- whether an operand follows the code byte: codes 1 to 3, and 20 to 22
+unfoldable pub hasOperand : ℕ → Bool
+hasOperand code = cond (leb 1 code && leb code 3) true (leb 20 code && leb code 22)
 
 abbrev pub decoded : Option Instruction → ℕ → Read Instruction
 decoded none next = nothing

@@ -2,6 +2,7 @@ pub mod Instructions
 pub mod Translation
 pub mod Check
 pub mod Counting
+pub mod Results
 pub mod Internal
 pub mod Sound
 pub mod Nesting

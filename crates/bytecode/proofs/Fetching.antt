@@ -1,0 +1,79 @@
+-- Where the bytes of a number and of an instruction end, and the ways in which an instruction is read. Assumes nothing.
+use Prim.Native.Nat.{ℕ, zero, suc, _+_, _-_, _*_, _^_, _≤_, _<_}
+use native.Mathlib.Omega.{arith}
+use mathlib.Core.Path.{_≡_, refl, sym, ap, subst, _∙_}
+use mathlib.Core.Bool.{Bool, true, false, cond}
+use mathlib.Core.List.{List, [], _∷_}
+use lib.Dec.{ltb}
+use lib.ListN.{length, getD, drop, length-drop}
+use borrow.Author.Tests.{lt-ltb, le-ltb, ltb-true}
+use Rattle.leb128.specs.Numbers.{Found, found, none, grouped, numberIn, Read, got, nothing, below32, numberAt}
+use Rattle.bytecode.specs.Instructions.{Instruction, instructionOf, hasOperand, decoded, fetch}
+use Rattle.bytecode.specs.Results.{Bounded}
+
+-- ---- the bytes of a number
+
+-- a number that a list begins with has a byte, and no more than the list has
+abbrev Inside : ℕ → Found → Type 0
+Inside n (found v k) = (1 ≤ k) × (k ≤ n)
+Inside n none = Unit {0}
+
+inside-grouped : (n low : ℕ) (f : Found) → Inside n f → Inside (suc n) (grouped low f)
+unfolding grouped
+inside-grouped n low none h = tt
+inside-grouped n low (found zero k) h = tt
+inside-grouped n low (found (suc v) k) h = (omega arith, omega (arith, h .1))
+
+inside-cond : (t : Bool) (n b : ℕ) (f : Found) → Inside n f → Inside (suc n) (cond t (found b 1) (grouped (b - 128) f))
+inside-cond true n b f h = (omega arith, omega arith)
+inside-cond false n b f h = inside-grouped n (b - 128) f h
+
+inside : (s : List ℕ) → Inside (length s) (numberIn s)
+unfolding numberIn
+inside [] = tt
+inside (b ∷ s) = inside-cond (ltb b 128) (length s) b (numberIn s) (inside s)
+
+-- a number at a place is below 2 ^ 32 and ends inside the bytes
+abbrev pub ReadWithin : ℕ → ℕ → Read ℕ → Type 0
+ReadWithin length at (got n next) = Bounded length at n next
+ReadWithin length at nothing = Unit {0}
+
+within-cond : (t : Bool) (n at v k : ℕ) → (t ≡ true → v < 2 ^ 32) → (1 ≤ k) × (k ≤ n - at) → ReadWithin n at (cond t (got v (at + k)) nothing)
+within-cond true n at v k y h = record { operand = y refl; behind = omega (arith, h .0); inside = omega (arith, h .0, h .1) }
+within-cond false n at v k y h = tt
+
+within-found : (n at : ℕ) (f : Found) → Inside (n - at) f → ReadWithin n at (below32 at f)
+unfolding below32
+within-found n at none h = tt
+within-found n at (found v k) h = within-cond (ltb v (2 ^ 32)) n at v k (ltb-true v (2 ^ 32)) h
+
+pub read-within : (bytes : List ℕ) (at : ℕ) → ReadWithin (length bytes) at (numberAt bytes at)
+unfolding numberAt
+read-within bytes at = within-found (length bytes) at _ (subst (λ (n : ℕ). Inside n (numberIn (drop at bytes))) (length-drop at bytes) (inside (drop at bytes)))
+
+pub number-within : (bytes : List ℕ) (at n next : ℕ) → numberAt bytes at ≡ got n next → Bounded (length bytes) at n next
+number-within bytes at n next e = subst (ReadWithin (length bytes) at) e (read-within bytes at)
+
+-- ---- the ways in which an instruction is read
+
+module _ (bytes : List ℕ) (at : ℕ) where
+  -- no code byte
+  pub fetch-none : length bytes ≤ at → fetch bytes at ≡ nothing
+  unfolding fetch
+  fetch-none h = rw (le-ltb at (length bytes) h)
+
+  -- a code byte alone
+  pub fetch-alone : at < length bytes → hasOperand (getD bytes at 0) ≡ false → fetch bytes at ≡ decoded (instructionOf (getD bytes at 0) 0) (at + 1)
+  unfolding fetch
+  fetch-alone h o = rw (lt-ltb at (length bytes) h, o)
+
+  -- a code byte whose operand is no number
+  pub fetch-malformed : at < length bytes → hasOperand (getD bytes at 0) ≡ true → numberAt bytes (at + 1) ≡ nothing → fetch bytes at ≡ nothing
+  unfolding fetch
+  fetch-malformed h o e = rw (lt-ltb at (length bytes) h, o, e)
+
+  -- a code byte and its operand
+  pub fetch-number : (n next : ℕ) → at < length bytes → hasOperand (getD bytes at 0) ≡ true → numberAt bytes (at + 1) ≡ got n next
+      → fetch bytes at ≡ decoded (instructionOf (getD bytes at 0) n) next
+  unfolding fetch
+  fetch-number n next h o e = rw (lt-ltb at (length bytes) h, o, e)
