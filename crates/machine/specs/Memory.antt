@@ -11,7 +11,9 @@ use Rattle.semantics.specs.Formula.{State}
 use Rattle.machine.specs.declared.Registers.{Registers}
 use Rattle.machine.specs.declared.Stepped.{Stepped}
 use Rattle.machine.specs.declared.Stepped.the-variants.{Next, Refused}
+use Rattle.machine.specs.declared.Executed.{Executed}
 use Rattle.machine.specs.Step.{Machine, machine}
+use Rattle.machine.specs.Runs.{Ran, ran}
 
 -- the values held: the first n cells of the memory lent for them, the last first
 unfoldable pub heldOf : List ℤ → ℕ → List ℤ
@@ -26,6 +28,9 @@ machineOf m vals t = machine (m .passing) (m .picked) (heldOf vals (m .held)) t
 abbrev pub stepOutcome : Stepped → List ℤ → State → Outcome Machine
 stepOutcome (Next m) vals t = ok (machineOf m vals t)
 stepOutcome (Refused k) vals t = refusal k
+
+abbrev pub ranOf : Executed → List ℤ → State → Ran
+ranOf r vals t = ran (r .steps) (r .place) (stepOutcome (r .last) vals t)
 
 -- ranges whose bounds stand in two lists, name by name
 pub record RangesIn (ns : List Range) (low high : List ℤ) : Type 0 where
