@@ -30,8 +30,16 @@ pub comparison-code : (code n : ℕ) → 9 ≤ code → code < 16 → (code ≡ 
 unfolding instructionOf
 comparison-code code n h k a =
     let f : 10 ≤ code = omega arith in
-    rw (ne-eqb code 1 (λ e. omega arith), ne-eqb code 2 (λ e. omega arith), ne-eqb code 3 (λ e. omega arith), le-leb 4 code (omega arith), lt-leb code 8 (omega arith),
-    ne-eqb code 9 a, le-leb 10 code f, le-leb code 15 (omega arith))
+    rw (
+      ne-eqb code 1 (λ e. omega arith),
+      ne-eqb code 2 (λ e. omega arith),
+      ne-eqb code 3 (λ e. omega arith),
+      le-leb 4 code (omega arith),
+      lt-leb code 8 (omega arith),
+      ne-eqb code 9 a,
+      le-leb 10 code f,
+      le-leb code 15 (omega arith),
+    )
 
 pub truth-comparison : (code : ℕ) (a b : ℤ) → code < 16 → truthOf code a b ≡ compares (comparisonOf code) a b
 unfolding truthOf
@@ -53,9 +61,23 @@ module _ (code n : ℕ) (h : 16 ≤ code) (a : code ≡ 16 → ⊥) (b : code �
   pub no-code-last : instructionOf code n ≡ none
   unfolding instructionOf
   no-code-last =
-      rw (ne-eqb code 1 (λ e. omega arith), ne-eqb code 2 (λ e. omega arith), ne-eqb code 3 (λ e. omega arith), le-leb 4 code (omega arith), lt-leb code 8 (omega arith),
-      ne-eqb code 9 (λ e. omega arith), le-leb 10 code (omega arith), lt-leb code 15 (omega arith), ne-eqb code 16 a, ne-eqb code 17 b, ne-eqb code 18 c, ne-eqb code 19 d, ne-eqb code 20 e,
-      ne-eqb code 21 f, ne-eqb code 22 g)
+      rw (
+        ne-eqb code 1 (λ e. omega arith),
+        ne-eqb code 2 (λ e. omega arith),
+        ne-eqb code 3 (λ e. omega arith),
+        le-leb 4 code (omega arith),
+        lt-leb code 8 (omega arith),
+        ne-eqb code 9 (λ e. omega arith),
+        le-leb 10 code (omega arith),
+        lt-leb code 15 (omega arith),
+        ne-eqb code 16 a,
+        ne-eqb code 17 b,
+        ne-eqb code 18 c,
+        ne-eqb code 19 d,
+        ne-eqb code 20 e,
+        ne-eqb code 21 f,
+        ne-eqb code 22 g,
+      )
 
 pub no-code-over : (code n : ℕ) → 23 ≤ code → instructionOf code n ≡ none
 no-code-over code n h =

@@ -71,5 +71,5 @@ module _ {code : List ℕ} {low high prev cur₀ vals₀ : List ℤ} {from budge
             wide = wider ∙ g .wide;
             deep = deeper ∙ g .deep;
             within = omega arith;
-            goes = λ ns q. rw x at (turned ns q)
+            goes = λ ns q. rw x at (turned ns q);
           }

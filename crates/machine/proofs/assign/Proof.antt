@@ -1,66 +1,52 @@
-use Rattle.machine.proofs.Changes.{assign-undeclared, assign-outside, assign-inside}
-use Rattle.machine.proofs.Stack.{pop-none}
-use Rattle.semantics.specs.Formula.{at}
+-- `machine::assign` meets its contract. The ways are the laws of Changes. Assumes nothing.
+use mathlib.Core.Bool.{true, false, _&&_}
+use mathlib.Core.Path.{_≡_, sym, _∙_}
+use Prim.Native.Nat.{_-_}
+use native.Mathlib.Omega.{arith}
 use borrow.Author.Tests.{not-true, not-false}
+use borrow.Author.Needs.{needs}
+use lib.Signed.{leZ}
 use mir.Val.{SFits}
 use mir.Syntax.{w32}
 use mir.Facts.{toZ-ofZ}
-use lib.Signed.{leZ}
-use lib.IntN.{pos}
-use native.Mathlib.Omega.{arith}
-use Prim.Native.Nat.{_-_}
-use mathlib.Core.Bool.{true, false, _&&_}
-use mathlib.Core.Path.{_≡_, refl, sym, ap, _∙_}
-use borrow.Author.Needs.{needs}
+use Rattle.machine.proofs.Changes.{assign-undeclared, assign-outside, assign-inside}
+use Rattle.machine.proofs.Stack.{pop-none}
+use Rattle.semantics.specs.Formula.{at}
 use Rattle.machine.proofs.assign.Statement.{statement}
 use Rattle.machine.proofs.assign.Tie as tie
-use Rattle.machine.proofs.assign.Reads as reads
-use Rattle.machine.proofs.assign.Lts as lts
-use Rattle.machine.proofs.in_range.Reads as in-range-reads
 
--- src/lib.rt:260:9
 returns : tie.Need-returns
 returns c = (λ ns s r. pop-none (c .before .args .vals .now) (c .before .args .m .held) _ (c .if1 .taken), search needs)
 
--- src/lib.rt:262:15
 sub-top : tie.Need-sub-top
 sub-top c = search needs
 
--- src/lib.rt:265:9
 returns-2 : tie.Need-returns-2
 returns-2 c =
     let a = c .before .before .args in
     (λ ns s r. assign-undeclared ns (a .low .now) (a .high .now) r s (a .vals .now) (a .m .held) (a .m .picked) (a .cur .now) (a .id) (c .before .if1 .left) (c .if2 .taken), search needs)
 
--- src/lib.rt:267:13
 mul-v : tie.Need-mul-v
 mul-v c = search needs
 
--- src/lib.rt:267:13
 shared-slice-copy-out-v : tie.Need-shared-slice-copy-out-v
 shared-slice-copy-out-v c = search needs
 
--- src/lib.rt:268:18
 mul-in-range : tie.Need-mul-in-range
 mul-in-range c = search needs
 
--- src/lib.rt:268:18
 shared-slice-copy-out-in-range : tie.Need-shared-slice-copy-out-in-range
 shared-slice-copy-out-in-range c = search needs
 
--- src/lib.rt:268:26
 mul-in-range-2 : tie.Need-mul-in-range-2
 mul-in-range-2 c = search needs
 
--- src/lib.rt:268:26
 shared-slice-copy-out-in-range-2 : tie.Need-shared-slice-copy-out-in-range-2
 shared-slice-copy-out-in-range-2 c = search needs
 
--- src/lib.rt:268:9
 in-range-requires : tie.Need-in-range-requires
 in-range-requires c κs = search needs
 
--- src/lib.rt:269:9
 returns-3 : tie.Need-returns-3
 returns-3 c =
     let a = c .before .before .before .before .before .before .before .args in
@@ -69,21 +55,19 @@ returns-3 c =
     let fl : SFits w32 (at (a .low .now) (a .id)) = record { sfits = c .before .before .before .in-range-arg .given } in
     let fh : SFits w32 (at (a .high .now) (a .id)) = record { sfits = c .before .before .in-range-arg2 .given } in
     let e : (leZ (at (a .low .now) (a .id)) v && leZ v (at (a .high .now) (a .id))) ≡ false = rw (toZ-ofZ fl, toZ-ofZ fh, toZ-ofZ fv) at (sym (c .before .in-range .ensures) ∙ not-true _ (c .if3 .taken)) in
-    (λ ns s r. assign-outside ns (a .low .now) (a .high .now) r s (a .vals .now) (a .m .held) (a .m .picked) (a .cur .now) (a .id) (c .before .before .before .before .before .before .if1 .left) (c .before .before .before .before .before .if2 .left) e, search needs)
+    let some = c .before .before .before .before .before .before .if1 .left in
+    let known = c .before .before .before .before .before .if2 .left in
+    (λ ns s r. assign-outside ns (a .low .now) (a .high .now) r s (a .vals .now) (a .m .held) (a .m .picked) (a .cur .now) (a .id) some known e, search needs)
 
--- src/lib.rt:271:5
 mul-v-2 : tie.Need-mul-v-2
 mul-v-2 c = search needs
 
--- src/lib.rt:271:5
 slice-set-from-v : tie.Need-slice-set-from-v
 slice-set-from-v c = search needs
 
--- src/lib.rt:253:1
 same-length : tie.Need-same-length
 same-length c = search needs
 
--- src/lib.rt:253:1
 returns-4 : tie.Need-returns-4
 returns-4 c =
     let a = c .before .before .before .before .before .before .before .args in
@@ -92,7 +76,10 @@ returns-4 c =
     let fl : SFits w32 (at (a .low .now) (a .id)) = record { sfits = c .before .before .before .in-range-arg .given } in
     let fh : SFits w32 (at (a .high .now) (a .id)) = record { sfits = c .before .before .in-range-arg2 .given } in
     let e : (leZ (at (a .low .now) (a .id)) v && leZ v (at (a .high .now) (a .id))) ≡ true = rw (toZ-ofZ fl, toZ-ofZ fh, toZ-ofZ fv) at (sym (c .before .in-range .ensures) ∙ not-false _ (c .if3 .left)) in
-    (λ ns s r. rw (toZ-ofZ fv) (assign-inside ns (a .low .now) (a .high .now) r s (a .vals .now) (a .m .held) (a .m .picked) (a .cur .now) (a .id) (c .before .before .before .before .before .before .if1 .left) (c .before .before .before .before .before .if2 .left) e), omega (arith, c .before .before .before .before .before .before .before .pre .0 .few))
+    let some = c .before .before .before .before .before .before .if1 .left in
+    let known = c .before .before .before .before .before .if2 .left in
+    let few = c .before .before .before .before .before .before .before .pre .0 .few in
+    (λ ns s r. rw (toZ-ofZ fv) (assign-inside ns (a .low .now) (a .high .now) r s (a .vals .now) (a .m .held) (a .m .picked) (a .cur .now) (a .id) some known e), omega (arith, few))
 
 pub assign-spec : {M : Type 1} → statement M
 assign-spec =

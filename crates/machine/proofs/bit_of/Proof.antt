@@ -1,16 +1,13 @@
-use Rattle.machine.specs.Step.{bit}
+-- `machine::bit_of` meets its contract. Assumes nothing.
 use mathlib.Core.Path.{ap, sym}
+use Rattle.machine.specs.Step.{bit}
 use Rattle.machine.proofs.bit_of.Statement.{statement}
 use Rattle.machine.proofs.bit_of.Tie as tie
-use Rattle.machine.proofs.bit_of.Reads as reads
-use Rattle.machine.proofs.bit_of.Lts as lts
 
--- src/lib.rt:37:1
 returns : tie.Need-returns
 unfolding bit
 returns c = ap bit (sym (c .if1 .taken))
 
--- src/lib.rt:37:1
 returns-2 : tie.Need-returns-2
 unfolding bit
 returns-2 c = ap bit (sym (c .if1 .left))

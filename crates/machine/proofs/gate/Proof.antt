@@ -1,43 +1,35 @@
-use Rattle.machine.proofs.Stack.{pop-none, pop-top}
-use Rattle.machine.specs.Step.{yes}
+-- `machine::gate` meets its contract. The value on top decides, then whether a pick was done. Assumes nothing.
+use mathlib.Core.Bool.{true, false}
+use mathlib.Core.Path.{_≡_, sym, _∙_}
+use Prim.Native.Nat.{_-_}
+use native.Mathlib.Omega.{arith}
 use borrow.Author.Tests.{not-true, not-false}
+use borrow.Author.Needs.{needs}
+use lib.ListN.{getD}
+use lib.IntN.{pos}
 use mir.Val.{SFits}
 use mir.Syntax.{w32}
 use mir.Facts.{toZ-ofZ}
-use lib.ListN.{length, getD}
-use lib.IntN.{pos}
-use native.Mathlib.Omega.{arith}
-use Prim.Native.Nat.{_-_, _≤_}
-use mathlib.Core.Bool.{true, false, not}
-use mathlib.Core.Path.{_≡_, refl, sym, ap, _∙_}
-use borrow.Author.Needs.{needs}
+use Rattle.machine.proofs.Stack.{pop-none, pop-top}
+use Rattle.machine.specs.Step.{yes}
 use Rattle.machine.proofs.gate.Statement.{statement}
 use Rattle.machine.proofs.gate.Tie as tie
-use Rattle.machine.proofs.gate.Reads as reads
-use Rattle.machine.proofs.gate.Lts as lts
-use Rattle.machine.proofs.is_yes.Reads as is-yes-reads
 
--- src/lib.rt:231:9
 returns : tie.Need-returns
 returns c = (λ ns s t. pop-none (c .before .args .vals .now) (c .before .args .m .held) _ (c .if1 .taken), search needs)
 
--- src/lib.rt:233:15
 sub-top : tie.Need-sub-top
 sub-top c = search needs
 
--- src/lib.rt:235:16
 mul-is-yes : tie.Need-mul-is-yes
 mul-is-yes c = search needs
 
--- src/lib.rt:235:16
 shared-slice-copy-out-is-yes : tie.Need-shared-slice-copy-out-is-yes
 shared-slice-copy-out-is-yes c = search needs
 
--- src/lib.rt:235:9
 is-yes-requires : tie.Need-is-yes-requires
 is-yes-requires c κs = search needs
 
--- src/lib.rt:236:9
 returns-2 : tie.Need-returns-2
 returns-2 c =
     let l = c .before .before .before .before .args .vals .now in
@@ -46,7 +38,6 @@ returns-2 c =
     let e : yes (getD l (n - 1) (pos 0)) ≡ false = rw (toZ-ofZ f) at (sym (c .before .is-yes .ensures) ∙ not-true _ (c .if2 .taken)) in
     (λ ns s t. rw (pop-top l n _ (c .before .before .before .if1 .left), e), omega (arith, c .before .before .before .before .pre .few))
 
--- src/lib.rt:243:9
 returns-3 : tie.Need-returns-3
 returns-3 c =
     let l = c .before .before .before .before .before .args .vals .now in
@@ -55,7 +46,6 @@ returns-3 c =
     let e : yes (getD l (n - 1) (pos 0)) ≡ true = rw (toZ-ofZ f) at (sym (c .before .before .is-yes .ensures) ∙ not-false _ (c .before .if2 .left)) in
     (λ ns s t. rw (pop-top l n _ (c .before .before .before .before .if1 .left), e, c .if3 .taken), search needs)
 
--- src/lib.rt:224:1
 returns-4 : tie.Need-returns-4
 returns-4 c =
     let l = c .before .before .before .before .before .args .vals .now in

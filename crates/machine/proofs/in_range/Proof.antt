@@ -1,22 +1,17 @@
+-- `machine::in_range` meets its contract. Assumes nothing.
 use mathlib.Core.Path.{_≡_}
 use mathlib.Core.Bool.{true, false}
 use lib.Signed.{leZ}
 use Rattle.arith.proofs.Laws.{same32}
-use mir.Syntax.{w32}
-use mir.Facts.{toZ-ofZ}
 use Rattle.machine.proofs.in_range.Statement.{statement}
 use Rattle.machine.proofs.in_range.Tie as tie
-use Rattle.machine.proofs.in_range.Reads as reads
-use Rattle.machine.proofs.in_range.Lts as lts
 
--- src/lib.rt:101:9
 returns : tie.Need-returns
 returns c =
     let f = c .before .fits in
     let h : leZ (c .before .args .low) (c .before .args .v) ≡ true = rw (same32 (f .low), same32 (f .v)) at (c .if1 .taken) in
     rw (h, same32 (f .v), same32 (f .high))
 
--- src/lib.rt:97:1
 returns-2 : tie.Need-returns-2
 returns-2 c =
     let f = c .before .fits in

@@ -1,39 +1,31 @@
+-- `machine::load` meets its contract. A declared value is pushed. Assumes nothing.
 use mathlib.Core.List.{[]}
+use mathlib.Core.Path.{_∙_}
+use borrow.Author.Tests.{lt-ltb, le-ltb}
+use borrow.Author.Needs.{needs}
+use lib.ListN.{getD}
+use lib.IntN.{pos}
 use mir.Val.{SFits}
 use mir.Syntax.{w32}
 use mir.Facts.{toZ-ofZ}
-use lib.ListN.{length, getD}
-use lib.IntN.{pos}
-use borrow.Author.Tests.{lt-ltb, le-ltb}
-use mathlib.Core.Path.{_≡_, refl, sym, ap, _∙_}
-use borrow.Author.Needs.{needs}
 use Rattle.machine.proofs.load.Statement.{statement}
 use Rattle.machine.proofs.load.Tie as tie
-use Rattle.machine.proofs.load.Reads as reads
-use Rattle.machine.proofs.load.Lts as lts
-use Rattle.machine.proofs.push.Reads as push-reads
 
--- src/lib.rt:131:9
 returns : tie.Need-returns
 returns c = (λ t. rw (le-ltb _ _ (c .if1 .taken)), search needs)
 
--- src/lib.rt:133:19
 mul-push : tie.Need-mul-push
 mul-push c = search needs
 
--- src/lib.rt:133:19
 shared-slice-copy-out-push : tie.Need-shared-slice-copy-out-push
 shared-slice-copy-out-push c = search needs
 
--- src/lib.rt:133:5
 push-requires : tie.Need-push-requires
 push-requires c κs = search needs
 
--- src/lib.rt:124:1
 same-length : tie.Need-same-length
 same-length c = search needs
 
--- src/lib.rt:124:1
 returns-2 : tie.Need-returns-2
 returns-2 c =
     let a = c .before .before .before .before .before .args in

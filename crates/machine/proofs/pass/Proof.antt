@@ -1,28 +1,22 @@
+-- `machine::pass` meets its contract. Only the code byte of a pick ends the passing over. Assumes nothing.
 use borrow.Author.Needs.{needs}
 use Rattle.machine.proofs.Codes.{no-code-first, no-code-over, pass-other}
 use Rattle.bytecode.specs.Instructions.{instructionOf}
-use mathlib.Core.Path.{_≡_}
 use Rattle.machine.proofs.pass.Statement.{statement}
 use Rattle.machine.proofs.pass.Tie as tie
-use Rattle.machine.proofs.pass.Reads as reads
-use Rattle.machine.proofs.pass.Lts as lts
 
--- src/lib.rt:329:1
 returns : tie.Need-returns
 unfolding instructionOf
 returns c = (λ ns s vs t p. rw (p, c .match .keys1), c .before .pre)
 
--- src/lib.rt:329:1
 returns-2 : tie.Need-returns-2
 returns-2 c =
     let a = c .before .before .before .args in
     (λ ns s vs t p. rw p (pass-other ns s (a .code) (a .n) (a .m .picked) _ t (c .before .if1 .left) (c .if2 .taken) (c .before .before .match .rest .1)), c .before .before .before .pre)
 
--- src/lib.rt:329:1
 returns-3 : tie.Need-returns-3
 returns-3 c = (λ ns s vs t p. rw (no-code-first (c .before .before .args .code) (c .before .before .args .n) (c .if1 .taken)), search needs)
 
--- src/lib.rt:329:1
 returns-4 : tie.Need-returns-4
 returns-4 c = (λ ns s vs t p. rw (no-code-over (c .before .before .before .args .code) (c .before .before .before .args .n) (c .if2 .left)), search needs)
 

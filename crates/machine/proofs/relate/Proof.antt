@@ -1,71 +1,57 @@
-use Rattle.machine.proofs.Stack.{two-few, two-put}
-use Rattle.machine.specs.Internal.{truthOf}
-use Rattle.machine.specs.Step.{bit}
-use Rattle.arith.specs.Values.{Outcome, ok, refusal}
+-- `machine::relate` meets its contract. A yes-no is put in the place of two values. Assumes nothing.
+use mathlib.Core.Path.{_≡_, sym, ap, _∙_}
+use Prim.Native.Nat.{_-_}
+use native.Mathlib.Omega.{arith}
+use borrow.Author.Needs.{needs}
+use lib.ListN.{getD}
+use lib.IntN.{pos}
 use mir.Val.{SFits}
 use mir.Syntax.{w32}
 use mir.Facts.{toZ-ofZ}
-use lib.ListN.{length, getD}
-use lib.IntN.{pos}
-use native.Mathlib.Omega.{arith}
-use Prim.Native.Nat.{_-_, _≤_}
-use mathlib.Core.Path.{_≡_, refl, sym, ap, _∙_}
-use borrow.Author.Needs.{needs}
+use Rattle.machine.proofs.Stack.{two-few, two-put}
+use Rattle.machine.specs.Internal.{truthOf}
+use Rattle.machine.specs.Step.{bit}
+use Rattle.arith.specs.Values.{ok}
 use Rattle.machine.proofs.relate.Statement.{statement}
 use Rattle.machine.proofs.relate.Tie as tie
-use Rattle.machine.proofs.relate.Reads as reads
-use Rattle.machine.proofs.relate.Lts as lts
-use Rattle.machine.proofs.bit_of.Reads as bit-of-reads
-use Rattle.machine.proofs.truth.Reads as truth-reads
 
--- src/lib.rt:168:9
 returns : tie.Need-returns
 returns c = (λ t. two-few (λ x y. ok (bit (truthOf (c .before .args .code) x y))) (c .before .args .vals .now) (c .before .args .m .held) (c .before .args .m .picked) t (c .if1 .taken), search needs)
 
--- src/lib.rt:171:17
 sub-right : tie.Need-sub-right
 sub-right c = search needs
 
--- src/lib.rt:172:32
 mul-truth : tie.Need-mul-truth
 mul-truth c = search needs
 
--- src/lib.rt:172:32
 slice-copy-out-truth : tie.Need-slice-copy-out-truth
 slice-copy-out-truth c = search needs
 
--- src/lib.rt:172:44
 mul-truth-2 : tie.Need-mul-truth-2
 mul-truth-2 c = search needs
 
--- src/lib.rt:172:44
 slice-copy-out-truth-2 : tie.Need-slice-copy-out-truth-2
 slice-copy-out-truth-2 c = search needs
 
--- src/lib.rt:172:20
 truth-requires : tie.Need-truth-requires
 truth-requires c κs = search needs
 
--- src/lib.rt:172:9
 bit-of-requires : tie.Need-bit-of-requires
 bit-of-requires c κs = search needs
 
--- src/lib.rt:173:5
 mul-v : tie.Need-mul-v
 mul-v c = search needs
 
--- src/lib.rt:173:5
 slice-set-from-v : tie.Need-slice-set-from-v
 slice-set-from-v c = search needs
 
--- src/lib.rt:161:1
 same-length : tie.Need-same-length
 same-length c = search needs
 
--- src/lib.rt:161:1
 returns-2 : tie.Need-returns-2
 returns-2 c =
     let a = c .before .before .before .before .before .args in
+    let p = c .before .before .before .before .before .pre in
     let l = a .vals .now in
     let n = a .m .held in
     let fa : SFits w32 (getD l (n - 2) (pos 0)) = record { sfits = c .before .before .before .truth-arg .given } in
@@ -73,7 +59,8 @@ returns-2 c =
     let v = c .bit-of .result in
     let e : v ≡ bit (truthOf (a .code) (getD l (n - 2) (pos 0)) (getD l (n - 1) (pos 0))) = c .bit-of .ensures ∙ ap bit (rw (toZ-ofZ fa, toZ-ofZ fb) at (c .before .truth .ensures)) in
     let fv : SFits w32 v = search needs in
-    (λ t. rw (toZ-ofZ fv) (two-put (λ x y. ok (bit (truthOf (a .code) x y))) l n (a .m .picked) t v (c .before .before .before .before .if1 .left) (omega (arith, c .before .before .before .before .before .pre .few, c .before .before .before .before .before .pre .room)) (ap ok (sym e))), omega (arith, c .before .before .before .before .before .pre .few))
+    let two = c .before .before .before .before .if1 .left in
+    (λ t. rw (toZ-ofZ fv) (two-put (λ x y. ok (bit (truthOf (a .code) x y))) l n (a .m .picked) t v two (omega (arith, p .few, p .room)) (ap ok (sym e))), omega (arith, p .few))
 
 pub relate-spec : {M : Type 1} → statement M
 relate-spec =
