@@ -17,7 +17,7 @@ use Rattle.arith.proofs.Basics.{T-true, true-T, and-left, and-right, and-T, T-n
 use Rattle.leb128.specs.Numbers.{Read, got, nothing, numberAt, signedAt}
 use Rattle.bytecode.specs.Instructions.{Instruction, constant, current, previous, operation, negate, comparison, negated, both, either, gate, pick, assign, settle, fetch}
 use Rattle.bytecode.specs.Translation.{RangeFits, RangesFit}
-use Rattle.bytecode.specs.Check.{Sort, number, truth, Known, known, guard, held, one, empty, unset, closed, fresh, opened, advance, complete, tested, item, checkRanges, Header, checkHeader, ends, ifSome, checkCode, atStart, checkBody, checkOf}
+use Rattle.bytecode.specs.Check.{Sort, number, truth, Known, known, guard, held, one, empty, unset, closed, fresh, opened, advance, complete, tested, item, checkRange, checkRanges, checkCounts, Header, checkHeader, ends, ifSome, checkCode, atStart, checkBody, checkOf}
 use Rattle.bytecode.specs.Counting.{headerOf, codeOf, counted, countFrom, instructionsIn}
 use Rattle.bytecode.specs.Internal.{heldBy, gateBy, picksBy, idsBy, leftBy, leftByAll, Allowed, Finished, RangesAt, Spells, SoundByPlace}
 use Rattle.bytecode.proofs.RoundTrip.{fetch-next}
@@ -213,21 +213,30 @@ walks base code (suc f) at (i ∷ is) c l s p e =
 item-passes : {A B : Type 0} (o : Read A) (at : ℕ) (test : A → Bool) (k : A → ℕ → Answer B) (a : A) (next : ℕ) → o ≡ got a next → T (test a) → item o at test k ≡ k a next
 item-passes o at test k a next e t = rw e (rw (T-true (test a) t))
 
+range-passes : (bytes : List ℕ) (at at₁ at₂ at₃ : ℕ) (n : Range) → signedAt bytes at ≡ got (n .low) at₁ → signedAt bytes at₁ ≡ got (n .high) at₂ → signedAt bytes at₂ ≡ got (n .start) at₃
+    → RangeFits n → checkRange bytes at ≡ accepted (record { range = n; next = at₃ })
+unfolding checkRange
+range-passes bytes at at₁ at₂ at₃ n e₁ e₂ e₃ f =
+    item-passes (signedAt bytes at) at isInt32 _ (n .low) at₁ e₁ (f .0)
+    ∙ item-passes (signedAt bytes at₁) at₁ (λ h. isInt32 h && leZ (n .low) h) _ (n .high) at₂ e₂ (f .1)
+    ∙ item-passes (signedAt bytes at₂) at₂ (λ z. isInt32 z && leZ (n .low) z && leZ z (n .high)) _ (n .start) at₃ e₃ (f .2)
+
 ranges-pass : {B : Type 0} (bytes : List ℕ) (at : ℕ) (ns : List Range) (end : ℕ) (k : List Range → ℕ → Answer B) → RangesAt bytes at ns end → RangesFit ns → checkRanges bytes (length ns) at k ≡ k ns end
 ranges-pass bytes at [] end k r f = rw r
 ranges-pass bytes at (n ∷ ns) end k r f =
-    item-passes (signedAt bytes at) at isInt32 _ (n .low) (r .0) (r .3) (f .0 .0)
-    ∙ item-passes (signedAt bytes (r .0)) (r .0) (λ h. isInt32 h && leZ (n .low) h) _ (n .high) (r .1) (r .4) (f .0 .1)
-    ∙ item-passes (signedAt bytes (r .1)) (r .1) (λ z. isInt32 z && leZ (n .low) z && leZ z (n .high)) _ (n .start) (r .2) (r .5) (f .0 .2)
-    ∙ ranges-pass bytes (r .2) ns end (λ ms next. k (n ∷ ms) next) (r .6) (f .1)
+    rw (range-passes bytes at (r .0) (r .1) (r .2) n (r .3) (r .4) (r .5) (f .0)) (ranges-pass bytes (r .2) ns end (λ ms next. k (n ∷ ms) next) (r .6) (f .1))
+
+counts-pass : (bytes : List ℕ) (k m at₁ at₂ : ℕ) → numberAt bytes 0 ≡ got k at₁ → numberAt bytes at₁ ≡ got m at₂ → k + m ≤ 64 → checkCounts bytes ≡ accepted (record { inputs = k; names = k + m; place = at₂ })
+unfolding checkCounts
+counts-pass bytes k m at₁ at₂ e₁ e₂ few =
+    item-passes (numberAt bytes 0) 0 (λ k. leb k 64) _ k at₁ e₁ (le→leb k 64 (omega arith))
+    ∙ item-passes (numberAt bytes at₁) at₁ (λ m. leb (k + m) 64) _ m at₂ e₂ (le→leb (k + m) 64 few)
 
 header-passes : (bytes : List ℕ) (x : SoundByPlace bytes) → checkHeader bytes ≡ accepted (x .header)
 unfolding checkHeader
 header-passes bytes x =
-    let few : x .header .inputs + x .variables ≤ 64 = x .few in
-    item-passes (numberAt bytes 0) 0 (λ k. leb k 64) _ (x .header .inputs) (x .at₁) (x .inputs-read) (le→leb (x .header .inputs) 64 (omega arith))
-    ∙ item-passes (numberAt bytes (x .at₁)) (x .at₁) (λ m. leb (x .header .inputs + m) 64) _ (x .variables) (x .at₂) (x .variables-read) (le→leb (x .header .inputs + x .variables) 64 few)
-    ∙ rw (← (x .size)) (ranges-pass bytes (x .at₂) (x .header .ranges) (x .header .place) (λ ns next. accepted (record { inputs = x .header .inputs; ranges = ns; place = next })) (x .ranges-read) (x .fit))
+    rw (counts-pass bytes (x .header .inputs) (x .variables) (x .at₁) (x .at₂) (x .inputs-read) (x .variables-read) (x .few))
+    (rw (← (x .size)) (ranges-pass bytes (x .at₂) (x .header .ranges) (x .header .place) (λ ns next. accepted (record { inputs = x .header .inputs; ranges = ns; place = next })) (x .ranges-read) (x .fit)))
 
 body-passes : (bytes : List ℕ) (x : SoundByPlace bytes) → checkBody bytes (x .header) ≡ accepted tt
 unfolding checkBody

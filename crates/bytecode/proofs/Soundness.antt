@@ -20,7 +20,7 @@ use Rattle.semantics.proofs.Reference.{length-known}
 use Rattle.leb128.specs.Numbers.{Read, got, nothing, number, zigzag, numberAt, signedAt}
 use Rattle.bytecode.specs.Instructions.{Instruction, constant, current, previous, operation, negate, comparison, negated, both, either, gate, pick, assign, settle, encode, encodeAll, fetch}
 use Rattle.bytecode.specs.Translation.{codeE, codeC, codeCase, codeK, codeR, codeRules, encodeRanges, encodeHeader, imageOf, depthE, depthC, ShallowK, ShallowR, Shallow, RangeFits, RangesFit, Translatable}
-use Rattle.bytecode.specs.Check.{Sort, truth, Known, known, guard, held, one, empty, unset, closed, fresh, opened, advance, complete, item, checkRanges, Header, checkHeader, ends, ifSome, checkCode, atStart, checkBody, checkOf}
+use Rattle.bytecode.specs.Check.{Sort, truth, Known, known, guard, held, one, empty, unset, closed, fresh, opened, advance, complete, item, checkRange, checkRanges, Header, checkCounts, checkHeader, ends, ifSome, checkCode, atStart, checkBody, checkOf}
 use Rattle.bytecode.specs.Counting.{orNone, headerOf, codeOf}
 use Rattle.leb128.proofs.RoundTrip.{drop-behind, number-at, signed-at}
 use Rattle.bytecode.proofs.RoundTrip.{Small, AllSmall, fetch-encoded, length-encode, encoded-inside}
@@ -248,29 +248,39 @@ check-code base code (suc f) at (i ∷ is) c d h l few e k =
 
 -- ---- the header
 
+check-range : (bytes : List ℕ) (at : ℕ) (n : Range) (rest : List ℕ) → RangeFits n
+    → drop at bytes ≡ number (zigzag (n .low)) ++ (number (zigzag (n .high)) ++ (number (zigzag (n .start)) ++ rest))
+    → checkRange bytes at ≡ accepted (record { range = n; next = at + length (number (zigzag (n .low))) + length (number (zigzag (n .high))) + length (number (zigzag (n .start))) })
+unfolding checkRange
+check-range bytes at n rest f h₀ =
+    let a : isInt32 (n .low) ≡ true = T-true _ (f .0) in
+    let b : (isInt32 (n .high) && leZ (n .low) (n .high)) ≡ true = T-true _ (f .1) in
+    let c : (isInt32 (n .start) && leZ (n .low) (n .start) && leZ (n .start) (n .high)) ≡ true = T-true _ (f .2) in
+    let lo = number (zigzag (n .low)) in
+    let hi = number (zigzag (n .high)) in
+    let h₁ : drop (at + length lo) bytes ≡ hi ++ (number (zigzag (n .start)) ++ rest) = drop-behind bytes at lo _ h₀ in
+    let h₂ : drop (at + length lo + length hi) bytes ≡ number (zigzag (n .start)) ++ rest = drop-behind bytes (at + length lo) hi _ h₁ in
+    rw (
+      signed-at bytes at (n .low) _ (f .0) h₀,
+      a,
+      signed-at bytes (at + length lo) (n .high) _ (and-left (isInt32 (n .high)) _ (f .1)) h₁,
+      b,
+      signed-at bytes (at + length lo + length hi) (n .start) _ (and-left (isInt32 (n .start)) _ (and-left (isInt32 (n .start) && leZ (n .low) (n .start)) _ (f .2))) h₂,
+      c,
+    )
+
 check-ranges : {B : Type 0} (bytes : List ℕ) (at : ℕ) (ns : List Range) (rest : List ℕ) (k : List Range → ℕ → Answer B) → RangesFit ns → drop at bytes ≡ encodeRanges ns ++ rest
     → checkRanges bytes (length ns) at k ≡ k ns (at + length (encodeRanges ns))
 check-ranges bytes at [] rest k f h = let z : at + 0 ≡ at = omega arith in rw z
 check-ranges bytes at (n ∷ ns) rest k f h =
-    let a : isInt32 (n .low) ≡ true = T-true _ (f .0 .0) in
-    let b : (isInt32 (n .high) && leZ (n .low) (n .high)) ≡ true = T-true _ (f .0 .1) in
-    let c : (isInt32 (n .start) && leZ (n .low) (n .start) && leZ (n .start) (n .high)) ≡ true = T-true _ (f .0 .2) in
     let lo = number (zigzag (n .low)) in
     let hi = number (zigzag (n .high)) in
     let st = number (zigzag (n .start)) in
     let h₀ : drop at bytes ≡ lo ++ (hi ++ (st ++ (encodeRanges ns ++ rest))) = simp append-assoc at h in
-    let h₁ : drop (at + length lo) bytes ≡ hi ++ (st ++ (encodeRanges ns ++ rest)) = drop-behind bytes at lo _ h₀ in
-    let h₂ : drop (at + length lo + length hi) bytes ≡ st ++ (encodeRanges ns ++ rest) = drop-behind bytes (at + length lo) hi _ h₁ in
+    let h₂ : drop (at + length lo + length hi) bytes ≡ st ++ (encodeRanges ns ++ rest) = drop-behind bytes (at + length lo) hi _ (drop-behind bytes at lo _ h₀) in
     let h₃ : drop (at + length lo + length hi + length st) bytes ≡ encodeRanges ns ++ rest = drop-behind bytes (at + length lo + length hi) st _ h₂ in
     let e : at + length lo + length hi + length st + length (encodeRanges ns) ≡ at + length (lo ++ (hi ++ (st ++ encodeRanges ns))) = simp length-append (omega arith) in
-    rw (
-      signed-at bytes at (n .low) _ (f .0 .0) h₀,
-      a,
-      signed-at bytes (at + length lo) (n .high) _ (and-left (isInt32 (n .high)) _ (f .0 .1)) h₁,
-      b,
-      signed-at bytes (at + length lo + length hi) (n .start) _ (and-left (isInt32 (n .start)) _ (and-left (isInt32 (n .start) && leZ (n .low) (n .start)) _ (f .0 .2))) h₂,
-      c,
-    )
+    rw (check-range bytes at n (encodeRanges ns ++ rest) (f .0) h₀)
     (check-ranges bytes (at + length lo + length hi + length st) ns rest (λ ms next. k (n ∷ ms) next) (f .1) h₃ ∙ ap (k (n ∷ ns)) e)
 
 -- the header of a program's image
@@ -278,7 +288,7 @@ abbrev pub programHeader : Program → Header
 programHeader p = record { inputs = p .inputs; ranges = rangesOf p; place = length (encodeHeader p) }
 
 pub check-header : (p : Program) → Translatable p → checkHeader (imageOf p) ≡ accepted (programHeader p)
-unfolding checkHeader imageOf
+unfolding checkHeader checkCounts imageOf
 check-header p t =
     let w : p .inputs ≤ length (rangesOf p) = t .well-formed .inputs-fit in
     let f : length (rangesOf p) ≤ 64 = t .few in

@@ -18,7 +18,7 @@ use Rattle.arith.proofs.Basics.{true-T}
 use Rattle.leb128.specs.Numbers.{Read, got, nothing, numberAt, signedAt}
 use Rattle.bytecode.specs.Instructions.{Instruction, fetch}
 use Rattle.bytecode.specs.Translation.{RangeFits, RangesFit}
-use Rattle.bytecode.specs.Check.{Known, known, advance, complete, tested, item, checkRanges, Header, checkHeader, ends, ifSome, checkCode, atStart, checkBody, checkOf}
+use Rattle.bytecode.specs.Check.{Known, known, advance, complete, tested, item, Placed, checkRange, checkRanges, Counts, checkCounts, Header, checkHeader, ends, ifSome, checkCode, atStart, checkBody, checkOf}
 use Rattle.bytecode.specs.Internal.{RangesAt}
 use Rattle.bytecode.specs.Counting.{orNone, headerOf, codeOf}
 
@@ -70,6 +70,40 @@ check-ended base code (suc f) at c l e = ends-accepted (complete c) (base + at) 
 
 -- ---- the header
 
+pub then-accepted : {A B : Type 0} (a : Answer A) (f : A → Answer B) (b : B) → (a andThen f) ≡ accepted b → (x : A) × (a ≡ accepted x) × (f x ≡ accepted b)
+then-accepted (accepted x) f b e = (x, refl, e)
+then-accepted (refused n k) f b e = refused≢accepted b n k e
+
+-- low, high, start stand from a place on, and fit
+pub record RangeRead (bytes : List ℕ) (at : ℕ) (r : Placed) : Type 0 where
+  pub at₁ : ℕ
+  pub at₂ : ℕ
+  pub low-read : signedAt bytes at ≡ got (r .range .low) at₁
+  pub high-read : signedAt bytes at₁ ≡ got (r .range .high) at₂
+  pub start-read : signedAt bytes at₂ ≡ got (r .range .start) (r .next)
+  pub fits : RangeFits (r .range)
+
+pub range-read : (bytes : List ℕ) (at : ℕ) (r : Placed) → checkRange bytes at ≡ accepted r → RangeRead bytes at r
+unfolding checkRange
+range-read bytes at r e = low (item-accepted _ at isInt32 _ r e)
+  where
+    start : (l h : ℤ) (at₁ at₂ : ℕ) → signedAt bytes at ≡ got l at₁ → signedAt bytes at₁ ≡ got h at₂ → T (isInt32 l) → T (isInt32 h && leZ l h)
+        → Item (signedAt bytes at₂) (λ z. isInt32 z && leZ l z && leZ z h) (λ z at₃. accepted (record { range = record { low = l; high = h; start = z }; next = at₃ })) r → RangeRead bytes at r
+    start l h at₁ at₂ e₁ e₂ t₁ t₂ (passes z at₃ e₃ t₃ q) =
+        let p : record { range = record { low = l; high = h; start = z }; next = at₃ } ≡ r = cc in
+        let x : RangeRead bytes at (record { range = record { low = l; high = h; start = z }; next = at₃ })
+        = record { at₁ = at₁; at₂ = at₂; low-read = e₁; high-read = e₂; start-read = e₃; fits = (t₁, t₂, t₃) } in
+        subst (λ (y : Placed). RangeRead bytes at y) p x
+
+    high : (l : ℤ) (at₁ : ℕ) → signedAt bytes at ≡ got l at₁ → T (isInt32 l)
+        → Item (signedAt bytes at₁) (λ h. isInt32 h && leZ l h) (λ h at₂. item (signedAt bytes at₂) at₂ (λ z. isInt32 z && leZ l z && leZ z h) λ z at₃. accepted (record { range = record { low = l; high = h; start = z }; next = at₃ })) r
+        → RangeRead bytes at r
+    high l at₁ e₁ t₁ (passes h at₂ e₂ t₂ q) = start l h at₁ at₂ e₁ e₂ t₁ t₂ (item-accepted _ at₂ _ _ r q)
+
+    low : Item (signedAt bytes at) isInt32 (λ l at₁. item (signedAt bytes at₁) at₁ (λ h. isInt32 h && leZ l h) λ h at₂. item (signedAt bytes at₂) at₂ (λ z. isInt32 z && leZ l z && leZ z h) λ z at₃. accepted (record { range = record { low = l; high = h; start = z }; next = at₃ })) r
+        → RangeRead bytes at r
+    low (passes l at₁ e₁ t₁ q) = high l at₁ e₁ t₁ (item-accepted _ at₁ _ _ r q)
+
 pub record RangesRead {B : Type 0} (bytes : List ℕ) (m at : ℕ) (k : List Range → ℕ → Answer B) (b : B) : Type 0 where
   pub ranges : List Range
   pub next : ℕ
@@ -78,29 +112,49 @@ pub record RangesRead {B : Type 0} (bytes : List ℕ) (m at : ℕ) (k : List Ran
   pub stands : RangesAt bytes at ranges next
   pub follows : k ranges next ≡ accepted b
 
-ranges-cons : {B : Type 0} (bytes : List ℕ) (m at at₁ : ℕ) (n : Range) (k : List Range → ℕ → Answer B) (b : B) → RangeFits n
-    → (to₁ to₂ : ℕ) → signedAt bytes at ≡ got (n .low) to₁ → signedAt bytes to₁ ≡ got (n .high) to₂ → signedAt bytes to₂ ≡ got (n .start) at₁
-    → RangesRead bytes m at₁ (λ ns next. k (n ∷ ns) next) b → RangesRead bytes (suc m) at k b
-ranges-cons bytes m at at₁ n k b f to₁ to₂ e₁ e₂ e₃ x =
-    record { ranges = n ∷ x .ranges; next = x .next; size = ap suc (x .size); fit = (f, x .fit); stands = (to₁, to₂, at₁, e₁, e₂, e₃, x .stands); follows = x .follows }
+ranges-cons : {B : Type 0} (bytes : List ℕ) (m at : ℕ) (r : Placed) (k : List Range → ℕ → Answer B) (b : B) → RangeRead bytes at r
+    → RangesRead bytes m (r .next) (λ ns next. k (r .range ∷ ns) next) b → RangesRead bytes (suc m) at k b
+ranges-cons bytes m at r k b o x =
+    record {
+      ranges = r .range ∷ x .ranges;
+      next = x .next;
+      size = ap suc (x .size);
+      fit = (o .fits, x .fit);
+      stands = (o .at₁, o .at₂, r .next, o .low-read, o .high-read, o .start-read, x .stands);
+      follows = x .follows;
+    }
 
 pub ranges-read : {B : Type 0} (bytes : List ℕ) (m at : ℕ) (k : List Range → ℕ → Answer B) (b : B) → checkRanges bytes m at k ≡ accepted b → RangesRead bytes m at k b
 ranges-read bytes zero at k b e = record { ranges = []; next = at; size = refl; fit = tt; stands = refl; follows = e }
-ranges-read {B} bytes (suc m) at k b e = low (item-accepted _ at isInt32 _ b e) (λ at₁ k₁ q. ranges-read bytes m at₁ k₁ b q)
+ranges-read bytes (suc m) at k b e =
+    let x = then-accepted (checkRange bytes at) _ b e in
+    ranges-cons bytes m at (x .0) k b (range-read bytes at (x .0) (x .1)) (ranges-read bytes m (x .0 .next) _ b (x .2))
+
+-- what holds of counts that were read
+pub record CountsFit (bytes : List ℕ) (c : Counts) : Type 0 where
+  pub variables : ℕ
+  pub at₁ : ℕ
+  pub inputs-read : numberAt bytes 0 ≡ got (c .inputs) at₁
+  pub variables-read : numberAt bytes at₁ ≡ got variables (c .place)
+  pub size : c .names ≡ c .inputs + variables
+  pub few : c .names ≤ 64
+
+pub counts-fit : (bytes : List ℕ) (c : Counts) → checkCounts bytes ≡ accepted c → CountsFit bytes c
+unfolding checkCounts
+counts-fit bytes c e = inputs (item-accepted _ 0 _ _ c e)
   where
-    start : (l h : ℤ) (at₁ at₂ : ℕ) → signedAt bytes at ≡ got l at₁ → signedAt bytes at₁ ≡ got h at₂ → T (isInt32 l) → T (isInt32 h && leZ l h)
-        → Item (signedAt bytes at₂) (λ z. isInt32 z && leZ l z && leZ z h) (λ z at₃. checkRanges bytes m at₃ λ ns next. k (record { low = l; high = h; start = z } ∷ ns) next) b
-        → ((at₁ : ℕ) (k₁ : List Range → ℕ → Answer B) → checkRanges bytes m at₁ k₁ ≡ accepted b → RangesRead bytes m at₁ k₁ b) → RangesRead bytes (suc m) at k b
-    start l h at₁ at₂ e₁ e₂ t₁ t₂ (passes z at₃ e₃ t₃ q) ih = ranges-cons bytes m at at₃ (record { low = l; high = h; start = z }) k b (t₁, t₂, t₃) at₁ at₂ e₁ e₂ e₃ (ih at₃ _ q)
+    variables : (k at₁ : ℕ) → numberAt bytes 0 ≡ got k at₁
+        → Item (numberAt bytes at₁) (λ m. leb (k + m) 64) (λ m at₂. accepted (record { inputs = k; names = k + m; place = at₂ })) c → CountsFit bytes c
+    variables k at₁ e₁ (passes m at₂ e₂ t₂ q) =
+        let p : record { inputs = k; names = k + m; place = at₂ } ≡ c = cc in
+        let x : CountsFit bytes (record { inputs = k; names = k + m; place = at₂ })
+        = record { variables = m; at₁ = at₁; inputs-read = e₁; variables-read = e₂; size = refl; few = leb→le (k + m) 64 t₂ } in
+        subst (λ (y : Counts). CountsFit bytes y) p x
 
-    high : (l : ℤ) (at₁ : ℕ) → signedAt bytes at ≡ got l at₁ → T (isInt32 l)
-        → Item (signedAt bytes at₁) (λ h. isInt32 h && leZ l h) (λ h at₂. item (signedAt bytes at₂) at₂ (λ z. isInt32 z && leZ l z && leZ z h) λ z at₃. checkRanges bytes m at₃ λ ns next. k (record { low = l; high = h; start = z } ∷ ns) next) b
-        → ((at₁ : ℕ) (k₁ : List Range → ℕ → Answer B) → checkRanges bytes m at₁ k₁ ≡ accepted b → RangesRead bytes m at₁ k₁ b) → RangesRead bytes (suc m) at k b
-    high l at₁ e₁ t₁ (passes h at₂ e₂ t₂ q) ih = start l h at₁ at₂ e₁ e₂ t₁ t₂ (item-accepted _ at₂ _ _ b q) ih
-
-    low : Item (signedAt bytes at) isInt32 (λ l at₁. item (signedAt bytes at₁) at₁ (λ h. isInt32 h && leZ l h) λ h at₂. item (signedAt bytes at₂) at₂ (λ z. isInt32 z && leZ l z && leZ z h) λ z at₃. checkRanges bytes m at₃ λ ns next. k (record { low = l; high = h; start = z } ∷ ns) next) b
-        → ((at₁ : ℕ) (k₁ : List Range → ℕ → Answer B) → checkRanges bytes m at₁ k₁ ≡ accepted b → RangesRead bytes m at₁ k₁ b) → RangesRead bytes (suc m) at k b
-    low (passes l at₁ e₁ t₁ q) ih = high l at₁ e₁ t₁ (item-accepted _ at₁ _ _ b q) ih
+    inputs : Item (numberAt bytes 0) (λ k. leb k 64)
+        (λ k at₁. item (numberAt bytes at₁) at₁ (λ m. leb (k + m) 64) λ m at₂. accepted (record { inputs = k; names = k + m; place = at₂ })) c
+        → CountsFit bytes c
+    inputs (passes k at₁ e₁ t₁ q) = variables k at₁ e₁ (item-accepted _ at₁ _ _ c q)
 
 -- what holds of a header that was read
 pub record HeaderFits (bytes : List ℕ) (h : Header) : Type 0 where
@@ -115,28 +169,44 @@ pub record HeaderFits (bytes : List ℕ) (h : Header) : Type 0 where
   pub few : length (h .ranges) ≤ 64
   pub fit : RangesFit (h .ranges)
 
-header-made : (bytes : List ℕ) (h : Header) (k m at₁ at₂ : ℕ) → numberAt bytes 0 ≡ got k at₁ → numberAt bytes at₁ ≡ got m at₂ → (ns : List Range) (next : ℕ) → length ns ≡ k + m → k + m ≤ 64 → RangesFit ns
-    → RangesAt bytes at₂ ns next → _≡_ {A = Answer Header} (accepted (record { inputs = k; ranges = ns; place = next })) (accepted h) → HeaderFits bytes h
-header-made bytes h k m at₁ at₂ e₁ e₂ ns next l f r s e =
-    let q : record { inputs = k; ranges = ns; place = next } ≡ h = cc in
-    let x : HeaderFits bytes (record { inputs = k; ranges = ns; place = next })
-    = record { variables = m; at₁ = at₁; at₂ = at₂; inputs-read = e₁; variables-read = e₂; stands = s; size = l; total = f; few = omega arith; fit = r } in
-    subst (λ (y : Header). HeaderFits bytes y) q x
+-- the parts of a header that was read
+pub record HeaderRead (bytes : List ℕ) (h : Header) : Type 0 where
+  pub counts : Counts
+  pub counted : checkCounts bytes ≡ accepted counts
+  pub inputs : h .inputs ≡ counts .inputs
+  pub size : length (h .ranges) ≡ counts .names
+  pub fit : RangesFit (h .ranges)
+  pub stands : RangesAt bytes (counts .place) (h .ranges) (h .place)
+
+pub header-read : (bytes : List ℕ) (h : Header) → checkHeader bytes ≡ accepted h → HeaderRead bytes h
+unfolding checkHeader
+header-read bytes h e =
+    let a = then-accepted (checkCounts bytes) _ h e in
+    let c = a .0 in
+    let x = ranges-read bytes (c .names) (c .place) _ h (a .2) in
+    let p : record { inputs = c .inputs; ranges = x .ranges; place = x .next } ≡ h = cc (x .follows) in
+    let y : HeaderRead bytes (record { inputs = c .inputs; ranges = x .ranges; place = x .next })
+    = record { counts = c; counted = a .1; inputs = refl; size = x .size; fit = x .fit; stands = x .stands } in
+    subst (λ (z : Header). HeaderRead bytes z) p y
 
 pub header-fits : (bytes : List ℕ) (h : Header) → checkHeader bytes ≡ accepted h → HeaderFits bytes h
-unfolding checkHeader
-header-fits bytes h e = inputs (item-accepted _ 0 _ _ h e)
-  where
-    variables : (k at₁ : ℕ) → numberAt bytes 0 ≡ got k at₁
-        → Item (numberAt bytes at₁) (λ m. leb (k + m) 64) (λ m at₂. checkRanges bytes (k + m) at₂ λ ns next. accepted (record { inputs = k; ranges = ns; place = next })) h → HeaderFits bytes h
-    variables k at₁ e₁ (passes m at₂ e₂ t₂ q) =
-        let x = ranges-read bytes (k + m) at₂ _ h q in
-        header-made bytes h k m at₁ at₂ e₁ e₂ (x .ranges) (x .next) (x .size) (leb→le (k + m) 64 t₂) (x .fit) (x .stands) (x .follows)
-
-    inputs : Item (numberAt bytes 0) (λ k. leb k 64)
-        (λ k at₁. item (numberAt bytes at₁) at₁ (λ m. leb (k + m) 64) λ m at₂. checkRanges bytes (k + m) at₂ λ ns next. accepted (record { inputs = k; ranges = ns; place = next })) h
-        → HeaderFits bytes h
-    inputs (passes k at₁ e₁ t₁ q) = variables k at₁ e₁ (item-accepted _ at₁ _ _ h q)
+header-fits bytes h e =
+    let x = header-read bytes h e in
+    let c = counts-fit bytes (x .counts) (x .counted) in
+    let s : length (h .ranges) ≡ x .counts .names = x .size in
+    let i : h .inputs ≡ x .counts .inputs = x .inputs in
+    record {
+      variables = c .variables;
+      at₁ = c .at₁;
+      at₂ = x .counts .place;
+      inputs-read = c .inputs-read ∙ ap (λ (n : ℕ). got n (c .at₁)) (sym i);
+      variables-read = c .variables-read;
+      stands = x .stands;
+      size = omega (arith, c .size);
+      total = omega (arith, c .size, c .few);
+      few = omega (arith, c .few);
+      fit = x .fit;
+    }
 
 -- what the answer sound says of an image
 pub record SoundImage (bytes : List ℕ) : Type 0 where

@@ -97,14 +97,36 @@ abbrev pub item : {A B : Type 0} → Read A → ℕ → (A → Bool) → (A → 
 item nothing at test k = refused brokenImage at
 item (got a next) at test k = tested (test a) at (k a next)
 
+-- a range, and the place behind it
+pub record Placed : Type 0 where
+  pub range : Range
+  pub next : ℕ
+
 -- low ≤ start ≤ high, all in signed 32-bit range
-abbrev pub checkRanges : {B : Type 0} → List ℕ → ℕ → ℕ → (List Range → ℕ → Answer B) → Answer B
-checkRanges bytes zero at k = k [] at
-checkRanges bytes (suc m) at k =
+unfoldable pub checkRange : List ℕ → ℕ → Answer Placed
+checkRange bytes at =
     item (signedAt bytes at) at isInt32 λ l at₁.
     item (signedAt bytes at₁) at₁ (λ h. isInt32 h && leZ l h) λ h at₂.
     item (signedAt bytes at₂) at₂ (λ z. isInt32 z && leZ l z && leZ z h) λ z at₃.
-    checkRanges bytes m at₃ λ ns next. k (record { low = l; high = h; start = z } ∷ ns) next
+    accepted (record { range = record { low = l; high = h; start = z }; next = at₃ })
+
+-- the range of each name in declared order, and what follows them
+abbrev pub checkRanges : {B : Type 0} → List ℕ → ℕ → ℕ → (List Range → ℕ → Answer B) → Answer B
+checkRanges bytes zero at k = k [] at
+checkRanges bytes (suc m) at k = checkRange bytes at andThen λ r. checkRanges bytes m (r .next) λ ns next. k (r .range ∷ ns) next
+
+-- the count of inputs, the count of names, and the place behind the two counts
+pub record Counts : Type 0 where
+  pub inputs : ℕ
+  pub names : ℕ
+  pub place : ℕ
+
+-- Header: count of inputs, count of variables. At most 64 names.
+unfoldable pub checkCounts : List ℕ → Answer Counts
+checkCounts bytes =
+    item (numberAt bytes 0) 0 (λ k. leb k nameLimit) λ k at₁.
+    item (numberAt bytes at₁) at₁ (λ m. leb (k + m) nameLimit) λ m at₂.
+    accepted (record { inputs = k; names = k + m; place = at₂ })
 
 -- what a header says, and the place where the code begins
 pub record Header : Type 0 where
@@ -112,12 +134,12 @@ pub record Header : Type 0 where
   pub ranges : List Range
   pub place : ℕ
 
--- at most 64 names
+abbrev pub withInputs : ℕ → List Range → ℕ → Answer Header
+withInputs k = λ ns next. accepted (record { inputs = k; ranges = ns; place = next })
+
+-- Header: the counts, then low, high, start of each name in declared order.
 unfoldable pub checkHeader : List ℕ → Answer Header
-checkHeader bytes =
-    item (numberAt bytes 0) 0 (λ k. leb k nameLimit) λ k at₁.
-    item (numberAt bytes at₁) at₁ (λ m. leb (k + m) nameLimit) λ m at₂.
-    checkRanges bytes (k + m) at₂ λ ns next. accepted (record { inputs = k; ranges = ns; place = next })
+checkHeader bytes = checkCounts bytes andThen λ c. checkRanges bytes (c .names) (c .place) (withInputs (c .inputs))
 
 -- ---- the code
 
