@@ -32,7 +32,7 @@ same-length-2 c = search needs
 returns : tie.Need-returns Inv-loop μ-loop
 returns c =
     let i = c .before .before .loop in
-    (ended (i .inv) (c .if1 .taken), i .inv .stack .few)
+    (ended (i .inv) (c .if1 .taken), i .inv .within)
 
 add-done : tie.Need-add-done Inv-loop μ-loop
 add-done c = search needs
@@ -116,7 +116,7 @@ same-length-8 c = search needs
 returns-4 : tie.Need-returns-4 Inv-loop μ-loop
 returns-4 c =
     let i = c .before .loop in
-    (spent (i .inv) (c .loop-test .left), i .inv .stack .few)
+    (spent (i .inv) (c .loop-test .left), i .inv .within)
 
 pub run-spec : {M : Type 1} → statement M
 run-spec =
