@@ -35,7 +35,7 @@ pub record SignedWithin (length at : ℕ) (z : ℤ) (next : ℕ) : Type 0 where
   pub behind : at < next
   pub inside : next ≤ length
 
-unzigzag-int32 : (u : ℕ) → u < 2 ^ 32 → T (isInt32 (unzigzag u))
+pub unzigzag-int32 : (u : ℕ) → u < 2 ^ 32 → T (isInt32 (unzigzag u))
 unzigzag-int32 u h = fits-int32 (zigzag-fits (unzigzag u) (rw zigzag-unzigzag h))
 
 pub signed-within : (bytes : List ℕ) (at : ℕ) (z : ℤ) (next : ℕ) → signedAt bytes at ≡ got z next → SignedWithin (length bytes) at z next

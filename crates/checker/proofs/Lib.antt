@@ -1,0 +1,4 @@
+pub mod Bits
+pub mod Steps
+pub mod Walking
+pub mod Checking

@@ -1,0 +1,281 @@
+-- The definition of one instruction's soundness, test by test, as the code takes the tests. Assumes nothing.
+use Prim.Native.Nat.{ℕ, zero, suc, _+_, _-_, _/_, _%_, _^_, _≤_, _<_}
+use mathlib.Core.Path.{_≡_, refl, sym, ap, _∙_}
+use mathlib.Core.Bool.{Bool, true, false, not, _&&_}
+use mathlib.Core.List.{List, [], _∷_}
+use mathlib.Core.Option.{Option, none, some}
+use native.Mathlib.Omega.{arith}
+use native.Mathlib.Numerals.{add-one}
+use lib.Dec.{eqb, eqb·suc-suc}
+use lib.ListN.{length, getD, set}
+use borrow.Author.Tests.{eq-eqb, ne-eqb, lt-ltb, le-ltb, le-leb, lt-leb}
+use Rattle.arith.specs.Values.{Operation, Comparison, isInt32}
+use Rattle.arith.proofs.Basics.{T-true}
+use Rattle.leb128.specs.Numbers.{unzigzag}
+use Rattle.bytecode.specs.Instructions.{constant, operation, negate, comparison, negated, both, either, gate, pick, assign, settle, operationOf, comparisonOf, instructionOf}
+use Rattle.bytecode.specs.Check.{Sort, number, truth, Known, known, guard, one, empty, unset, closed, fresh, opened, advance}
+use Rattle.bytecode.proofs.Heading.{unzigzag-int32}
+use Rattle.checker.specs.declared.advance.Walk.{Walk}
+use Rattle.checker.specs.Represented.{sortOf, sortsOf, flagsOf, picksOf, knownOf, pushed, kept, joined, only, outside}
+use Rattle.checker.proofs.Bits.{sorts-none, sorts-one, sorts-cons, sorts-two}
+
+-- ---- the value on top
+
+-- it is of the sort wanted, or of the other
+pub one-same : (b : ℕ) (vs : List Sort) (k : List Sort → Option Known) → one (sortOf b) (sortOf b ∷ vs) k ≡ k vs
+one-same zero vs k = refl
+one-same (suc b) vs k = refl
+
+pub one-other : (a b : ℕ) → a < 2 → b < 2 → (a ≡ b → ⊥) → (vs : List Sort) (k : List Sort → Option Known) → one (sortOf b) (sortOf a ∷ vs) k ≡ none
+one-other zero zero l m h vs k = absurd (h refl)
+one-other zero (suc b) l m h vs k = refl
+one-other (suc a) zero l m h vs k = refl
+one-other (suc a) (suc b) l m h vs k = absurd (h (omega arith))
+
+pub one-nothing : (s : Sort) (k : List Sort → Option Known) → one s [] k ≡ none
+one-nothing number k = refl
+one-nothing truth k = refl
+
+-- whatever follows, it breaks
+one-none : (s : Sort) (vs : List Sort) → one s vs (λ vs₁. none) ≡ none
+one-none number [] = refl
+one-none number (number ∷ vs) = refl
+one-none number (truth ∷ vs) = refl
+one-none truth [] = refl
+one-none truth (number ∷ vs) = refl
+one-none truth (truth ∷ vs) = refl
+
+-- just one value
+only-same : (a b : ℕ) → a < 2 → b < 2 → only (sortOf b) (sortOf a ∷ []) ≡ eqb a b
+only-same zero zero l m = refl
+only-same zero (suc b) l m = sym (ne-eqb 0 (suc b) (λ e. omega arith))
+only-same (suc a) zero l m = sym (ne-eqb (suc a) 0 (λ e. omega arith))
+only-same (suc a) (suc b) l m = let e : a ≡ b = omega arith in rw (eq-eqb (suc a) (suc b) (ap suc e))
+
+pub only-one : (k b : ℕ) → b < 2 → only (sortOf b) (sortsOf 1 k) ≡ eqb (k % 2) b
+only-one k b l = rw (sorts-one k) (only-same (k % 2) b (omega arith) l)
+
+only-two : (s x y : Sort) (vs : List Sort) → only s (x ∷ y ∷ vs) ≡ false
+only-two number number y vs = refl
+only-two number truth y vs = refl
+only-two truth number y vs = refl
+only-two truth truth y vs = refl
+
+only-nothing : (s : Sort) → only s [] ≡ false
+only-nothing number = refl
+only-nothing truth = refl
+
+pub only-other : (s : Sort) (n k : ℕ) → (n ≡ 1 → ⊥) → only s (sortsOf n k) ≡ false
+unfolding sortsOf
+only-other s zero k h = only-nothing s
+only-other s (suc zero) k h = absurd (h refl)
+only-other s (suc (suc n)) k h = only-two s _ _ _
+
+pub empty-not : (n k : ℕ) → (n ≡ 0 → ⊥) → empty (sortsOf n k) ≡ false
+unfolding sortsOf
+empty-not zero k h = absurd (h refl)
+empty-not (suc n) k h = refl
+
+-- ---- values that give way to a result
+
+module _ (w : Walk) (b : ℕ) where
+  pub kept-none : w .held ≡ 0 → kept (sortOf b) (knownOf w) ≡ none
+  unfolding kept
+  kept-none e = rw (e, sorts-none) (one-nothing (sortOf b) _)
+
+  pub kept-other : b < 2 → (w .held ≡ 0 → ⊥) → (w .sorts % 2 ≡ b → ⊥) → kept (sortOf b) (knownOf w) ≡ none
+  unfolding kept
+  kept-other l h e = rw (sorts-cons (w .held) (w .sorts) (omega arith)) (one-other (w .sorts % 2) b (omega arith) l e _ _)
+
+  pub kept-same : (w .held ≡ 0 → ⊥) → w .sorts % 2 ≡ b → kept (sortOf b) (knownOf w) ≡ some (knownOf w)
+  unfolding kept
+  kept-same h e = rw (sorts-cons (w .held) (w .sorts) (omega arith), e) (one-same b _ _)
+
+  module _ (t : Sort) where
+    pub joined-few : w .held < 2 → joined (sortOf b) t (knownOf w) ≡ none
+    unfolding joined sortsOf
+    joined-few h = go (w .held) h
+      where
+        go : (n : ℕ) → n < 2 → joined (sortOf b) t (known (sortsOf n (w .sorts)) (w .gate) (picksOf (w .picking)) (flagsOf (w .names) (w .known))) ≡ none
+        go zero l = one-nothing (sortOf b) _
+        go (suc zero) l = top (sortOf b) (sortOf (w .sorts % 2))
+          where
+            top : (s x : Sort) → (one s (x ∷ []) λ vs₁. one s vs₁ λ vs₂. some (known (t ∷ vs₂) (w .gate) (picksOf (w .picking)) (flagsOf (w .names) (w .known)))) ≡ none
+            top number number = refl
+            top number truth = refl
+            top truth number = refl
+            top truth truth = refl
+        go (suc (suc n)) l = let f : ⊥ = omega arith in absurd f
+
+    module _ (l : b < 2) (h : 2 ≤ w .held) where
+      pub joined-first : (w .sorts % 2 ≡ b → ⊥) → joined (sortOf b) t (knownOf w) ≡ none
+      unfolding joined
+      joined-first e = rw (sorts-two (w .held) (w .sorts) h) (one-other (w .sorts % 2) b (omega arith) l e _ _)
+
+      pub joined-second : w .sorts % 2 ≡ b → (w .sorts / 2 % 2 ≡ b → ⊥) → joined (sortOf b) t (knownOf w) ≡ none
+      unfolding joined
+      joined-second e f = rw (sorts-two (w .held) (w .sorts) h, e) (one-same b _ _ ∙ one-other (w .sorts / 2 % 2) b (omega arith) l f _ _)
+
+      pub joined-both : w .sorts % 2 ≡ b → w .sorts / 2 % 2 ≡ b
+          → joined (sortOf b) t (knownOf w) ≡ some (known (t ∷ sortsOf (w .held - 2) (w .sorts / 2 / 2)) (w .gate) (picksOf (w .picking)) (flagsOf (w .names) (w .known)))
+      unfolding joined
+      joined-both e f = rw (sorts-two (w .held) (w .sorts) h, e, f) (one-same b _ _ ∙ one-same b _ _)
+
+-- ---- the id whose picks await their settle
+
+pub closed-not : (p : ℕ) → (p ≡ 0 → ⊥) → closed (picksOf p) ≡ false
+closed-not zero h = absurd (h refl)
+closed-not (suc p) h = refl
+
+pub suc-picks : (v : ℕ) → picksOf (v + 1) ≡ some v
+suc-picks v = rw (add-one v)
+
+pub opened-yes : (p v : ℕ) → p ≡ v + 1 → opened (picksOf p) v ≡ true
+opened-yes zero v h = let b : ⊥ = omega arith in absurd b
+opened-yes (suc p) v h = eq-eqb p v (omega arith)
+
+pub opened-not : (p v : ℕ) → (p ≡ v + 1 → ⊥) → opened (picksOf p) v ≡ false
+opened-not zero v h = refl
+opened-not (suc p) v h = ne-eqb p v (λ e. h (omega arith))
+
+same-suc : (p v : ℕ) → eqb (suc p) (v + 1) ≡ eqb p v
+same-suc p v = rw (add-one v) (eqb·suc-suc p v)
+
+pub fresh-is : (p v : ℕ) → (p ≡ 0 → ⊥) → fresh (picksOf p) v ≡ eqb p (v + 1)
+fresh-is zero v h = absurd (h refl)
+fresh-is (suc p) v h = sym (same-suc p v)
+
+-- ---- the instructions
+
+abbrev gateOf : Known → Bool
+gateOf (known vs g o ids) = g
+
+two-none : (s : Sort) (vs : List Sort) → (one s vs λ vs₁. one s vs₁ λ vs₂. none) ≡ none
+two-none number [] = refl
+two-none number (number ∷ vs) = one-none number vs
+two-none number (truth ∷ vs) = refl
+two-none truth [] = refl
+two-none truth (number ∷ vs) = refl
+two-none truth (truth ∷ vs) = one-none truth vs
+
+two-is : (s : Sort) (vs : List Sort) (g : Bool) (o : Option ℕ) (ids : List Bool)
+    → (one s vs λ vs₁. one s vs₁ λ vs₂. guard (not g) (known (truth ∷ vs₂) g o ids)) ≡ outside g (joined s truth (known vs g o ids))
+unfolding joined
+two-is s vs true o ids = two-none s vs
+two-is s vs false o ids = refl
+
+pub operation-is : (x : Operation) (c : Known) → advance (operation x) c ≡ joined number number c
+unfolding joined
+operation-is x (known vs g o ids) = refl
+
+pub comparison-is : (x : Comparison) (c : Known) → advance (comparison x) c ≡ outside (gateOf c) (joined number truth c)
+comparison-is x (known vs g o ids) = two-is number vs g o ids
+
+pub both-is : (c : Known) → advance both c ≡ outside (gateOf c) (joined truth truth c)
+both-is (known vs g o ids) = two-is truth vs g o ids
+
+pub either-is : (c : Known) → advance either c ≡ outside (gateOf c) (joined truth truth c)
+either-is (known vs g o ids) = two-is truth vs g o ids
+
+pub negate-is : (c : Known) → advance negate c ≡ kept number c
+unfolding kept
+negate-is (known vs g o ids) = refl
+
+pub negated-is : (c : Known) → advance negated c ≡ outside (gateOf c) (kept truth c)
+unfolding kept
+negated-is (known vs true o ids) = one-none truth vs
+negated-is (known vs false o ids) = refl
+
+module _ (g : Bool) (o : Option ℕ) (ids : List Bool) where
+  pub gate-is : (vs : List Sort) → advance gate (known vs g o ids) ≡ guard (not g && only truth vs) (known [] true o ids)
+  gate-is vs = go g vs
+    where
+      go : (h : Bool) (vs : List Sort) → (one truth vs λ vs₁. guard (not h && empty vs₁) (known [] true o ids)) ≡ guard (not h && only truth vs) (known [] true o ids)
+      go true [] = refl
+      go false [] = refl
+      go true (number ∷ vs) = refl
+      go false (number ∷ vs) = refl
+      go h (truth ∷ []) = refl
+      go h (truth ∷ x ∷ vs) = refl
+
+  -- pick and let find just one number, and what else they need
+  number-is : (h a b : Bool) (c : Known) (vs : List Sort) → (one number vs λ vs₁. guard (h && empty vs₁ && a && b) c) ≡ guard (h && only number vs && a && b) c
+  number-is true a b c [] = refl
+  number-is false a b c [] = refl
+  number-is true a b c (truth ∷ vs) = refl
+  number-is false a b c (truth ∷ vs) = refl
+  number-is h a b c (number ∷ []) = refl
+  number-is h a b c (number ∷ x ∷ vs) = refl
+
+  pub pick-is : (v : ℕ) (vs : List Sort) → advance (pick v) (known vs g o ids) ≡ guard (g && only number vs && unset ids v && fresh o v) (known [] false (some v) ids)
+  pick-is v vs = number-is g (unset ids v) (fresh o v) _ vs
+
+  pub assign-is : (v : ℕ) (vs : List Sort)
+      → advance (assign v) (known vs g o ids) ≡ guard (not g && only number vs && unset ids v && closed o) (known [] false none (set ids v true))
+  assign-is v vs = number-is (not g) (unset ids v) (closed o) _ vs
+
+-- constants in signed 32-bit range: an operand is below 2 ^ 32
+pub constant-is : (n : ℕ) (c : Known) → n < 2 ^ 32 → advance (constant (unzigzag n)) c ≡ pushed c
+unfolding pushed
+constant-is n (known vs g o ids) h = rw (T-true (isInt32 (unzigzag n)) (unzigzag-int32 n h))
+
+-- ---- the code byte
+
+pub operation-of : (code n : ℕ) → 4 ≤ code → code ≤ 8 → instructionOf code n ≡ some (operation (operationOf code))
+unfolding instructionOf
+operation-of code n l m =
+    rw (ne-eqb code 1 (λ e. omega arith), ne-eqb code 2 (λ e. omega arith), ne-eqb code 3 (λ e. omega arith), le-leb 4 code l, le-leb code 8 m)
+
+pub comparison-of : (code n : ℕ) → 10 ≤ code → code ≤ 15 → instructionOf code n ≡ some (comparison (comparisonOf code))
+unfolding instructionOf
+comparison-of code n l m =
+    rw (
+      ne-eqb code 1 (λ e. omega arith),
+      ne-eqb code 2 (λ e. omega arith),
+      ne-eqb code 3 (λ e. omega arith),
+      le-leb 4 code (omega arith),
+      lt-leb code 8 (omega arith),
+      ne-eqb code 9 (λ e. omega arith),
+      le-leb 10 code l,
+      le-leb code 15 m,
+    )
+
+-- only the codes listed
+pub none-below : (code n : ℕ) → code < 1 → instructionOf code n ≡ none
+unfolding instructionOf
+none-below code n l = let e : code ≡ 0 = omega arith in rw e
+
+pub none-above : (code n : ℕ) → 22 < code → instructionOf code n ≡ none
+unfolding instructionOf
+none-above code n l =
+    rw (
+      ne-eqb code 1 (λ e. omega arith),
+      ne-eqb code 2 (λ e. omega arith),
+      ne-eqb code 3 (λ e. omega arith),
+      le-leb 4 code (omega arith),
+      lt-leb code 8 (omega arith),
+      ne-eqb code 9 (λ e. omega arith),
+      le-leb 10 code (omega arith),
+      lt-leb code 15 (omega arith),
+      ne-eqb code 16 (λ e. omega arith),
+      ne-eqb code 17 (λ e. omega arith),
+      ne-eqb code 18 (λ e. omega arith),
+      ne-eqb code 19 (λ e. omega arith),
+      ne-eqb code 20 (λ e. omega arith),
+      ne-eqb code 21 (λ e. omega arith),
+      ne-eqb code 22 (λ e. omega arith),
+    )
+
+-- what is left where none of the keys fits
+past : (k code : ℕ) → k ≤ code → (code ≡ k → ⊥) → k + 1 ≤ code
+past k code l h = omega arith
+
+pub from-four : (code : ℕ) → 1 ≤ code → (code ≡ 1 → ⊥) → (code ≡ 2 → ⊥) → (code ≡ 3 → ⊥) → 4 ≤ code
+from-four code l a b c = past 3 code (past 2 code (past 1 code l a) b) c
+
+pub above : (code : ℕ) → 16 ≤ code → (code ≡ 16 → ⊥) → (code ≡ 17 → ⊥) → (code ≡ 18 → ⊥) → (code ≡ 19 → ⊥) → (code ≡ 20 → ⊥) → (code ≡ 21 → ⊥) → (code ≡ 22 → ⊥)
+    → 22 < code
+above code l a b c d e f g = past 22 code (past 21 code (past 20 code (past 19 code (past 18 code (past 17 code (past 16 code l a) b) c) d) e) f) g
+
+pub outside-no : (g : Bool) (r : Option Known) → g ≡ false → r ≡ outside g r
+outside-no g r e = rw e

@@ -1,0 +1,23 @@
+-- `checker::advance::is_unset` meets its contract. Assumes nothing.
+use mathlib.Core.Path.{_≡_, refl, sym, ap, _∙_}
+use Prim.Native.Nat.{_+_, _/_, _%_, _^_, _<_}
+use borrow.Author.Tests.{lt-ltb, le-ltb}
+use Rattle.checker.proofs.Bits.{length-flags, flag-at, bit-not}
+use borrow.Author.Needs.{needs}
+use Rattle.checker.proofs.advance.is_unset.Statement.{statement}
+use Rattle.checker.proofs.advance.is_unset.Tie as tie
+
+returns : tie.Need-returns
+returns c = rw (length-flags, le-ltb _ _ (c .if1 .taken))
+
+shr-result : tie.Need-shr-result
+shr-result c = search needs
+
+returns-2 : tie.Need-returns-2
+returns-2 c =
+    let a = c .before .before .before .args in
+    let l = c .before .if1 .left in
+    rw (length-flags, lt-ltb _ _ l, flag-at (a .w .names) (a .w .known) (a .id) l) (bit-not (a .w .known / 2 ^ a .id))
+
+pub is-unset-spec : {M : Type 1} → statement M
+is-unset-spec = tie.close (tie.spec returns shr-result returns-2)

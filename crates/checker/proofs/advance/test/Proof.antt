@@ -1,0 +1,18 @@
+-- `checker::advance::test` meets its contract. Assumes nothing.
+use mathlib.Core.Path.{_≡_, refl, sym, ap, _∙_}
+use Rattle.checker.proofs.Steps.{outside-no}
+use borrow.Author.Needs.{needs}
+use Rattle.checker.proofs.advance.test.Statement.{statement}
+use Rattle.checker.proofs.advance.test.Tie as tie
+
+returns : tie.Need-returns
+returns c = search needs
+
+join-requires : tie.Need-join-requires
+join-requires c κs = search needs
+
+returns-2 : tie.Need-returns-2
+returns-2 c = (c .join .ensures .0 ∙ outside-no _ _ (c .before .if1 .left), c .join .ensures .1)
+
+pub test-spec : {M : Type 1} → statement M
+test-spec = tie.close (tie.spec returns join-requires returns-2)

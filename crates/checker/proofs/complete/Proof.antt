@@ -1,0 +1,27 @@
+-- `checker::complete` meets its contract. Assumes nothing.
+use mathlib.Core.Path.{_≡_, refl, sym, ap, _∙_}
+use Rattle.checker.proofs.Bits.{sorts-none, flags-all}
+use Rattle.checker.proofs.Steps.{empty-not, closed-not}
+use borrow.Author.Needs.{needs}
+use Rattle.checker.proofs.complete.Statement.{statement}
+use Rattle.checker.proofs.complete.Tie as tie
+
+returns : tie.Need-returns
+returns c = rw (empty-not (c .before .before .args .w .held) (c .before .before .args .w .sorts) (c .if1 .taken))
+
+returns-2 : tie.Need-returns-2
+returns-2 c = rw (c .before .if1 .left, sorts-none, c .if2 .taken)
+
+returns-3 : tie.Need-returns-3
+returns-3 c = rw (c .before .before .before .if1 .left, sorts-none, c .before .before .if2 .left, closed-not (c .before .before .before .before .before .args .w .picking) (c .if3 .taken))
+
+ones-requires : tie.Need-ones-requires
+ones-requires c κs = search needs
+
+returns-4 : tie.Need-returns-4
+returns-4 c =
+    let w = c .before .before .before .before .before .before .before .args .w in
+    rw (c .before .before .before .before .before .if1 .left, sorts-none, c .before .before .before .before .if2 .left, c .before .before .if3 .left, c .before .ones .ensures, flags-all (w .names) (w .known) (c .before .before .before .before .before .before .before .pre .known-low))
+
+pub complete-spec : {M : Type 1} → statement M
+complete-spec = tie.close (tie.spec returns returns-2 returns-3 ones-requires returns-4)

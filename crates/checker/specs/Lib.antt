@@ -1,0 +1,2 @@
+pub mod Represented
+pub mod Results

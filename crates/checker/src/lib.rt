@@ -1,0 +1,99 @@
+// Whether an image is sound.
+ghost use mathlib.Core.Path.{_≡_};
+ghost use mathlib.Core.List.{[]};
+ghost use mathlib.Core.Option.{none};
+ghost use mathlib.Core.Bool.{false};
+ghost use Prim.Native.Nat.{_+_, _-_, _≤_, _<_, _^_};
+ghost use lib.ListN.{length};
+ghost use Rattle.limits.specs.Limits.{imageLimit, nameLimit};
+ghost use Rattle.semantics.specs.Program.{knownFirst};
+ghost use Rattle.bytecode.specs.Check.{known as knownAs, complete as completeOf, checkCode, checkOf};
+ghost use Rattle.checker.specs.Represented.{knownOf, Small};
+ghost use Rattle.checker.specs.Results.{checkedAnswer, CheckedWithin};
+use advance::Advanced;
+use advance::Walk;
+
+pub mod advance;
+
+// Sound, or refused with document 01's number and place.
+pub enum Checked {
+    Sound,
+    Refused(u8, usize),
+}
+
+// The lowest k bits set.
+fn ones(k: u64) -> u64
+    requires { ⌜ k ≤ 64 ⌝ }
+    ensures { λ r. ⌜ r ≡ 2 ^ k - 1 ⌝ }
+{
+    if k == 64 {
+        return 18446744073709551615;
+    }
+    (1 << k) - 1
+}
+
+// Nothing is missing at the end: no value held, no gate without its pick, no pick without its settle, each variable with its rule.
+fn complete(w: Walk) -> bool
+    requires { ⌜ Small w ⌝ }
+    ensures { λ r. ⌜ r ≡ completeOf (knownOf w) ⌝ }
+{
+    if w.held != 0 {
+        return false;
+    }
+    if w.gate {
+        return false;
+    }
+    if w.picking != 0 {
+        return false;
+    }
+    w.known == ones(w.names)
+}
+
+// The walk over the code, which begins at `base` of the image.
+fn check_code(code: &[u8], base: usize, inputs: usize, names: usize) -> Checked
+    requires { ⌜ (inputs ≤ names) × (names ≤ nameLimit) × (base + length (now code) ≤ imageLimit) ⌝ }
+    ensures { λ r. ⌜ checkedAnswer r ≡ checkCode base (now (code .entry)) (length (now (code .entry))) 0 (knownAs [] false none (knownFirst inputs names)) ⌝ }
+    ensures { λ r. ⌜ CheckedWithin r ⌝ }
+{
+    let mut at = 0;
+    let mut w = Walk {
+        held: 0,
+        sorts: 0,
+        gate: false,
+        picking: 0,
+        known: ones(inputs as u64),
+        names: names as u64,
+    };
+    while at < code.len() {
+        let bytecode::Fetched::Instruction(byte, n, next) = bytecode::fetch(code, at) else {
+            return Checked::Refused(11, base + at);
+        };
+        let Advanced::Kept(k) = advance::advance(byte, n, w) else {
+            return Checked::Refused(11, base + at);
+        };
+        w = k;
+        at = next;
+    }
+    if complete(w) {
+        return Checked::Sound;
+    }
+    Checked::Refused(11, base + at)
+}
+
+pub fn check(image: &[u8]) -> Checked
+    ensures { λ r. ⌜ checkedAnswer r ≡ checkOf (now (image .entry)) ⌝ }
+    ensures { λ r. ⌜ CheckedWithin r ⌝ }
+{
+    if 65536 < image.len() {
+        return Checked::Refused(9, 0);
+    }
+    match bytecode::header(image) {
+        bytecode::Headed::Broken(place) => Checked::Refused(11, place),
+        bytecode::Headed::Header(inputs, names, place) => check_code(
+            &image[place..],
+            place,
+            inputs,
+            names,
+        ),
+    }
+}

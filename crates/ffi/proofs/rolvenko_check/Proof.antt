@@ -1,0 +1,33 @@
+-- `ffi::rolvenko_check` meets its contract. Assumes nothing.
+use mathlib.Core.Path.{_≡_, refl, sym, ap, subst, _∙_}
+use Prim.Native.Nat.{_≤_}
+use Rattle.checker.specs.Results.{checkedAnswer, CheckedWithin}
+use Rattle.ffi.specs.Packed.{packedCheck}
+use borrow.Author.Needs.{needs}
+use native.Mathlib.Omega.{arith}
+use Rattle.ffi.proofs.rolvenko_check.Statement.{statement}
+use Rattle.ffi.proofs.rolvenko_check.Tie as tie
+
+check-requires : tie.Need-check-requires
+check-requires c κs = search needs
+
+enum-told : tie.Need-enum-told
+enum-told c = search needs
+
+enum-known-number : tie.Need-enum-known-number
+enum-known-number c = search needs
+
+pack-requires : tie.Need-pack-requires
+pack-requires c κs =
+    let l = subst CheckedWithin (c .before .number .given .1) (c .before .before .before .check .ensures .1) in
+    (omega (arith, l), omega arith)
+
+returns : tie.Need-returns
+returns c = ap packedCheck (sym (ap checkedAnswer (c .enum-told .given .1)) ∙ c .before .before .check .ensures .0)
+
+returns-2 : tie.Need-returns-2
+returns-2 c = c .pack .ensures ∙ ap packedCheck (sym (ap checkedAnswer (c .before .before .number .given .1)) ∙ c .before .before .before .before .check .ensures .0)
+
+pub rolvenko-check-spec : {M : Type 1} → statement M
+rolvenko-check-spec =
+    tie.close (tie.spec check-requires enum-told enum-known-number pack-requires returns returns-2)

@@ -1,0 +1,22 @@
+// The services as C functions. include/rolvenko.h declares them.
+ghost use mathlib.Core.Path.{_≡_};
+ghost use Prim.Native.Nat.{_<_, _^_};
+ghost use Rattle.bytecode.specs.Check.{checkOf};
+ghost use Rattle.ffi.specs.Packed.{packed, packedCheck};
+
+fn pack(number: u8, place: usize, count: u64) -> u64
+    requires { ⌜ (place < 2 ^ 32) × (count < 2 ^ 24) ⌝ }
+    ensures { λ r. ⌜ r ≡ packed number place count ⌝ }
+{
+    number as u64 * 72057594037927936 + place as u64 * 16777216 + count
+}
+
+#[no_mangle]
+pub extern "C" fn rolvenko_check(image: &[u8]) -> u64
+    ensures { λ r. ⌜ r ≡ packedCheck (checkOf (now (image .entry))) ⌝ }
+{
+    match checker::check(image) {
+        checker::Checked::Sound => 0,
+        checker::Checked::Refused(number, place) => pack(number, place, 0),
+    }
+}
