@@ -22,7 +22,7 @@ module _ {whole from part : List ℤ} {i : ℕ} (c : Copying whole from part i) 
       record {
         among = omega arith;
         same-length = length-set part i z ∙ c .same-length;
-        so = rw (e, c .so, add-one i, drop-cons whole i (pos 0) (omega arith), set-at (take i from) (getD whole i (pos 0)) (drop (suc i) whole) (getD from i (pos 0)) i q, take-suc from i (pos 0) h, append-assoc)
+        so = rw (e, c .so, add-one i, drop-cons whole i (pos 0) (omega arith), set-at (take i from) (getD whole i (pos 0)) (drop (suc i) whole) (getD from i (pos 0)) i q, take-suc from i (pos 0) h, append-assoc);
       }
 
   pub copying-ends : length from ≤ i → part ≡ withInputs whole from

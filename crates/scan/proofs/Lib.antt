@@ -1,3 +1,4 @@
 pub mod Copies
 pub mod InRange
 pub mod Scanning
+pub mod Images

@@ -3,6 +3,7 @@ use Prim.Native.Nat.{ℕ, _≤_}
 use mathlib.Core.Path.{_≡_, refl, sym, ap, _∙_}
 use mathlib.Core.Bool.{Bool, true, false}
 use mathlib.Core.List.{List}
+use native.Mathlib.Omega.{arith}
 use lib.IntN.{ℤ}
 use lib.ListN.{length}
 use Rattle.semantics.specs.Program.{Range}
@@ -13,9 +14,10 @@ use Rattle.machine.specs.declared.Executed.{Executed}
 use Rattle.machine.specs.declared.Stepped.the-variants.{Next, Refused}
 use Rattle.machine.specs.Runs.{Ran, run}
 use Rattle.machine.specs.Memory.{heldOf, machineOf, ranOf, RangesIn}
+use Rattle.scan.specs.declared.Scanned.{Scanned}
 use Rattle.scan.specs.declared.Scanned.the-variants as R
 use Rattle.scan.specs.Services.{AfterScan}
-use Rattle.scan.specs.Results.{afterScan}
+use Rattle.scan.specs.Results.{afterScan, ScannedWithin}
 use Rattle.scan.specs.Internal.{ranOn, scannedCode, scannedIn}
 use Rattle.scan.proofs.Copies.{over-all, length-over}
 
@@ -45,3 +47,9 @@ module _ (code : List ℕ) (low high found row w₀ w₁ w₂ vals vs ws : List 
 
   pub code-refused : (k : ℕ) → e .last ≡ Refused k → (ns : List Range) → RangesIn ns low high → afterScan (R.Refused k 0 (e .steps)) found ≡ scannedCode ns code found row
   code-refused k l ns r = rw (← run-was ns r, l)
+
+-- ---- how large the numbers are
+
+pub within-more : (a b : ℕ) (r : Scanned) → a ≤ b → ScannedWithin a r → ScannedWithin b r
+within-more a b (R.Done n) h w = omega arith
+within-more a b (R.Refused number place n) h w = (omega arith, omega arith)

@@ -1,5 +1,5 @@
 -- What the answers of start and scan stand for: document 01's number, place and steps. Assumes nothing.
-use Prim.Native.Nat.{ℕ}
+use Prim.Native.Nat.{ℕ, _≤_}
 use Rattle.limits.specs.Answer.{Answer, accepted, refused}
 use Rattle.semantics.specs.Formula.{State}
 use Rattle.scan.specs.declared.Started.{Started}
@@ -27,3 +27,13 @@ scanSteps (R.Refused number place n) = n
 
 abbrev pub afterScan : Scanned → State → AfterScan
 afterScan r left = record { answer = scanAnswer r; steps = scanSteps r; state = left }
+
+-- ---- how large these numbers are, for who packs them
+
+abbrev pub StartedWithin : ℕ → Started → Type 0
+StartedWithin most S.Done = Unit {0}
+StartedWithin most (S.Refused number place) = place ≤ most
+
+abbrev pub ScannedWithin : ℕ → Scanned → Type 0
+ScannedWithin most (R.Done n) = n ≤ most
+ScannedWithin most (R.Refused number place n) = (place ≤ most) × (n ≤ most)

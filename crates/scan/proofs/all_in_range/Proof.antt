@@ -64,7 +64,7 @@ returns c =
     let fh : SFits w32 (at (a .high .now) i) = record { sfits = c .before .before .before .in-range-arg2 .given } in
     let fv : SFits w32 (at (a .values .now) i) = record { sfits = c .before .before .in-range-arg3 .given } in
     let e : (leZ (at (a .low .now) i) (at (a .values .now) i) && leZ (at (a .values .now) i) (at (a .high .now) i)) ≡ false =
-        rw (toZ-ofZ fl, toZ-ofZ fh, toZ-ofZ fv) at (sym (c .before .in-range .ensures) ∙ not-true _ (c .if1 .taken)) in
+    rw (toZ-ofZ fl, toZ-ofZ fh, toZ-ofZ fv) at (sym (c .before .in-range .ensures) ∙ not-true _ (c .if1 .taken)) in
     testing-fails (c .before .before .before .before .before .before .loop .inv) (c .before .before .before .before .before .loop-test .taken) (c .before .before .before .before .before .before .before .pre .0) e
 
 -- src/lib.rt:53:9
@@ -84,7 +84,7 @@ loop-again c =
     let fh : SFits w32 (at (a .high .now) i) = record { sfits = c .before .before .before .in-range-arg2 .given } in
     let fv : SFits w32 (at (a .values .now) i) = record { sfits = c .before .before .in-range-arg3 .given } in
     let e : (leZ (at (a .low .now) i) (at (a .values .now) i) && leZ (at (a .values .now) i) (at (a .high .now) i)) ≡ true =
-        rw (toZ-ofZ fl, toZ-ofZ fh, toZ-ofZ fv) at (sym (c .before .in-range .ensures) ∙ not-false _ (c .if1 .left)) in
+    rw (toZ-ofZ fl, toZ-ofZ fh, toZ-ofZ fv) at (sym (c .before .in-range .ensures) ∙ not-false _ (c .if1 .left)) in
     testing-goes (c .before .before .before .before .before .before .loop .inv) (c .before .before .before .before .before .loop-test .taken) (c .before .before .before .before .before .before .before .pre .0) e
 
 -- src/lib.rt:44:1

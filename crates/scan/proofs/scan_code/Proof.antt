@@ -1,3 +1,4 @@
+use native.Mathlib.Omega.{arith}
 use Rattle.scan.proofs.Scanning.{code-done, code-refused}
 use borrow.Author.Needs.{needs}
 use Rattle.scan.proofs.scan_code.Statement.{statement}
@@ -52,9 +53,11 @@ returns c =
     let two = c .before .before .before .before .before .before .before .before .before .before .before .before .before .fill2 in
     let ran = c .before .before .before .before .before .before .before .before .run in
     let three = c .before .fill3 in
-    let told = c .before .before .before .before .enum-told .given in
-    code-done (a .code .now) (a .low .now) (a .high .now) (a .state .now) (a .row .now) (a .work .now) (one .last .0) (two .last .0) (a .vals .now) (ran .last .1 .1 .1 .1 .1 .0) (ran .last .1 .1 .1 .1 .0) (ran .result)
-    (p .copy) (p .rows) (one .ensures) (two .ensures) (ran .ensures .0) (told .0 .0) (three .last .0) (told .1) (ran .kept .1 .1 .1 .1 .0) (three .ensures)
+    let told = c .before .before .before .before .enum-told .given in (
+      code-done (a .code .now) (a .low .now) (a .high .now) (a .state .now) (a .row .now) (a .work .now) (one .last .0) (two .last .0) (a .vals .now) (ran .last .1 .1 .1 .1 .1 .0) (ran .last .1 .1 .1 .1 .0) (ran .result)
+          (p .copy) (p .rows) (one .ensures) (two .ensures) (ran .ensures .0) (told .0 .0) (three .last .0) (told .1) (ran .kept .1 .1 .1 .1 .0) (three .ensures),
+      ran .ensures .1,
+    )
 
 -- src/lib.rt:59:1
 same-length-4 : tie.Need-same-length-4
@@ -75,9 +78,11 @@ returns-2 c =
     let p = c .before .before .before .before .before .before .before .before .before .before .before .before .before .before .before .before .before .pre in
     let one = c .before .before .before .before .before .before .before .before .before .before .before .before .before .fill in
     let two = c .before .before .before .before .before .before .before .before .before .before .fill2 in
-    let ran = c .before .before .before .before .before .run in
-    code-refused (a .code .now) (a .low .now) (a .high .now) (a .state .now) (a .row .now) (a .work .now) (one .last .0) (two .last .0) (a .vals .now) (ran .last .1 .1 .1 .1 .1 .0) (ran .last .1 .1 .1 .1 .0) (ran .result)
-    (p .copy) (p .rows) (one .ensures) (two .ensures) (ran .ensures .0) (c .before .last .given .0 .0) (c .before .last .given .1)
+    let ran = c .before .before .before .before .before .run in (
+      code-refused (a .code .now) (a .low .now) (a .high .now) (a .state .now) (a .row .now) (a .work .now) (one .last .0) (two .last .0) (a .vals .now) (ran .last .1 .1 .1 .1 .1 .0) (ran .last .1 .1 .1 .1 .0) (ran .result)
+          (p .copy) (p .rows) (one .ensures) (two .ensures) (ran .ensures .0) (c .before .last .given .0 .0) (c .before .last .given .1),
+      (omega arith, ran .ensures .1),
+    )
 
 pub scan-code-spec : {M : Type 1} → statement M
 scan-code-spec =

@@ -1,3 +1,4 @@
+use native.Mathlib.Omega.{arith}
 use Rattle.semantics.specs.ReferenceScan.{allWithin}
 use borrow.Author.Tests.{not-true, not-false}
 use mathlib.Core.Bool.{true, false}
@@ -23,7 +24,7 @@ returns : tie.Need-returns
 returns c =
     let all = c .before .all-in-range .ensures in
     let e = not-true _ (c .if1 .taken) in
-    λ ns r. rw (sym (all ns r) ∙ e)
+    (λ ns r. rw (sym (all ns r) ∙ e), (omega arith, omega arith))
 
 -- src/lib.rt:107:9
 all-in-range-requires-2 : tie.Need-all-in-range-requires-2
@@ -40,7 +41,7 @@ returns-2 c =
     let e = not-false _ (c .before .before .if1 .left) in
     let rows = c .before .all-in-range2 .ensures in
     let f = not-true _ (c .if2 .taken) in
-    λ ns r. rw (sym (all ns r) ∙ e, sym (rows ns r) ∙ f)
+    (λ ns r. rw (sym (all ns r) ∙ e, sym (rows ns r) ∙ f), (omega arith, omega arith))
 
 -- src/lib.rt:110:5
 scan-code-requires : tie.Need-scan-code-requires
@@ -66,7 +67,7 @@ returns-3 c =
     let rows = c .before .before .before .before .before .before .before .before .all-in-range2 .ensures in
     let f = not-false _ (c .before .before .before .before .before .before .before .if2 .left) in
     let done = c .before .before .before .scan-code .ensures in
-    λ ns r. done ns r ∙ rw (sym (all ns r) ∙ e, sym (rows ns r) ∙ f)
+    (λ ns r. done .0 ns r ∙ rw (sym (all ns r) ∙ e, sym (rows ns r) ∙ f), done .1)
 
 pub scan-ranges-spec : {M : Type 1} → statement M
 scan-ranges-spec =
