@@ -1,0 +1,54 @@
+-- `machine::calculated` meets its contract. Assumes nothing.
+use mathlib.Core.Path.{_∙_}
+use borrow.Author.Tests.{ne-eqb}
+use borrow.Author.Needs.{needs}
+use Rattle.arith.proofs.Laws.{same32}
+use Rattle.machine.proofs.calculated.Statement.{statement}
+use Rattle.machine.proofs.calculated.Tie as tie
+
+sum-requires : tie.Need-sum-requires
+sum-requires c κs = search needs
+
+difference-requires : tie.Need-difference-requires
+difference-requires c κs = search needs
+
+product-requires : tie.Need-product-requires
+product-requires c κs = search needs
+
+quotient-requires : tie.Need-quotient-requires
+quotient-requires c κs = search needs
+
+remainder-requires : tie.Need-remainder-requires
+remainder-requires c κs = search needs
+
+returns : tie.Need-returns
+returns c = c .sum .ensures ∙ rw (same32 (c .before .before .fits .a), same32 (c .before .before .fits .b), c .before .match .keys1)
+
+returns-2 : tie.Need-returns-2
+returns-2 c = c .difference .ensures ∙ rw (same32 (c .before .before .fits .a), same32 (c .before .before .fits .b), c .before .match .keys2)
+
+returns-3 : tie.Need-returns-3
+returns-3 c = c .product .ensures ∙ rw (same32 (c .before .before .fits .a), same32 (c .before .before .fits .b), c .before .match .keys3)
+
+returns-4 : tie.Need-returns-4
+returns-4 c = c .quotient .ensures ∙ rw (same32 (c .before .before .fits .a), same32 (c .before .before .fits .b), c .before .match .keys4)
+
+returns-5 : tie.Need-returns-5
+returns-5 c =
+    let r = c .before .match .rest in
+    c .remainder .ensures ∙ rw (same32 (c .before .before .fits .a), same32 (c .before .before .fits .b), ne-eqb _ _ (r .0 .0 .0 .1), ne-eqb _ _ (r .0 .0 .1), ne-eqb _ _ (r .0 .1), ne-eqb _ _ (r .1))
+
+pub calculated-spec : {M : Type 1} → statement M
+calculated-spec =
+    tie.close
+    (tie.spec
+    sum-requires
+    difference-requires
+    product-requires
+    quotient-requires
+    remainder-requires
+    returns
+    returns-2
+    returns-3
+    returns-4
+    returns-5)

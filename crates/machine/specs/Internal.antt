@@ -1,0 +1,49 @@
+-- The machine's instructions in groups, as the running code works them: shapes for proofs. Assumes nothing.
+use Prim.Native.Nat.{ℕ, _≤_}
+use mathlib.Core.Path.{_≡_}
+use mathlib.Core.Bool.{Bool, true, false, _&&_, _||_, cond}
+use mathlib.Core.List.{List, _∷_}
+use mathlib.Core.Option.{Option, none, some}
+use lib.Dec.{eqb, ltb}
+use lib.IntN.{ℤ}
+use lib.ListN.{length}
+use Rattle.limits.specs.Limits.{stackLimit, brokenImage}
+use Rattle.arith.specs.Values.{Outcome, ok, refusal, compares}
+use Rattle.semantics.specs.Program.{Range}
+use Rattle.semantics.specs.Formula.{State, at}
+use Rattle.bytecode.specs.Instructions.{Instruction, comparisonOf}
+use Rattle.machine.specs.declared.Registers.{Registers}
+use Rattle.machine.specs.declared.Stepped.{Stepped}
+use Rattle.machine.specs.declared.Stepped.the-variants.{Next, Refused}
+use Rattle.machine.specs.Step.{Machine, machine, bit, yes, push, pop, perform, step}
+use Rattle.machine.specs.Memory.{heldOf, stepOutcome}
+
+-- what is held stays within the limit
+abbrev pub Few : Stepped → Type 0
+Few (Next m) = m .held ≤ stackLimit
+Few (Refused k) = 0 ≤ 0
+
+-- an instruction that leaves the current values alone
+abbrev pub OnStack : Instruction → Registers → List ℤ → Stepped → List ℤ → Type 0
+OnStack i m vals r left = (ns : List Range) (s t : State) → stepOutcome r left t ≡ perform ns s i (m .picked) (heldOf vals (m .held)) t
+
+-- current and previous: a value of a list, by id
+abbrev pub loaded : List ℤ → ℕ → Bool → List ℤ → State → Outcome Machine
+loaded from i c vs t = cond (ltb i (length from)) (push (at from i) c vs t) (refusal brokenImage)
+
+-- codes 10 to 15, 17 and 18: a yes-no of two values
+unfoldable pub truthOf : ℕ → ℤ → ℤ → Bool
+truthOf code a b = cond (eqb code 17) (yes a && yes b) (cond (eqb code 18) (yes a || yes b) (compares (comparisonOf code) a b))
+
+abbrev pub related : (ℤ → ℤ → Bool) → Bool → List ℤ → State → Outcome Machine
+related f c vs t = pop vs λ b vs₁. pop vs₁ λ a vs₂. ok (machine false c (bit (f a b) ∷ vs₂) t)
+
+module _ (ns : List Range) (s : State) where
+  -- what a code byte and its operand do: no instruction is 11
+  abbrev pub performed : Option Instruction → Bool → List ℤ → State → Outcome Machine
+  performed none c vs t = refusal brokenImage
+  performed (some i) c vs t = perform ns s i c vs t
+
+  abbrev pub stepped : Option Instruction → Machine → Outcome Machine
+  stepped none m = refusal brokenImage
+  stepped (some i) m = step ns s i m

@@ -1,0 +1,49 @@
+-- What the memory lent to the running machine and its answers stand for. Assumes nothing.
+use Prim.Native.Nat.{ℕ, zero, suc, _≤_}
+use mathlib.Core.Path.{_≡_}
+use mathlib.Core.List.{List, [], _∷_, map}
+use lib.IntN.{ℤ, pos}
+use lib.ListN.{length, getD}
+use Rattle.limits.specs.Limits.{stackLimit}
+use Rattle.arith.specs.Values.{Outcome, ok, refusal}
+use Rattle.semantics.specs.Program.{Range}
+use Rattle.semantics.specs.Formula.{State}
+use Rattle.machine.specs.declared.Registers.{Registers}
+use Rattle.machine.specs.declared.Stepped.{Stepped}
+use Rattle.machine.specs.declared.Stepped.the-variants.{Next, Refused}
+use Rattle.machine.specs.declared.Executed.{Executed}
+use Rattle.machine.specs.Step.{Machine, machine}
+use Rattle.machine.specs.Runs.{Ran, ran}
+
+-- the values held: the first n cells of the memory lent for them, the last first
+unfoldable pub heldOf : List ℤ → ℕ → List ℤ
+heldOf vals zero = []
+heldOf vals (suc n) = getD vals n (pos 0) ∷ heldOf vals n
+
+-- the machine that registers, values held and current values stand for
+abbrev pub machineOf : Registers → List ℤ → State → Machine
+machineOf m vals t = machine (m .passing) (m .picked) (heldOf vals (m .held)) t
+
+-- `Refused` holds the number of the refusal.
+abbrev pub stepOutcome : Stepped → List ℤ → State → Outcome Machine
+stepOutcome (Next m) vals t = ok (machineOf m vals t)
+stepOutcome (Refused k) vals t = refusal k
+
+abbrev pub ranOf : Executed → List ℤ → State → Ran
+ranOf r vals t = ran (r .steps) (r .place) (stepOutcome (r .last) vals t)
+
+-- ranges whose bounds stand in two lists, name by name
+pub record RangesIn (ns : List Range) (low high : List ℤ) : Type 0 where
+  pub lows : map (λ n. n .low) ns ≡ low
+  pub highs : map (λ n. n .high) ns ≡ high
+
+-- room for 40 values, and not more held
+pub record Stack (m : Registers) (vals : List ℤ) : Type 0 where
+  pub few : m .held ≤ stackLimit
+  pub room : stackLimit ≤ length vals
+
+-- a low, a high, a previous and a current value of each name
+pub record Named (low high prev cur : List ℤ) : Type 0 where
+  pub highs : length high ≡ length low
+  pub previous : length prev ≡ length low
+  pub current : length cur ≡ length low

@@ -1,0 +1,145 @@
+-- A sound image as the running code reads it, and the ways of start and scan before the code. Assumes nothing.
+use Prim.Native.Nat.{ℕ, _+_, _-_, _≤_}
+use mathlib.Core.Path.{_≡_, refl, sym, ap, _∙_}
+use mathlib.Core.Bool.{Bool, true, false, cond}
+use mathlib.Core.List.{List, [], _∷_, _++_, map}
+use native.Mathlib.Omega.{arith}
+use borrow.Author.Tests.{eq-eqb, ne-eqb}
+use lib.IntN.{ℤ}
+use lib.ListN.{length, take, drop, length-map, length-drop}
+use lib.Seq.{sets, sets-eq, take-append-seam, take-length, take-all, length-sets}
+use Rattle.limits.specs.Answer.{Answer, accepted, refused}
+use Rattle.semantics.specs.Program.{Range}
+use Rattle.semantics.specs.Formula.{State}
+use Rattle.bytecode.specs.Check.{Header, Counts, checkCounts, checkOf}
+use Rattle.bytecode.specs.Counting.{headerOf, codeOf, lows, highs, starts, rangesFrom, rangesEnd}
+use Rattle.bytecode.specs.Internal.{RangesAt}
+use Rattle.bytecode.specs.Results.{Extends}
+use Rattle.bytecode.proofs.Walk.{HeaderRead, header-read, SoundImage, check-sound}
+use Rattle.bytecode.proofs.Heading.{signed-within, HeaderParts, header-parts}
+use Rattle.machine.specs.Memory.{RangesIn}
+use Rattle.machine.proofs.SoundRuns.{header-is}
+use Rattle.scan.specs.declared.Started.the-variants as S
+use Rattle.scan.specs.declared.Scanned.the-variants as R
+use Rattle.scan.specs.Services.{AfterStart, startOf, AfterScan, scanCode, scanOf}
+use Rattle.scan.specs.Results.{afterStart, afterScan}
+use Rattle.scan.specs.Internal.{scannedFrom, Announced}
+
+-- ---- what is stored at the front of a list
+
+pub take-sets : (xs l : List ℤ) → length xs ≤ length l → take (length xs) (sets l 0 xs) ≡ xs
+take-sets xs l h = rw (sets-eq xs l 0 (omega arith)) (take-append-seam xs (drop (0 + length xs) l))
+
+pub sets-all : (xs l : List ℤ) → length xs ≡ length l → sets l 0 xs ≡ xs
+sets-all xs l e =
+    let q : length (sets l 0 xs) ≡ length xs = length-sets l 0 xs ∙ sym e in
+    sym (take-length (sets l 0 xs)) ∙ ap (λ (n : ℕ). take n (sets l 0 xs)) q ∙ take-sets xs l (omega arith)
+
+-- a field of each range, stored at the front
+stored : (f : Range → ℤ) (ns : List Range) (n : ℕ) (l left : List ℤ) → length ns ≡ n → n ≤ length l → left ≡ sets l 0 (map f ns) → map f ns ≡ take n left
+stored f ns n l left e h s =
+    let q : length (map f ns) ≡ n = length-map ns f ∙ e in
+    sym (ap (λ (k : ℕ). take k left) (sym q) ∙ rw s (take-sets (map f ns) l (omega arith)))
+
+pub ranges-stored : (ns : List Range) (n : ℕ) (low low₁ high high₁ : List ℤ) → length ns ≡ n → n ≤ length low → n ≤ length high → low₁ ≡ sets low 0 (lows ns) → high₁ ≡ sets high 0 (highs ns)
+    → RangesIn ns (take n low₁) (take n high₁)
+ranges-stored ns n low low₁ high high₁ e h k l m = record { lows = stored (λ r. r .low) ns n low low₁ e h l; highs = stored (λ r. r .high) ns n high high₁ e k m }
+
+-- the rest of the image after a place
+pub rest-from : (image : List ℕ) (place end : ℕ) → place ≡ end → take (length image - place) (drop place image) ≡ drop end image
+rest-from image place end e = take-all (length image - place) (drop place image) (simp length-drop (omega arith)) ∙ rw e
+
+-- ---- the header of a sound image
+
+pub record SoundCounts (image : List ℕ) (inputs names first : ℕ) : Type 0 where
+  pub inputs-are : headerOf image .inputs ≡ inputs
+  pub names-are : length (headerOf image .ranges) ≡ names
+  pub ranges-are : rangesFrom image names first ≡ headerOf image .ranges
+  pub place-is : rangesEnd image names first ≡ headerOf image .place
+  pub inside : rangesEnd image names first ≤ length image
+  pub among : inputs ≤ names
+  pub few : names ≤ 64
+
+ranges-inside : (bytes : List ℕ) (ns : List Range) (at end : ℕ) → RangesAt bytes at ns end → at ≤ length bytes → end ≤ length bytes
+ranges-inside bytes [] at end r h = omega arith
+ranges-inside bytes (n ∷ ns) at end r h = ranges-inside bytes ns (r .2) end (r .6) (signed-within bytes (r .1) (n .start) (r .2) (r .5) .inside)
+
+module _ (image : List ℕ) (sound : checkOf image ≡ accepted tt) where
+  pub counts-not-broken : {X : Type 0} (place : ℕ) → refused 11 place ≡ checkCounts image → X
+  counts-not-broken place e =
+      let y = check-sound image sound in
+      let p = header-read image (y .header) (y .read) .counted in
+      let z : _≡_ {A = ℕ} 0 1 = cc in
+      let b : ⊥ = omega arith in
+      absurd b
+
+  pub sound-counts : (inputs names first : ℕ) → accepted (record { inputs = inputs; names = names; place = first }) ≡ checkCounts image → Extends (length image) inputs names first
+      → SoundCounts image inputs names first
+  sound-counts inputs names first e x =
+      let y = check-sound image sound in
+      let h = y .header in
+      let q : headerOf image ≡ h = header-is image y in
+      let p = header-parts image h (y .read) in
+      let r = header-read image h (y .read) in
+      let c : record { inputs = inputs; names = names; place = first } ≡ p .counts = cc (p .counted) in
+      let d : record { inputs = inputs; names = names; place = first } ≡ r .counts = cc (r .counted) in
+      let n : names ≡ p .counts .names = ap (λ (k : Counts). k .names) c in
+      let f : first ≡ p .counts .place = ap (λ (k : Counts). k .place) c in
+      let end : rangesEnd image names first ≡ h .place = rw (n, f) (p .place) in
+      let stands : RangesAt image first (h .ranges) (h .place) = rw (ap (λ (k : Counts). k .place) d) (r .stands) in
+      record {
+        inputs-are = rw q (p .inputs ∙ sym (ap (λ (k : Counts). k .inputs) c));
+        names-are = rw q (p .names ∙ sym n);
+        ranges-are = rw (q, n, f) (p .ranges);
+        place-is = rw q end;
+        inside = rw end (ranges-inside image (h .ranges) first (h .place) stands (x .inside));
+        among = x .inputs-named;
+        few = x .few;
+      }
+
+-- ---- start
+
+pub start-refused : (image : List ℕ) (found : State) (number place : ℕ) → refused number place ≡ checkOf image → afterStart (S.Refused number place) found ≡ startOf image found
+unfolding startOf
+start-refused image found number place e = rw (← e)
+
+module _ (image : List ℕ) (found : State) (sound : checkOf image ≡ accepted tt) {inputs names first : ℕ} (k : SoundCounts image inputs names first) where
+  pub start-wrong-length : (length found ≡ names → ⊥) → afterStart (S.Refused 12 0) found ≡ startOf image found
+  unfolding startOf
+  start-wrong-length h = rw (sound, k .names-are, ne-eqb (length found) names h)
+
+  -- the declared starts are stored in the whole of the state
+  pub start-done : (left : State) → length found ≡ names → left ≡ sets found 0 (starts (rangesFrom image names first)) → afterStart S.Done left ≡ startOf image found
+  unfolding startOf
+  start-done left h e =
+      let n : length (starts (headerOf image .ranges)) ≡ length found = length-map (headerOf image .ranges) (λ n. n .start) ∙ k .names-are ∙ sym h in
+      rw (sound, k .names-are, eq-eqb (length found) names h, e, k .ranges-are, sets-all (starts (headerOf image .ranges)) found n)
+
+-- ---- scan
+
+pub scan-refused : (image : List ℕ) (found : State) (row : List ℤ) (number place : ℕ) → refused number place ≡ checkOf image → afterScan (R.Refused number place 0) found ≡ scanOf image found row
+unfolding scanOf
+scan-refused image found row number place e = rw (← e)
+
+module _ (image : List ℕ) (found : State) (row : List ℤ) (sound : checkOf image ≡ accepted tt) {inputs names first : ℕ} (k : SoundCounts image inputs names first) where
+  pub scan-wrong-state : (length found ≡ names → ⊥) → afterScan (R.Refused 12 0 0) found ≡ scanOf image found row
+  unfolding scanOf
+  scan-wrong-state h = rw (sound, k .names-are, ne-eqb (length found) names h)
+
+  pub scan-wrong-row : length found ≡ names → (length row ≡ inputs → ⊥) → afterScan (R.Refused 12 0 0) found ≡ scanOf image found row
+  unfolding scanOf
+  scan-wrong-row h n = rw (sound, k .names-are, eq-eqb (length found) names h, k .inputs-are, ne-eqb (length row) inputs n)
+
+  module _ (h : length found ≡ names) (n : length row ≡ inputs) where
+    pub announced : Announced image first found row
+    announced =
+        record {
+          few = omega (arith, k .few);
+          rows = omega (arith, k .among);
+          ranges = rw (h, k .ranges-are) (k .names-are);
+          inside = rw h (k .inside);
+        }
+
+    pub scan-from : scannedFrom image first found row ≡ scanOf image found row
+    unfolding scanOf scanCode codeOf
+    scan-from = rw (sound, k .names-are, k .inputs-are, eq-eqb (length found) names h, eq-eqb (length row) inputs n, h, k .ranges-are, k .place-is)

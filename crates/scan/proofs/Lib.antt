@@ -1,0 +1,4 @@
+pub mod Copies
+pub mod InRange
+pub mod Scanning
+pub mod Images

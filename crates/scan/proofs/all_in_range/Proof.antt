@@ -1,0 +1,112 @@
+use Rattle.scan.proofs.InRange.{Testing, testing-ends, testing-fails, testing-goes}
+use Rattle.semantics.specs.Formula.{at}
+use borrow.Author.Tests.{not-true, not-false}
+use mir.Val.{SFits}
+use mir.Syntax.{w32}
+use mir.Facts.{toZ-ofZ}
+use lib.Signed.{leZ}
+use lib.ListN.{length}
+use native.Mathlib.Omega.{arith}
+use Prim.Native.Nat.{_-_}
+use mathlib.Core.Bool.{true, false, _&&_}
+use mathlib.Core.Path.{_≡_, refl, sym, _∙_}
+use borrow.Author.Needs.{needs}
+use Rattle.scan.proofs.all_in_range.Statement.{statement}
+use Rattle.scan.proofs.all_in_range.Tie as tie
+use Rattle.scan.proofs.all_in_range.Reads as reads
+use Rattle.scan.proofs.all_in_range.Lts as lts
+use Rattle.machine.proofs.in_range.Reads as in-range-reads
+
+abbrev Inv-loop : tie.InvT-loop
+Inv-loop low high values i₀ i = Testing low high values i
+
+abbrev μ-loop : tie.MeasureT-loop
+μ-loop low high values i₀ i = length values - i
+
+-- src/lib.rt:49:5
+loop-holds : tie.Need-loop-holds Inv-loop μ-loop
+loop-holds c = record { among = omega arith; goes = λ ns r. refl }
+
+-- src/lib.rt:50:31
+mul-in-range : tie.Need-mul-in-range Inv-loop μ-loop
+mul-in-range c = search needs
+
+-- src/lib.rt:50:31
+shared-slice-copy-out-in-range : tie.Need-shared-slice-copy-out-in-range Inv-loop μ-loop
+shared-slice-copy-out-in-range c = search needs
+
+-- src/lib.rt:50:39
+mul-in-range-2 : tie.Need-mul-in-range-2 Inv-loop μ-loop
+mul-in-range-2 c = search needs
+
+-- src/lib.rt:50:39
+shared-slice-copy-out-in-range-2 : tie.Need-shared-slice-copy-out-in-range-2 Inv-loop μ-loop
+shared-slice-copy-out-in-range-2 c = search needs
+
+-- src/lib.rt:50:48
+mul-in-range-3 : tie.Need-mul-in-range-3 Inv-loop μ-loop
+mul-in-range-3 c = search needs
+
+-- src/lib.rt:50:48
+shared-slice-copy-out-in-range-3 : tie.Need-shared-slice-copy-out-in-range-3 Inv-loop μ-loop
+shared-slice-copy-out-in-range-3 c = search needs
+
+-- src/lib.rt:50:13
+in-range-requires : tie.Need-in-range-requires Inv-loop μ-loop
+in-range-requires c κs = search needs
+
+-- src/lib.rt:51:13
+returns : tie.Need-returns Inv-loop μ-loop
+returns c =
+    let a = c .before .before .before .before .before .before .before .args in
+    let i = c .before .before .before .before .before .before .loop .i in
+    let fl : SFits w32 (at (a .low .now) i) = record { sfits = c .before .before .before .before .in-range-arg .given } in
+    let fh : SFits w32 (at (a .high .now) i) = record { sfits = c .before .before .before .in-range-arg2 .given } in
+    let fv : SFits w32 (at (a .values .now) i) = record { sfits = c .before .before .in-range-arg3 .given } in
+    let e : (leZ (at (a .low .now) i) (at (a .values .now) i) && leZ (at (a .values .now) i) (at (a .high .now) i)) ≡ false =
+    rw (toZ-ofZ fl, toZ-ofZ fh, toZ-ofZ fv) at (sym (c .before .in-range .ensures) ∙ not-true _ (c .if1 .taken)) in
+    testing-fails (c .before .before .before .before .before .before .loop .inv) (c .before .before .before .before .before .loop-test .taken) (c .before .before .before .before .before .before .before .pre .0) e
+
+-- src/lib.rt:53:9
+add-i : tie.Need-add-i Inv-loop μ-loop
+add-i c = search needs
+
+-- src/lib.rt:49:5
+loop-less : tie.Need-loop-less Inv-loop μ-loop
+loop-less c = search needs
+
+-- src/lib.rt:49:5
+loop-again : tie.Need-loop-again Inv-loop μ-loop
+loop-again c =
+    let a = c .before .before .before .before .before .before .before .args in
+    let i = c .before .before .before .before .before .before .loop .i in
+    let fl : SFits w32 (at (a .low .now) i) = record { sfits = c .before .before .before .before .in-range-arg .given } in
+    let fh : SFits w32 (at (a .high .now) i) = record { sfits = c .before .before .before .in-range-arg2 .given } in
+    let fv : SFits w32 (at (a .values .now) i) = record { sfits = c .before .before .in-range-arg3 .given } in
+    let e : (leZ (at (a .low .now) i) (at (a .values .now) i) && leZ (at (a .values .now) i) (at (a .high .now) i)) ≡ true =
+    rw (toZ-ofZ fl, toZ-ofZ fh, toZ-ofZ fv) at (sym (c .before .in-range .ensures) ∙ not-false _ (c .if1 .left)) in
+    testing-goes (c .before .before .before .before .before .before .loop .inv) (c .before .before .before .before .before .loop-test .taken) (c .before .before .before .before .before .before .before .pre .0) e
+
+-- src/lib.rt:44:1
+returns-2 : tie.Need-returns-2 Inv-loop μ-loop
+returns-2 c = testing-ends (c .before .loop .inv) (c .loop-test .left)
+
+pub all-in-range-spec : {M : Type 1} → statement M
+all-in-range-spec =
+    tie.close
+    (tie.spec
+    Inv-loop
+    μ-loop
+    loop-holds
+    mul-in-range
+    shared-slice-copy-out-in-range
+    mul-in-range-2
+    shared-slice-copy-out-in-range-2
+    mul-in-range-3
+    shared-slice-copy-out-in-range-3
+    in-range-requires
+    returns
+    add-i
+    loop-less
+    loop-again
+    returns-2)
