@@ -34,9 +34,10 @@ add-t5 c = search needs
 
 returns-5 : tie.Need-returns-5
 returns-5 c =
-    let p = c .before .before .before .before .before .before .before .before .pre .0 in
-    (rw (pick-is, open-yes (c .before .before .before .before .before .before .before .before .args .w .gate) (c .before .before .before .before .before .before .if1 .left), sym (c .before .before .before .before .before .holds-only .ensures) ∙ not-false _ (c .before .before .before .before .if2 .left), sym (c .before .before .before .is-unset .ensures) ∙ not-false _ (c .before .before .if3 .left), sym (c .before .may-pick .ensures) ∙ not-false _ (c .if4 .left), sorts-none, suc-picks),
-    record { few-held = omega arith; sorts-low = omega arith; few-names = p .few-names; known-low = p .known-low })
+    let p = c .before .before .before .before .before .before .before .before .pre .0 in (
+      rw (pick-is, open-yes (c .before .before .before .before .before .before .before .before .args .w .gate) (c .before .before .before .before .before .before .if1 .left), sym (c .before .before .before .before .before .holds-only .ensures) ∙ not-false _ (c .before .before .before .before .if2 .left), sym (c .before .before .before .is-unset .ensures) ∙ not-false _ (c .before .before .if3 .left), sym (c .before .may-pick .ensures) ∙ not-false _ (c .if4 .left), sorts-none, suc-picks),
+      record { few-held = omega arith; sorts-low = omega arith; few-names = p .few-names; known-low = p .known-low },
+    )
 
 pub pick-spec : {M : Type 1} → statement M
 pick-spec =
