@@ -9,12 +9,18 @@ pub struct Input {
     pub text: Vec<u8>,
     pub image: Vec<u8>,
     pub instructions: usize,
+    pub inputs: usize,
+    pub starts: Vec<i32>,
 }
 
 impl Input {
     fn new(name: &str, text: Vec<u8>) -> Input {
-        let image = write_image(&read_text(&text).expect("an accepted text"));
+        let program = read_text(&text).expect("an accepted text");
+        let image = write_image(&program);
+        let (inputs, starts) = (program.inputs, program.starts());
         Input {
+            inputs,
+            starts,
             name: name.to_owned(),
             instructions: instructions(&image),
             text,

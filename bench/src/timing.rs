@@ -11,6 +11,7 @@ pub struct Timing {
 /// How a time is shown for an input of some size.
 pub enum Unit {
     NanosecondsEach,
+    MegabytesPerSecond,
 }
 
 /// Seconds that `calls` calls take.
@@ -50,6 +51,7 @@ impl Timing {
     pub fn print(&self, service: &str, input: &str, size: usize, unit: Unit) {
         let show = |time: f64| match unit {
             Unit::NanosecondsEach => format!("{:.2} ns", time * 1e9 / size.max(1) as f64),
+            Unit::MegabytesPerSecond => format!("{:.1} MB/s", size as f64 / time / 1e6),
         };
         println!(
             "{service:<10} {input:<16} {size:>9} {:>12} {:>12} {:>7.2}",

@@ -2,11 +2,20 @@
 -- and place 0. Assumes nothing.
 use Prim.Native.Nat.{ℕ, _+_, _*_, _^_}
 use Rattle.limits.specs.Answer.{Answer, accepted, refused}
+use Rattle.scan.specs.Services.{AfterScan}
 
 abbrev pub packed : ℕ → ℕ → ℕ → ℕ
 packed number place count = number * 2 ^ 56 + place * 2 ^ 24 + count
 
--- check: sound is 0 as a whole; a refusal has count 0
+-- check and start: success is 0 as a whole; a refusal has count 0
 abbrev pub packedCheck : Answer (Unit {0}) → ℕ
 packedCheck (accepted a) = 0
 packedCheck (refused number place) = packed number place 0
+
+-- scan: the count is the steps, of a refusal too
+abbrev pub packedSteps : Answer (Unit {0}) → ℕ → ℕ
+packedSteps (accepted a) steps = packed 0 0 steps
+packedSteps (refused number place) steps = packed number place steps
+
+abbrev pub packedScan : AfterScan → ℕ
+packedScan r = packedSteps (r .answer) (r .steps)

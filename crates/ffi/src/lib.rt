@@ -2,7 +2,8 @@
 ghost use mathlib.Core.Path.{_≡_};
 ghost use Prim.Native.Nat.{_<_, _^_};
 ghost use Rattle.bytecode.specs.Check.{checkOf};
-ghost use Rattle.ffi.specs.Packed.{packed, packedCheck};
+ghost use Rattle.scan.specs.Services.{startOf, scanOf};
+ghost use Rattle.ffi.specs.Packed.{packed, packedCheck, packedScan};
 
 fn pack(number: u8, place: usize, count: u64) -> u64
     requires { ⌜ (place < 2 ^ 32) × (count < 2 ^ 24) ⌝ }
@@ -18,5 +19,27 @@ pub extern "C" fn rolvenko_check(image: &[u8]) -> u64
     match checker::check(image) {
         checker::Checked::Sound => 0,
         checker::Checked::Refused(number, place) => pack(number, place, 0),
+    }
+}
+
+#[no_mangle]
+pub extern "C" fn rolvenko_start(image: &[u8], state: &mut [i32]) -> u64
+    ensures { λ r. ⌜ r ≡ packedCheck (startOf (now (image .entry)) (now (state .entry)) .answer) ⌝ }
+    ensures { λ r. ⌜ now (state .exit) ≡ startOf (now (image .entry)) (now (state .entry)) .state ⌝ }
+{
+    match scan::start(image, state) {
+        scan::Started::Done => 0,
+        scan::Started::Refused(number, place) => pack(number, place, 0),
+    }
+}
+
+#[no_mangle]
+pub extern "C" fn rolvenko_scan(image: &[u8], state: &mut [i32], row: &[i32]) -> u64
+    ensures { λ r. ⌜ r ≡ packedScan (scanOf (now (image .entry)) (now (state .entry)) (now (row .entry))) ⌝ }
+    ensures { λ r. ⌜ now (state .exit) ≡ scanOf (now (image .entry)) (now (state .entry)) (now (row .entry)) .state ⌝ }
+{
+    match scan::scan(image, state, row) {
+        scan::Scanned::Done(steps) => pack(0, 0, steps as u64),
+        scan::Scanned::Refused(number, place, steps) => pack(number, place, steps as u64),
     }
 }

@@ -1,0 +1,65 @@
+-- `ffi::rolvenko_scan` meets its contract: places and steps are at most the image's limit, so they fit. Assumes nothing.
+use mathlib.Core.Path.{_≡_, sym, ap, subst, _∙_}
+use native.Mathlib.Omega.{arith}
+use borrow.Author.Needs.{needs}
+use Rattle.semantics.specs.Formula.{State}
+use Rattle.scan.specs.declared.Scanned.{Scanned}
+use Rattle.scan.specs.Services.{AfterScan}
+use Rattle.scan.specs.Results.{afterScan, ScannedWithin}
+use Rattle.limits.specs.Limits.{imageLimit}
+use Rattle.ffi.specs.Packed.{packedScan}
+use Rattle.ffi.proofs.rolvenko_scan.Statement.{statement}
+use Rattle.ffi.proofs.rolvenko_scan.Tie as tie
+
+-- the answer r with the state left is the definition's
+answered : {r q : Scanned} {left : State} {d : AfterScan} → r ≡ q → afterScan r left ≡ d → packedScan (afterScan q left) ≡ packedScan d
+answered {left = left} e h = ap (λ (x : Scanned). packedScan (afterScan x left)) (sym e) ∙ ap packedScan h
+
+scan-requires : tie.Need-scan-requires
+scan-requires c κs = search needs
+
+enum-known-steps : tie.Need-enum-known-steps
+enum-known-steps c = search needs
+
+pack-requires : tie.Need-pack-requires
+pack-requires c κs =
+    let l = subst (ScannedWithin imageLimit) (c .before .steps .given .1) (c .before .before .before .before .scan .ensures .1) in
+    (omega arith, omega (arith, l))
+
+enum-known-number : tie.Need-enum-known-number
+enum-known-number c = search needs
+
+pack-requires-2 : tie.Need-pack-requires-2
+pack-requires-2 c κs =
+    let l = subst (ScannedWithin imageLimit) (c .before .number .given .1) (c .before .before .before .before .scan .ensures .1) in
+    (omega (arith, l .0), omega (arith, l .1))
+
+same-length : tie.Need-same-length
+same-length c = search needs
+
+returns : tie.Need-returns
+returns c =
+    let e = c .before .before .before .before .before .scan .ensures .0 in
+    (c .pack .ensures ∙ answered (c .before .before .steps .given .1) e, ap {A = AfterScan} (λ x. x .state) e)
+
+same-length-2 : tie.Need-same-length-2
+same-length-2 c = search needs
+
+returns-2 : tie.Need-returns-2
+returns-2 c =
+    let e = c .before .before .before .before .before .scan .ensures .0 in
+    (c .pack2 .ensures ∙ answered (c .before .before .number .given .1) e, ap {A = AfterScan} (λ x. x .state) e)
+
+pub rolvenko-scan-spec : {M : Type 1} → statement M
+rolvenko-scan-spec =
+    tie.close
+    (tie.spec
+    scan-requires
+    enum-known-steps
+    pack-requires
+    enum-known-number
+    pack-requires-2
+    same-length
+    returns
+    same-length-2
+    returns-2)
