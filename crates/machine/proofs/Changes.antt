@@ -1,19 +1,19 @@
 -- Laws of the instructions that change current values, with the ranges of the names in lent memory. Assumes nothing.
-use Prim.Native.Nat.{ℕ, zero, suc, _-_, _≤_, _<_}
 use mathlib.Core.Path.{_≡_, refl, sym, ap, _∙_}
-use mathlib.Core.Bool.{Bool, true, false, _&&_, cond}
+use mathlib.Core.Bool.{Bool, true, false, _&&_}
 use mathlib.Core.List.{List, [], _∷_, map}
+use Prim.Native.Nat.{ℕ, zero, suc, _-_, _≤_, _<_}
+use borrow.Author.Tests.{lt-ltb, le-ltb}
 use lib.Dec.{ltb}
-use lib.IntN.{ℤ, pos}
+use lib.IntN.{ℤ}
 use lib.ListN.{length, getD, set, length-map}
 use lib.Signed.{leZ}
-use borrow.Author.Tests.{lt-ltb, le-ltb}
-use Rattle.arith.specs.Values.{Outcome, ok, refusal, eqZ}
+use Rattle.arith.specs.Values.{ok, refusal, eqZ}
 use Rattle.semantics.specs.Program.{Range, within}
 use Rattle.semantics.specs.Formula.{State, at}
 use Rattle.semantics.specs.ReferenceScan.{noRange, rangeAt, picked}
 use Rattle.bytecode.specs.Instructions.{assign, pick, settle}
-use Rattle.machine.specs.Step.{Machine, machine, perform}
+use Rattle.machine.specs.Step.{machine, perform}
 use Rattle.machine.specs.Memory.{heldOf, RangesIn}
 use Rattle.machine.proofs.Stack.{not-none, held-top, pop-top}
 

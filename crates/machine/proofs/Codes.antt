@@ -1,18 +1,18 @@
 -- Code bytes and the instructions that they stand for, as the matches on them tell. Assumes nothing.
-use Prim.Native.Nat.{ℕ, zero, suc, _≤_, _<_}
-use mathlib.Core.Path.{_≡_, refl, ap}
+use mathlib.Core.Path.{_≡_, refl}
 use mathlib.Core.Bool.{Bool, true, false, _&&_, cond}
 use mathlib.Core.List.{List, [], _∷_}
 use mathlib.Core.Option.{Option, none, some}
+use Prim.Native.Nat.{ℕ, suc, _≤_, _<_}
 use native.Mathlib.Omega.{arith}
+use borrow.Author.Tests.{le-leb, lt-leb, ne-eqb, eqb-true, eqb-false, leb-false}
 use lib.Dec.{eqb, leb}
 use lib.IntN.{ℤ}
-use borrow.Author.Tests.{le-leb, lt-leb, ne-eqb, eqb-true, eqb-false, leb-false}
-use Rattle.arith.specs.Values.{Outcome, ok, refusal, compares}
+use Rattle.arith.specs.Values.{ok, compares}
 use Rattle.semantics.specs.Program.{Range}
 use Rattle.semantics.specs.Formula.{State}
 use Rattle.bytecode.specs.Instructions.{Instruction, operation, comparison, operationOf, comparisonOf, instructionOf}
-use Rattle.machine.specs.Step.{Machine, machine, isPick}
+use Rattle.machine.specs.Step.{machine, isPick}
 use Rattle.machine.specs.Internal.{truthOf, related, performed, stepped}
 
 -- ---- arithmetic and comparisons

@@ -1,22 +1,22 @@
 -- What holds at each turn of a run's loop. Assumes nothing.
-use Prim.Native.Nat.{ℕ, zero, suc, _+_, _-_, _≤_, _<_}
-use mathlib.Core.Path.{_≡_, refl, sym, ap, subst, _∙_}
+use mathlib.Core.Path.{_≡_, sym, subst, _∙_}
 use mathlib.Core.List.{List}
 use mathlib.Core.Option.{Option, none, some}
+use Prim.Native.Nat.{ℕ, zero, suc, _+_, _-_, _≤_, _<_}
 use native.Mathlib.Omega.{arith}
+use borrow.Author.Tests.{lt-ltb}
 use lib.IntN.{ℤ}
 use lib.ListN.{length}
-use borrow.Author.Tests.{lt-ltb}
-use Rattle.arith.specs.Values.{Outcome, ok, refusal}
+use Rattle.arith.specs.Values.{ok, refusal}
 use Rattle.semantics.specs.Program.{Range}
 use Rattle.semantics.specs.Formula.{State}
-use Rattle.leb128.specs.Numbers.{Read, got, nothing}
+use Rattle.leb128.specs.Numbers.{nothing}
 use Rattle.bytecode.specs.Instructions.{Instruction, decoded, fetch}
 use Rattle.machine.specs.declared.Registers.{Registers}
 use Rattle.machine.specs.declared.Stepped.{Stepped}
 use Rattle.machine.specs.declared.Stepped.the-variants.{Next, Refused}
 use Rattle.machine.specs.Step.{Machine}
-use Rattle.machine.specs.Runs.{Ran, ran, afterStep, run}
+use Rattle.machine.specs.Runs.{ran, afterStep, run}
 use Rattle.machine.specs.Memory.{machineOf, stepOutcome, RangesIn, Stack, Named}
 use Rattle.machine.specs.Internal.{stepped, Few}
 use Rattle.machine.proofs.Laws.{run-end, run-broken}

@@ -1,18 +1,17 @@
 -- What holds of every run of a sound image, with any budget. Assumes nothing.
-use Prim.Native.Nat.{ℕ, _+_, _≤_}
-use native.Mathlib.Omega.{arith}
 use mathlib.Core.Path.{_≡_, refl}
-use mathlib.Core.Bool.{Bool, false}
+use mathlib.Core.Bool.{false}
 use mathlib.Core.List.{List, []}
+use Prim.Native.Nat.{ℕ}
+use native.Mathlib.Omega.{arith}
 use lib.ListN.{length}
-use Rattle.limits.specs.Answer.{Answer, accepted}
-use Rattle.semantics.specs.Program.{Range}
+use Rattle.limits.specs.Answer.{accepted}
 use Rattle.semantics.specs.Formula.{State}
 use Rattle.semantics.proofs.Reference.{length-known}
 use Rattle.bytecode.specs.Check.{Header, checkCode, atStart, checkBody, checkOf}
 use Rattle.bytecode.specs.Counting.{headerOf, codeOf}
 use Rattle.bytecode.proofs.Walk.{SoundImage, check-sound}
-use Rattle.machine.specs.Step.{Machine, machine}
+use Rattle.machine.specs.Step.{machine}
 use Rattle.machine.specs.Runs.{Ran, run}
 use Rattle.machine.proofs.Refusals.{RefusedByRules, run-by-rules}
 use Rattle.machine.proofs.Ranges.{Within, AllWithin, run-within}

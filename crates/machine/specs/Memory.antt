@@ -1,7 +1,7 @@
 -- What the memory lent to the running machine and its answers stand for. Assumes nothing.
-use Prim.Native.Nat.{ℕ, zero, suc, _≤_}
 use mathlib.Core.Path.{_≡_}
 use mathlib.Core.List.{List, [], _∷_, map}
+use Prim.Native.Nat.{ℕ, zero, suc, _≤_}
 use lib.IntN.{ℤ, pos}
 use lib.ListN.{length, getD}
 use Rattle.limits.specs.Limits.{stackLimit}

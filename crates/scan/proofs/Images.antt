@@ -1,29 +1,28 @@
 -- A sound image as the running code reads it, and the ways of start and scan before the code. Assumes nothing.
+use mathlib.Core.Path.{_≡_, sym, ap, _∙_}
+use mathlib.Core.List.{List, [], _∷_, map}
 use Prim.Native.Nat.{ℕ, _+_, _-_, _≤_}
-use mathlib.Core.Path.{_≡_, refl, sym, ap, _∙_}
-use mathlib.Core.Bool.{Bool, true, false, cond}
-use mathlib.Core.List.{List, [], _∷_, _++_, map}
 use native.Mathlib.Omega.{arith}
 use borrow.Author.Tests.{eq-eqb, ne-eqb}
 use lib.IntN.{ℤ}
 use lib.ListN.{length, take, drop, length-map, length-drop}
 use lib.Seq.{sets, sets-eq, take-append-seam, take-length, take-all, length-sets}
-use Rattle.limits.specs.Answer.{Answer, accepted, refused}
+use Rattle.limits.specs.Answer.{accepted, refused}
 use Rattle.semantics.specs.Program.{Range}
 use Rattle.semantics.specs.Formula.{State}
-use Rattle.bytecode.specs.Check.{Header, Counts, checkCounts, checkOf}
+use Rattle.bytecode.specs.Check.{Counts, checkCounts, checkOf}
 use Rattle.bytecode.specs.Counting.{headerOf, codeOf, lows, highs, starts, rangesFrom, rangesEnd}
 use Rattle.bytecode.specs.Internal.{RangesAt}
 use Rattle.bytecode.specs.Results.{Extends}
-use Rattle.bytecode.proofs.Walk.{HeaderRead, header-read, SoundImage, check-sound}
-use Rattle.bytecode.proofs.Heading.{signed-within, HeaderParts, header-parts}
+use Rattle.bytecode.proofs.Walk.{header-read, check-sound}
+use Rattle.bytecode.proofs.Heading.{signed-within, header-parts}
 use Rattle.machine.specs.Memory.{RangesIn}
 use Rattle.machine.proofs.SoundRuns.{header-is}
-use Rattle.scan.specs.declared.Started.the-variants as S
-use Rattle.scan.specs.declared.Scanned.the-variants as R
-use Rattle.scan.specs.Services.{AfterStart, startOf, AfterScan, scanCode, scanOf}
+use Rattle.scan.specs.Services.{startOf, scanCode, scanOf}
 use Rattle.scan.specs.Results.{afterStart, afterScan}
 use Rattle.scan.specs.Internal.{scannedFrom, Announced}
+use Rattle.scan.specs.declared.Started.the-variants as S
+use Rattle.scan.specs.declared.Scanned.the-variants as R
 
 -- ---- what is stored at the front of a list
 

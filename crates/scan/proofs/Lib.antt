@@ -2,3 +2,4 @@ pub mod Copies
 pub mod InRange
 pub mod Scanning
 pub mod Images
+pub mod SoundScans

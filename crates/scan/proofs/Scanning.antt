@@ -1,25 +1,23 @@
 -- Laws of a scan on a copy of the state. Assumes nothing.
-use Prim.Native.Nat.{ℕ, _≤_}
-use mathlib.Core.Path.{_≡_, refl, sym, ap, _∙_}
-use mathlib.Core.Bool.{Bool, true, false}
+use mathlib.Core.Path.{_≡_, sym, ap, _∙_}
+use mathlib.Core.Bool.{false}
 use mathlib.Core.List.{List}
+use Prim.Native.Nat.{ℕ, _≤_}
 use native.Mathlib.Omega.{arith}
 use lib.IntN.{ℤ}
 use lib.ListN.{length}
 use Rattle.semantics.specs.Program.{Range}
-use Rattle.semantics.specs.Formula.{State}
-use Rattle.semantics.specs.ReferenceScan.{allWithin, withInputs}
+use Rattle.semantics.specs.ReferenceScan.{withInputs}
 use Rattle.machine.specs.declared.Registers.{Registers}
 use Rattle.machine.specs.declared.Executed.{Executed}
 use Rattle.machine.specs.declared.Stepped.the-variants.{Next, Refused}
-use Rattle.machine.specs.Runs.{Ran, run}
+use Rattle.machine.specs.Runs.{run}
 use Rattle.machine.specs.Memory.{heldOf, machineOf, ranOf, RangesIn}
 use Rattle.scan.specs.declared.Scanned.{Scanned}
-use Rattle.scan.specs.declared.Scanned.the-variants as R
-use Rattle.scan.specs.Services.{AfterScan}
 use Rattle.scan.specs.Results.{afterScan, ScannedWithin}
-use Rattle.scan.specs.Internal.{ranOn, scannedCode, scannedIn}
+use Rattle.scan.specs.Internal.{ranOn, scannedCode}
 use Rattle.scan.proofs.Copies.{over-all, length-over}
+use Rattle.scan.specs.declared.Scanned.the-variants as R
 
 -- nothing held, nothing picked, nothing passed over
 abbrev pub first : Registers

@@ -1,8 +1,8 @@
 -- The parts of a scan as the running code works them: shapes for proofs. Assumes nothing.
-use Prim.Native.Nat.{ℕ, _≤_}
 use mathlib.Core.Path.{_≡_}
 use mathlib.Core.Bool.{false}
 use mathlib.Core.List.{List, []}
+use Prim.Native.Nat.{ℕ, _≤_}
 use lib.IntN.{ℤ}
 use lib.ListN.{length, drop}
 use Rattle.limits.specs.Limits.{nameLimit, stackLimit, stateOutOfRange, inputOutOfRange}
@@ -10,7 +10,7 @@ use Rattle.semantics.specs.Program.{Range}
 use Rattle.semantics.specs.Formula.{State}
 use Rattle.semantics.specs.ReferenceScan.{allWithin, withInputs}
 use Rattle.bytecode.specs.Counting.{rangesFrom, rangesEnd}
-use Rattle.machine.specs.Step.{Machine, machine}
+use Rattle.machine.specs.Step.{machine}
 use Rattle.machine.specs.Runs.{Ran, run}
 use Rattle.scan.specs.Services.{AfterScan, finished, testedScan}
 

@@ -3,10 +3,10 @@ use Prim.Native.Nat.{ℕ, _≤_}
 use Rattle.limits.specs.Answer.{Answer, accepted, refused}
 use Rattle.semantics.specs.Formula.{State}
 use Rattle.scan.specs.declared.Started.{Started}
-use Rattle.scan.specs.declared.Started.the-variants as S
 use Rattle.scan.specs.declared.Scanned.{Scanned}
-use Rattle.scan.specs.declared.Scanned.the-variants as R
 use Rattle.scan.specs.Services.{AfterStart, AfterScan}
+use Rattle.scan.specs.declared.Started.the-variants as S
+use Rattle.scan.specs.declared.Scanned.the-variants as R
 
 abbrev pub startAnswer : Started → Answer (Unit {0})
 startAnswer S.Done = accepted tt

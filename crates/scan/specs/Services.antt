@@ -1,8 +1,8 @@
 -- Start and scan on bytes: what they answer and leave in the memory lent to them, for every input. Document 01, "Who can cause
 -- which refusal". Assumes nothing.
-use Prim.Native.Nat.{ℕ}
 use mathlib.Core.Bool.{Bool, true, false, _&&_, cond}
 use mathlib.Core.List.{List, []}
+use Prim.Native.Nat.{ℕ}
 use lib.Dec.{eqb}
 use lib.IntN.{ℤ}
 use lib.ListN.{length}

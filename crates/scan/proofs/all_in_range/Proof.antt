@@ -1,21 +1,19 @@
-use Rattle.scan.proofs.InRange.{Testing, testing-ends, testing-fails, testing-goes}
-use Rattle.semantics.specs.Formula.{at}
+-- `scan::all_in_range` meets its contract. The first i values lie in their ranges (InRange.Testing). Assumes nothing.
+use mathlib.Core.Bool.{true, false, _&&_}
+use mathlib.Core.Path.{_≡_, refl, sym, _∙_}
+use Prim.Native.Nat.{_-_}
+use native.Mathlib.Omega.{arith}
 use borrow.Author.Tests.{not-true, not-false}
+use borrow.Author.Needs.{needs}
+use lib.Signed.{leZ}
+use lib.ListN.{length}
 use mir.Val.{SFits}
 use mir.Syntax.{w32}
 use mir.Facts.{toZ-ofZ}
-use lib.Signed.{leZ}
-use lib.ListN.{length}
-use native.Mathlib.Omega.{arith}
-use Prim.Native.Nat.{_-_}
-use mathlib.Core.Bool.{true, false, _&&_}
-use mathlib.Core.Path.{_≡_, refl, sym, _∙_}
-use borrow.Author.Needs.{needs}
+use Rattle.scan.proofs.InRange.{Testing, testing-ends, testing-fails, testing-goes}
+use Rattle.semantics.specs.Formula.{at}
 use Rattle.scan.proofs.all_in_range.Statement.{statement}
 use Rattle.scan.proofs.all_in_range.Tie as tie
-use Rattle.scan.proofs.all_in_range.Reads as reads
-use Rattle.scan.proofs.all_in_range.Lts as lts
-use Rattle.machine.proofs.in_range.Reads as in-range-reads
 
 abbrev Inv-loop : tie.InvT-loop
 Inv-loop low high values i₀ i = Testing low high values i
@@ -23,39 +21,30 @@ Inv-loop low high values i₀ i = Testing low high values i
 abbrev μ-loop : tie.MeasureT-loop
 μ-loop low high values i₀ i = length values - i
 
--- src/lib.rt:49:5
 loop-holds : tie.Need-loop-holds Inv-loop μ-loop
 loop-holds c = record { among = omega arith; goes = λ ns r. refl }
 
--- src/lib.rt:50:31
 mul-in-range : tie.Need-mul-in-range Inv-loop μ-loop
 mul-in-range c = search needs
 
--- src/lib.rt:50:31
 shared-slice-copy-out-in-range : tie.Need-shared-slice-copy-out-in-range Inv-loop μ-loop
 shared-slice-copy-out-in-range c = search needs
 
--- src/lib.rt:50:39
 mul-in-range-2 : tie.Need-mul-in-range-2 Inv-loop μ-loop
 mul-in-range-2 c = search needs
 
--- src/lib.rt:50:39
 shared-slice-copy-out-in-range-2 : tie.Need-shared-slice-copy-out-in-range-2 Inv-loop μ-loop
 shared-slice-copy-out-in-range-2 c = search needs
 
--- src/lib.rt:50:48
 mul-in-range-3 : tie.Need-mul-in-range-3 Inv-loop μ-loop
 mul-in-range-3 c = search needs
 
--- src/lib.rt:50:48
 shared-slice-copy-out-in-range-3 : tie.Need-shared-slice-copy-out-in-range-3 Inv-loop μ-loop
 shared-slice-copy-out-in-range-3 c = search needs
 
--- src/lib.rt:50:13
 in-range-requires : tie.Need-in-range-requires Inv-loop μ-loop
 in-range-requires c κs = search needs
 
--- src/lib.rt:51:13
 returns : tie.Need-returns Inv-loop μ-loop
 returns c =
     let a = c .before .before .before .before .before .before .before .args in
@@ -67,15 +56,12 @@ returns c =
     rw (toZ-ofZ fl, toZ-ofZ fh, toZ-ofZ fv) at (sym (c .before .in-range .ensures) ∙ not-true _ (c .if1 .taken)) in
     testing-fails (c .before .before .before .before .before .before .loop .inv) (c .before .before .before .before .before .loop-test .taken) (c .before .before .before .before .before .before .before .pre .0) e
 
--- src/lib.rt:53:9
 add-i : tie.Need-add-i Inv-loop μ-loop
 add-i c = search needs
 
--- src/lib.rt:49:5
 loop-less : tie.Need-loop-less Inv-loop μ-loop
 loop-less c = search needs
 
--- src/lib.rt:49:5
 loop-again : tie.Need-loop-again Inv-loop μ-loop
 loop-again c =
     let a = c .before .before .before .before .before .before .before .args in
@@ -87,7 +73,6 @@ loop-again c =
     rw (toZ-ofZ fl, toZ-ofZ fh, toZ-ofZ fv) at (sym (c .before .in-range .ensures) ∙ not-false _ (c .if1 .left)) in
     testing-goes (c .before .before .before .before .before .before .loop .inv) (c .before .before .before .before .before .loop-test .taken) (c .before .before .before .before .before .before .before .pre .0) e
 
--- src/lib.rt:44:1
 returns-2 : tie.Need-returns-2 Inv-loop μ-loop
 returns-2 c = testing-ends (c .before .loop .inv) (c .loop-test .left)
 

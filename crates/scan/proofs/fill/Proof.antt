@@ -1,15 +1,14 @@
-use Rattle.scan.proofs.Copies.{Copying, copying-goes, copying-ends}
+-- `scan::fill` meets its contract. The first i elements are copied (Copies.Copying). Assumes nothing.
+use Prim.Native.Nat.{_-_}
+use borrow.Author.Needs.{needs}
+use lib.ListN.{length, getD}
+use lib.IntN.{pos}
 use mir.Val.{SFits}
 use mir.Syntax.{w32}
 use mir.Facts.{toZ-ofZ}
-use lib.ListN.{length, getD}
-use lib.IntN.{pos}
-use Prim.Native.Nat.{_-_}
-use borrow.Author.Needs.{needs}
+use Rattle.scan.proofs.Copies.{Copying, copying-goes, copying-ends}
 use Rattle.scan.proofs.fill.Statement.{statement}
 use Rattle.scan.proofs.fill.Tie as tie
-use Rattle.scan.proofs.fill.Reads as reads
-use Rattle.scan.proofs.fill.Lts as lts
 
 abbrev Inv-loop : tie.InvT-loop
 Inv-loop to₀ from i₀ to i = Copying to₀ from to i
@@ -17,45 +16,35 @@ Inv-loop to₀ from i₀ to i = Copying to₀ from to i
 abbrev μ-loop : tie.MeasureT-loop
 μ-loop to₀ from i₀ to i = length from - i
 
--- src/lib.rt:37:5
 loop-holds : tie.Need-loop-holds Inv-loop μ-loop
 loop-holds c = search needs
 
--- src/lib.rt:38:17
 mul-to : tie.Need-mul-to Inv-loop μ-loop
 mul-to c = search needs
 
--- src/lib.rt:38:17
 shared-slice-copy-out-to : tie.Need-shared-slice-copy-out-to Inv-loop μ-loop
 shared-slice-copy-out-to c = search needs
 
--- src/lib.rt:38:9
 mul-t8 : tie.Need-mul-t8 Inv-loop μ-loop
 mul-t8 c = search needs
 
--- src/lib.rt:38:9
 slice-set-from-to : tie.Need-slice-set-from-to Inv-loop μ-loop
 slice-set-from-to c = search needs
 
--- src/lib.rt:39:9
 add-i : tie.Need-add-i Inv-loop μ-loop
 add-i c = search needs
 
--- src/lib.rt:37:5
 loop-less : tie.Need-loop-less Inv-loop μ-loop
 loop-less c = search needs
 
--- src/lib.rt:37:5
 loop-again : tie.Need-loop-again Inv-loop μ-loop
 loop-again c =
     let f : SFits w32 (getD (c .before .before .before .args .from .now) (c .before .before .loop .i) (pos 0)) = record { sfits = c .to .given } in
     copying-goes (c .before .before .loop .inv) _ (toZ-ofZ f) (c .before .loop-test .taken) (c .before .before .before .pre)
 
--- src/lib.rt:32:1
 same-length : tie.Need-same-length Inv-loop μ-loop
 same-length c = search needs
 
--- src/lib.rt:32:1
 returns : tie.Need-returns Inv-loop μ-loop
 returns c = copying-ends (c .before .loop .inv) (c .loop-test .left)
 

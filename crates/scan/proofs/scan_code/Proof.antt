@@ -1,50 +1,37 @@
+-- `scan::scan_code` meets its contract. The run works on a copy; the laws are those of Scanning. Assumes nothing.
 use native.Mathlib.Omega.{arith}
-use Rattle.scan.proofs.Scanning.{code-done, code-refused}
 use borrow.Author.Needs.{needs}
+use Rattle.scan.proofs.Scanning.{code-done, code-refused}
 use Rattle.scan.proofs.scan_code.Statement.{statement}
 use Rattle.scan.proofs.scan_code.Tie as tie
-use Rattle.scan.proofs.scan_code.Reads as reads
-use Rattle.scan.proofs.scan_code.Lts as lts
-use Rattle.machine.proofs.run.Reads as run-reads
-use Rattle.scan.proofs.fill.Reads as fill-reads
 
--- src/lib.rt:72:5
 fill-requires : tie.Need-fill-requires
 fill-requires c κs = search needs
 
--- src/lib.rt:73:5
 fill-requires-2 : tie.Need-fill-requires-2
 fill-requires-2 c κs = search needs
 
--- src/lib.rt:79:9
 run-requires : tie.Need-run-requires
 run-requires c κs = search needs
 
--- src/lib.rt:83:18
 enum-told : tie.Need-enum-told
 enum-told c = search needs
 
--- src/lib.rt:83:13
 fill-requires-3 : tie.Need-fill-requires-3
 fill-requires-3 c κs = search needs
 
--- src/lib.rt:86:26
 enum-known-last : tie.Need-enum-known-last
 enum-known-last c = search needs
 
--- src/lib.rt:59:1
 same-length : tie.Need-same-length
 same-length c = search needs
 
--- src/lib.rt:59:1
 same-length-2 : tie.Need-same-length-2
 same-length-2 c = search needs
 
--- src/lib.rt:59:1
 same-length-3 : tie.Need-same-length-3
 same-length-3 c = search needs
 
--- src/lib.rt:59:1
 returns : tie.Need-returns
 returns c =
     let a = c .before .before .before .before .before .before .before .before .before .before .before .before .before .before .before .before .before .before .before .before .args in
@@ -59,19 +46,15 @@ returns c =
       ran .ensures .1,
     )
 
--- src/lib.rt:59:1
 same-length-4 : tie.Need-same-length-4
 same-length-4 c = search needs
 
--- src/lib.rt:59:1
 same-length-5 : tie.Need-same-length-5
 same-length-5 c = search needs
 
--- src/lib.rt:59:1
 same-length-6 : tie.Need-same-length-6
 same-length-6 c = search needs
 
--- src/lib.rt:59:1
 returns-2 : tie.Need-returns-2
 returns-2 c =
     let a = c .before .before .before .before .before .before .before .before .before .before .before .before .before .before .before .before .before .args in

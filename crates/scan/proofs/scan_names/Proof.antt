@@ -1,101 +1,81 @@
+-- `scan::scan_names` meets its contract. The ranges stand at the front of the lent memory. Assumes nothing.
+use mathlib.Core.Path.{_≡_, sym, _∙_}
+use Prim.Native.Nat.{_≤_, _-_}
+use native.Mathlib.Omega.{arith}
+use borrow.Author.Needs.{needs}
+use lib.Seq.{length-take-le}
+use lib.ListN.{length, take, drop, length-drop}
 use Rattle.scan.proofs.Scanning.{within-more}
 use Rattle.scan.proofs.Images.{ranges-stored, rest-from}
-use Rattle.scan.proofs.Images.{take-sets}
-use Rattle.scan.specs.Internal.{scannedIn}
-use Rattle.machine.specs.Memory.{RangesIn}
 use Rattle.bytecode.specs.Counting.{lows, highs, rangesFrom, rangesEnd}
-use Rattle.semantics.specs.Program.{Range}
-use lib.Seq.{length-take-le, take-all}
-use lib.ListN.{length, take, drop, length-drop, length-map}
-use native.Mathlib.Omega.{arith}
-use Prim.Native.Nat.{_≤_, _-_}
-use mathlib.Core.Path.{_≡_, sym, ap, _∙_}
-use borrow.Author.Needs.{needs}
 use Rattle.scan.proofs.scan_names.Statement.{statement}
 use Rattle.scan.proofs.scan_names.Tie as tie
-use Rattle.scan.proofs.scan_names.Reads as reads
-use Rattle.scan.proofs.scan_names.Lts as lts
-use Rattle.bytecode.proofs.ranges.Reads as ranges-reads
-use Rattle.scan.proofs.scan_ranges.Reads as scan-ranges-reads
 
--- src/lib.rt:135:9
+-- there is room for the names in each of the three
+module _ (c : tie.After-ranges) where
+  low-room : length (c .before .before .before .before .before .args .state .now) ≤ length (c .ranges .last .1 .1 .1 .0)
+  low-room = omega (arith, c .before .before .before .before .before .pre .0 .few, c .before .before .before .before .before .pre .1 .lows, c .ranges .kept .1 .1 .1 .0)
+
+  high-room : length (c .before .before .before .before .before .args .state .now) ≤ length (c .ranges .last .1 .1 .1 .1 .0)
+  high-room = omega (arith, c .before .before .before .before .before .pre .0 .few, c .before .before .before .before .before .pre .1 .highs, c .ranges .kept .1 .1 .1 .1 .0)
+
+  work-room : length (c .before .before .before .before .before .args .state .now) ≤ length (c .ranges .last .1 .1 .1 .1 .1 .0)
+  work-room = omega (arith, c .before .before .before .before .before .pre .0 .few, c .before .before .before .before .before .pre .1 .copies, c .ranges .kept .1 .1 .1 .1 .1 .0)
+
 ranges-requires : tie.Need-ranges-requires
 ranges-requires c κs = search needs
 
--- src/lib.rt:137:9
 sub-scan-ranges : tie.Need-sub-scan-ranges
 sub-scan-ranges c = search needs
 
--- src/lib.rt:137:9
 part-scan-ranges-start : tie.Need-part-scan-ranges-start
 part-scan-ranges-start c = search needs
 
--- src/lib.rt:137:9
 part-scan-ranges-end : tie.Need-part-scan-ranges-end
 part-scan-ranges-end c = search needs
 
--- src/lib.rt:140:9
 slice-reshare-prefix-scan-ranges : tie.Need-slice-reshare-prefix-scan-ranges
 slice-reshare-prefix-scan-ranges c = search needs
 
--- src/lib.rt:140:9
 slice-aggregate-scan-ranges : tie.Need-slice-aggregate-scan-ranges
 slice-aggregate-scan-ranges c =
-    let h : length (c .before .before .before .before .before .before .before .before .before .before .before .args .state .now) ≤ length (c .before .before .before .before .before .before .ranges .last .1 .1 .1 .0) = omega (arith, c .before .before .before .before .before .before .before .before .before .before .before .pre .0 .few, c .before .before .before .before .before .before .before .before .before .before .before .pre .1 .lows, c .before .before .before .before .before .before .ranges .kept .1 .1 .1 .0) in
-    sym (length-take-le _ _ h)
+    sym (length-take-le _ _ (low-room (c .before .before .before .before .before .before)))
 
--- src/lib.rt:141:9
 slice-reshare-prefix-scan-ranges-2 : tie.Need-slice-reshare-prefix-scan-ranges-2
 slice-reshare-prefix-scan-ranges-2 c = search needs
 
--- src/lib.rt:141:9
 slice-aggregate-scan-ranges-2 : tie.Need-slice-aggregate-scan-ranges-2
 slice-aggregate-scan-ranges-2 c =
-    let h : length (c .before .before .before .before .before .before .before .before .before .before .before .before .args .state .now) ≤ length (c .before .before .before .before .before .before .before .ranges .last .1 .1 .1 .1 .0) = omega (arith, c .before .before .before .before .before .before .before .before .before .before .before .before .pre .0 .few, c .before .before .before .before .before .before .before .before .before .before .before .before .pre .1 .highs, c .before .before .before .before .before .before .before .ranges .kept .1 .1 .1 .1 .0) in
-    sym (length-take-le _ _ h)
+    sym (length-take-le _ _ (high-room (c .before .before .before .before .before .before .before)))
 
--- src/lib.rt:142:9
 slice-relend-prefix-scan-ranges : tie.Need-slice-relend-prefix-scan-ranges
 slice-relend-prefix-scan-ranges c = search needs
 
--- src/lib.rt:142:9
 slice-aggregate-scan-ranges-3 : tie.Need-slice-aggregate-scan-ranges-3
 slice-aggregate-scan-ranges-3 c =
-    let h : length (c .before .before .before .before .before .before .before .before .before .before .before .before .before .args .state .now) ≤ length (c .before .before .before .before .before .before .before .before .ranges .last .1 .1 .1 .1 .1 .0) = omega (arith, c .before .before .before .before .before .before .before .before .before .before .before .before .before .pre .0 .few, c .before .before .before .before .before .before .before .before .before .before .before .before .before .pre .1 .copies, c .before .before .before .before .before .before .before .before .ranges .kept .1 .1 .1 .1 .1 .0) in
-    sym (length-take-le _ _ h)
+    sym (length-take-le _ _ (work-room (c .before .before .before .before .before .before .before .before)))
 
--- src/lib.rt:136:5
 scan-ranges-requires : tie.Need-scan-ranges-requires
 scan-ranges-requires c κs =
+    let r = c .before .before .before .before .before .before .before .before .before in
     let p = c .before .before .before .before .before .before .before .before .before .before .before .before .before .before .pre in
-    let r = c .before .before .before .before .before .before .before .before .before .ranges in
-    let n = length (c .before .before .before .before .before .before .before .before .before .before .before .before .before .before .args .state .now) in
-    let lo : n ≤ length (r .last .1 .1 .1 .0) = omega (arith, p .0 .few, p .1 .lows, r .kept .1 .1 .1 .0) in
-    let hi : n ≤ length (r .last .1 .1 .1 .1 .0) = omega (arith, p .0 .few, p .1 .highs, r .kept .1 .1 .1 .1 .0) in
-    let wo : n ≤ length (r .last .1 .1 .1 .1 .1 .0) = omega (arith, p .0 .few, p .1 .copies, r .kept .1 .1 .1 .1 .1 .0) in
-    record { rows = p .0 .rows; lows = length-take-le _ _ lo; highs = length-take-le _ _ hi; copy = length-take-le _ _ wo; room = p .1 .room }
+    record { rows = p .0 .rows; lows = length-take-le _ _ (low-room r); highs = length-take-le _ _ (high-room r); copy = length-take-le _ _ (work-room r); room = p .1 .room }
 
--- src/lib.rt:120:1
 same-length : tie.Need-same-length
 same-length c = search needs
 
--- src/lib.rt:120:1
 same-length-2 : tie.Need-same-length-2
 same-length-2 c = search needs
 
--- src/lib.rt:120:1
 same-length-3 : tie.Need-same-length-3
 same-length-3 c = search needs
 
--- src/lib.rt:120:1
 same-length-4 : tie.Need-same-length-4
 same-length-4 c = search needs
 
--- src/lib.rt:120:1
 same-length-5 : tie.Need-same-length-5
 same-length-5 c = search needs
 
--- src/lib.rt:120:1
 returns : tie.Need-returns
 returns c =
     let a = c .before .before .before .before .before .before .before .before .before .before .before .before .before .before .before .before .before .before .args in

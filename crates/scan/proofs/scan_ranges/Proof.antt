@@ -1,40 +1,29 @@
+-- `scan::scan_ranges` meets its contract. 18, then 13, then the code. Assumes nothing.
+use mathlib.Core.Path.{sym, _∙_}
 use native.Mathlib.Omega.{arith}
-use Rattle.semantics.specs.ReferenceScan.{allWithin}
 use borrow.Author.Tests.{not-true, not-false}
-use mathlib.Core.Bool.{true, false}
-use mathlib.Core.Path.{_≡_, sym, _∙_}
 use borrow.Author.Needs.{needs}
 use Rattle.scan.proofs.scan_ranges.Statement.{statement}
 use Rattle.scan.proofs.scan_ranges.Tie as tie
-use Rattle.scan.proofs.scan_ranges.Reads as reads
-use Rattle.scan.proofs.scan_ranges.Lts as lts
-use Rattle.scan.proofs.all_in_range.Reads as all-in-range-reads
-use Rattle.scan.proofs.scan_code.Reads as scan-code-reads
 
--- src/lib.rt:104:9
 all-in-range-requires : tie.Need-all-in-range-requires
 all-in-range-requires c κs = search needs
 
--- src/lib.rt:105:9
 same-length : tie.Need-same-length
 same-length c = search needs
 
--- src/lib.rt:105:9
 returns : tie.Need-returns
 returns c =
     let all = c .before .all-in-range .ensures in
     let e = not-true _ (c .if1 .taken) in
     (λ ns r. rw (sym (all ns r) ∙ e), (omega arith, omega arith))
 
--- src/lib.rt:107:9
 all-in-range-requires-2 : tie.Need-all-in-range-requires-2
 all-in-range-requires-2 c κs = search needs
 
--- src/lib.rt:108:9
 same-length-2 : tie.Need-same-length-2
 same-length-2 c = search needs
 
--- src/lib.rt:108:9
 returns-2 : tie.Need-returns-2
 returns-2 c =
     let all = c .before .before .before .all-in-range .ensures in
@@ -43,23 +32,18 @@ returns-2 c =
     let f = not-true _ (c .if2 .taken) in
     (λ ns r. rw (sym (all ns r) ∙ e, sym (rows ns r) ∙ f), (omega arith, omega arith))
 
--- src/lib.rt:110:5
 scan-code-requires : tie.Need-scan-code-requires
 scan-code-requires c κs = search needs
 
--- src/lib.rt:91:1
 same-length-3 : tie.Need-same-length-3
 same-length-3 c = search needs
 
--- src/lib.rt:91:1
 same-length-4 : tie.Need-same-length-4
 same-length-4 c = search needs
 
--- src/lib.rt:91:1
 same-length-5 : tie.Need-same-length-5
 same-length-5 c = search needs
 
--- src/lib.rt:91:1
 returns-3 : tie.Need-returns-3
 returns-3 c =
     let all = c .before .before .before .before .before .before .before .before .before .before .all-in-range .ensures in
