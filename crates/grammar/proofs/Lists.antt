@@ -18,7 +18,7 @@ use Rattle.grammar.specs.Expressions.{Scope, wholeExpression}
 use Rattle.grammar.specs.Conditions.{listed}
 use Rattle.grammar.specs.Rules.{Span, Spanned, caseAt, casesFrom, listFrom, plainList, Compared, agrees, differs, onCompared, onFound, partFrom, kindAt, partsFrom, settled, agreeingList, casesOf, functionAt, changeAt}
 use Rattle.grammar.specs.Emitted.{codeE, codeC}
-use Rattle.grammar.specs.WellFormed.{conditionsOf}
+use Rattle.grammar.proofs.Shape.{conditionsOf}
 use Rattle.grammar.proofs.Combine.{token-prop, then-prop, option-prop}
 use Rattle.grammar.proofs.Growth.{Grown, Kept, phrase-kept, listed-grown, whole-expression-grown, not-end}
 use Rattle.grammar.proofs.Agree.{Alike, Twin, twin, listed-same, never, Found, found}

@@ -15,7 +15,11 @@ use Rattle.lexer.specs.Lexer.{isDigit, isLetter, isAlphanumeric, wordOf, tokenA
 
 -- ---- tokens
 
--- Tokens are read by longest match; a token is the part of the text that spells it. The token w is the first from a on, and ends at n.
+-- a token is the part of the text that spells it
+abbrev pub Tokens : Type 0
+Tokens = List (List ℕ)
+
+-- Tokens are read by longest match. The token w is the first from a on, and ends at n.
 pub record Stands (text : List ℕ) (a n : ℕ) (w : List ℕ) : Type 0 where
   pub kind : Kind
   pub start : ℕ
@@ -24,12 +28,12 @@ pub record Stands (text : List ℕ) (a n : ℕ) (w : List ℕ) : Type 0 where
   pub spelled : part text start n ≡ w
 
 -- from a up to b stand just the tokens listed
-abbrev pub Spells : List ℕ → ℕ → ℕ → List (List ℕ) → Type 0
+abbrev pub Spells : List ℕ → ℕ → ℕ → Tokens → Type 0
 Spells text a b [] = a ≡ b
 Spells text a b (w ∷ ws) = (n : ℕ) × Stands text a n w × Spells text n b ws
 
 -- the tokens of the whole text
-pub record TokensOf (text : List ℕ) (ws : List (List ℕ)) : Type 0 where
+pub record TokensOf (text : List ℕ) (ws : Tokens) : Type 0 where
   pub end : ℕ
   pub spells : Spells text 0 end ws
   pub ends : tokenAt text end ≡ token ending (length text) (length text)
@@ -72,7 +76,7 @@ pub data Level : Type 0 where
   primary factor term expression : Level
 
 -- Of the names declared, in the order of their ids: the tokens listed spell e, with at most l brackets open at the same time.
-pub data SpellsE (names : List (List ℕ)) : Level → ℕ → List (List ℕ) → Expression → Type 0 where
+pub data SpellsE (names : List (List ℕ)) : Level → ℕ → Tokens → Expression → Type 0 where
   -- a number up to 2,147,483,647
   a-number : {l : ℕ} (w : List ℕ) → IsDigits w → valueOf w ≤ 2147483647 → SpellsE names primary l (w ∷ []) (constant (pos (valueOf w)))
   -- a name
@@ -80,16 +84,16 @@ pub data SpellsE (names : List (List ℕ)) : Level → ℕ → List (List ℕ) �
   -- `_`name
   a-previous : {l : ℕ} (w : List ℕ) (i : ℕ) → getElem? names i ≡ some w → SpellsE names primary l ((bytes "_" ++ w) ∷ []) (previous i)
   -- `(e)`
-  brackets : {l : ℕ} (ts : List (List ℕ)) (e : Expression) → SpellsE names expression l ts e → SpellsE names primary (suc l) (bytes "(" ∷ ts ++ bytes ")" ∷ []) e
+  brackets : {l : ℕ} (ts : Tokens) (e : Expression) → SpellsE names expression l ts e → SpellsE names primary (suc l) (bytes "(" ∷ ts ++ bytes ")" ∷ []) e
   -- at most one `-`
-  plain : {l : ℕ} (ts : List (List ℕ)) (e : Expression) → SpellsE names primary l ts e → SpellsE names factor l ts e
-  opposite : {l : ℕ} (ts : List (List ℕ)) (e : Expression) → SpellsE names primary l ts e → SpellsE names factor l (bytes "-" ∷ ts) (negate e)
+  plain : {l : ℕ} (ts : Tokens) (e : Expression) → SpellsE names primary l ts e → SpellsE names factor l ts e
+  opposite : {l : ℕ} (ts : Tokens) (e : Expression) → SpellsE names primary l ts e → SpellsE names factor l (bytes "-" ∷ ts) (negate e)
   -- `* / mod` over factors, left to right
-  one-factor : {l : ℕ} (ts : List (List ℕ)) (e : Expression) → SpellsE names factor l ts e → SpellsE names term l ts e
-  product : {l : ℕ} (w : List ℕ) (o : Operation) (ts us : List (List ℕ)) (a b : Expression) → ProductSign w o → SpellsE names term l ts a → SpellsE names factor l us b → SpellsE names term l (ts ++ w ∷ us) (operation o a b)
+  one-factor : {l : ℕ} (ts : Tokens) (e : Expression) → SpellsE names factor l ts e → SpellsE names term l ts e
+  product : {l : ℕ} (w : List ℕ) (o : Operation) (ts us : Tokens) (a b : Expression) → ProductSign w o → SpellsE names term l ts a → SpellsE names factor l us b → SpellsE names term l (ts ++ w ∷ us) (operation o a b)
   -- `+ -` over these, left to right
-  one-term : {l : ℕ} (ts : List (List ℕ)) (e : Expression) → SpellsE names term l ts e → SpellsE names expression l ts e
-  sum : {l : ℕ} (w : List ℕ) (o : Operation) (ts us : List (List ℕ)) (a b : Expression) → SumSign w o → SpellsE names expression l ts a → SpellsE names term l us b → SpellsE names expression l (ts ++ w ∷ us) (operation o a b)
+  one-term : {l : ℕ} (ts : Tokens) (e : Expression) → SpellsE names term l ts e → SpellsE names expression l ts e
+  sum : {l : ℕ} (w : List ℕ) (o : Operation) (ts us : Tokens) (a b : Expression) → SumSign w o → SpellsE names expression l ts a → SpellsE names term l us b → SpellsE names expression l (ts ++ w ∷ us) (operation o a b)
 
 -- ---- conditions
 
@@ -106,15 +110,15 @@ pub data ComparisonSign : List ℕ → Comparison → Type 0 where
 pub data LevelC : Type 0 where
   atom conjunction condition : LevelC
 
-pub data SpellsC (names : List (List ℕ)) : LevelC → ℕ → List (List ℕ) → Condition → Type 0 where
+pub data SpellsC (names : List (List ℕ)) : LevelC → ℕ → Tokens → Condition → Type 0 where
   -- an atom is a comparison of two expressions
-  compared : {l : ℕ} (w : List ℕ) (o : Comparison) (ts us : List (List ℕ)) (a b : Expression) → ComparisonSign w o → SpellsE names expression l ts a → SpellsE names expression l us b → SpellsC names atom l (ts ++ w ∷ us) (comparison o a b)
+  compared : {l : ℕ} (w : List ℕ) (o : Comparison) (ts us : Tokens) (a b : Expression) → ComparisonSign w o → SpellsE names expression l ts a → SpellsE names expression l us b → SpellsC names atom l (ts ++ w ∷ us) (comparison o a b)
   -- or `[c]`, the latter with at most one `~` before it
-  square : {l : ℕ} (ts : List (List ℕ)) (c : Condition) → SpellsC names condition l ts c → SpellsC names atom (suc l) (bytes "[" ∷ ts ++ bytes "]" ∷ []) c
-  not-square : {l : ℕ} (ts : List (List ℕ)) (c : Condition) → SpellsC names condition l ts c → SpellsC names atom (suc l) (bytes "~" ∷ bytes "[" ∷ ts ++ bytes "]" ∷ []) (negated c)
+  square : {l : ℕ} (ts : Tokens) (c : Condition) → SpellsC names condition l ts c → SpellsC names atom (suc l) (bytes "[" ∷ ts ++ bytes "]" ∷ []) c
+  not-square : {l : ℕ} (ts : Tokens) (c : Condition) → SpellsC names condition l ts c → SpellsC names atom (suc l) (bytes "~" ∷ bytes "[" ∷ ts ++ bytes "]" ∷ []) (negated c)
   -- `&` over atoms
-  one-atom : {l : ℕ} (ts : List (List ℕ)) (c : Condition) → SpellsC names atom l ts c → SpellsC names conjunction l ts c
-  conjoined : {l : ℕ} (ts us : List (List ℕ)) (a b : Condition) → SpellsC names conjunction l ts a → SpellsC names atom l us b → SpellsC names conjunction l (ts ++ bytes "&" ∷ us) (both a b)
+  one-atom : {l : ℕ} (ts : Tokens) (c : Condition) → SpellsC names atom l ts c → SpellsC names conjunction l ts c
+  conjoined : {l : ℕ} (ts us : Tokens) (a b : Condition) → SpellsC names conjunction l ts a → SpellsC names atom l us b → SpellsC names conjunction l (ts ++ bytes "&" ∷ us) (both a b)
   -- `|` over these
-  one-conjunction : {l : ℕ} (ts : List (List ℕ)) (c : Condition) → SpellsC names conjunction l ts c → SpellsC names condition l ts c
-  disjoined : {l : ℕ} (ts us : List (List ℕ)) (a b : Condition) → SpellsC names condition l ts a → SpellsC names conjunction l us b → SpellsC names condition l (ts ++ bytes "|" ∷ us) (either a b)
+  one-conjunction : {l : ℕ} (ts : Tokens) (c : Condition) → SpellsC names conjunction l ts c → SpellsC names condition l ts c
+  disjoined : {l : ℕ} (ts us : Tokens) (a b : Condition) → SpellsC names condition l ts a → SpellsC names conjunction l us b → SpellsC names condition l (ts ++ bytes "|" ∷ us) (either a b)

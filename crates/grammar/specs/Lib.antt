@@ -7,4 +7,3 @@ pub mod Parse
 pub mod Derivation
 pub mod Spelled
 pub mod Emitted
-pub mod WellFormed
