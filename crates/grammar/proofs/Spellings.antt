@@ -23,6 +23,40 @@ pub record IsPrevious (w : List ℕ) : Type 0 where
   pub is-word : IsWord rest
   pub no-word : wordOf rest ≡ name
 
+-- the one spelling of a word of the grammar and of a sign
+abbrev pub spellingOf : Kind → List ℕ
+spellingOf unknown = []
+spellingOf ending = []
+spellingOf name = []
+spellingOf previous = []
+spellingOf digits = []
+spellingOf inputWord = bytes "input"
+spellingOf varWord = bytes "var"
+spellingOf initWord = bytes "init"
+spellingOf modWord = bytes "mod"
+spellingOf nextWord = bytes "GX"
+spellingOf dots = bytes ".."
+spellingOf arrow = bytes "->"
+spellingOf lessEqual = bytes "<="
+spellingOf greaterEqual = bytes ">="
+spellingOf notEqual = bytes "<>"
+spellingOf semicolon = bytes ";"
+spellingOf colon = bytes ":"
+spellingOf openRound = bytes "("
+spellingOf closeRound = bytes ")"
+spellingOf openSquare = bytes "["
+spellingOf closeSquare = bytes "]"
+spellingOf tilde = bytes "~"
+spellingOf ampersand = bytes "&"
+spellingOf bar = bytes "|"
+spellingOf equals = bytes "="
+spellingOf less = bytes "<"
+spellingOf greater = bytes ">"
+spellingOf plus = bytes "+"
+spellingOf minus = bytes "-"
+spellingOf star = bytes "*"
+spellingOf slash = bytes "/"
+
 -- the spellings of each kind
 abbrev pub Spelling : Kind → List ℕ → Type 0
 Spelling unknown w = ⊥
@@ -30,32 +64,70 @@ Spelling ending w = ⊥
 Spelling name w = IsWord w × (wordOf w ≡ name)
 Spelling previous w = IsPrevious w
 Spelling digits w = IsDigits w
-Spelling inputWord w = w ≡ bytes "input"
-Spelling varWord w = w ≡ bytes "var"
-Spelling initWord w = w ≡ bytes "init"
-Spelling modWord w = w ≡ bytes "mod"
-Spelling nextWord w = w ≡ bytes "GX"
-Spelling dots w = w ≡ bytes ".."
-Spelling arrow w = w ≡ bytes "->"
-Spelling lessEqual w = w ≡ bytes "<="
-Spelling greaterEqual w = w ≡ bytes ">="
-Spelling notEqual w = w ≡ bytes "<>"
-Spelling semicolon w = w ≡ bytes ";"
-Spelling colon w = w ≡ bytes ":"
-Spelling openRound w = w ≡ bytes "("
-Spelling closeRound w = w ≡ bytes ")"
-Spelling openSquare w = w ≡ bytes "["
-Spelling closeSquare w = w ≡ bytes "]"
-Spelling tilde w = w ≡ bytes "~"
-Spelling ampersand w = w ≡ bytes "&"
-Spelling bar w = w ≡ bytes "|"
-Spelling equals w = w ≡ bytes "="
-Spelling less w = w ≡ bytes "<"
-Spelling greater w = w ≡ bytes ">"
-Spelling plus w = w ≡ bytes "+"
-Spelling minus w = w ≡ bytes "-"
-Spelling star w = w ≡ bytes "*"
-Spelling slash w = w ≡ bytes "/"
+Spelling inputWord w = w ≡ spellingOf inputWord
+Spelling varWord w = w ≡ spellingOf varWord
+Spelling initWord w = w ≡ spellingOf initWord
+Spelling modWord w = w ≡ spellingOf modWord
+Spelling nextWord w = w ≡ spellingOf nextWord
+Spelling dots w = w ≡ spellingOf dots
+Spelling arrow w = w ≡ spellingOf arrow
+Spelling lessEqual w = w ≡ spellingOf lessEqual
+Spelling greaterEqual w = w ≡ spellingOf greaterEqual
+Spelling notEqual w = w ≡ spellingOf notEqual
+Spelling semicolon w = w ≡ spellingOf semicolon
+Spelling colon w = w ≡ spellingOf colon
+Spelling openRound w = w ≡ spellingOf openRound
+Spelling closeRound w = w ≡ spellingOf closeRound
+Spelling openSquare w = w ≡ spellingOf openSquare
+Spelling closeSquare w = w ≡ spellingOf closeSquare
+Spelling tilde w = w ≡ spellingOf tilde
+Spelling ampersand w = w ≡ spellingOf ampersand
+Spelling bar w = w ≡ spellingOf bar
+Spelling equals w = w ≡ spellingOf equals
+Spelling less w = w ≡ spellingOf less
+Spelling greater w = w ≡ spellingOf greater
+Spelling plus w = w ≡ spellingOf plus
+Spelling minus w = w ≡ spellingOf minus
+Spelling star w = w ≡ spellingOf star
+Spelling slash w = w ≡ spellingOf slash
+
+-- the kinds with one spelling are those from number 5 on
+unfoldable pub isFixed : Kind → Bool
+isFixed k = ltb 4 (kindNumber k)
+
+pub fixed-spelling : (k : Kind) → isFixed k ≡ true → (w : List ℕ) → (Spelling k w → w ≡ spellingOf k) × (w ≡ spellingOf k → Spelling k w)
+unfolding isFixed kindNumber
+fixed-spelling unknown e w = let z : _≡_ {A = ℕ} 0 1 = cc in absurd (omega arith)
+fixed-spelling ending e w = let z : _≡_ {A = ℕ} 0 1 = cc in absurd (omega arith)
+fixed-spelling name e w = let z : _≡_ {A = ℕ} 0 1 = cc in absurd (omega arith)
+fixed-spelling previous e w = let z : _≡_ {A = ℕ} 0 1 = cc in absurd (omega arith)
+fixed-spelling digits e w = let z : _≡_ {A = ℕ} 0 1 = cc in absurd (omega arith)
+fixed-spelling inputWord e w = (λ h. h, λ h. h)
+fixed-spelling varWord e w = (λ h. h, λ h. h)
+fixed-spelling initWord e w = (λ h. h, λ h. h)
+fixed-spelling modWord e w = (λ h. h, λ h. h)
+fixed-spelling nextWord e w = (λ h. h, λ h. h)
+fixed-spelling dots e w = (λ h. h, λ h. h)
+fixed-spelling arrow e w = (λ h. h, λ h. h)
+fixed-spelling lessEqual e w = (λ h. h, λ h. h)
+fixed-spelling greaterEqual e w = (λ h. h, λ h. h)
+fixed-spelling notEqual e w = (λ h. h, λ h. h)
+fixed-spelling semicolon e w = (λ h. h, λ h. h)
+fixed-spelling colon e w = (λ h. h, λ h. h)
+fixed-spelling openRound e w = (λ h. h, λ h. h)
+fixed-spelling closeRound e w = (λ h. h, λ h. h)
+fixed-spelling openSquare e w = (λ h. h, λ h. h)
+fixed-spelling closeSquare e w = (λ h. h, λ h. h)
+fixed-spelling tilde e w = (λ h. h, λ h. h)
+fixed-spelling ampersand e w = (λ h. h, λ h. h)
+fixed-spelling bar e w = (λ h. h, λ h. h)
+fixed-spelling equals e w = (λ h. h, λ h. h)
+fixed-spelling less e w = (λ h. h, λ h. h)
+fixed-spelling greater e w = (λ h. h, λ h. h)
+fixed-spelling plus e w = (λ h. h, λ h. h)
+fixed-spelling minus e w = (λ h. h, λ h. h)
+fixed-spelling star e w = (λ h. h, λ h. h)
+fixed-spelling slash e w = (λ h. h, λ h. h)
 
 -- ---- from kind to spelling
 

@@ -1,6 +1,6 @@
 -- Tokens that stand in a text: from what is read to the tokens listed, and back. Assumes nothing.
 use mathlib.Core.Path.{_≡_, refl, ap, sym, _∙_, subst}
-use mathlib.Core.List.{List, [], _∷_, _++_}
+use mathlib.Core.List.{List, [], _∷_, _++_, append-assoc}
 use mathlib.Core.Bool.{Bool, true, false}
 use mathlib.Core.Option.{Option, none, some}
 use Prim.Native.Nat.{ℕ, zero, suc, _+_, _≤_, _<_}
@@ -40,6 +40,9 @@ module _ (text : List ℕ) where
   pub spells-append : (a b c : ℕ) (ts us : List (List ℕ)) → Spells text a b ts → Spells text b c us → Spells text a c (ts ++ us)
   spells-append a b c [] us h g = subst (λ (x : ℕ). Spells text x c us) (sym h) g
   spells-append a b c (t ∷ ts) us h g = (h .0, h .1, spells-append (h .0) b c ts us (h .2) g)
+
+  pub spells-append-left : (a b c : ℕ) (ts us vs : List (List ℕ)) → Spells text a b ts → Spells text b c (us ++ vs) → Spells text a c (ts ++ us ++ vs)
+  spells-append-left a b c ts us vs h g = subst (Spells text a c) (sym (append-assoc ts us vs)) (spells-append a b c ts (us ++ vs) h g)
 
   -- a list of tokens in two parts stands in two parts
   pub record Split (a n : ℕ) (ts us : List (List ℕ)) : Type 0 where

@@ -171,7 +171,7 @@ module _ (sc : Scope) (few : length (sc .names) ≤ 64) (lengths : length (sc .n
     where
       agreed : (cases : List Spanned) (n m : ℕ) (ds : List Condition) → 1 ≤ length cases → Spans sc cases → n ≤ length (sc .text) → agreeingList sc cases n ≡ accepted ds m → ds ≡ conditionsOf (casesOf cases)
       agreed [] n m ds i xs l e = absurd (omega arith)
-      agreed (c ∷ cs) n m ds i xs l e = agreeing-same sc few c cs xs n m ds l e
+      agreed (c ∷ cs) n m ds i xs l e = agreeing-same sc few c cs xs n m ds l e .same
 
   formulas-fit : (w : List ℕ) (v at : ℕ) → at ≤ length (sc .text) → Ends (length (sc .text)) (Ruled v) (formulas sc w v at)
   unfolding formulas
@@ -314,7 +314,7 @@ module _ (text : List ℕ) where
       both-T : (x y : Bool) → x ≡ true → y ≡ true → T (x && y)
       both-T x y e f = and-T x y (true-T x e) (true-T y f)
 
-  declaration-fits : (names : List Name) (at : ℕ) → at ≤ length text → Ends (length text) (Declared names) (declaration text names at)
+  pub declaration-fits : (names : List Name) (at : ℕ) → at ≤ length text → Ends (length text) (Declared names) (declaration text names at)
   unfolding declaration
   declaration-fits names at h =
       then-prop (Ends (length text) (Declared names)) (newName text names at) _ (λ k q. tt)
