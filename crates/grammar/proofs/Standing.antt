@@ -29,11 +29,12 @@ module _ (text : List ℕ) where
   pub stands-spelled : (a : ℕ) (k : Kind) (s n : ℕ) → a ≤ length text → (k ≡ ending → ⊥) → tokenAt text a ≡ token k s n → Spelling k (part text s n)
   stands-spelled a k s n h ne e = token-spelled text a k s n h (token-at-moved text a k s n h e .3 ne) e
 
+  pub stands-kind : (a n : ℕ) (w : List ℕ) → a ≤ length text → (st : Stands text a n w) → Spelling (st .kind) w
+  stands-kind a n w h st = subst (Spelling (st .kind)) (st .spelled) (token-spelled text a (st .kind) (st .start) n h (st .some-bytes) (st .is-token))
+
   -- a token whose spelling is of a kind is read as one of that kind
   pub at-kind : (k : Kind) (w : List ℕ) → Spelling k w → (a n : ℕ) → a ≤ length text → (st : Stands text a n w) → tokenAt text a ≡ token k (st .start) n
-  at-kind k w sp a n h st =
-      let own : Spelling (st .kind) w = subst (Spelling (st .kind)) (st .spelled) (token-spelled text a (st .kind) (st .start) n h (st .some-bytes) (st .is-token)) in
-      st .is-token ∙ ap (λ (x : Kind). token x (st .start) n) (one-kind (st .kind) k w own sp)
+  at-kind k w sp a n h st = st .is-token ∙ ap (λ (x : Kind). token x (st .start) n) (one-kind (st .kind) k w (stands-kind a n w h st) sp)
 
   -- ---- lists of tokens
 
