@@ -140,6 +140,10 @@ module _ (text : List ℕ) (p : Program) (n : ℕ) (e : parse text ≡ accepted 
   pub parse-named : Named (namesOf p)
   parse-named = record { distinct = fitting .distinct; each = each-name (p .names) (fitting .names-fit) }
 
+  -- at most 64 names in all
+  pub parse-few : length (p .names) ≤ nameLimit
+  parse-few = fitting .few
+
   -- 16 open brackets hold at most 38 values
   pub parse-depth : depthRules (p .rules) ≤ 38
   parse-depth = rules-depth (knownFirst (p .inputs) (length (p .names))) (p .rules) (fitting .ordered)
