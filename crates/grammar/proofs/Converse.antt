@@ -117,7 +117,7 @@ module _ (sc : Scope) (good : Named (sc .names)) where
       rw (at-kind (sc .text) digits w d a (g .0) i st, st .spelled, le-ltb numberLimit (valueOf w) h, g .2)
 
   -- a name that stands from s to n is known by its id
-  named-id : {A : Type 0} (p s n i : ℕ) (w : List ℕ) (f : ℕ → Parsed A) → s ≤ n → n ≤ length (sc .text) → part (sc .text) s n ≡ w → getElem? (sc .names) i ≡ some w → withId sc p s n f ≡ f i
+  pub named-id : {A : Type 0} (p s n i : ℕ) (w : List ℕ) (f : ℕ → Parsed A) → s ≤ n → n ≤ length (sc .text) → part (sc .text) s n ≡ w → getElem? (sc .names) i ≡ some w → withId sc p s n f ≡ f i
   unfolding withId overLong
   named-id p s n i w f h l e ei =
       let short = good .each i w ei .short in
