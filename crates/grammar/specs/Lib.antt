@@ -5,5 +5,5 @@ pub mod Declarations
 pub mod Rules
 pub mod Parse
 pub mod Derivation
+pub mod Spelled
 pub mod Emitted
-pub mod WellFormed
