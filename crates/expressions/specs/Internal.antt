@@ -1,0 +1,38 @@
+-- Shapes that the contracts of the functions inside need: the parts of an expression with so many brackets left to open, the code
+-- byte of an operator, a token at hand. Assumes nothing.
+use Prim.Native.Nat.{ℕ}
+use mathlib.Core.Path.{_≡_}
+use mathlib.Core.List.{List, []}
+use mathlib.Core.Option.{Option, none, some}
+use Rattle.lexer.specs.Lexer.{tokenAt}
+use Rattle.semantics.specs.Program.{Expression}
+use Rattle.grammar.specs.Parsed.{Parsed}
+use Rattle.grammar.specs.Expressions.{Scope, primary, factor, term, expression, bracket}
+use Rattle.expressions.specs.declared.Lookahead.{Lookahead}
+use Rattle.expressions.specs.declared.Step.the-variants.{Done}
+use Rattle.expressions.specs.Steps.{stepAt}
+
+-- a text alone, without names
+abbrev pub textOnly : List ℕ → Scope
+textOnly text = record { text = text; names = []; known = [] }
+
+abbrev pub primaryIn : ℕ → Scope → ℕ → Parsed Expression
+primaryIn left sc at = primary (λ s n. bracket left sc s n) sc at
+
+abbrev pub factorIn : ℕ → Scope → ℕ → Parsed Expression
+factorIn left sc at = factor (λ s n. bracket left sc s n) sc at
+
+abbrev pub termIn : ℕ → Scope → ℕ → Parsed Expression
+termIn left sc at = term (λ s n. bracket left sc s n) sc at
+
+abbrev pub expressionIn : ℕ → Scope → ℕ → Parsed Expression
+expressionIn left sc at = expression (λ s n. bracket left sc s n) sc at
+
+-- the code byte of an operator; 0 where there is none
+abbrev pub codeOf : {O : Type 0} → (O → ℕ) → Option O → ℕ
+codeOf code none = 0
+codeOf code (some o) = code o
+
+-- h is the token that is read from its place
+abbrev pub Stands : List ℕ → Lookahead → Type 0
+Stands text h = Done h 0 ≡ stepAt (tokenAt text (h .at)) (h .at) 0
