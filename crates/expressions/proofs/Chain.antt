@@ -17,7 +17,7 @@ use Rattle.expressions.specs.declared.Lookahead.{Lookahead}
 use Rattle.expressions.specs.declared.Step.{Step}
 use Rattle.expressions.specs.declared.Step.the-variants.{Done, Refused}
 use Rattle.expressions.specs.Steps.{Parses, Room}
-use Rattle.expressions.specs.Internal.{Stands, codeOf}
+use Rattle.expressions.specs.Internal.{Stands, codeOf, Codes}
 use Rattle.expressions.proofs.Steps.{sets-append, lookedAhead, Refuses, Known, known, Accepted, accepted-by, accepts, passed, then-refused, room-after, room-next, room-more}
 
 -- ---- operators
@@ -126,7 +126,7 @@ module _ {O A : Type 0} {code : A → List ℕ} {join : O → A → A → A} {op
       come = rw (a .is) (w .chained (a .tree) .same)
 
     -- c is the code of the token behind
-    module _ {c : ℕ} (e : (k : Kind) → h .kind ≡ kindNumber k → c ≡ codeOf number (operator k)) where
+    module _ {c : ℕ} (e : Codes number operator (h .kind) c) where
       sign : (c ≡ 0 → ⊥) → Operator operator number (here .kind) c
       sign z = operator-some operator number (here .kind) c (e (here .kind) (here .number)) z
 

@@ -20,13 +20,6 @@ names-length text (s ∷ starts) [] n = omega arith
 names-length text (s ∷ starts) (e ∷ ends) zero = omega arith
 names-length text (s ∷ starts) (e ∷ ends) (suc n) = omega (arith, names-length text starts ends n)
 
-module _ (text starts ends : List ℕ) (names : Names) (d : Declared starts ends names) where
-  pub few-names : length (scopeOf text starts ends names .names) ≤ 64
-  few-names = omega (arith, names-length text starts ends (names .count), d .few)
-
-  pub id-below : (w : List ℕ) (i : ℕ) → idOf (scopeOf text starts ends names .names) w ≡ some i → i < names .count
-  id-below w i e = omega (arith, id-of (namesOf text starts ends (names .count)) w i e, names-length text starts ends (names .count))
-
 -- bit i
 pub known-bit : (known n i : ℕ) → i < n → getD (knownOf known n) i false ≡ eqb (known / 2 ^ i % 2) 1
 unfolding knownOf
@@ -35,3 +28,18 @@ known-bit known (suc n) zero h = rw (div-one known)
 known-bit known (suc n) (suc i) h =
     let e : 2 * 2 ^ i ≡ 2 ^ suc i = omega arith in
     known-bit (known / 2) n i (omega arith) ∙ rw (div-div-eq-div-mul known 2 (2 ^ i), e)
+
+module _ (text : List ℕ) {starts ends : List ℕ} {names : Names} (d : Declared starts ends names) where
+  pub few-names : length (scopeOf text starts ends names .names) ≤ 64
+  few-names = omega (arith, names-length text starts ends (names .count), d .few)
+
+  -- the id of a name w
+  module _ (w : List ℕ) {i : ℕ} (e : idOf (scopeOf text starts ends names .names) w ≡ some i) where
+    id-below : i < names .count
+    id-below = omega (arith, id-of (namesOf text starts ends (names .count)) w i e, names-length text starts ends (names .count))
+
+    pub id-few : i < 64
+    id-few = omega (arith, id-below, d .few)
+
+    pub bit-known : {b : Bool} → b ≡ eqb (names .known / 2 ^ i % 2) 1 → getD (scopeOf text starts ends names .known) i false ≡ b
+    bit-known h = known-bit (names .known) (names .count) i id-below ∙ sym h

@@ -12,7 +12,11 @@ use borrow.Author.Tests.{eq-eqb, ne-eqb}
 use Rattle.limits.specs.Limits.{noToken, notAllowed}
 use Rattle.lexer.specs.Token.{Kind, kindNumber, ending, is, Read, token, fault}
 use Rattle.lexer.specs.Lexer.{tokenAt}
+use Rattle.lexer.specs.Results.{kindOf, tokenRead, Lies, Placed}
+use Rattle.lexer.specs.declared.Token.{Token}
+use Rattle.lexer.specs.declared.Token.the-variants.{Is, Fault}
 use Rattle.lexer.proofs.Laws.{token-at-moved}
+use Rattle.lexer.proofs.KindNumbers.{kind-number}
 use Rattle.grammar.specs.Parsed.{Parsed, accepted, refused, andThen, onToken, sign, expected, phrase, followed}
 use Rattle.grammar.proofs.Growth.{Grown}
 use Rattle.expressions.specs.declared.Lookahead.{Lookahead}
@@ -186,6 +190,17 @@ module _ {A B : Type 0} (text : List ℕ) (f : A → ℕ → Parsed B) (g : (a :
 
 -- ---- the token that `ahead` reads
 
+pub ahead-done : (text : List ℕ) (at to : ℕ) {w : Token} {k s n : ℕ} → tokenRead w ≡ tokenAt text at → Placed (length text) at w → w ≡ Is k s n → Done (record { at = at; kind = k; start = s; end = n }) to ≡ stepAt (tokenAt text at) at to
+ahead-done text at to {k = k} {s = s} {n = n} e p i =
+    let f : token (kindOf k) s n ≡ tokenAt text at = ap tokenRead (sym i) ∙ e in
+    let l : Lies (length text) at k s n = subst (Placed (length text) at) i p in
+    rw (← f, kind-number k (l .known-kind))
+
+pub ahead-none : (text : List ℕ) (at to : ℕ) {w : Token} {q : ℕ} → tokenRead w ≡ tokenAt text at → w ≡ Fault q → Refused noToken q ≡ stepAt (tokenAt text at) at to
+ahead-none text at to {q = q} e i =
+    let f : fault q ≡ tokenAt text at = ap tokenRead (sym i) ∙ e in
+    rw (← f)
+
 module _ (text : List ℕ) (at to : ℕ) {r : Step} (e : r ≡ stepAt (tokenAt text at) at to) where
   pub ahead-token : {h : Lookahead} {t : ℕ} → r ≡ Done h t → (h .at ≡ at) × Stands text h
   ahead-token {h} d =
@@ -206,6 +221,16 @@ unfolding stepOf
 ended {A} {code = code} {to = to} {before = before} a hp ht hw e = record {
     answer = rw (hp, ← ht) e;
     wrote = λ b h u d f. hw ∙ ap (λ (x : A). sets before to (code x)) (same-tree (sym hp ∙ f)) }
+
+-- an accepted part that has the same code as another
+pub recoded : {A B : Type 0} {text : List ℕ} {code : A → List ℕ} {more : B → List ℕ} {to n : ℕ} {before after : List ℕ} {r : Step} {a : A} (b : B) → Parses text code (accepted a n) to before after r → more b ≡ code a → Parses text more (accepted b n) to before after r
+unfolding stepOf
+recoded {A} {B} {more = more} {to = to} {before = before} {a = a} b c e = record {
+    answer = rw e (c .answer);
+    wrote = λ x h t d f. c .wrote a h t d (ap (accepted a) (same-end f)) ∙ rw (← e, same-tree f) }
+  where
+    same-end : {x y : B} {n m : ℕ} → accepted x n ≡ accepted y m → n ≡ m
+    same-end e = cc
 
 -- ---- one byte of code more
 
@@ -242,6 +267,10 @@ module _ {A : Type 0} {text : List ℕ} {p : Parsed A} (w : Kind) where
 
 -- ---- room
 
+-- where a token was read
+pub room-at : {text : List ℕ} {at n to : ℕ} → n ≡ at → Room text at to → Room text n to
+room-at {text} {to = to} e r = subst (λ (n : ℕ). Room text n to) (sym e) r
+
 -- behind an accepted part
 pub room-after : {A : Type 0} {text : List ℕ} {code : A → List ℕ} {p : Parsed A} {to : ℕ} {before after : List ℕ} {at t : ℕ} {h : Lookahead} → Room text at to → Grown code (length text) at p → Accepted text code p to before after h t → Room text (h .at) t
 room-after {text = text} {code = code} {at = at} r g a =
@@ -254,6 +283,11 @@ module _ {text : List ℕ} {h : Lookahead} {to : ℕ} (r : Room text (h .at) to)
   room-next =
       let mv = token-at-moved text (h .at) (k .kind) (h .start) (h .end) (r .within) (k .read) in
       record { short = r .short; within = mv .2; room = omega arith }
+
+  pub token-within : h .start ≤ length text
+  token-within =
+      let mv = token-at-moved text (h .at) (k .kind) (h .start) (h .end) (r .within) (k .read) in
+      omega arith
 
   -- behind an operator, an operand and the operator's code
   pub room-more : {A : Type 0} {code : A → List ℕ} {p : Parsed A} {before after : List ℕ} {b : Lookahead} {u : ℕ} → (k .kind ≡ ending → ⊥) → Grown code (length text) (h .end) p → Accepted text code p to before after b u → Room text (b .at) (u + 1) × (h .at < b .at)

@@ -4,7 +4,7 @@ use mathlib.Core.List.{List, [], _∷_, _++_}
 use mathlib.Core.Bool.{Bool, true, false}
 use mathlib.Core.Option.{Option, none, some}
 use Prim.Native.Nat.{ℕ, zero, suc, _+_, _-_, _*_, _^_, _≤_, _<_, min}
-use native.Mathlib.Nat.{add-zero}
+use native.Mathlib.Numerals.{add-one}
 use native.Mathlib.Omega.{arith}
 use lib.ListN.{length, set, getD, length-append}
 use lib.Seq.{sets}
@@ -12,6 +12,7 @@ use lib.Dec.{eqb, ltb}
 use lib.IntN.{ℤ, pos}
 use borrow.Author.Tests.{lt-ltb, le-ltb}
 use Rattle.limits.specs.Limits.{noToken, notAllowed, outOfLimit, wrongName, tooEarly, tooMany}
+use Rattle.leb128.specs.Numbers.{number, zigzag}
 use Rattle.lexer.specs.Bytes.{pick, part}
 use Rattle.lexer.specs.Token.{Kind, kindNumber, name, digits, ending, openRound, closeRound, minus, is, Read, token, fault}
 use Rattle.lexer.specs.Token as T
@@ -23,13 +24,16 @@ use Rattle.semantics.specs.Program.{Expression, constant, current, previous, op
 use Rattle.grammar.specs.Parsed.{Parsed, accepted, refused, andThen, onToken, sign, expected, phrase, followed}
 use Rattle.grammar.specs.Expressions.{Scope, withId, currentAt, previousAt, numberLimit, numberAt, primary, negative, factor, productOf, sumOf, bracket}
 use Rattle.grammar.specs.Emitted.{codeE}
-use Rattle.grammar.proofs.Growth.{products-end, sums-end}
+use Rattle.grammar.proofs.Growth.{Grown, products-end, sums-end, primary-grown, factor-grown, term-grown, expression-grown, bracket-grown}
 use Rattle.expressions.specs.declared.Lookahead.{Lookahead}
 use Rattle.expressions.specs.declared.Step.{Step}
 use Rattle.expressions.specs.declared.Step.the-variants.{Done, Refused}
+use Rattle.expressions.specs.declared.Names.{Names}
+use Rattle.expressions.specs.Scopes.{scopeOf, Declared}
 use Rattle.expressions.specs.Steps.{stepAt, stepOf, Parses, Room}
-use Rattle.expressions.specs.Internal.{Stands, expressionIn}
-use Rattle.expressions.proofs.Steps.{lookedAhead, Refuses, Known, told, untold, Accepted, then-refused, closing, one-more}
+use Rattle.expressions.specs.Internal.{textOnly, primaryIn, factorIn, termIn, expressionIn}
+use Rattle.expressions.proofs.Steps.{lookedAhead, Refuses, Known, told, untold, Accepted, then-refused, closing, closing-refuses, ended, one-more}
+use Rattle.expressions.proofs.Scopes.{few-names}
 use Rattle.expressions.proofs.Chain.{Operators}
 
 -- ---- operators
@@ -110,16 +114,32 @@ module _ (sc : Scope) (s n : ℕ) where
         let i : valueOf (part (sc .text) s n) ≡ v = omega arith in
         rw (i, le-ltb _ _ h)
 
+-- an instruction's code byte and its operand
+pub written : {text : List ℕ} {n c o to t u : ℕ} {before mid after : List ℕ} {r : Step} → t ≡ to + 1 → mid ≡ set before to c → u ≡ t + length (number o) → after ≡ sets mid t (number o) → r ≡ stepAt (tokenAt text n) n u → Parses text (λ (x : ℕ). c ∷ number x) (accepted o n) to before after r
+written {o = o} {to = to} ht hm hu ha e = ended o refl (omega arith) (rw (ha, hm, ht, add-one to)) e
+
+pub constant-code : (v : ℕ) {z : ℕ} → z ≡ zigzag (pos v) → codeE (constant (pos v)) ≡ 1 ∷ number z
+unfolding codeE
+constant-code v e = rw e
+
+pub current-code : (i : ℕ) → codeE (current i) ≡ 2 ∷ number i
+unfolding codeE
+current-code i = refl
+
+pub previous-code : (i : ℕ) → codeE (previous i) ≡ 3 ∷ number i
+unfolding codeE
+previous-code i = refl
+
 -- ---- factors and primaries
 
 module _ (inner : ℕ → ℕ → Parsed Expression) (sc : Scope) {h : Lookahead} (k : Known (sc .text) h) where
-  pub factor-minus : h .kind ≡ kindNumber minus → factor inner sc (h .at) ≡ negative (primary inner sc (h .end))
+  pub factor-minus : {at n : ℕ} → h .at ≡ at → h .kind ≡ kindNumber minus → n ≡ h .end → factor inner sc at ≡ negative (primary inner sc n)
   unfolding factor
-  factor-minus e = rw (k .read, told k minus e)
+  factor-minus i e j = rw (← i, j, k .read, told k minus e)
 
-  pub factor-plain : (h .kind ≡ kindNumber minus → ⊥) → factor inner sc (h .at) ≡ primary inner sc (h .at)
+  pub factor-plain : {at : ℕ} → h .at ≡ at → (h .kind ≡ kindNumber minus → ⊥) → factor inner sc at ≡ primary inner sc (h .at)
   unfolding factor
-  factor-plain e = rw (k .read, untold k minus e)
+  factor-plain i e = rw (← i, k .read, untold k minus e)
 
   pub primary-number : h .kind ≡ kindNumber digits → primary inner sc (h .at) ≡ numberAt sc (h .start) (h .end)
   unfolding primary
@@ -144,9 +164,18 @@ module _ (inner : ℕ → ℕ → Parsed Expression) (sc : Scope) {h : Lookahead
         unfolding primary
         primary-none n4 = rw (k .read, untold k digits n1, untold k name n2, untold k T.previous n3, untold k openRound n4)
 
-pub factor-fault : (inner : ℕ → ℕ → Parsed Expression) (sc : Scope) (at q : ℕ) → tokenAt (sc .text) at ≡ fault q → factor inner sc at ≡ refused noToken q
-unfolding factor
-factor-fault inner sc at q e = rw e
+module _ (inner : ℕ → ℕ → Parsed Expression) (sc : Scope) (at q : ℕ) (e : tokenAt (sc .text) at ≡ fault q) where
+  pub factor-fault : factor inner sc at ≡ refused noToken q
+  unfolding factor
+  factor-fault = rw e
+
+  pub negative-fault : negative (primary inner sc at) ≡ refused noToken q
+  unfolding negative primary
+  negative-fault = rw e
+
+pub number-text : (sc : Scope) (s n : ℕ) → numberAt sc s n ≡ numberAt (textOnly (sc .text)) s n
+unfolding numberAt
+number-text sc s n = refl
 
 -- ---- brackets
 
@@ -163,6 +192,9 @@ module _ (sc : Scope) (s n : ℕ) where
   bracket-some zero e = absurd (e refl)
   bracket-some (suc d) e = ap (λ (x : ℕ). andThen (expressionIn x sc n) (λ a m. followed (sc .text) (sign closeRound ∷ []) a m)) (sym (down d))
 
+  pub bracket-refuses : (left : ℕ) → (left ≡ 0 → ⊥) → {k q : ℕ} → Refuses (sc .text) (expressionIn (left - 1) sc n) k q → Refuses (sc .text) (bracket left sc s n) k q
+  bracket-refuses left e {k} {q} r = subst (λ (p : Parsed Expression). Refuses (sc .text) p k q) (sym (bracket-some left e)) (closing-refuses closeRound r)
+
 -- ---- the opposite
 
 module _ {text : List ℕ} {p : Parsed Expression} where
@@ -173,3 +205,18 @@ module _ {text : List ℕ} {p : Parsed Expression} where
   pub negative-accepts : {to : ℕ} {before after : List ℕ} {h : Lookahead} {t u : ℕ} {last : List ℕ} → Accepted text codeE p to before after h t → u ≡ t + 1 → last ≡ set after t 9 → Accepted text codeE (negative p) to before last h u
   unfolding negative codeE
   negative-accepts a e f = one-more a (negate (a .tree)) 9 (rw (a .is)) refl e f
+
+-- ---- growth
+
+module _ {text starts ends : List ℕ} {names : Names} (d : Declared starts ends names) (left : ℕ) {at to : ℕ} (r : Room text at to) where
+  pub primary-grows : Grown codeE (length text) at (primaryIn left (scopeOf text starts ends names) at)
+  primary-grows = primary-grown _ (few-names text d) _ (bracket-grown _ (few-names text d) left) at (r .within)
+
+  pub factor-grows : Grown codeE (length text) at (factorIn left (scopeOf text starts ends names) at)
+  factor-grows = factor-grown _ (few-names text d) _ (bracket-grown _ (few-names text d) left) at (r .within)
+
+  pub term-grows : Grown codeE (length text) at (termIn left (scopeOf text starts ends names) at)
+  term-grows = term-grown _ (few-names text d) _ (bracket-grown _ (few-names text d) left) at (r .within)
+
+  pub expression-grows : Grown codeE (length text) at (expressionIn left (scopeOf text starts ends names) at)
+  expression-grows = expression-grown _ (few-names text d) _ (bracket-grown _ (few-names text d) left) at (r .within)

@@ -4,6 +4,7 @@ use Prim.Native.Nat.{ℕ}
 use mathlib.Core.Path.{_≡_}
 use mathlib.Core.List.{List, []}
 use mathlib.Core.Option.{Option, none, some}
+use Rattle.lexer.specs.Token.{Kind, kindNumber}
 use Rattle.lexer.specs.Lexer.{tokenAt}
 use Rattle.semantics.specs.Program.{Expression}
 use Rattle.grammar.specs.Parsed.{Parsed}
@@ -32,6 +33,10 @@ expressionIn left sc at = expression (λ s n. bracket left sc s n) sc at
 abbrev pub codeOf : {O : Type 0} → (O → ℕ) → Option O → ℕ
 codeOf code none = 0
 codeOf code (some o) = code o
+
+-- c is the code byte of an operator of the kind with the number n, and 0 if there is none of that kind
+abbrev pub Codes : {O : Type 0} → (O → ℕ) → (Kind → Option O) → ℕ → ℕ → Type 0
+Codes code operator n c = (k : Kind) → n ≡ kindNumber k → c ≡ codeOf code (operator k)
 
 -- h is the token that is read from its place
 abbrev pub Stands : List ℕ → Lookahead → Type 0

@@ -7,7 +7,6 @@ ghost use mathlib.Core.List.{[], _∷_};
 ghost use Prim.Native.Nat.{ℕ, _+_, _/_, _%_, _^_, _≤_, _<_};
 ghost use lib.Dec.{eqb};
 ghost use Rattle.leb128.specs.Numbers.{number as numberBytes};
-ghost use Rattle.lexer.specs.Token.{Kind, kindNumber};
 ghost use Rattle.lexer.specs.Lexer.{tokenAt};
 ghost use Rattle.bytecode.specs.Instructions.{operationCode};
 ghost use Rattle.grammar.specs.Parsed.{accepted};
@@ -15,7 +14,7 @@ ghost use Rattle.grammar.specs.Expressions.{numberAt, currentAt, previousAt, pr
 ghost use Rattle.grammar.specs.Emitted.{codeE};
 ghost use Rattle.expressions.specs.Scopes.{scopeOf, Declared};
 ghost use Rattle.expressions.specs.Steps.{stepAt, Parses, Room};
-ghost use Rattle.expressions.specs.Internal.{textOnly, primaryIn, factorIn, termIn, expressionIn, codeOf, Stands};
+ghost use Rattle.expressions.specs.Internal.{textOnly, primaryIn, factorIn, termIn, expressionIn, Codes, Stands};
 
 // Code bytes.
 const CONSTANT: u8 = 1;
@@ -61,7 +60,7 @@ pub fn ahead(text: &[u8], at: usize, to: usize) -> Step
 
 // The code of an operator of a sum, and of a product; 0 for any other token.
 fn sum_code(kind: u8) -> u8
-    ensures { λ r. ⌜ (k : Kind) → kind ≡ kindNumber k → r ≡ codeOf operationCode (sumOf k) ⌝ }
+    ensures { λ r. ⌜ Codes operationCode sumOf kind r ⌝ }
 {
     if kind == lexer::PLUS {
         return ADD;
@@ -73,7 +72,7 @@ fn sum_code(kind: u8) -> u8
 }
 
 fn product_code(kind: u8) -> u8
-    ensures { λ r. ⌜ (k : Kind) → kind ≡ kindNumber k → r ≡ codeOf operationCode (productOf k) ⌝ }
+    ensures { λ r. ⌜ Codes operationCode productOf kind r ⌝ }
 {
     if kind == lexer::STAR {
         return MULTIPLY;

@@ -1,3 +1,4 @@
+use Rattle.expressions.proofs.Steps.{ahead-done, ahead-none}
 use borrow.Author.Needs.{needs}
 use Rattle.expressions.proofs.ahead.Statement.{statement}
 use Rattle.expressions.proofs.ahead.Tie as tie
@@ -19,11 +20,11 @@ enum-known-read-2 c = search needs
 
 -- src/lib.rt:52:1
 returns : tie.Need-returns
-returns c = ?
+returns c = ahead-done _ _ _ (c .before .before .before .token-at .ensures .0) (c .before .before .before .token-at .ensures .1) (c .before .read .given .1)
 
 -- src/lib.rt:52:1
 returns-2 : tie.Need-returns-2
-returns-2 c = ?
+returns-2 c = ahead-none _ _ _ (c .before .before .before .token-at .ensures .0) (c .before .read2 .given .1)
 
 pub ahead-spec : {M : Type 1} → statement M
 ahead-spec =

@@ -1,3 +1,4 @@
+use Rattle.expressions.proofs.Ways.{written}
 use borrow.Author.Needs.{needs}
 use Rattle.expressions.proofs.instruction.Statement.{statement}
 use Rattle.expressions.proofs.instruction.Tie as tie
@@ -25,7 +26,7 @@ same-length c = search needs
 
 -- src/lib.rt:91:1
 returns : tie.Need-returns
-returns c = ?
+returns c = written (c .before .before .before .before .before .before .before .put-byte .ensures .0) (c .before .before .before .before .before .before .before .put-byte .ensures .1) (c .before .before .before .put-unsigned .ensures .0) (c .before .before .before .put-unsigned .ensures .1) (c .ahead .ensures)
 
 pub instruction-spec : {M : Type 1} → statement M
 instruction-spec =

@@ -1,3 +1,10 @@
+use mathlib.Core.Path.{_≡_, sym, ap, _∙_}
+use native.Mathlib.Omega.{arith}
+use Rattle.semantics.specs.Program.{previous}
+use Rattle.lexer.specs.Results.{foundId}
+use Rattle.expressions.proofs.Steps.{refuses, refused-now, same-part, recoded}
+use Rattle.expressions.proofs.Scopes.{id-few}
+use Rattle.expressions.proofs.Ways.{previous-long, previous-unknown, previous-known, previous-code}
 use borrow.Author.Needs.{needs}
 use Rattle.expressions.proofs.previous.Statement.{statement}
 use Rattle.expressions.proofs.previous.Tie as tie
@@ -17,7 +24,7 @@ is-over-long-requires c κs = search needs
 
 -- src/lib.rt:146:9
 returns : tie.Need-returns
-returns c = ?
+returns c = refuses (refused-now (previous-long _ _ _ (sym (c .before .is-over-long .ensures) ∙ c .if1 .taken)))
 
 -- src/lib.rt:148:9
 find-requires : tie.Need-find-requires
@@ -33,11 +40,11 @@ enum-told c = search needs
 
 -- src/lib.rt:150:9
 returns-2 : tie.Need-returns-2
-returns-2 c = ?
+returns-2 c = refuses (refused-now (previous-unknown _ _ _ (sym (c .before .before .before .before .is-over-long .ensures) ∙ c .before .before .before .if1 .left) (sym (c .before .before .find .ensures) ∙ ap foundId (c .enum-told .given .1))))
 
 -- src/lib.rt:152:5
 instruction-requires : tie.Need-instruction-requires
-instruction-requires c κs = ?
+instruction-requires c κs = (c .before .before .before .before .before .before .before .before .before .before .before .pre .1 .1, omega (arith, id-few _ (c .before .before .before .before .before .before .before .before .before .before .before .pre .0) _ (sym (c .before .before .before .before .find .ensures) ∙ ap foundId (c .before .before .found .given .1))))
 
 -- src/lib.rt:139:1
 same-length : tie.Need-same-length
@@ -45,7 +52,9 @@ same-length c = search needs
 
 -- src/lib.rt:139:1
 returns-3 : tie.Need-returns-3
-returns-3 c = ?
+returns-3 c =
+    same-part (previous-known _ _ _ (sym (c .before .before .before .before .before .before .before .before .before .is-over-long .ensures) ∙ c .before .before .before .before .before .before .before .before .if1 .left) _ (sym (c .before .before .before .before .before .before .before .find .ensures) ∙ ap foundId (c .before .before .before .before .before .found .given .1)))
+    (recoded (previous _) (c .before .before .instruction .ensures) (previous-code _))
 
 pub previous-spec : {M : Type 1} → statement M
 previous-spec =
