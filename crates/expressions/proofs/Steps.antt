@@ -8,14 +8,14 @@ use native.Mathlib.Omega.{arith}
 use lib.ListN.{length, set, length-append}
 use lib.Seq.{sets}
 use lib.Dec.{eqb}
-use borrow.Author.Tests.{eq-eqb, ne-eqb}
+use borrow.Author.Tests.{eq-eqb, ne-eqb, eqb-true, eqb-false}
 use Rattle.limits.specs.Limits.{noToken, notAllowed}
 use Rattle.lexer.specs.Token.{Kind, kindNumber, ending, is, Read, token, fault}
 use Rattle.lexer.specs.Lexer.{tokenAt}
 use Rattle.lexer.specs.Results.{kindOf, tokenRead, Lies, Placed}
 use Rattle.lexer.specs.declared.Token.{Token}
 use Rattle.lexer.specs.declared.Token.the-variants.{Is, Fault}
-use Rattle.lexer.proofs.Laws.{token-at-moved}
+use Rattle.lexer.proofs.Laws.{pick-prop, token-at-moved}
 use Rattle.lexer.proofs.KindNumbers.{kind-number}
 use Rattle.grammar.specs.Parsed.{Parsed, accepted, refused, andThen, onToken, sign, expected, phrase, followed}
 use Rattle.grammar.proofs.Growth.{Grown}
@@ -23,7 +23,7 @@ use Rattle.expressions.specs.declared.Lookahead.{Lookahead}
 use Rattle.expressions.specs.declared.Step.{Step}
 use Rattle.expressions.specs.declared.Step.the-variants.{Done, Refused}
 use Rattle.expressions.specs.Steps.{stepAt, stepOf, Parses, Room}
-use Rattle.expressions.specs.Internal.{Stands}
+use Rattle.expressions.specs.Internal.{Stands, closedStep}
 
 -- ---- runs of stores
 
@@ -243,6 +243,13 @@ one-more {code = code} {to = to} {before = before} a b c hw hc hu hl = record {
 
 -- ---- a closing bracket
 
+module _ (text : List ℕ) (w : ℕ) {part : Step} {h : Lookahead} {t : ℕ} (e : part ≡ Done h t) where
+  pub closed-at : {r : Step} → h .kind ≡ w → r ≡ stepAt (tokenAt text (h .end)) (h .end) t → r ≡ closedStep text w part
+  closed-at k i = rw (e, eq-eqb _ _ k) i
+
+  pub unclosed-at : (h .kind ≡ w → ⊥) → Refused notAllowed (h .start) ≡ closedStep text w part
+  unclosed-at k = rw (e, ne-eqb _ _ k)
+
 -- p, and then a token of kind w
 unfoldable pub closing : {A : Type 0} → List ℕ → Kind → Parsed A → Parsed A
 closing text w p = andThen p (λ a n. followed text (sign w ∷ []) a n)
@@ -251,19 +258,27 @@ closed-fault : {A : Type 0} (text : List ℕ) (w : Kind) (a : A) (n q : ℕ) →
 unfolding followed phrase expected
 closed-fault text w a n q e = refused-now (rw e)
 
-module _ {A : Type 0} {text : List ℕ} {p : Parsed A} (w : Kind) where
-  pub closing-refuses : {k q : ℕ} → Refuses text p k q → Refuses text (closing text w p) k q
-  unfolding closing
-  closing-refuses r = then-refused text _ (closed-fault text w) p r
+closing-refuses : {A : Type 0} {text : List ℕ} {p : Parsed A} (w : Kind) {k q : ℕ} → Refuses text p k q → Refuses text (closing text w p) k q
+unfolding closing
+closing-refuses {text = text} {p = p} w r = then-refused text _ (closed-fault text w) p r
 
-  module _ {code : A → List ℕ} {to : ℕ} {before after : List ℕ} {h : Lookahead} {t : ℕ} (a : Accepted text code p to before after h t) where
-    pub closed : h .kind ≡ kindNumber w → closing text w p ≡ accepted (a .tree) (h .end)
+module _ {A : Type 0} {text : List ℕ} {code : A → List ℕ} {p : Parsed A} {to : ℕ} {before after : List ℕ} (w : Kind) where
+  module _ {h : Lookahead} {t : ℕ} (a : Accepted text code p to before after h t) where
+    closed-by : h .kind ≡ kindNumber w → closing text w p ≡ accepted (a .tree) (h .end)
     unfolding closing followed phrase expected
-    closed e = rw (a .is, known (a .stands) .read, told (known (a .stands)) w e)
+    closed-by e = rw (a .is, known (a .stands) .read, told (known (a .stands)) w e)
 
-    pub unclosed : (h .kind ≡ kindNumber w → ⊥) → closing text w p ≡ refused notAllowed (h .start)
+    unclosed : (h .kind ≡ kindNumber w → ⊥) → closing text w p ≡ refused notAllowed (h .start)
     unfolding closing followed phrase expected
     unclosed e = rw (a .is, known (a .stands) .read, untold (known (a .stands)) w e)
+
+  pub closed-parses : (r : Step) → Parses text code p to before after r → Parses text code (closing text w p) to before after (closedStep text (kindNumber w) r)
+  closed-parses (Done h t) c =
+      let a = accepted-by c refl in
+      pick-prop (Parses text code (closing text w p) to before after) (eqb (h .kind) (kindNumber w)) _ _
+      (λ e. ended (a .tree) (closed-by a (eqb-true _ _ e)) (a .count) (a .wrote) refl)
+      (λ e. refuses (refused-now (unclosed a (eqb-false _ _ e))))
+  closed-parses (Refused k q) c = refuses (closing-refuses w (refused-by c refl))
 
 -- ---- room
 

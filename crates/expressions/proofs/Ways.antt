@@ -32,7 +32,7 @@ use Rattle.expressions.specs.declared.Names.{Names}
 use Rattle.expressions.specs.Scopes.{scopeOf, Declared}
 use Rattle.expressions.specs.Steps.{stepAt, stepOf, Parses, Room}
 use Rattle.expressions.specs.Internal.{textOnly, primaryIn, factorIn, termIn, expressionIn}
-use Rattle.expressions.proofs.Steps.{lookedAhead, Refuses, Known, told, untold, Accepted, then-refused, closing, closing-refuses, ended, one-more}
+use Rattle.expressions.proofs.Steps.{lookedAhead, Refuses, Known, told, untold, Accepted, then-refused, closing, ended, one-more}
 use Rattle.expressions.proofs.Scopes.{few-names}
 use Rattle.expressions.proofs.Chain.{Operators}
 
@@ -191,9 +191,6 @@ module _ (sc : Scope) (s n : ℕ) where
   unfolding bracket closing
   bracket-some zero e = absurd (e refl)
   bracket-some (suc d) e = ap (λ (x : ℕ). andThen (expressionIn x sc n) (λ a m. followed (sc .text) (sign closeRound ∷ []) a m)) (sym (down d))
-
-  pub bracket-refuses : (left : ℕ) → (left ≡ 0 → ⊥) → {k q : ℕ} → Refuses (sc .text) (expressionIn (left - 1) sc n) k q → Refuses (sc .text) (bracket left sc s n) k q
-  bracket-refuses left e {k} {q} r = subst (λ (p : Parsed Expression). Refuses (sc .text) p k q) (sym (bracket-some left e)) (closing-refuses closeRound r)
 
 -- ---- the opposite
 

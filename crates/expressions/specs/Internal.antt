@@ -4,13 +4,17 @@ use Prim.Native.Nat.{ℕ}
 use mathlib.Core.Path.{_≡_}
 use mathlib.Core.List.{List, []}
 use mathlib.Core.Option.{Option, none, some}
+use lib.Dec.{eqb}
+use Rattle.limits.specs.Limits.{notAllowed}
+use Rattle.lexer.specs.Bytes.{pick}
 use Rattle.lexer.specs.Token.{Kind, kindNumber}
 use Rattle.lexer.specs.Lexer.{tokenAt}
 use Rattle.semantics.specs.Program.{Expression}
 use Rattle.grammar.specs.Parsed.{Parsed}
 use Rattle.grammar.specs.Expressions.{Scope, primary, factor, term, expression, bracket}
 use Rattle.expressions.specs.declared.Lookahead.{Lookahead}
-use Rattle.expressions.specs.declared.Step.the-variants.{Done}
+use Rattle.expressions.specs.declared.Step.{Step}
+use Rattle.expressions.specs.declared.Step.the-variants.{Done, Refused}
 use Rattle.expressions.specs.Steps.{stepAt}
 
 -- a text alone, without names
@@ -41,3 +45,10 @@ Codes code operator n c = (k : Kind) → n ≡ kindNumber k → c ≡ codeOf cod
 -- h is the token that is read from its place
 abbrev pub Stands : List ℕ → Lookahead → Type 0
 Stands text h = Done h 0 ≡ stepAt (tokenAt text (h .at)) (h .at) 0
+
+-- a part with a token of the kind with the number w behind it, and the token behind that one; any other token there is refused 2
+abbrev pub closedStep : List ℕ → ℕ → Step → Step
+closedStep text w (Done h t) =
+    let next = stepAt (tokenAt text (h .end)) (h .end) t in
+    pick (eqb (h .kind) w) next (Refused notAllowed (h .start))
+closedStep text w (Refused k q) = Refused k q

@@ -14,7 +14,7 @@ ghost use Rattle.grammar.specs.Expressions.{numberAt, currentAt, previousAt, pr
 ghost use Rattle.grammar.specs.Emitted.{codeE};
 ghost use Rattle.expressions.specs.Scopes.{scopeOf, Declared};
 ghost use Rattle.expressions.specs.Steps.{stepAt, Parses, Room};
-ghost use Rattle.expressions.specs.Internal.{textOnly, primaryIn, factorIn, termIn, expressionIn, Codes, Stands};
+ghost use Rattle.expressions.specs.Internal.{textOnly, primaryIn, factorIn, termIn, expressionIn, Codes, Stands, closedStep};
 
 // Code bytes.
 const CONSTANT: u8 = 1;
@@ -56,6 +56,19 @@ pub fn ahead(text: &[u8], at: usize, to: usize) -> Step
         Token::Is(kind, start, end) => Step::Done(Lookahead { at, kind, start, end }, to),
         Token::Fault(place) => Step::Refused(1, place),
     }
+}
+
+// A part with a token of the kind given behind it, and the token behind that one.
+pub fn closed(text: &[u8], part: Step, kind: u8) -> Step
+    ensures { λ r. ⌜ r ≡ closedStep (now (text .entry)) kind part ⌝ }
+{
+    let Step::Done(behind, t) = part else {
+        return part;
+    };
+    if behind.kind == kind {
+        return ahead(text, behind.end, t);
+    }
+    Step::Refused(2, behind.start)
 }
 
 // The code of an operator of a sum, and of a product; 0 for any other token.
@@ -255,13 +268,7 @@ fn bracket(text: &[u8], starts: &[usize], ends: &[usize], names: Names, start: u
         return Step::Refused(8, start);
     }
     let inner = expression(text, starts, ends, names, end, left - 1, out, to);
-    let Step::Done(behind, t) = inner else {
-        return inner;
-    };
-    if behind.kind == lexer::CLOSE_ROUND {
-        return ahead(text, behind.end, t);
-    }
-    Step::Refused(2, behind.start)
+    closed(text, inner, lexer::CLOSE_ROUND)
 }
 
 // An expression before which no bracket is open.

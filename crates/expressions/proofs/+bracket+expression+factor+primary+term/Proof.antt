@@ -13,9 +13,9 @@ use Rattle.grammar.specs.Expressions.{productOf, sumOf, term as term-of, expres
 use Rattle.grammar.specs.Emitted.{codeE}
 use Rattle.expressions.specs.Scopes.{scopeOf}
 use Rattle.expressions.specs.Internal.{factorIn, termIn}
-use Rattle.expressions.proofs.Steps.{known, accepted-by, refuses, refused-now, accepts, same-part, passed, ahead-token, ahead-fault, ended, closed, unclosed, room-at, room-after, room-next, token-within}
+use Rattle.expressions.proofs.Steps.{known, accepted-by, refuses, refused-now, accepts, same-part, passed, ahead-token, ahead-fault, answers, closed-parses, room-at, room-after, room-next, token-within}
 use Rattle.expressions.proofs.Chain.{Turn, chain-first, turn-first, turn-next, turn-done, turn-refused, turn-room, turn-more}
-use Rattle.expressions.proofs.Ways.{sums, products, factor-fault, factor-minus, factor-plain, primary-number, primary-current, primary-previous, primary-bracket, primary-none, number-text, negative-fault, negative-refuses, negative-accepts, bracket-none, bracket-some, bracket-refuses, primary-grows, factor-grows, term-grows}
+use Rattle.expressions.proofs.Ways.{sums, products, factor-fault, factor-minus, factor-plain, primary-number, primary-current, primary-previous, primary-bracket, primary-none, number-text, negative-fault, negative-refuses, negative-accepts, bracket-none, bracket-some, primary-grows, factor-grows, term-grows}
 use Rattle.expressions.proofs.bracket.Reads as bracket
 use Rattle.expressions.proofs.bracket.Kinds as bracket-kinds
 use Rattle.expressions.proofs.+bracket+expression+factor+primary+term.Lts-bracket as bracket-lts
@@ -32,6 +32,7 @@ use Rattle.expressions.proofs.term.Reads as term
 use Rattle.expressions.proofs.term.Kinds as term-kinds
 use Rattle.expressions.proofs.+bracket+expression+factor+primary+term.Lts-term as term-lts
 use Rattle.expressions.proofs.ahead.Reads as ahead-reads
+use Rattle.expressions.proofs.closed.Reads as closed-reads
 use Rattle.expressions.proofs.current.Reads as current-reads
 use Rattle.expressions.proofs.number.Reads as number-reads
 use Rattle.expressions.proofs.previous.Reads as previous-reads
@@ -89,7 +90,7 @@ abbrev term-below : ℕ → In 4 term-kinds.ps
 term-below t = and 4 term-kinds.ps (falls 4 term-kinds.ps _<_ μ-term t) term.Pre
 
 abbrev bracket-claims : ℕ → bracket-lts.Claims
-bracket-claims t = (expression-below t, expression.Post, ahead-reads.Asked, ahead-reads.Learnt)
+bracket-claims t = (expression-below t, expression.Post, closed-reads.Asked, closed-reads.Learnt)
 
 abbrev expression-claims : ℕ → expression-lts.Claims
 expression-claims t = (term-below t, term.Post, sum-code-reads.Asked, sum-code-reads.Learnt, put-byte-reads.Asked, put-byte-reads.Learnt)
@@ -115,19 +116,8 @@ bracket-expression-requires : (t : ℕ) → bracket-lts.Need-expression-requires
 bracket-expression-requires t c κs = (omega (arith, c .before .before .before .before .before .before .pre .0, c .before .if1 .left), c .before .before .before .before .before .before .pre .1)
 
 bracket-returns-2 : (t : ℕ) → bracket-lts.Need-returns-2 (bracket-claims t) (bracket-at t) bracket.Post
-bracket-returns-2 t c = passed (c .before .before .before .before .expression .ensures) (c .enum-told .given .1) (bracket-refuses _ _ _ _ (c .before .before .before .before .before .before .if1 .left))
-
-bracket-returns-3 : (t : ℕ) → bracket-lts.Need-returns-3 (bracket-claims t) (bracket-at t) bracket.Post
 unfolding kindNumber
-bracket-returns-3 t c =
-    let a = accepted-by (c .before .before .before .before .before .before .before .before .expression .ensures) (c .before .before .before .before .inner .given .1) in
-    ended (a .tree) (bracket-some _ _ _ _ (c .before .before .before .before .before .before .before .before .before .before .if1 .left) ∙ closed closeRound a (c .before .if2 .taken)) (a .count) (a .wrote) (c .ahead .ensures)
-
-bracket-returns-4 : (t : ℕ) → bracket-lts.Need-returns-4 (bracket-claims t) (bracket-at t) bracket.Post
-unfolding kindNumber
-bracket-returns-4 t c =
-    let a = accepted-by (c .before .before .before .before .before .before .before .expression .ensures) (c .before .before .before .inner .given .1) in
-    refuses (refused-now (bracket-some _ _ _ _ (c .before .before .before .before .before .before .before .before .before .if1 .left) ∙ unclosed closeRound a (c .if2 .left)))
+bracket-returns-2 t c = same-part (bracket-some _ _ _ _ (c .before .before .before .before .before .if1 .left)) (answers (c .closed .ensures) (closed-parses closeRound _ (c .before .before .before .expression .ensures)))
 
 -- ---- expression
 
@@ -325,15 +315,9 @@ pub +bracket+expression+factor+primary+term-spec : {M : Type 1} → statement M
     (bracket-returns t)
     (bracket-sub-expression t)
     (bracket-expression-requires t)
-    (λ c. search needs)
-    (λ c. search needs)
-    (λ c. search needs)
-    (bracket-returns-2 t)
     (λ c κs. search needs)
     (λ c. search needs)
-    (bracket-returns-3 t)
-    (λ c. search needs)
-    (bracket-returns-4 t))
+    (bracket-returns-2 t))
     (λ t. expression-lts.spec (expression-claims t) (expression-at t) expression.Post expression-Inv-loop expression-μ-loop
     (expression-term-requires t)
     (λ c. search needs)
