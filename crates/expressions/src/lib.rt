@@ -18,13 +18,21 @@ ghost use Rattle.expressions.specs.Internal.{textOnly, primaryIn, factor
 
 // Code bytes.
 const CONSTANT: u8 = 1;
+
 const CURRENT: u8 = 2;
+
 const PREVIOUS: u8 = 3;
+
 const ADD: u8 = 4;
+
 const SUBTRACT: u8 = 5;
+
 const MULTIPLY: u8 = 6;
+
 const DIVIDE: u8 = 7;
+
 const MODULO: u8 = 8;
+
 const NEGATE: u8 = 9;
 
 // The names declared: how many, and which of them may be used with their current value (bit i for the name with id i).
@@ -53,7 +61,15 @@ pub fn ahead(text: &[u8], at: usize, to: usize) -> Step
 {
     let read = lexer::token_at(text, at);
     match read {
-        Token::Is(kind, start, end) => Step::Done(Lookahead { at, kind, start, end }, to),
+        Token::Is(kind, start, end) => Step::Done(
+            Lookahead {
+                at,
+                kind,
+                start,
+                end,
+            },
+            to,
+        ),
         Token::Fault(place) => Step::Refused(1, place),
     }
 }
@@ -129,7 +145,16 @@ fn bit(bits: u64, i: u64) -> bool
 }
 
 // The current value of the name from `start` to `end`.
-fn current(text: &[u8], starts: &[usize], ends: &[usize], names: Names, start: usize, end: usize, out: &mut [u8], to: usize) -> Step
+fn current(
+    text: &[u8],
+    starts: &[usize],
+    ends: &[usize],
+    names: Names,
+    start: usize,
+    end: usize,
+    out: &mut [u8],
+    to: usize,
+) -> Step
     requires { ⌜ Declared (now starts) (now ends) names ⌝ }
     requires { ⌜ to + 1 < 2 ^ 31 ⌝ }
     ensures { λ r. ⌜ Parses (now (text .entry)) codeE (currentAt (scopeOf (now (text .entry)) (now (starts .entry)) (now (ends .entry)) names) start end) to (now (out .entry)) (now (out .exit)) r ⌝ }
@@ -148,7 +173,16 @@ fn current(text: &[u8], starts: &[usize], ends: &[usize], names: Names, start: u
 }
 
 // The previous value of the name that stands behind the `_` at `start`.
-fn previous(text: &[u8], starts: &[usize], ends: &[usize], names: Names, start: usize, end: usize, out: &mut [u8], to: usize) -> Step
+fn previous(
+    text: &[u8],
+    starts: &[usize],
+    ends: &[usize],
+    names: Names,
+    start: usize,
+    end: usize,
+    out: &mut [u8],
+    to: usize,
+) -> Step
     requires { ⌜ Declared (now starts) (now ends) names ⌝ }
     requires { ⌜ (start < 2 ^ 31) × (to + 1 < 2 ^ 31) ⌝ }
     ensures { λ r. ⌜ Parses (now (text .entry)) codeE (previousAt (scopeOf (now (text .entry)) (now (starts .entry)) (now (ends .entry)) names) start end) to (now (out .entry)) (now (out .exit)) r ⌝ }
@@ -165,7 +199,16 @@ fn previous(text: &[u8], starts: &[usize], ends: &[usize], names: Names, start: 
 }
 
 // Terms with `+` and `-` between them.
-pub fn expression(text: &[u8], starts: &[usize], ends: &[usize], names: Names, at: usize, left: usize, out: &mut [u8], to: usize) -> Step
+pub fn expression(
+    text: &[u8],
+    starts: &[usize],
+    ends: &[usize],
+    names: Names,
+    at: usize,
+    left: usize,
+    out: &mut [u8],
+    to: usize,
+) -> Step
     requires { ⌜ Declared (now starts) (now ends) names ⌝ }
     requires { ⌜ Room (now text) at to ⌝ }
     ensures { λ r. ⌜ Parses (now (text .entry)) codeE (expressionIn left (scopeOf (now (text .entry)) (now (starts .entry)) (now (ends .entry)) names) at) to (now (out .entry)) (now (out .exit)) r ⌝ }
@@ -189,7 +232,16 @@ pub fn expression(text: &[u8], starts: &[usize], ends: &[usize], names: Names, a
 }
 
 // Factors with `*`, `/` and `mod` between them.
-fn term(text: &[u8], starts: &[usize], ends: &[usize], names: Names, at: usize, left: usize, out: &mut [u8], to: usize) -> Step
+fn term(
+    text: &[u8],
+    starts: &[usize],
+    ends: &[usize],
+    names: Names,
+    at: usize,
+    left: usize,
+    out: &mut [u8],
+    to: usize,
+) -> Step
     requires { ⌜ Declared (now starts) (now ends) names ⌝ }
     requires { ⌜ Room (now text) at to ⌝ }
     ensures { λ r. ⌜ Parses (now (text .entry)) codeE (termIn left (scopeOf (now (text .entry)) (now (starts .entry)) (now (ends .entry)) names) at) to (now (out .entry)) (now (out .exit)) r ⌝ }
@@ -213,7 +265,16 @@ fn term(text: &[u8], starts: &[usize], ends: &[usize], names: Names, at: usize, 
 }
 
 // At most one `-`, then a primary.
-fn factor(text: &[u8], starts: &[usize], ends: &[usize], names: Names, at: usize, left: usize, out: &mut [u8], to: usize) -> Step
+fn factor(
+    text: &[u8],
+    starts: &[usize],
+    ends: &[usize],
+    names: Names,
+    at: usize,
+    left: usize,
+    out: &mut [u8],
+    to: usize,
+) -> Step
     requires { ⌜ Declared (now starts) (now ends) names ⌝ }
     requires { ⌜ Room (now text) at to ⌝ }
     ensures { λ r. ⌜ Parses (now (text .entry)) codeE (factorIn left (scopeOf (now (text .entry)) (now (starts .entry)) (now (ends .entry)) names) at) to (now (out .entry)) (now (out .exit)) r ⌝ }
@@ -237,7 +298,16 @@ fn factor(text: &[u8], starts: &[usize], ends: &[usize], names: Names, at: usize
 }
 
 // A number, a name, a previous value, or an expression in brackets.
-fn primary(text: &[u8], starts: &[usize], ends: &[usize], names: Names, here: Lookahead, left: usize, out: &mut [u8], to: usize) -> Step
+fn primary(
+    text: &[u8],
+    starts: &[usize],
+    ends: &[usize],
+    names: Names,
+    here: Lookahead,
+    left: usize,
+    out: &mut [u8],
+    to: usize,
+) -> Step
     requires { ⌜ Declared (now starts) (now ends) names ⌝ }
     requires { ⌜ Room (now text) (here .at) to ⌝ }
     requires { ⌜ Stands (now text) here ⌝ }
@@ -253,13 +323,33 @@ fn primary(text: &[u8], starts: &[usize], ends: &[usize], names: Names, here: Lo
         return previous(text, starts, ends, names, here.start, here.end, out, to);
     }
     if here.kind == lexer::OPEN_ROUND {
-        return bracket(text, starts, ends, names, here.start, here.end, left, out, to);
+        return bracket(
+            text,
+            starts,
+            ends,
+            names,
+            here.start,
+            here.end,
+            left,
+            out,
+            to,
+        );
     }
     Step::Refused(2, here.start)
 }
 
 // An expression in the bracket from `start` to `end`, with `left` brackets left to open.
-fn bracket(text: &[u8], starts: &[usize], ends: &[usize], names: Names, start: usize, end: usize, left: usize, out: &mut [u8], to: usize) -> Step
+fn bracket(
+    text: &[u8],
+    starts: &[usize],
+    ends: &[usize],
+    names: Names,
+    start: usize,
+    end: usize,
+    left: usize,
+    out: &mut [u8],
+    to: usize,
+) -> Step
     requires { ⌜ Declared (now starts) (now ends) names ⌝ }
     requires { ⌜ Room (now text) end to ⌝ }
     ensures { λ r. ⌜ Parses (now (text .entry)) codeE (bracket left (scopeOf (now (text .entry)) (now (starts .entry)) (now (ends .entry)) names) start end) to (now (out .entry)) (now (out .exit)) r ⌝ }
@@ -272,10 +362,27 @@ fn bracket(text: &[u8], starts: &[usize], ends: &[usize], names: Names, start: u
 }
 
 // An expression before which no bracket is open.
-pub fn whole_expression(text: &[u8], starts: &[usize], ends: &[usize], names: Names, at: usize, out: &mut [u8], to: usize) -> Step
+pub fn whole_expression(
+    text: &[u8],
+    starts: &[usize],
+    ends: &[usize],
+    names: Names,
+    at: usize,
+    out: &mut [u8],
+    to: usize,
+) -> Step
     requires { ⌜ Declared (now starts) (now ends) names ⌝ }
     requires { ⌜ Room (now text) at to ⌝ }
     ensures { λ r. ⌜ Parses (now (text .entry)) codeE (wholeExpression (scopeOf (now (text .entry)) (now (starts .entry)) (now (ends .entry)) names) at) to (now (out .entry)) (now (out .exit)) r ⌝ }
 {
-    expression(text, starts, ends, names, at, grammar::BRACKET_LIMIT, out, to)
+    expression(
+        text,
+        starts,
+        ends,
+        names,
+        at,
+        grammar::BRACKET_LIMIT,
+        out,
+        to,
+    )
 }
