@@ -1,0 +1,49 @@
+-- Laws of phrases: one after another, as the code goes. Assumes nothing.
+use mathlib.Core.Path.{_≡_, refl, sym, ap, _∙_}
+use mathlib.Core.List.{List, [], _∷_, _++_}
+use Prim.Native.Nat.{ℕ}
+use Rattle.grammar.specs.Parsed.{Parsed, accepted, refused, andThen, Wanted, expected, phrase}
+use Rattle.phrases.specs.Results.{expectedOf}
+use Rattle.phrases.specs.declared.Expected.{Expected}
+use Rattle.phrases.specs.declared.Expected.the-variants.{After, Refused}
+
+then-none : (p : Parsed (Unit {0})) → andThen p (λ u n. accepted tt n) ≡ p
+then-none (accepted u n) = refl
+then-none (refused k q) = refl
+
+module _ (text : List ℕ) where
+  -- one token
+  phrase-one : (w : Wanted) (at : ℕ) → phrase text (w ∷ []) at ≡ expected text w at
+  unfolding phrase
+  phrase-one w at = then-none (expected text w at)
+
+  -- a phrase, then another
+  pub phrase-append : (xs ys : List Wanted) (at : ℕ) → phrase text (xs ++ ys) at ≡ andThen (phrase text xs at) (λ u n. phrase text ys n)
+  unfolding phrase
+  phrase-append [] ys at = refl
+  phrase-append (x ∷ xs) ys at = go (expected text x at) (λ n. phrase-append xs ys n)
+    where
+      go : (p : Parsed (Unit {0})) → ((n : ℕ) → phrase text (xs ++ ys) n ≡ andThen (phrase text xs n) (λ u m. phrase text ys m)) → andThen p (λ u n. phrase text (xs ++ ys) n) ≡ andThen (andThen p (λ u n. phrase text xs n)) (λ u n. phrase text ys n)
+      go (accepted u n) h = h n
+      go (refused k q) h = refl
+
+  -- what a function answers that expects one token
+  pub last : {q : Parsed (Unit {0})} (w : Wanted) (at : ℕ) → q ≡ expected text w at → q ≡ phrase text (w ∷ []) at
+  last w at e = e ∙ sym (phrase-one w at)
+
+  -- a refusal of the first token is the answer
+  pub stops : {r : Expected} {k p : ℕ} (w : Wanted) (ws : List Wanted) (at : ℕ) → expectedOf r ≡ expected text w at → r ≡ Refused k p → expectedOf r ≡ phrase text (w ∷ ws) at
+  unfolding phrase
+  stops w ws at e g = rw (← e, g)
+
+  -- after the first token the others follow
+  pub goes-on : {r : Expected} {n : ℕ} {q : Parsed (Unit {0})} (w : Wanted) (ws : List Wanted) (at : ℕ) → expectedOf r ≡ expected text w at → r ≡ After n → q ≡ phrase text ws n → q ≡ phrase text (w ∷ ws) at
+  unfolding phrase
+  goes-on w ws at e g h = rw (← e, g) h
+
+  -- the same of several first tokens
+  pub stops-in : {r : Expected} {k p : ℕ} (xs ys : List Wanted) (at : ℕ) → expectedOf r ≡ phrase text xs at → r ≡ Refused k p → expectedOf r ≡ phrase text (xs ++ ys) at
+  stops-in xs ys at e g = rw (phrase-append xs ys at, ← e, g)
+
+  pub goes-past : {r : Expected} {n : ℕ} {q : Parsed (Unit {0})} (xs ys : List Wanted) (at : ℕ) → expectedOf r ≡ phrase text xs at → r ≡ After n → q ≡ phrase text ys n → q ≡ phrase text (xs ++ ys) at
+  goes-past xs ys at e g h = rw (phrase-append xs ys at, ← e, g) h

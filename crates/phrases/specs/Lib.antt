@@ -1,0 +1,3 @@
+pub mod Kinds
+pub mod Forms
+pub mod Results
