@@ -15,12 +15,13 @@ use Rattle.lexer.specs.Bytes.{pick, part}
 use Rattle.lexer.specs.Token.{Kind, kindNumber, ending, name, digits, openRound, closeRound, openSquare, closeSquare, tilde, minus, is, Read, token, fault}
 use Rattle.lexer.specs.Token as T
 use Rattle.lexer.specs.Lexer.{tokenAt, overLong, valueOf, sameToken}
+use Rattle.lexer.specs.Names.{idOf}
 use Rattle.lexer.proofs.Laws.{pick-prop, apart, Moved, token-at-moved}
 use Rattle.lexer.proofs.Same.{same-token}
 use Rattle.arith.specs.Values.{Operation}
 use Rattle.semantics.specs.Program.{Expression, operation, Condition}
 use Rattle.grammar.specs.Parsed.{Parsed, accepted, refused, andThen, onToken, onOption, Wanted, sign, isWanted, expected, phrase, followed, rest, chain}
-use Rattle.grammar.specs.Expressions.{Scope, idOf, withId, currentAt, previousAt, numberLimit, numberAt, primary, negative, factor, productOf, sumOf, term, expression, bracket, wholeExpression}
+use Rattle.grammar.specs.Expressions.{Scope, withId, currentAt, previousAt, numberLimit, numberAt, primary, negative, factor, productOf, sumOf, term, expression, bracket, wholeExpression}
 use Rattle.grammar.specs.Conditions.{comparisonOf, compared, comparisonAt, opposite, inverted, atom, connect, andOf, orOf, conjunction, condition, square, wholeCondition, listed}
 use Rattle.grammar.specs.Rules.{Compared, agrees, differs, onFound, onWanted, partFrom}
 use Rattle.grammar.specs.Emitted.{codeE, codeC}

@@ -11,8 +11,8 @@ use lib.IntN.{ℤ, pos}
 use borrow.Author.Tests.{ltb-true, ltb-false, lt-ltb}
 use Rattle.lexer.specs.Bytes.{pick, part}
 use Rattle.lexer.specs.Lexer.{valueOn, valueOf, sameName}
+use Rattle.lexer.specs.Names.{idFrom, idOf}
 use Rattle.lexer.proofs.Laws.{pick-prop}
-use Rattle.grammar.specs.Expressions.{idFrom, idOf}
 use Rattle.leb128.specs.Numbers.{groups, number, zigzag}
 
 -- 128 to the d

@@ -13,12 +13,13 @@ use Rattle.lexer.specs.Bytes.{pick, part}
 use Rattle.lexer.specs.Token.{Kind, name, digits, openRound, closeRound, openSquare, closeSquare, tilde, minus, is, Read, token, fault}
 use Rattle.lexer.specs.Token as T
 use Rattle.lexer.specs.Lexer.{tokenAt, overLong, valueOf}
+use Rattle.lexer.specs.Names.{idOf}
 use Rattle.lexer.proofs.Laws.{pick-prop}
 use Rattle.arith.specs.Values.{Operation, Comparison}
 use Rattle.arith.proofs.Laws.{mag-int32}
 use Rattle.semantics.specs.Program.{Expression, constant, current, previous, operation, negate, Condition, comparison, negated, both, either, UsableE, UsableC}
 use Rattle.grammar.specs.Parsed.{Parsed, accepted, refused, andThen, onToken, onOption, Wanted, sign, phrase, followed, rest, chain}
-use Rattle.grammar.specs.Expressions.{Scope, idOf, withId, currentAt, previousAt, numberLimit, numberAt, primary, negative, factor, productOf, sumOf, term, expression, bracket, wholeExpression}
+use Rattle.grammar.specs.Expressions.{Scope, withId, currentAt, previousAt, numberLimit, numberAt, primary, negative, factor, productOf, sumOf, term, expression, bracket, wholeExpression}
 use Rattle.grammar.specs.Conditions.{comparisonOf, compared, comparisonAt, opposite, inverted, atom, Connective, andAlso, orElse, connect, andOf, orOf, conjunction, condition, square, wholeCondition, listed}
 use Rattle.grammar.proofs.Combine.{token-prop, then-prop, option-prop}
 use Rattle.grammar.proofs.Bytes.{id-of}

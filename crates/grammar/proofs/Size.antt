@@ -14,12 +14,13 @@ use borrow.Author.Tests.{ltb-false, ltb-true}
 use Rattle.lexer.specs.Bytes.{pick, part}
 use Rattle.lexer.specs.Token.{Kind, kindNumber, name, previous, digits, ending, openSquare, tilde, bar, minus, initWord, semicolon, dots, is, Read, token, fault}
 use Rattle.lexer.specs.Lexer.{tokenAt, overLong, valueOf, sameName}
+use Rattle.lexer.specs.Names.{idOf}
 use Rattle.lexer.proofs.Laws.{pick-prop, token-at-moved}
 use Rattle.lexer.proofs.Same.{both-true}
 use Rattle.semantics.specs.Program.{Name, Expression, Condition, Case, Rule, function, change, Program, target, allTrue, knownFirst}
 use Rattle.semantics.proofs.Reference.{length-known}
 use Rattle.grammar.specs.Parsed.{Parsed, accepted, refused, andThen, onToken, onOption, Wanted, sign, own, ownPrevious, isWanted, expected, phrase, followed}
-use Rattle.grammar.specs.Expressions.{Scope, idOf, withId, wholeExpression}
+use Rattle.grammar.specs.Expressions.{Scope, withId, wholeExpression}
 use Rattle.grammar.specs.Conditions.{listed}
 use Rattle.grammar.specs.Declarations.{inRange, signedAt, boundAt, spellings, newName, startAt, declaration, declarationsFrom, declarations}
 use Rattle.grammar.specs.Rules.{Span, Spanned, caseAt, casesFrom, agreeingList, casesOf, functionAt, changeAt, formulas, ruleAt, ruled, rulesFrom}

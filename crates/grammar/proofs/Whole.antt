@@ -14,12 +14,13 @@ use borrow.Author.Tests.{lt-ltb, ltb-true, ltb-false}
 use Rattle.lexer.specs.Bytes.{pick, part}
 use Rattle.lexer.specs.Token.{Kind, name, digits, ending, openSquare, tilde, bar, minus, initWord, semicolon, dots, inputWord, varWord, is, Read, token, fault}
 use Rattle.lexer.specs.Lexer.{tokenAt, overLong, valueOf}
+use Rattle.lexer.specs.Names.{idOf}
 use Rattle.lexer.proofs.Laws.{pick-prop, token-at-moved}
 use Rattle.semantics.specs.Program.{Name, Expression, Condition, Case, Rule, function, change, Program, target, allTrue, knownFirst, UsableE, UsableC}
 use Rattle.arith.proofs.Basics.{true-T}
 use Rattle.semantics.proofs.Reference.{length-known}
 use Rattle.grammar.specs.Parsed.{Parsed, accepted, refused, andThen, onToken, onOption, Wanted, sign, own, phrase, followed}
-use Rattle.grammar.specs.Expressions.{Scope, idOf, withId, wholeExpression}
+use Rattle.grammar.specs.Expressions.{Scope, withId, wholeExpression}
 use Rattle.grammar.specs.Conditions.{listed}
 use Rattle.grammar.specs.Declarations.{inRange, signedAt, boundAt, spellings, newName, startAt, declaration, declarationsFrom, declarations}
 use Rattle.grammar.specs.Rules.{Span, Spanned, caseAt, casesFrom, listFrom, plainList, Compared, agrees, differs, partsFrom, settled, agreeingList, casesOf, functionAt, changeAt, formulas, ruleAt, ruled, rulesFrom}

@@ -12,9 +12,9 @@ use Rattle.arith.specs.Values.{isInt32}
 use Rattle.lexer.specs.Bytes.{pick, part}
 use Rattle.lexer.specs.Token.{Kind, name, digits, initWord, dots, semicolon, minus, is}
 use Rattle.lexer.specs.Lexer.{tokenAt, overLong, valueOf}
+use Rattle.lexer.specs.Names.{idOf}
 use Rattle.semantics.specs.Program.{Name}
 use Rattle.grammar.specs.Parsed.{Parsed, accepted, refused, andThen, onToken, onOption, sign, followed, phrase}
-use Rattle.grammar.specs.Expressions.{idOf}
 
 unfoldable pub inRange : ℤ → ℤ → ℤ → Bool
 inRange low high z = leZ low z && leZ z high

@@ -10,9 +10,10 @@ use Rattle.lexer.specs.Bytes.{part}
 use Rattle.lexer.specs.Token.{Kind, name, digits, openRound, closeRound, openSquare, closeSquare, tilde, minus, token}
 use Rattle.lexer.specs.Token as T
 use Rattle.lexer.specs.Lexer.{tokenAt, valueOf}
+use Rattle.lexer.specs.Names.{idOf}
 use Rattle.arith.specs.Values.{Operation, Comparison}
 use Rattle.semantics.specs.Program.{Expression, constant, current, previous, operation, negate, Condition, comparison, negated, both, either}
-use Rattle.grammar.specs.Expressions.{Scope, idOf, numberLimit, productOf, sumOf}
+use Rattle.grammar.specs.Expressions.{Scope, numberLimit, productOf, sumOf}
 use Rattle.grammar.specs.Conditions.{comparisonOf}
 
 -- a token apart from its place

@@ -10,7 +10,8 @@ use Rattle.limits.specs.Limits.{bracketLimit, notAllowed, outOfLimit, wrongName
 use Rattle.lexer.specs.Bytes.{pick, part}
 use Rattle.lexer.specs.Token.{Kind, name, digits, modWord, openRound, closeRound, plus, minus, star, slash, is, Read, token, fault}
 use Rattle.lexer.specs.Token as T
-use Rattle.lexer.specs.Lexer.{tokenAt, sameName, overLong, valueOf}
+use Rattle.lexer.specs.Lexer.{tokenAt, overLong, valueOf}
+use Rattle.lexer.specs.Names.{idOf}
 use Rattle.arith.specs.Values.{Operation, add, subtract, multiply, divide, modulo}
 use Rattle.semantics.specs.Program.{Expression, constant, current, previous, operation, negate}
 use Rattle.grammar.specs.Parsed.{Parsed, accepted, refused, andThen, onToken, onOption, sign, followed, chain}
@@ -21,14 +22,6 @@ pub record Scope : Type 0 where
   pub text : List ℕ
   pub names : List (List ℕ)
   pub known : List Bool
-
--- the id of the name w, counted from i
-unfoldable pub idFrom : List (List ℕ) → List ℕ → ℕ → Option ℕ
-idFrom [] w i = none
-idFrom (x ∷ l) w i = let r = idFrom l w (i + 1) in pick (sameName w x) (some i) r
-
-unfoldable pub idOf : List (List ℕ) → List ℕ → Option ℕ
-idOf names w = idFrom names w 0
 
 -- a name from s to n, found or not, whose token is at p: 4 if it is unknown, 8 if over-long (and so in no list of names)
 unfoldable pub withId : {A : Type 0} → Scope → ℕ → ℕ → ℕ → (ℕ → Parsed A) → Parsed A
