@@ -1,15 +1,61 @@
 -- Laws of phrases: one after another, as the code goes. Assumes nothing.
 use mathlib.Core.Path.{_≡_, refl, sym, ap, _∙_}
 use mathlib.Core.List.{List, [], _∷_, _++_}
-use Prim.Native.Nat.{ℕ}
-use Rattle.grammar.specs.Parsed.{Parsed, accepted, refused, andThen, Wanted, expected, phrase}
-use Rattle.phrases.specs.Results.{expectedOf}
+use Prim.Native.Nat.{ℕ, _≤_}
+use Rattle.limits.specs.Limits.{notAllowed}
+use mathlib.Core.Bool.{true, false}
+use lib.ListN.{length}
+use borrow.Author.Tests.{eq-eqb}
+use Rattle.lexer.specs.Token.{kindNumber, is, Read, token, fault}
+use Rattle.lexer.specs.Lexer.{tokenAt}
+use Rattle.lexer.specs.Results.{kindOf, tokenRead, Lies, Placed}
+use Rattle.lexer.specs.declared.Token.{Token}
+use Rattle.lexer.specs.declared.Token.the-variants.{Is, Fault}
+use Rattle.lexer.proofs.KindNumbers.{kind-number, kind-is-not}
+use Rattle.grammar.specs.Parsed.{Parsed, accepted, refused, andThen, Wanted, isWanted, expected, phrase}
+use Rattle.phrases.specs.Results.{expectedOf, faultOf}
 use Rattle.phrases.specs.declared.Expected.{Expected}
 use Rattle.phrases.specs.declared.Expected.the-variants.{After, Refused}
 
 then-none : (p : Parsed (Unit {0})) → andThen p (λ u n. accepted tt n) ≡ p
 then-none (accepted u n) = refl
 then-none (refused k q) = refl
+
+-- ---- a token that was read
+
+module _ (text : List ℕ) (at : ℕ) {t : Token} (e : tokenRead t ≡ tokenAt text at) where
+  pub token-is : {k s n : ℕ} → t ≡ Is k s n → tokenAt text at ≡ token (kindOf k) s n
+  token-is g = sym e ∙ ap tokenRead g
+
+  pub token-fault : {p : ℕ} → t ≡ Fault p → tokenAt text at ≡ fault p
+  token-fault g = sym e ∙ ap tokenRead g
+
+  pub faulty : {p : ℕ} {r : Expected} (w : Wanted) → t ≡ Fault p → r ≡ faultOf t → expectedOf r ≡ expected text w at
+  unfolding expected
+  faulty w g h = rw (h, token-fault g, g)
+
+  module _ {k s n : ℕ} (w : Wanted) (g : t ≡ Is k s n) where
+    pub wanted : isWanted text w (kindOf k) s n ≡ true → accepted tt n ≡ expected text w at
+    unfolding expected
+    wanted h = rw (token-is g, h)
+
+    pub unwanted : isWanted text w (kindOf k) s n ≡ false → refused notAllowed s ≡ expected text w at
+    unfolding expected
+    unwanted h = rw (token-is g, h)
+
+  -- where it stands
+  pub lies : {k s n : ℕ} → t ≡ Is k s n → Placed (length text) at t → Lies (length text) at k s n
+  lies g h = rw g at h
+
+-- a kind by its number
+pub same-kinds : (k w : ℕ) → k ≡ w → is (kindOf k) (kindOf w) ≡ true
+unfolding is
+same-kinds k w e = eq-eqb _ _ (ap (λ (x : ℕ). kindNumber (kindOf x)) e)
+
+pub other-kinds : (k w : ℕ) → k ≤ 30 → w ≤ 30 → (k ≡ w → ⊥) → is (kindOf k) (kindOf w) ≡ false
+other-kinds k w h i f = kind-is-not k (kindOf w) h (λ e. f (e ∙ kind-number w i))
+
+-- ---- tokens one after another
 
 module _ (text : List ℕ) where
   -- one token

@@ -1,23 +1,12 @@
 // Fixed tokens of the rule forms: each is taken out of its answer, and a refusal is passed on.
+use lexer::Token;
 ghost use mathlib.Core.Path.{_≡_};
 ghost use Prim.Native.Nat.{_≤_};
 ghost use Rattle.lexer.specs.Bytes.{part};
-ghost use Rattle.phrases.specs.Kinds.{kindOf};
+ghost use Rattle.lexer.specs.Results.{kindOf};
 ghost use Rattle.grammar.specs.Parsed.{sign, own, ownPrevious, expected, phrase};
 ghost use Rattle.phrases.specs.Forms.{ruleOpening, formulaClosing, functionClosing, valueOpening, caseValueOpening, unchangedValue, changeOpening, noChangeOpening};
-ghost use Rattle.phrases.specs.Results.{expectedOf};
-pub const GX: u8 = 9;
-pub const ARROW: u8 = 11;
-pub const SEMICOLON: u8 = 15;
-pub const COLON: u8 = 16;
-pub const OPEN_ROUND: u8 = 17;
-pub const CLOSE_ROUND: u8 = 18;
-pub const OPEN_SQUARE: u8 = 19;
-pub const CLOSE_SQUARE: u8 = 20;
-pub const TILDE: u8 = 21;
-pub const AMPERSAND: u8 = 22;
-pub const BAR: u8 = 23;
-pub const EQUALS: u8 = 24;
+ghost use Rattle.phrases.specs.Results.{expectedOf, faultOf};
 
 // The place after the tokens, or a refusal's number and place.
 pub enum Expected {
@@ -25,59 +14,94 @@ pub enum Expected {
     Refused(u8, usize),
 }
 
+// What is no token is refused 1.
+pub fn fault(read: Token) -> Expected
+    ensures { λ r. ⌜ r ≡ faultOf read ⌝ }
+{
+    match read {
+        Token::Is(_, _, _) => Expected::Refused(0, 0),
+        Token::Fault(p) => Expected::Refused(1, p),
+    }
+}
+
 // A token of a kind.
 pub fn expect(text: &[u8], at: usize, kind: u8) -> Expected
     requires { ⌜ kind ≤ 30 ⌝ }
     ensures { λ r. ⌜ expectedOf r ≡ expected (now (text .entry)) (sign (kindOf kind)) at ⌝ }
 {
-    Expected::Refused(2, at)
+    let read = lexer::token_at(text, at);
+    let Token::Is(found, start, end) = read else {
+        return fault(read);
+    };
+    if found == kind {
+        return Expected::After(end);
+    }
+    Expected::Refused(2, start)
 }
 
 // The name that the text spells from `start` to `end`.
 pub fn expect_name(text: &[u8], at: usize, start: usize, end: usize) -> Expected
     ensures { λ r. ⌜ expectedOf r ≡ expected (now (text .entry)) (own (part (now (text .entry)) start end)) at ⌝ }
 {
-    Expected::Refused(2, at)
+    let read = lexer::token_at(text, at);
+    let Token::Is(kind, from, to) = read else {
+        return fault(read);
+    };
+    if kind == lexer::NAME {
+        if lexer::same_name(lexer::name(text, start, end), lexer::name(text, from, to)) {
+            return Expected::After(to);
+        }
+    }
+    Expected::Refused(2, from)
 }
 
-// The previous value of that name.
+// The previous value of that name: it stands after the `_`.
 pub fn expect_previous(text: &[u8], at: usize, start: usize, end: usize) -> Expected
     ensures { λ r. ⌜ expectedOf r ≡ expected (now (text .entry)) (ownPrevious (part (now (text .entry)) start end)) at ⌝ }
 {
-    Expected::Refused(2, at)
+    let read = lexer::token_at(text, at);
+    let Token::Is(kind, from, to) = read else {
+        return fault(read);
+    };
+    if kind == lexer::PREVIOUS {
+        if lexer::same_name(lexer::name(text, start, end), lexer::name(text, from + 1, to)) {
+            return Expected::After(to);
+        }
+    }
+    Expected::Refused(2, from)
 }
 
 // After a rule's name: `: GX (`.
 pub fn rule_opening(text: &[u8], at: usize) -> Expected
     ensures { λ r. ⌜ expectedOf r ≡ phrase (now (text .entry)) ruleOpening at ⌝ }
 {
-    let first = expect(text, at, COLON);
+    let first = expect(text, at, lexer::COLON);
     let Expected::After(a) = first else {
         return first;
     };
-    let second = expect(text, a, GX);
+    let second = expect(text, a, lexer::GX);
     let Expected::After(b) = second else {
         return second;
     };
-    expect(text, b, OPEN_ROUND)
+    expect(text, b, lexer::OPEN_ROUND)
 }
 
 // The end of a formula: `) ;`.
 pub fn formula_closing(text: &[u8], at: usize) -> Expected
     ensures { λ r. ⌜ expectedOf r ≡ phrase (now (text .entry)) formulaClosing at ⌝ }
 {
-    let first = expect(text, at, CLOSE_ROUND);
+    let first = expect(text, at, lexer::CLOSE_ROUND);
     let Expected::After(a) = first else {
         return first;
     };
-    expect(text, a, SEMICOLON)
+    expect(text, a, lexer::SEMICOLON)
 }
 
 // The end of a function: `) ) ;`.
 pub fn function_closing(text: &[u8], at: usize) -> Expected
     ensures { λ r. ⌜ expectedOf r ≡ phrase (now (text .entry)) functionClosing at ⌝ }
 {
-    let first = expect(text, at, CLOSE_ROUND);
+    let first = expect(text, at, lexer::CLOSE_ROUND);
     let Expected::After(a) = first else {
         return first;
     };
@@ -92,18 +116,18 @@ pub fn value_opening(text: &[u8], at: usize, start: usize, end: usize) -> Expect
     let Expected::After(a) = first else {
         return first;
     };
-    let second = expect(text, a, EQUALS);
+    let second = expect(text, a, lexer::EQUALS);
     let Expected::After(b) = second else {
         return second;
     };
-    expect(text, b, OPEN_ROUND)
+    expect(text, b, lexer::OPEN_ROUND)
 }
 
 // Between the condition and the value of a case: `& w = (`.
 pub fn case_value_opening(text: &[u8], at: usize, start: usize, end: usize) -> Expected
     ensures { λ r. ⌜ expectedOf r ≡ phrase (now (text .entry)) (caseValueOpening (part (now (text .entry)) start end)) at ⌝ }
 {
-    let first = expect(text, at, AMPERSAND);
+    let first = expect(text, at, lexer::AMPERSAND);
     let Expected::After(a) = first else {
         return first;
     };
@@ -118,7 +142,7 @@ pub fn unchanged_value(text: &[u8], at: usize, start: usize, end: usize) -> Expe
     let Expected::After(a) = first else {
         return first;
     };
-    let second = expect(text, a, EQUALS);
+    let second = expect(text, a, lexer::EQUALS);
     let Expected::After(b) = second else {
         return second;
     };
@@ -129,7 +153,7 @@ pub fn unchanged_value(text: &[u8], at: usize, start: usize, end: usize) -> Expe
 pub fn change_opening(text: &[u8], at: usize, start: usize, end: usize) -> Expected
     ensures { λ r. ⌜ expectedOf r ≡ phrase (now (text .entry)) (changeOpening (part (now (text .entry)) start end)) at ⌝ }
 {
-    let first = expect(text, at, OPEN_ROUND);
+    let first = expect(text, at, lexer::OPEN_ROUND);
     let Expected::After(a) = first else {
         return first;
     };
@@ -137,11 +161,11 @@ pub fn change_opening(text: &[u8], at: usize, start: usize, end: usize) -> Expec
     let Expected::After(b) = second else {
         return second;
     };
-    let third = expect(text, b, CLOSE_ROUND);
+    let third = expect(text, b, lexer::CLOSE_ROUND);
     let Expected::After(c) = third else {
         return third;
     };
-    expect(text, c, ARROW)
+    expect(text, c, lexer::ARROW)
 }
 
 // The end of a change formula and its no-change formula up to the list: `) ; w : GX ( w = _w -> ~ (`.
@@ -164,13 +188,13 @@ pub fn no_change_opening(text: &[u8], at: usize, start: usize, end: usize) -> Ex
     let Expected::After(d) = fourth else {
         return fourth;
     };
-    let fifth = expect(text, d, ARROW);
+    let fifth = expect(text, d, lexer::ARROW);
     let Expected::After(e) = fifth else {
         return fifth;
     };
-    let sixth = expect(text, e, TILDE);
+    let sixth = expect(text, e, lexer::TILDE);
     let Expected::After(f) = sixth else {
         return sixth;
     };
-    expect(text, f, OPEN_ROUND)
+    expect(text, f, lexer::OPEN_ROUND)
 }

@@ -2,7 +2,7 @@ use mathlib.Core.List.{[], _∷_}
 use Rattle.lexer.specs.Token.{closeRound, arrow}
 use Rattle.grammar.specs.Parsed.{sign}
 use borrow.Author.Needs.{needs}
-use Rattle.phrases.specs.Kinds.{kindOf}
+use Rattle.lexer.specs.Results.{kindOf}
 use Rattle.phrases.proofs.Laws.{last, stops, goes-on, stops-in, goes-past}
 use Rattle.phrases.proofs.change_opening.Statement.{statement}
 use Rattle.phrases.proofs.change_opening.Tie as tie

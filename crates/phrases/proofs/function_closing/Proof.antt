@@ -1,5 +1,5 @@
 use borrow.Author.Needs.{needs}
-use Rattle.phrases.specs.Kinds.{kindOf}
+use Rattle.lexer.specs.Results.{kindOf}
 use Rattle.phrases.proofs.Laws.{stops, goes-on}
 use Rattle.phrases.proofs.function_closing.Statement.{statement}
 use Rattle.phrases.proofs.function_closing.Tie as tie

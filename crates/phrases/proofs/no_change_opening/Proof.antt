@@ -3,7 +3,7 @@ use Prim.Native.Nat.{ℕ}
 use borrow.Author.Needs.{needs}
 use Rattle.lexer.specs.Token.{nextWord, arrow, openRound, tilde}
 use Rattle.grammar.specs.Parsed.{Wanted, sign, own}
-use Rattle.phrases.specs.Kinds.{kindOf}
+use Rattle.lexer.specs.Results.{kindOf}
 use Rattle.phrases.specs.Forms.{ruleOpening, unchangedValue}
 use Rattle.phrases.proofs.Laws.{last, stops, goes-on, stops-in, goes-past}
 use Rattle.phrases.proofs.no_change_opening.Statement.{statement}

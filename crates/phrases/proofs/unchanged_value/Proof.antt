@@ -1,5 +1,5 @@
 use borrow.Author.Needs.{needs}
-use Rattle.phrases.specs.Kinds.{kindOf}
+use Rattle.lexer.specs.Results.{kindOf}
 use Rattle.phrases.proofs.Laws.{last, stops, goes-on}
 use Rattle.phrases.proofs.unchanged_value.Statement.{statement}
 use Rattle.phrases.proofs.unchanged_value.Tie as tie
