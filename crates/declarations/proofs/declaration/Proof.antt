@@ -1,3 +1,4 @@
+use Rattle.declarations.proofs.Entries.{unnamed, entered}
 use borrow.Author.Needs.{needs}
 use Rattle.declarations.proofs.declaration.Statement.{statement}
 use Rattle.declarations.proofs.declaration.Tie as tie
@@ -33,7 +34,7 @@ same-length-2 c = search needs
 
 -- src/lib.rt:252:9
 returns : tie.Need-returns
-returns c = ?
+returns c = unnamed _ _ _ _ _ _ _ _ _ _ (c .before .before .before .before .before .before .before .new-name .ensures .0) (c .before .enum-told .given .1) (c .refused .ensures)
 
 -- src/lib.rt:254:5
 range-requires : tie.Need-range-requires
@@ -53,7 +54,7 @@ same-length-5 c = search needs
 
 -- src/lib.rt:244:1
 returns-2 : tie.Need-returns-2
-returns-2 c = ?
+returns-2 c = entered _ _ _ _ _ _ _ _ _ _ (c .before .before .before .before .before .before .before .before .before .before .before .new-name .ensures .0) (c .before .before .before .before .before .named .given .1) (c .before .before .range .ensures) (c .before .before .before .before .before .before .before .before .before .before .before .new-name .ensures .1 _ (c .before .before .before .before .before .named .given .1))
 
 pub declaration-spec : {M : Type 1} → statement M
 declaration-spec =
