@@ -9,7 +9,7 @@ use native.Mathlib.Numerals.{add-one}
 use native.Mathlib.Omega.{arith}
 use lib.ListN.{length, getD, drop, set, length-set}
 use lib.Seq.{drop-cons}
-use Rattle.lexer.specs.Bytes.{pick, part}
+use Rattle.lexer.specs.Bytes.{part}
 use Rattle.lexer.specs.Lexer.{sameName}
 use Rattle.lexer.specs.Names.{idFrom, idOf, namesOf, Table}
 

@@ -1,21 +1,20 @@
 -- The ways through the reader of tokens, and where a token that it answers stands. Assumes nothing.
 use mathlib.Core.Path.{_≡_, refl, ap, sym, _∙_, subst}
 use mathlib.Core.List.{List, [], _∷_}
-use mathlib.Core.Bool.{Bool, true, false}
+use mathlib.Core.Bool.{true, false}
 use Prim.Native.Nat.{ℕ, _+_, _-_, _≤_, _<_}
-use native.Mathlib.Nat.{le-refl}
 use native.Mathlib.Omega.{arith}
 use lib.ListN.{length, getD}
 use lib.Dec.{eqb, ltb, leb}
 use borrow.Author.Tests.{eq-eqb, ne-eqb, lt-ltb, le-ltb, leb-true, leb-false}
-use Rattle.lexer.specs.Bytes.{pick, part, sameBytes}
-use Rattle.lexer.specs.Token.{Kind, kindNumber, unknown, ending, name, previous, digits, is, Read, token, fault}
+use Rattle.lexer.specs.Bytes.{part, sameBytes}
+use Rattle.lexer.specs.Token.{Kind, kindNumber, unknown, ending, name, digits, is, Read, token, fault}
 use Rattle.lexer.specs.Lexer.{isSpace, isDigit, isLetter, isAlphanumeric, runEnd, Word, words, wordIn, wordOf, pairOf, signOf, readOf, signAt, wordAt, digitsAt, previousAt, tokenOf, tokenPast, tokenAt}
 use Rattle.lexer.specs.Results.{kindOf, tokenRead, Lies, Placed}
 use Rattle.lexer.specs.declared.Token.{Token}
 use Rattle.lexer.specs.declared.Token.the-variants.{Is, Fault}
 use Rattle.lexer.proofs.Laws.{pick-prop, run-out, token-at-moved}
-use Rattle.lexer.proofs.KindNumbers.{number-kind, kind-is, kind-is-not, kind-number, ending-number, is-unknown, is-known, numbered, known-number}
+use Rattle.lexer.proofs.KindNumbers.{ending-number, is-unknown, is-known, numbered, known-number}
 
 -- ---- signs
 
@@ -188,3 +187,12 @@ module _ (text : List ℕ) (at s : ℕ) (hs : s ≡ runEnd isSpace text at) wher
         pub token-sign : (b : ℕ) → (getD text s 0 ≡ 95 → ⊥) → b ≡ getD text (s + 1) 0 → tokenRead t ≡ signAt (getD text s 0) b s → Answers text at t
         unfolding tokenOf
         token-sign b f hb ht = answers text at t (rw (← past, n1, n2, ne-eqb _ _ f, ← hb) ht)
+
+-- ---- for callers: what an answer says once it is taken apart
+
+module _ (text : List ℕ) (at : ℕ) (t : Token) (a : Answers text at t) where
+  pub is-token : (k s n : ℕ) → t ≡ Is k s n → (tokenAt text at ≡ token (kindOf k) s n) × Lies (length text) at k s n
+  is-token k s n e = (sym (a .0) ∙ ap tokenRead e, subst (Placed (length text) at) e (a .1))
+
+  pub is-fault : (p : ℕ) → t ≡ Fault p → tokenAt text at ≡ fault p
+  is-fault p e = sym (a .0) ∙ ap tokenRead e

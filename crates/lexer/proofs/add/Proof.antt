@@ -28,7 +28,11 @@ same-length-2 : tie.Need-same-length-2
 same-length-2 c = search needs
 
 returns : tie.Need-returns
-returns c = ((refl, table-add (c .args .starts .now) (c .args .ends .now) (c .args .count) (c .args .start) (c .args .end) (c .pre .0) (c .pre .1)), (rw add-one (names-add (c .args .text .now) (c .args .starts .now) (c .args .ends .now) (c .args .count) (c .args .start) (c .args .end) (c .pre .0) (c .pre .1)), (refl, refl)))
+returns c =
+    let a = c .args in (
+      (refl, table-add (a .starts .now) (a .ends .now) (a .count) (a .start) (a .end) (c .pre .0) (c .pre .1)),
+      (rw add-one (names-add _ _ _ (a .count) (a .start) (a .end) (c .pre .0) (c .pre .1)), (refl, refl)),
+    )
 
 pub add-spec : {M : Type 1} → statement M
 add-spec =

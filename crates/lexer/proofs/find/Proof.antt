@@ -18,7 +18,7 @@ abbrev μ-loop : tie.MeasureT-loop
 μ-loop text starts ends count start end i₀ i = count - i
 
 loop-holds : tie.Need-loop-holds Inv-loop μ-loop
-loop-holds c = id-start (c .before .before .before .args .text .now) (c .before .before .before .args .starts .now) (c .before .before .before .args .ends .now) (c .before .before .before .args .count) (part (c .before .before .before .args .text .now) (c .before .before .before .args .start) (c .before .before .before .args .end))
+loop-holds c = id-start _ _ _ _ _
 
 mul-s : tie.Need-mul-s Inv-loop μ-loop
 mul-s c = omega (arith, c .before .before .before .before .before .good .1 .0 .1, c .before .before .before .before .before .pre .in-starts)
@@ -42,7 +42,10 @@ same-name-requires : tie.Need-same-name-requires Inv-loop μ-loop
 same-name-requires c κs = search needs
 
 returns : tie.Need-returns Inv-loop μ-loop
-returns c = sym (id-here (c .before .before .before .before .before .before .before .before .before .before .before .args .text .now) (c .before .before .before .before .before .before .before .before .before .before .before .args .starts .now) (c .before .before .before .before .before .before .before .before .before .before .before .args .ends .now) (c .before .before .before .before .before .before .before .before .before .before .before .args .count) _ (c .before .before .before .before .before .before .before .before .before .before .before .pre) (part (c .before .before .before .before .before .before .before .before .before .before .before .args .text .now) (c .before .before .before .before .before .before .before .before .before .before .before .args .start) (c .before .before .before .before .before .before .before .before .before .before .before .args .end)) (c .before .before .before .before .before .before .loop-test .taken) (ap₂ sameName (sym (c .before .before .before .name .ensures)) (sym (c .before .before .name2 .ensures)) ∙ sym (c .before .same-name .ensures) ∙ c .if1 .taken)) ∙ c .before .before .before .before .before .before .before .loop .inv
+returns c =
+    let l = c .before .before .before .before .before .before in
+    sym (id-here _ _ _ _ _ (l .before .before .before .before .before .pre) _ (l .loop-test .taken)
+    (ap₂ sameName (sym (c .before .before .before .name .ensures)) (sym (c .before .before .name2 .ensures)) ∙ sym (c .before .same-name .ensures) ∙ c .if1 .taken)) ∙ l .before .loop .inv
 
 add-i : tie.Need-add-i Inv-loop μ-loop
 add-i c = omega (arith, c .before .before .before .before .before .before .before .before .before .before .before .pre .in-starts)
@@ -51,10 +54,13 @@ loop-less : tie.Need-loop-less Inv-loop μ-loop
 loop-less c = omega arith
 
 loop-again : tie.Need-loop-again Inv-loop μ-loop
-loop-again c = sym (id-next (c .before .before .before .before .before .before .before .before .before .before .before .args .text .now) (c .before .before .before .before .before .before .before .before .before .before .before .args .starts .now) (c .before .before .before .before .before .before .before .before .before .before .before .args .ends .now) (c .before .before .before .before .before .before .before .before .before .before .before .args .count) _ (c .before .before .before .before .before .before .before .before .before .before .before .pre) (part (c .before .before .before .before .before .before .before .before .before .before .before .args .text .now) (c .before .before .before .before .before .before .before .before .before .before .before .args .start) (c .before .before .before .before .before .before .before .before .before .before .before .args .end)) (c .before .before .before .before .before .before .loop-test .taken) (ap₂ sameName (sym (c .before .before .before .name .ensures)) (sym (c .before .before .name2 .ensures)) ∙ sym (c .before .same-name .ensures) ∙ c .if1 .left)) ∙ c .before .before .before .before .before .before .before .loop .inv
+loop-again c =
+    let l = c .before .before .before .before .before .before in
+    sym (id-next _ _ _ _ _ (l .before .before .before .before .before .pre) _ (l .loop-test .taken)
+    (ap₂ sameName (sym (c .before .before .before .name .ensures)) (sym (c .before .before .name2 .ensures)) ∙ sym (c .before .same-name .ensures) ∙ c .if1 .left)) ∙ l .before .loop .inv
 
 returns-2 : tie.Need-returns-2 Inv-loop μ-loop
-returns-2 c = sym (id-none (c .before .before .before .before .before .args .text .now) (c .before .before .before .before .before .args .starts .now) (c .before .before .before .before .before .args .ends .now) (c .before .before .before .before .before .args .count) _ (c .before .before .before .before .before .pre) (part (c .before .before .before .before .before .args .text .now) (c .before .before .before .before .before .args .start) (c .before .before .before .before .before .args .end)) (c .loop-test .left)) ∙ c .before .loop .inv
+returns-2 c = sym (id-none _ _ _ _ _ (c .before .before .before .before .before .pre) _ (c .loop-test .left)) ∙ c .before .loop .inv
 
 pub find-spec : {M : Type 1} → statement M
 find-spec =

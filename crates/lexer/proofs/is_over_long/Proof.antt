@@ -1,8 +1,7 @@
 -- `lexer::is_over_long` meets its contract. Assumes nothing.
 use borrow.Author.Needs.{needs}
 use native.Mathlib.Omega.{arith}
-use lib.Dec.{ltb}
-use Prim.Native.Nat.{ℕ, _-_}
+use Prim.Native.Nat.{_-_}
 use mathlib.Core.Path.{_≡_, refl}
 use Rattle.lexer.specs.Lexer.{overLong}
 use Rattle.lexer.proofs.is_over_long.Statement.{statement}

@@ -1,6 +1,6 @@
 -- `lexer::name` meets its contract. A part that ends past the text's end, or begins after its own end, is cut to what there is. Assumes nothing.
 use borrow.Author.Needs.{needs}
-use mathlib.Core.Path.{_≡_, sym}
+use mathlib.Core.Path.{sym}
 use native.Mathlib.Omega.{arith}
 use Rattle.lexer.proofs.Values.{part-none, part-out, part-over}
 use Rattle.lexer.proofs.name.Statement.{statement}

@@ -28,13 +28,19 @@ word-requires : tie.Need-word-requires
 word-requires c κs = search needs
 
 returns : tie.Need-returns
-returns c = previous-name (c .before .before .before .before .before .before .before .before .args .text .now) (c .before .before .before .before .before .before .before .before .args .s) _ (c .before .before .before .before .before .before .byte-at .ensures) _ _ (sym (c .before .before .before .before .before .is-letter .ensures) ∙ c .before .before .before .before .if1 .taken) (c .before .before .before .run .ensures) (c .before .word .ensures ∙ ap (λ (w : List ℕ). kindNumber (wordOf w)) (c .before .before .name .ensures)) (c .if2 .taken)
+returns c =
+    let l = c .before .before .before .before in
+    previous-name _ _ _ (l .before .before .byte-at .ensures) _ _ (sym (l .before .is-letter .ensures) ∙ l .if1 .taken) (c .before .before .before .run .ensures)
+    (c .before .word .ensures ∙ ap (λ (w : List ℕ). kindNumber (wordOf w)) (c .before .before .name .ensures)) (c .if2 .taken)
 
 returns-2 : tie.Need-returns-2
-returns-2 c = previous-word (c .before .before .before .before .before .before .before .before .args .text .now) (c .before .before .before .before .before .before .before .before .args .s) _ (c .before .before .before .before .before .before .byte-at .ensures) _ _ (sym (c .before .before .before .before .before .is-letter .ensures) ∙ c .before .before .before .before .if1 .taken) (c .before .before .before .run .ensures) (c .before .word .ensures ∙ ap (λ (w : List ℕ). kindNumber (wordOf w)) (c .before .before .name .ensures)) (c .if2 .left)
+returns-2 c =
+    let l = c .before .before .before .before in
+    previous-word _ _ _ (l .before .before .byte-at .ensures) _ _ (sym (l .before .is-letter .ensures) ∙ l .if1 .taken) (c .before .before .before .run .ensures)
+    (c .before .word .ensures ∙ ap (λ (w : List ℕ). kindNumber (wordOf w)) (c .before .before .name .ensures)) (c .if2 .left)
 
 returns-3 : tie.Need-returns-3
-returns-3 c = previous-lone (c .before .before .before .before .args .text .now) (c .before .before .before .before .args .s) _ (c .before .before .byte-at .ensures) (sym (c .before .is-letter .ensures) ∙ c .if1 .left)
+returns-3 c = previous-lone _ _ _ (c .before .before .byte-at .ensures) (sym (c .before .is-letter .ensures) ∙ c .if1 .left)
 
 pub previous-spec : {M : Type 1} → statement M
 previous-spec =

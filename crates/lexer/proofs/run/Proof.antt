@@ -1,7 +1,7 @@
 -- `lexer::run` meets its contract. The loop's invariant: the run that goes on from `i` ends where the whole does. Assumes nothing.
 use borrow.Author.Needs.{needs}
 use mathlib.Core.Path.{_≡_, refl, sym, _∙_}
-use Prim.Native.Nat.{_≤_, _-_}
+use Prim.Native.Nat.{_-_}
 use native.Mathlib.Omega.{arith}
 use lib.ListN.{length}
 use Rattle.lexer.specs.Lexer.{runEnd}

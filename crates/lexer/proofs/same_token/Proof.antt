@@ -7,7 +7,9 @@ use Rattle.lexer.proofs.same_token.Statement.{statement}
 use Rattle.lexer.proofs.same_token.Tie as tie
 
 returns : tie.Need-returns
-returns c = sym (other-kind (c .before .before .args .text .now) (c .before .before .args .kind) (c .before .before .args .start) (c .before .before .args .end) (c .before .before .args .kind2) (c .before .before .args .start2) (c .before .before .args .end2) (c .before .before .pre .0) (c .before .before .pre .1) (c .if1 .taken))
+returns c =
+    let a = c .before .before in
+    sym (other-kind _ _ _ _ _ _ _ (a .pre .0) (a .pre .1) (c .if1 .taken))
 
 name-requires : tie.Need-name-requires
 name-requires c κs = search needs
@@ -19,7 +21,7 @@ same-name-requires : tie.Need-same-name-requires
 same-name-requires c κs = search needs
 
 returns-2 : tie.Need-returns-2
-returns-2 c = c .same-name .ensures ∙ ap₂ sameName (c .before .before .name .ensures) (c .before .name2 .ensures) ∙ sym (one-kind (c .before .before .before .before .before .args .text .now) (c .before .before .before .before .before .args .kind) (c .before .before .before .before .before .args .start) (c .before .before .before .before .before .args .end) (c .before .before .before .before .before .args .kind2) (c .before .before .before .before .before .args .start2) (c .before .before .before .before .before .args .end2) (c .before .before .before .if1 .left))
+returns-2 c = c .same-name .ensures ∙ ap₂ sameName (c .before .before .name .ensures) (c .before .name2 .ensures) ∙ sym (one-kind _ _ _ _ _ _ _ (c .before .before .before .if1 .left))
 
 pub same-token-spec : {M : Type 1} → statement M
 same-token-spec =

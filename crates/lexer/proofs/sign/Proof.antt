@@ -71,7 +71,29 @@ returns-16 c = rw (c .match .keys16)
 
 returns-17 : tie.Need-returns-17
 unfolding signOf kindNumber
-returns-17 c = let r = c .match .rest in rw (ne-eqb _ _ (r .0 .0 .0 .0 .0 .0 .0 .0 .0 .0 .0 .0 .0 .0 .0 .1), ne-eqb _ _ (r .0 .0 .0 .0 .0 .0 .0 .0 .0 .0 .0 .0 .0 .0 .1), ne-eqb _ _ (r .0 .0 .0 .0 .0 .0 .0 .0 .0 .0 .0 .0 .0 .1), ne-eqb _ _ (r .0 .0 .0 .0 .0 .0 .0 .0 .0 .0 .0 .0 .1), ne-eqb _ _ (r .0 .0 .0 .0 .0 .0 .0 .0 .0 .0 .0 .1), ne-eqb _ _ (r .0 .0 .0 .0 .0 .0 .0 .0 .0 .0 .1), ne-eqb _ _ (r .0 .0 .0 .0 .0 .0 .0 .0 .0 .1), ne-eqb _ _ (r .0 .0 .0 .0 .0 .0 .0 .0 .1), ne-eqb _ _ (r .0 .0 .0 .0 .0 .0 .0 .1), ne-eqb _ _ (r .0 .0 .0 .0 .0 .0 .1), ne-eqb _ _ (r .0 .0 .0 .0 .0 .1), ne-eqb _ _ (r .0 .0 .0 .0 .1), ne-eqb _ _ (r .0 .0 .0 .1), ne-eqb _ _ (r .0 .0 .1), ne-eqb _ _ (r .0 .1), ne-eqb _ _ (r .1))
+returns-17 c =
+    let r4 = c .match .rest in
+    let r3 = r4 .0 .0 .0 .0 in
+    let r2 = r3 .0 .0 .0 .0 in
+    let r1 = r2 .0 .0 .0 .0 in
+    rw (
+      ne-eqb _ _ (r1 .0 .0 .0 .1),
+      ne-eqb _ _ (r1 .0 .0 .1),
+      ne-eqb _ _ (r1 .0 .1),
+      ne-eqb _ _ (r1 .1),
+      ne-eqb _ _ (r2 .0 .0 .0 .1),
+      ne-eqb _ _ (r2 .0 .0 .1),
+      ne-eqb _ _ (r2 .0 .1),
+      ne-eqb _ _ (r2 .1),
+      ne-eqb _ _ (r3 .0 .0 .0 .1),
+      ne-eqb _ _ (r3 .0 .0 .1),
+      ne-eqb _ _ (r3 .0 .1),
+      ne-eqb _ _ (r3 .1),
+      ne-eqb _ _ (r4 .0 .0 .0 .1),
+      ne-eqb _ _ (r4 .0 .0 .1),
+      ne-eqb _ _ (r4 .0 .1),
+      ne-eqb _ _ (r4 .1),
+    )
 
 pub sign-spec : {M : Type 1} → statement M
 sign-spec =

@@ -13,7 +13,7 @@ run-requires : tie.Need-run-requires
 run-requires c κs = search needs
 
 returns : tie.Need-returns
-returns c = token-end (c .before .before .before .args .text .now) (c .before .before .before .args .at) _ (c .before .run .ensures) (c .if1 .taken)
+returns c = token-end _ _ _ (c .before .run .ensures) (c .if1 .taken)
 
 shared-slice-read-b : tie.Need-shared-slice-read-b
 shared-slice-read-b c = search needs
@@ -31,7 +31,11 @@ word-requires : tie.Need-word-requires
 word-requires c κs = search needs
 
 returns-2 : tie.Need-returns-2
-returns-2 c = token-word (c .before .before .before .before .before .before .before .before .before .args .text .now) (c .before .before .before .before .before .before .before .before .before .args .at) _ (c .before .before .before .before .before .before .before .run .ensures) (c .before .before .before .before .before .before .if1 .left) _ _ (sym (c .before .before .before .before .is-letter .ensures) ∙ c .before .before .before .if2 .taken) (c .before .before .run2 .ensures) (c .word .ensures ∙ ap (λ (w : List ℕ). kindNumber (wordOf w)) (c .before .name .ensures))
+returns-2 c =
+    let l = c .before .before .before in
+    let s = l .before .before .before in
+    token-word _ _ _ (s .before .run .ensures) (s .if1 .left) _ _ (sym (l .before .is-letter .ensures) ∙ l .if2 .taken) (c .before .before .run2 .ensures)
+    (c .word .ensures ∙ ap (λ (w : List ℕ). kindNumber (wordOf w)) (c .before .name .ensures))
 
 is-digit-requires : tie.Need-is-digit-requires
 is-digit-requires c κs = search needs
@@ -40,13 +44,22 @@ run-requires-3 : tie.Need-run-requires-3
 run-requires-3 c κs = search needs
 
 returns-3 : tie.Need-returns-3
-returns-3 c = token-digits (c .before .before .before .before .before .before .before .before .before .args .text .now) (c .before .before .before .before .before .before .before .before .before .args .at) _ (c .before .before .before .before .before .before .before .run .ensures) (c .before .before .before .before .before .before .if1 .left) (sym (c .before .before .before .before .is-letter .ensures) ∙ c .before .before .before .if2 .left) _ (sym (c .before .before .is-digit .ensures) ∙ c .before .if3 .taken) (c .run3 .ensures)
+returns-3 c =
+    let d = c .before in
+    let l = d .before .before in
+    let s = l .before .before .before in
+    token-digits _ _ _ (s .before .run .ensures) (s .if1 .left) (sym (l .before .is-letter .ensures) ∙ l .if2 .left) _ (sym (d .before .is-digit .ensures) ∙ d .if3 .taken) (c .run3 .ensures)
 
 previous-requires : tie.Need-previous-requires
 previous-requires c κs = search needs
 
 returns-4 : tie.Need-returns-4
-returns-4 c = token-previous (c .before .before .before .before .before .before .before .before .before .before .args .text .now) (c .before .before .before .before .before .before .before .before .before .before .args .at) _ (c .before .before .before .before .before .before .before .before .run .ensures) (c .before .before .before .before .before .before .before .if1 .left) (sym (c .before .before .before .before .before .is-letter .ensures) ∙ c .before .before .before .before .if2 .left) (sym (c .before .before .before .is-digit .ensures) ∙ c .before .before .if3 .left) (c .previous .result) (c .before .if4 .taken) (c .previous .ensures)
+returns-4 c =
+    let d = c .before .before in
+    let l = d .before .before in
+    let s = l .before .before .before in
+    token-previous _ _ _ (s .before .run .ensures) (s .if1 .left) (sym (l .before .is-letter .ensures) ∙ l .if2 .left) (sym (d .before .is-digit .ensures) ∙ d .if3 .left)
+    (c .previous .result) (c .before .if4 .taken) (c .previous .ensures)
 
 add-byte-at : tie.Need-add-byte-at
 add-byte-at c = search needs
@@ -58,7 +71,12 @@ sign-at-requires : tie.Need-sign-at-requires
 sign-at-requires c κs = search needs
 
 returns-5 : tie.Need-returns-5
-returns-5 c = token-sign (c .before .before .before .before .before .before .before .before .before .before .before .args .text .now) (c .before .before .before .before .before .before .before .before .before .before .before .args .at) _ (c .before .before .before .before .before .before .before .before .before .run .ensures) (c .before .before .before .before .before .before .before .before .if1 .left) (sym (c .before .before .before .before .before .before .is-letter .ensures) ∙ c .before .before .before .before .before .if2 .left) (sym (c .before .before .before .before .is-digit .ensures) ∙ c .before .before .before .if3 .left) (c .sign-at .result) _ (c .before .before .if4 .left) (c .before .byte-at .ensures) (c .sign-at .ensures)
+returns-5 c =
+    let d = c .before .before .before in
+    let l = d .before .before in
+    let s = l .before .before .before in
+    token-sign _ _ _ (s .before .run .ensures) (s .if1 .left) (sym (l .before .is-letter .ensures) ∙ l .if2 .left) (sym (d .before .is-digit .ensures) ∙ d .if3 .left)
+    (c .sign-at .result) _ (c .before .before .if4 .left) (c .before .byte-at .ensures) (c .sign-at .ensures)
 
 pub token-at-spec : {M : Type 1} → statement M
 token-at-spec =

@@ -1,8 +1,7 @@
 -- `lexer::value` meets its contract. The loop's invariant: the value so far, with the digits left, makes the whole. Assumes nothing.
 use borrow.Author.Needs.{needs}
-use mathlib.Core.Path.{_≡_, refl, sym, _∙_}
-use Prim.Native.Nat.{_≤_, _<_, _-_, _^_}
-use native.Mathlib.Nat.{min-eq-left, min-eq-right}
+use mathlib.Core.Path.{_≡_, refl}
+use Prim.Native.Nat.{_<_, _-_}
 use native.Mathlib.Omega.{arith}
 use lib.ListN.{length, drop}
 use Rattle.lexer.proofs.Values.{value-next, value-over, value-whole}
