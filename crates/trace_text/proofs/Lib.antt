@@ -1,1 +1,4 @@
 pub mod Puts
+pub mod Lines
+pub mod Decimals
+pub mod Rows

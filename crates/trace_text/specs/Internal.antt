@@ -76,9 +76,6 @@ inRange false v = leb v 2147483647
 abbrev pub counts : ℕ → Bool → ℕ → Bool
 counts n negative v = inRange negative v && ltb n nameLimit
 
-unfoldable pub numberEnds : ℕ → Bool → ℕ → Line
-numberEnds n negative v = pick (counts n negative v) (Wanted (n + 1)) NoRow
-
 -- the cells then
 unfoldable pub cellsEnd : ℕ → Bool → ℕ → List ℤ → List ℤ
 cellsEnd n negative v cells = pick (counts n negative v) (sets cells n (signed negative v ∷ [])) cells
@@ -87,7 +84,7 @@ unfoldable pub lineAfter : Line → ℕ → Line
 lineAfter Start b = numberBegins 0 b
 lineAfter (Wanted n) b = numberBegins n b
 lineAfter (Minus n) b = digitAfter n true 0 b
-lineAfter (Number n negative v) b = pick (eqb b 32) (numberEnds n negative v) (digitAfter n negative v b)
+lineAfter (Number n negative v) b = pick (eqb b 32) (pick (counts n negative v) (Wanted (n + 1)) NoRow) (digitAfter n negative v b)
 lineAfter NoRow b = NoRow
 
 unfoldable pub cellsAfter : Line → List ℤ → ℕ → List ℤ
@@ -106,32 +103,18 @@ cellsOver s cells [] = cells
 cellsOver s cells (b ∷ line) = cellsOver (lineAfter s b) (cellsAfter s cells b) line
 
 -- where the line ends: how many numbers scan is handed, and the cells that hold them
-abbrev pub countAtEnd : Line → ℕ
-countAtEnd (Wanted n) = n
-countAtEnd Start = suc nameLimit
-countAtEnd (Minus n) = suc nameLimit
-countAtEnd (Number n negative v) = suc nameLimit
-countAtEnd NoRow = suc nameLimit
-
-abbrev pub cellsAtEnd : Line → List ℤ → List ℤ
-cellsAtEnd (Wanted n) cells = cells
-cellsAtEnd Start cells = sets cells 0 longRow
-cellsAtEnd (Minus n) cells = sets cells 0 longRow
-cellsAtEnd (Number n negative v) cells = sets cells 0 longRow
-cellsAtEnd NoRow cells = sets cells 0 longRow
-
 unfoldable pub countOf : Line → ℕ
 countOf Start = 0
 countOf (Wanted n) = suc nameLimit
 countOf (Minus n) = suc nameLimit
-countOf (Number n negative v) = countAtEnd (numberEnds n negative v)
+countOf (Number n negative v) = pick (counts n negative v) (n + 1) (suc nameLimit)
 countOf NoRow = suc nameLimit
 
 unfoldable pub cellsOf : Line → List ℤ → List ℤ
 cellsOf Start cells = cells
 cellsOf (Wanted n) cells = sets cells 0 longRow
 cellsOf (Minus n) cells = sets cells 0 longRow
-cellsOf (Number n negative v) cells = cellsAtEnd (numberEnds n negative v) (cellsEnd n negative v cells)
+cellsOf (Number n negative v) cells = pick (counts n negative v) (cellsEnd n negative v cells) (sets cells 0 longRow)
 cellsOf NoRow cells = sets cells 0 longRow
 
 -- a byte of the line was read

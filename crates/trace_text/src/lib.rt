@@ -10,7 +10,7 @@ ghost use Rattle.lexer.specs.Bytes.{part};
 ghost use Rattle.trace_text.specs.Input.{bare};
 ghost use Rattle.trace_text.specs.Row.{longRow, handedOf};
 ghost use Rattle.trace_text.specs.Output.{Put, unsignedDecimal, decimalOf, refusedLine, headLine, rowLine, spelledBy};
-ghost use Rattle.trace_text.specs.Internal.{textStage, stageAfter, textAfter, stageOver, textOver, isRows, bytesBefore, digitAfter, numberBegins, signed as signedOf, inRange, numberEnds, cellsEnd, lineAfter, cellsAfter, lineOver, cellsOver, countOf, cellsOf, bytesIn, isEnded, isBegun};
+ghost use Rattle.trace_text.specs.Internal.{textStage, stageAfter, textAfter, stageOver, textOver, isRows, bytesBefore, digitAfter, numberBegins, signed as signedOf, inRange, counts, cellsEnd, lineAfter, cellsAfter, lineOver, cellsOver, countOf, cellsOf, bytesIn, isEnded, isBegun};
 
 // ---- the text and the rows
 
@@ -260,24 +260,27 @@ fn store(cells: &mut [i32], at: usize, z: i32)
     }
 }
 
-// The n + 1st number of the line ends.
-fn end_number(cells: &mut [i32], n: usize, negative: bool, v: u64) -> Line
-    ensures { λ r. ⌜ (r ≡ numberEnds n negative v) × (now (cells .exit) ≡ cellsEnd n negative v (now (cells .entry))) ⌝ }
+// The n + 1st number of the line is whole: it is stored where it counts.
+fn end_number(cells: &mut [i32], n: usize, negative: bool, v: u64) -> bool
+    ensures { λ r. ⌜ (r ≡ counts n negative v) × (now (cells .exit) ≡ cellsEnd n negative v (now (cells .entry))) ⌝ }
 {
     if in_range(negative, v) {
         if n < 64 {
             store(cells, n, signed(negative, v));
-            return Line::Wanted(n + 1);
+            return true;
         }
     }
-    Line::NoRow
+    false
 }
 
 fn number_byte(cells: &mut [i32], n: usize, negative: bool, v: u64, b: u8) -> Line
     ensures { λ r. ⌜ (r ≡ lineAfter (Line.Number n negative v) b) × (now (cells .exit) ≡ cellsAfter (Line.Number n negative v) (now (cells .entry)) b) ⌝ }
 {
     if b == 32 {
-        return end_number(cells, n, negative, v);
+        if end_number(cells, n, negative, v) {
+            return Line::Wanted(n + 1);
+        }
+        return Line::NoRow;
     }
     digit(n, negative, v, b)
 }
@@ -333,10 +336,10 @@ pub fn line_end(cells: &mut [i32], s: Line) -> usize
     match s {
         Line::Start => 0,
         Line::Number(n, negative, v) => {
-            let Line::Wanted(count) = end_number(cells, n, negative, v) else {
-                return put_long_row(cells);
-            };
-            count
+            if end_number(cells, n, negative, v) {
+                return n + 1;
+            }
+            put_long_row(cells)
         }
         Line::Wanted(_) => put_long_row(cells),
         Line::Minus(_) => put_long_row(cells),

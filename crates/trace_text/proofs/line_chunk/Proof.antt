@@ -1,54 +1,48 @@
+-- `trace_text::line_chunk` meets its contract. The loop's invariant: what is left of the line makes the whole. Assumes nothing.
+use mathlib.Core.Path.{refl}
+use Prim.Native.Nat.{_-_}
+use native.Mathlib.Omega.{arith}
+use lib.ListN.{length}
+use borrow.Author.Needs.{needs}
+use Rattle.trace_text.proofs.Lines.{Reading, read-all, read-end, read-byte}
 use Rattle.trace_text.proofs.line_chunk.Statement.{statement}
 use Rattle.trace_text.proofs.line_chunk.Tie as tie
-use Rattle.trace_text.proofs.line_chunk.Reads as reads
-use Rattle.trace_text.proofs.line_chunk.Lts as lts
-use Rattle.trace_text.proofs.line_byte.Reads as line-byte-reads
 
 abbrev Inv-loop : tie.InvT-loop
-Inv-loop cells₀ chunk from line₀ i₀ cells line i = ?
+Inv-loop cells₀ chunk from line₀ i₀ cells line i = Reading line₀ cells₀ chunk i₀ line cells i
 
 abbrev μ-loop : tie.MeasureT-loop
-μ-loop cells₀ chunk from line₀ i₀ cells line i = ?
+μ-loop cells₀ chunk from line₀ i₀ cells line i = length chunk - i
 
--- src/lib.rt:299:5
 loop-holds : tie.Need-loop-holds Inv-loop μ-loop
-loop-holds c = ?
+loop-holds c = record { line = refl; memory = refl; place = refl; ended = refl; same = refl }
 
--- src/lib.rt:300:17
 shared-slice-read-b : tie.Need-shared-slice-read-b Inv-loop μ-loop
-shared-slice-read-b c = ?
+shared-slice-read-b c = search needs
 
--- src/lib.rt:301:9
 add-i : tie.Need-add-i Inv-loop μ-loop
-add-i c = ?
+add-i c = search needs
 
--- src/lib.rt:303:13
 same-length : tie.Need-same-length Inv-loop μ-loop
-same-length c = ?
+same-length c = c .before .before .before .loop .inv .same
 
--- src/lib.rt:303:13
 returns : tie.Need-returns Inv-loop μ-loop
-returns c = ?
+returns c = read-end (c .before .before .before .loop .inv) (c .before .before .loop-test .taken) (c .if1 .taken)
 
--- src/lib.rt:305:9
 line-byte-requires : tie.Need-line-byte-requires Inv-loop μ-loop
-line-byte-requires c κs = ?
+line-byte-requires c κs = tt
 
--- src/lib.rt:299:5
 loop-less : tie.Need-loop-less Inv-loop μ-loop
-loop-less c = ?
+loop-less c = omega arith
 
--- src/lib.rt:299:5
 loop-again : tie.Need-loop-again Inv-loop μ-loop
-loop-again c = ?
+loop-again c = read-byte (c .before .before .before .before .before .before .loop .inv) (c .before .before .before .before .before .loop-test .taken) (c .before .before .before .if1 .left) (c .before .line-byte .ensures) (c .before .line-byte .kept .0)
 
--- src/lib.rt:292:1
 same-length-2 : tie.Need-same-length-2 Inv-loop μ-loop
-same-length-2 c = ?
+same-length-2 c = c .before .loop .inv .same
 
--- src/lib.rt:292:1
 returns-2 : tie.Need-returns-2 Inv-loop μ-loop
-returns-2 c = ?
+returns-2 c = read-all (c .before .loop .inv) (c .loop-test .left)
 
 pub line-chunk-spec : {M : Type 1} → statement M
 line-chunk-spec =

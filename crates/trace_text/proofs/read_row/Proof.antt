@@ -1,51 +1,51 @@
+-- `trace_text::read_row` meets its contract. The loop's invariant: what is left of the line makes the whole. Assumes nothing.
+use mathlib.Core.Path.{_≡_, refl, sym, ap, ap₂, _∙_}
+use Prim.Native.Nat.{_-_}
+use native.Mathlib.Omega.{arith}
+use Rattle.trace_text.specs.Internal.{countOf, cellsOf}
+use lib.ListN.{length}
+use borrow.Author.Needs.{needs}
+use Rattle.trace_text.proofs.Rows.{row-ends}
+use Rattle.trace_text.proofs.Lines.{Whole, whole-byte, whole-end}
 use Rattle.trace_text.proofs.read_row.Statement.{statement}
 use Rattle.trace_text.proofs.read_row.Tie as tie
-use Rattle.trace_text.proofs.read_row.Reads as reads
-use Rattle.trace_text.proofs.read_row.Lts as lts
-use Rattle.trace_text.proofs.line_byte.Reads as line-byte-reads
-use Rattle.trace_text.proofs.line_end.Reads as line-end-reads
 
 abbrev Inv-loop : tie.InvT-loop
-Inv-loop cells₀ line s₀ i₀ cells s i = ?
+Inv-loop cells₀ line s₀ i₀ cells s i = Whole cells₀ line s cells i
 
 abbrev μ-loop : tie.MeasureT-loop
-μ-loop cells₀ line s₀ i₀ cells s i = ?
+μ-loop cells₀ line s₀ i₀ cells s i = length line - i
 
--- src/lib.rt:346:5
 loop-holds : tie.Need-loop-holds Inv-loop μ-loop
-loop-holds c = ?
+loop-holds c = record { line = refl; memory = refl; same = refl }
 
--- src/lib.rt:347:33
 shared-slice-read-line-byte : tie.Need-shared-slice-read-line-byte Inv-loop μ-loop
-shared-slice-read-line-byte c = ?
+shared-slice-read-line-byte c = search needs
 
--- src/lib.rt:347:9
 line-byte-requires : tie.Need-line-byte-requires Inv-loop μ-loop
-line-byte-requires c κs = ?
+line-byte-requires c κs = tt
 
--- src/lib.rt:348:9
 add-i : tie.Need-add-i Inv-loop μ-loop
-add-i c = ?
+add-i c = search needs
 
--- src/lib.rt:346:5
 loop-less : tie.Need-loop-less Inv-loop μ-loop
-loop-less c = ?
+loop-less c = omega arith
 
--- src/lib.rt:346:5
 loop-again : tie.Need-loop-again Inv-loop μ-loop
-loop-again c = ?
+loop-again c = whole-byte (c .before .before .before .before .before .loop .inv) (c .before .before .before .before .loop-test .taken) (c .before .line-byte .ensures) (c .before .line-byte .kept .0)
 
--- src/lib.rt:350:5
 line-end-requires : tie.Need-line-end-requires Inv-loop μ-loop
-line-end-requires c κs = ?
+line-end-requires c κs = tt
 
--- src/lib.rt:341:1
 same-length : tie.Need-same-length Inv-loop μ-loop
-same-length c = ?
+same-length c = c .before .line-end .kept .0 ∙ c .before .before .before .before .loop .inv .same
 
--- src/lib.rt:341:1
 returns : tie.Need-returns Inv-loop μ-loop
-returns c = ?
+returns c =
+    let w = whole-end (c .before .before .before .before .loop .inv) (c .before .before .before .loop-test .left) in
+    let r = row-ends (c .before .before .before .before .before .before .args .cells .now) (c .before .before .before .before .before .before .args .line .now) in
+    let e = c .before .line-end .ensures in
+    (e .0 ∙ ap countOf (w .0) ∙ r .0, e .1 ∙ ap₂ cellsOf (w .0) (w .1) ∙ r .1)
 
 pub read-row-spec : {M : Type 1} → statement M
 read-row-spec =
