@@ -2,3 +2,4 @@ pub mod Puts
 pub mod Lines
 pub mod Decimals
 pub mod Rows
+pub mod Chunks

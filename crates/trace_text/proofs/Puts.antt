@@ -56,3 +56,44 @@ module _ {l : List ℕ} {at : ℕ} {xs k : List ℕ} {p : ℕ} (h : Put l at xs 
 
 pub put-then : {l : List ℕ} {at : ℕ} {xs k : List ℕ} {p : ℕ} {ys m : List ℕ} {q : ℕ} → Put l at xs k p → Put k p ys m q → Put l at (xs ++ ys) m q
 put-then {ys} h g = record { memory = g .memory ∙ put-sets h ys; place = g .place ∙ put-place h ys }
+
+-- from a place past the end as from the end
+pub put-clip : {l : List ℕ} {at : ℕ} {xs k : List ℕ} {p : ℕ} → Put l (min at (length l)) xs k p → Put l at xs k p
+put-clip {l} {at} {xs} h = let e = h .place in record { memory = h .memory ∙ sets-clip l at xs; place = omega arith }
+
+-- ---- a run of bytes that is being put: what is left of it makes the whole
+pub record Putting (l : List ℕ) (at : ℕ) (all : List ℕ) (k : List ℕ) (p : ℕ) (rest : List ℕ) : Type 0 where
+  pub memory : sets k p rest ≡ sets l at all
+  pub place : min (p + length rest) (length k) ≡ min (at + length all) (length l)
+  pub same : length k ≡ length l
+  pub inside : p ≤ length k
+
+pub putting : (l : List ℕ) (at : ℕ) (all : List ℕ) → at ≤ length l → Putting l at all l at all
+putting l at all h = record { memory = refl; place = refl; same = refl; inside = h }
+
+-- after a first part
+pub putting-after : {l : List ℕ} {at : ℕ} {xs k : List ℕ} {p : ℕ} → Put l at xs k p → (rest : List ℕ) → Putting l at (xs ++ rest) k p rest
+putting-after h rest =
+    let e = put-inside h in
+    record { memory = put-sets h rest; place = put-place h rest; same = put-length h; inside = omega (arith, put-length h) }
+
+module _ {l : List ℕ} {at : ℕ} {all k : List ℕ} {p : ℕ} where
+  pub putting-next : {rest : List ℕ} (xs : List ℕ) {ys : List ℕ} → Putting l at all k p rest → rest ≡ xs ++ ys → {m : List ℕ} {q : ℕ} → Put k p xs m q → Putting l at all m q ys
+  putting-next xs {ys} h e g =
+      let i = put-inside g in
+      record {
+        memory = put-sets g ys ∙ ap (sets k p) (sym e) ∙ h .memory;
+        place = put-place g ys ∙ ap (λ (r : List ℕ). min (p + length r) (length k)) (sym e) ∙ h .place;
+        same = put-length g ∙ h .same;
+        inside = omega (arith, put-length g);
+      }
+
+  pub putting-done : {rest : List ℕ} → Putting l at all k p rest → rest ≡ [] → Put l at all k p
+  putting-done h e =
+      let i = h .inside in
+      let f = rw e at (h .place) in
+      record { memory = rw e at (h .memory); place = omega arith }
+
+  -- the rest is put at once
+  pub putting-last : {rest : List ℕ} → Putting l at all k p rest → {m : List ℕ} {q : ℕ} → Put k p rest m q → Put l at all m q
+  putting-last h g = record { memory = g .memory ∙ h .memory; place = g .place ∙ h .place }

@@ -140,24 +140,24 @@ pub fn split_chunk(text: &mut [u8], s: Split, chunk: &[u8], from: usize) -> Divi
     ensures { λ r. ⌜ r .rows ≡ from + bytesBefore (s .stage) (drop from (now (chunk .entry))) ⌝ }
 {
     let mut stage = s.stage;
-    let mut length = clip(text.len(), s.length);
+    let mut place = clip(text.len(), s.length);
     let mut i = from;
     while i < chunk.len() {
         if is_rows(stage) {
             let split = Split {
                 stage: stage,
-                length: length,
+                length: place,
             };
             return Divided { split: split, rows: i };
         }
         let b = chunk[i];
-        length = put_text(text, length, stage, b);
+        place = put_text(text, place, stage, b);
         stage = stage_after(stage, b);
         i += 1;
     }
     let split = Split {
         stage: stage,
-        length: length,
+        length: place,
     };
     Divided { split: split, rows: i }
 }

@@ -1,69 +1,64 @@
+-- `trace_text::split_chunk` meets its contract. The loop's invariant: what is left of the chunk makes the whole. Assumes nothing.
+use mathlib.Core.Path.{_≡_, refl, sym, ap, _∙_}
+use Prim.Native.Nat.{_-_}
+use native.Mathlib.Omega.{arith}
+use lib.ListN.{length}
+use borrow.Author.Needs.{needs}
+use Rattle.trace_text.proofs.Puts.{put-clip, putting}
+use Rattle.trace_text.proofs.Chunks.{Dividing, divide-all, divide-rows, divide-byte}
 use Rattle.trace_text.proofs.split_chunk.Statement.{statement}
 use Rattle.trace_text.proofs.split_chunk.Tie as tie
-use Rattle.trace_text.proofs.split_chunk.Reads as reads
-use Rattle.trace_text.proofs.split_chunk.Lts as lts
-use Rattle.trace_text.proofs.clip.Reads as clip-reads
-use Rattle.trace_text.proofs.is_rows.Reads as is-rows-reads
-use Rattle.trace_text.proofs.put_text.Reads as put-text-reads
-use Rattle.trace_text.proofs.stage_after.Reads as stage-after-reads
 
 abbrev Inv-loop : tie.InvT-loop
-Inv-loop text₀ chunk from stage₀ length₀ i₀ text stage length i = ?
+Inv-loop text₀ chunk from stage₀ place₀ i₀ text stage place i = Dividing text₀ place₀ stage₀ chunk i₀ text place stage i
 
 abbrev μ-loop : tie.MeasureT-loop
-μ-loop text₀ chunk from stage₀ length₀ i₀ text stage length i = ?
+μ-loop text₀ chunk from stage₀ place₀ i₀ text stage place i = length chunk - i
 
--- src/lib.rt:141:9
 clip-requires : tie.Need-clip-requires Inv-loop μ-loop
-clip-requires c κs = ?
+clip-requires c κs = tt
 
--- src/lib.rt:143:5
 loop-holds : tie.Need-loop-holds Inv-loop μ-loop
-loop-holds c = ?
+loop-holds c =
+    let e = c .clip .ensures in
+    record { stages = refl; put = putting _ _ _ (omega arith); place = refl }
 
--- src/lib.rt:144:12
 is-rows-requires : tie.Need-is-rows-requires Inv-loop μ-loop
-is-rows-requires c κs = ?
+is-rows-requires c κs = tt
 
--- src/lib.rt:149:13
 same-length : tie.Need-same-length Inv-loop μ-loop
-same-length c = ?
+same-length c = c .before .before .before .loop .inv .put .same
 
--- src/lib.rt:149:13
 returns : tie.Need-returns Inv-loop μ-loop
-returns c = ?
+returns c =
+    let w = divide-rows (c .before .before .before .loop .inv) (sym (c .before .is-rows .ensures) ∙ c .if1 .taken) in
+    (w .0, (put-clip (rw (c .before .before .before .before .clip .ensures) at (w .1 .0)), w .1 .1))
 
--- src/lib.rt:151:17
 shared-slice-read-b : tie.Need-shared-slice-read-b Inv-loop μ-loop
-shared-slice-read-b c = ?
+shared-slice-read-b c = search needs
 
--- src/lib.rt:152:9
 put-text-requires : tie.Need-put-text-requires Inv-loop μ-loop
-put-text-requires c κs = ?
+put-text-requires c κs = tt
 
--- src/lib.rt:153:9
 stage-after-requires : tie.Need-stage-after-requires Inv-loop μ-loop
-stage-after-requires c κs = ?
+stage-after-requires c κs = tt
 
--- src/lib.rt:154:9
 add-i : tie.Need-add-i Inv-loop μ-loop
-add-i c = ?
+add-i c = search needs
 
--- src/lib.rt:143:5
 loop-less : tie.Need-loop-less Inv-loop μ-loop
-loop-less c = ?
+loop-less c = omega arith
 
--- src/lib.rt:143:5
 loop-again : tie.Need-loop-again Inv-loop μ-loop
-loop-again c = ?
+loop-again c = divide-byte (c .before .before .before .before .before .before .before .before .before .loop .inv) (c .before .before .before .before .before .before .before .before .loop-test .taken) (sym (c .before .before .before .before .before .before .before .is-rows .ensures) ∙ c .before .before .before .before .before .before .if1 .left) (c .stage-after .ensures) (c .before .before .before .put-text .ensures)
 
--- src/lib.rt:135:1
 same-length-2 : tie.Need-same-length-2 Inv-loop μ-loop
-same-length-2 c = ?
+same-length-2 c = c .before .loop .inv .put .same
 
--- src/lib.rt:135:1
 returns-2 : tie.Need-returns-2 Inv-loop μ-loop
-returns-2 c = ?
+returns-2 c =
+    let w = divide-all (c .before .loop .inv) (c .loop-test .left) in
+    (w .0, (put-clip (rw (c .before .before .clip .ensures) at (w .1 .0)), w .1 .1))
 
 pub split-chunk-spec : {M : Type 1} → statement M
 split-chunk-spec =
