@@ -28,7 +28,7 @@ text-append stage (x ∷ a) b =
 
 -- ---- past the line `#`
 
-rows-of : (stage : Stage) → isRows stage ≡ true → stage ≡ Rows
+pub rows-of : (stage : Stage) → isRows stage ≡ true → stage ≡ Rows
 rows-of LineStart e = absurd (false≢true e)
 rows-of InLine e = absurd (false≢true e)
 rows-of Hash e = absurd (false≢true e)

@@ -3,3 +3,4 @@ pub mod Lines
 pub mod Decimals
 pub mod Rows
 pub mod Chunks
+pub mod Splitting
