@@ -4,3 +4,4 @@ pub mod Decimals
 pub mod Rows
 pub mod Chunks
 pub mod Splitting
+pub mod Printing

@@ -2,14 +2,14 @@
 // limit, so what is read is a state carried from byte to byte.
 ghost use mathlib.Core.Path.{_≡_};
 ghost use mathlib.Core.Bool.{true};
-ghost use mathlib.Core.List.{[], _∷_};
+ghost use mathlib.Core.List.{[], _∷_, map};
 ghost use Prim.Native.Nat.{_+_, _≤_, min};
 ghost use lib.ListN.{length, drop, set};
 ghost use lib.Seq.{sets};
 ghost use Rattle.lexer.specs.Bytes.{part};
 ghost use Rattle.trace_text.specs.Input.{bare};
 ghost use Rattle.trace_text.specs.Row.{longRow, handedOf};
-ghost use Rattle.trace_text.specs.Output.{Put, unsignedDecimal, decimalOf, refusedLine, headLine, rowLine, spelledBy};
+ghost use Rattle.trace_text.specs.Output.{Put, unsignedDecimal, decimalOf, spaced, refusedLine, headLine, rowLine, spelledBy};
 ghost use Rattle.trace_text.specs.Internal.{textStage, stageAfter, textAfter, stageOver, textOver, isRows, bytesBefore, digitAfter, numberBegins, signed as signedOf, inRange, counts, cellsEnd, lineAfter, cellsAfter, lineOver, cellsOver, countOf, cellsOf, bytesIn, isEnded, isBegun};
 
 // ---- the text and the rows
@@ -412,32 +412,41 @@ fn put_name(out: &mut [u8], at: usize, text: &[u8], start: usize, end: usize) ->
     place
 }
 
-// `scan`, the names that the first `count` entries of the table spell, `result`.
-pub fn put_head(out: &mut [u8], at: usize, text: &[u8], starts: &[usize], ends: &[usize], count: usize) -> usize
-    ensures { λ r. ⌜ Put (now (out .entry)) at (headLine (spelledBy (now (text .entry)) (now (starts .entry)) (now (ends .entry)) count)) (now (out .exit)) r ⌝ }
+// The names that the first `count` entries of the table spell, each after a space.
+fn put_names(out: &mut [u8], at: usize, text: &[u8], starts: &[usize], ends: &[usize], count: usize) -> usize
+    ensures { λ r. ⌜ Put (now (out .entry)) at (spaced (spelledBy (now (text .entry)) (now (starts .entry)) (now (ends .entry)) count)) (now (out .exit)) r ⌝ }
 {
-    let mut place = put_bytes(out, at, b"scan");
+    let mut place = clip(out.len(), at);
     let mut i = 0;
     while i < count {
         if starts.len() <= i {
-            return put_bytes(out, place, b" result\n");
+            return place;
         }
         if ends.len() <= i {
-            return put_bytes(out, place, b" result\n");
+            return place;
         }
         let s = starts[i];
         let e = ends[i];
         place = put_name(out, place, text, s, e);
         i += 1;
     }
-    put_bytes(out, place, b" result\n")
+    place
 }
 
-// Row number, values, refusal or 0.
-pub fn put_row(out: &mut [u8], at: usize, number: u64, values: &[i32], refusal: u64) -> usize
-    ensures { λ r. ⌜ Put (now (out .entry)) at (rowLine number (now (values .entry)) refusal) (now (out .exit)) r ⌝ }
+// `scan`, the names that the first `count` entries of the table spell, `result`.
+pub fn put_head(out: &mut [u8], at: usize, text: &[u8], starts: &[usize], ends: &[usize], count: usize) -> usize
+    ensures { λ r. ⌜ Put (now (out .entry)) at (headLine (spelledBy (now (text .entry)) (now (starts .entry)) (now (ends .entry)) count)) (now (out .exit)) r ⌝ }
 {
-    let mut place = put_unsigned_decimal(out, at, number);
+    let first = put_bytes(out, at, b"scan");
+    let second = put_names(out, first, text, starts, ends, count);
+    put_bytes(out, second, b" result\n")
+}
+
+// Numbers, each after a space.
+fn put_values(out: &mut [u8], at: usize, values: &[i32]) -> usize
+    ensures { λ r. ⌜ Put (now (out .entry)) at (spaced (map decimalOf (now (values .entry)))) (now (out .exit)) r ⌝ }
+{
+    let mut place = clip(out.len(), at);
     let mut i = 0;
     while i < values.len() {
         let z = values[i];
@@ -445,9 +454,18 @@ pub fn put_row(out: &mut [u8], at: usize, number: u64, values: &[i32], refusal: 
         place = put_decimal(out, next, z);
         i += 1;
     }
-    let next = put_byte(out, place, 32);
-    let behind = put_unsigned_decimal(out, next, refusal);
-    put_byte(out, behind, 10)
+    place
+}
+
+// Row number, values, refusal or 0.
+pub fn put_row(out: &mut [u8], at: usize, number: u64, values: &[i32], refusal: u64) -> usize
+    ensures { λ r. ⌜ Put (now (out .entry)) at (rowLine number (now (values .entry)) refusal) (now (out .exit)) r ⌝ }
+{
+    let first = put_unsigned_decimal(out, at, number);
+    let second = put_values(out, first, values);
+    let third = put_byte(out, second, 32);
+    let fourth = put_unsigned_decimal(out, third, refusal);
+    put_byte(out, fourth, 10)
 }
 
 // `refused K at P`

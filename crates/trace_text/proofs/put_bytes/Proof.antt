@@ -1,51 +1,49 @@
+-- `trace_text::put_bytes` meets its contract. The loop's invariant: the bytes that are left, put from here, make the whole. Assumes nothing.
+use mathlib.Core.Path.{_≡_, refl, sym, ap, _∙_}
+use mathlib.Core.List.{_∷_, []}
+use Prim.Native.Nat.{_-_}
+use native.Mathlib.Numerals.{add-one}
+use native.Mathlib.Omega.{arith}
+use lib.ListN.{length, getD, drop, drop-of-length-le}
+use lib.Seq.{drop-cons}
+use borrow.Author.Needs.{needs}
+use Rattle.trace_text.proofs.Puts.{put-clip, Putting, putting, putting-next, putting-done}
 use Rattle.trace_text.proofs.put_bytes.Statement.{statement}
 use Rattle.trace_text.proofs.put_bytes.Tie as tie
-use Rattle.trace_text.proofs.put_bytes.Reads as reads
-use Rattle.trace_text.proofs.put_bytes.Lts as lts
-use Rattle.trace_text.proofs.clip.Reads as clip-reads
-use Rattle.trace_text.proofs.put_byte.Reads as put-byte-reads
 
 abbrev Inv-loop : tie.InvT-loop
-Inv-loop out₀ at word place₀ i₀ out place i = ?
+Inv-loop out₀ at word place₀ i₀ out place i = Putting out₀ place₀ word out place (drop i word)
 
 abbrev μ-loop : tie.MeasureT-loop
-μ-loop out₀ at word place₀ i₀ out place i = ?
+μ-loop out₀ at word place₀ i₀ out place i = length word - i
 
--- src/lib.rt:378:9
 clip-requires : tie.Need-clip-requires Inv-loop μ-loop
-clip-requires c κs = ?
+clip-requires c κs = tt
 
--- src/lib.rt:380:5
 loop-holds : tie.Need-loop-holds Inv-loop μ-loop
-loop-holds c = ?
+loop-holds c = let e = c .clip .ensures in putting _ _ _ (omega arith)
 
--- src/lib.rt:381:38
 shared-slice-read-put-byte : tie.Need-shared-slice-read-put-byte Inv-loop μ-loop
-shared-slice-read-put-byte c = ?
+shared-slice-read-put-byte c = search needs
 
--- src/lib.rt:381:9
 put-byte-requires : tie.Need-put-byte-requires Inv-loop μ-loop
-put-byte-requires c κs = ?
+put-byte-requires c κs = tt
 
--- src/lib.rt:382:9
 add-i : tie.Need-add-i Inv-loop μ-loop
-add-i c = ?
+add-i c = search needs
 
--- src/lib.rt:380:5
 loop-less : tie.Need-loop-less Inv-loop μ-loop
-loop-less c = ?
+loop-less c = omega arith
 
--- src/lib.rt:380:5
 loop-again : tie.Need-loop-again Inv-loop μ-loop
-loop-again c = ?
+loop-again c =
+    putting-next (getD (c .before .before .before .before .before .before .before .before .before .before .args .word .now) (c .before .before .before .before .before .before .loop .i) 0 ∷ []) (c .before .before .before .before .before .before .loop .inv) (rw add-one (drop-cons (c .before .before .before .before .before .before .before .before .before .before .args .word .now) (c .before .before .before .before .before .before .loop .i) 0 (c .before .before .before .before .before .loop-test .taken))) (c .before .before .put-byte .ensures)
 
--- src/lib.rt:375:1
 same-length : tie.Need-same-length Inv-loop μ-loop
-same-length c = ?
+same-length c = c .before .loop .inv .same
 
--- src/lib.rt:375:1
 returns : tie.Need-returns Inv-loop μ-loop
-returns c = ?
+returns c = put-clip (rw (c .before .before .clip .ensures) at (putting-done (c .before .loop .inv) (drop-of-length-le (c .before .before .before .before .before .args .word .now) (c .loop-test .left))))
 
 pub put-bytes-spec : {M : Type 1} → statement M
 put-bytes-spec =

@@ -1,58 +1,55 @@
+-- `trace_text::put_name` meets its contract. The loop's invariant: the bytes that are left, put from here, make the whole. Assumes nothing.
+use mathlib.Core.Path.{_≡_, refl, sym, ap, _∙_}
+use mathlib.Core.List.{_∷_, []}
+use Prim.Native.Nat.{_-_}
+use native.Mathlib.Omega.{arith}
+use lib.ListN.{length, getD}
+use borrow.Author.Needs.{needs}
+use Rattle.lexer.specs.Bytes.{part}
+use Rattle.trace_text.proofs.Puts.{put-then, put-inside, put-length, Putting, putting, putting-next, putting-done}
+use Rattle.trace_text.proofs.Printing.{part-next, part-end, part-past}
 use Rattle.trace_text.proofs.put_name.Statement.{statement}
 use Rattle.trace_text.proofs.put_name.Tie as tie
-use Rattle.trace_text.proofs.put_name.Reads as reads
-use Rattle.trace_text.proofs.put_name.Lts as lts
-use Rattle.trace_text.proofs.put_byte.Reads as put-byte-reads
 
 abbrev Inv-loop : tie.InvT-loop
-Inv-loop out₀ at text start end place₀ i₀ out place i = ?
+Inv-loop out₀ at text start end place₀ i₀ out place i = Putting out₀ place₀ (part text i₀ end) out place (part text i end)
 
 abbrev μ-loop : tie.MeasureT-loop
-μ-loop out₀ at text start end place₀ i₀ out place i = ?
+μ-loop out₀ at text start end place₀ i₀ out place i = end - i
 
--- src/lib.rt:391:9
 put-byte-requires : tie.Need-put-byte-requires Inv-loop μ-loop
-put-byte-requires c κs = ?
+put-byte-requires c κs = tt
 
--- src/lib.rt:393:5
 loop-holds : tie.Need-loop-holds Inv-loop μ-loop
-loop-holds c = ?
+loop-holds c = putting _ _ _ (omega (arith, put-inside (c .before .before .put-byte .ensures), put-length (c .before .before .put-byte .ensures)))
 
--- src/lib.rt:395:13
 same-length : tie.Need-same-length Inv-loop μ-loop
-same-length c = ?
+same-length c = c .before .before .loop .inv .same ∙ put-length (c .before .before .before .before .before .put-byte .ensures)
 
--- src/lib.rt:395:13
 returns : tie.Need-returns Inv-loop μ-loop
-returns c = ?
+returns c = put-then (c .before .before .before .before .before .put-byte .ensures) (putting-done (c .before .before .loop .inv) (part-past (c .before .before .before .before .before .before .before .before .before .args .text .now) (c .before .before .loop .i) (c .before .before .before .before .before .before .before .before .before .args .end) (c .if1 .taken)))
 
--- src/lib.rt:397:38
 shared-slice-read-put-byte : tie.Need-shared-slice-read-put-byte Inv-loop μ-loop
-shared-slice-read-put-byte c = ?
+shared-slice-read-put-byte c = search needs
 
--- src/lib.rt:397:9
 put-byte-requires-2 : tie.Need-put-byte-requires-2 Inv-loop μ-loop
-put-byte-requires-2 c κs = ?
+put-byte-requires-2 c κs = tt
 
--- src/lib.rt:398:9
 add-i : tie.Need-add-i Inv-loop μ-loop
-add-i c = ?
+add-i c = search needs
 
--- src/lib.rt:393:5
 loop-less : tie.Need-loop-less Inv-loop μ-loop
-loop-less c = ?
+loop-less c = omega arith
 
--- src/lib.rt:393:5
 loop-again : tie.Need-loop-again Inv-loop μ-loop
-loop-again c = ?
+loop-again c =
+    putting-next (getD (c .before .before .before .before .before .before .before .before .before .before .before .before .before .before .args .text .now) (c .before .before .before .before .before .before .before .loop .i) 0 ∷ []) (c .before .before .before .before .before .before .before .loop .inv) (part-next (c .before .before .before .before .before .before .before .before .before .before .before .before .before .before .args .text .now) (c .before .before .before .before .before .before .before .loop .i) (c .before .before .before .before .before .before .before .before .before .before .before .before .before .before .args .end) (c .before .before .before .before .before .before .loop-test .taken) (c .before .before .before .before .before .if1 .left)) (c .before .before .put-byte2 .ensures)
 
--- src/lib.rt:388:1
 same-length-2 : tie.Need-same-length-2 Inv-loop μ-loop
-same-length-2 c = ?
+same-length-2 c = c .before .loop .inv .same ∙ put-length (c .before .before .before .before .put-byte .ensures)
 
--- src/lib.rt:388:1
 returns-2 : tie.Need-returns-2 Inv-loop μ-loop
-returns-2 c = ?
+returns-2 c = put-then (c .before .before .before .before .put-byte .ensures) (putting-done (c .before .loop .inv) (part-end (c .before .before .before .before .before .before .before .before .args .text .now) (c .before .loop .i) (c .before .before .before .before .before .before .before .before .args .end) (c .loop-test .left)))
 
 pub put-name-spec : {M : Type 1} → statement M
 put-name-spec =

@@ -1,90 +1,41 @@
+-- `trace_text::put_row` meets its contract. Assumes nothing.
+use borrow.Author.Needs.{needs}
+use Rattle.trace_text.proofs.Puts.{put-then}
+use Rattle.trace_text.proofs.Printing.{row-is}
 use Rattle.trace_text.proofs.put_row.Statement.{statement}
 use Rattle.trace_text.proofs.put_row.Tie as tie
-use Rattle.trace_text.proofs.put_row.Reads as reads
-use Rattle.trace_text.proofs.put_row.Lts as lts
-use Rattle.trace_text.proofs.put_byte.Reads as put-byte-reads
-use Rattle.trace_text.proofs.put_decimal.Reads as put-decimal-reads
-use Rattle.trace_text.proofs.put_unsigned_decimal.Reads as put-unsigned-decimal-reads
 
-abbrev Inv-loop : tie.InvT-loop
-Inv-loop out₀ at number values refusal place₀ i₀ out place i = ?
+put-unsigned-decimal-requires : tie.Need-put-unsigned-decimal-requires
+put-unsigned-decimal-requires c κs = search needs
 
-abbrev μ-loop : tie.MeasureT-loop
-μ-loop out₀ at number values refusal place₀ i₀ out place i = ?
+put-values-requires : tie.Need-put-values-requires
+put-values-requires c κs = search needs
 
--- src/lib.rt:430:9
-put-unsigned-decimal-requires : tie.Need-put-unsigned-decimal-requires Inv-loop μ-loop
-put-unsigned-decimal-requires c κs = ?
+put-byte-requires : tie.Need-put-byte-requires
+put-byte-requires c κs = search needs
 
--- src/lib.rt:432:5
-loop-holds : tie.Need-loop-holds Inv-loop μ-loop
-loop-holds c = ?
+put-unsigned-decimal-requires-2 : tie.Need-put-unsigned-decimal-requires-2
+put-unsigned-decimal-requires-2 c κs = search needs
 
--- src/lib.rt:433:17
-mul-z : tie.Need-mul-z Inv-loop μ-loop
-mul-z c = ?
+put-byte-requires-2 : tie.Need-put-byte-requires-2
+put-byte-requires-2 c κs = search needs
 
--- src/lib.rt:433:17
-shared-slice-copy-out-z : tie.Need-shared-slice-copy-out-z Inv-loop μ-loop
-shared-slice-copy-out-z c = ?
+same-length : tie.Need-same-length
+same-length c = search needs
 
--- src/lib.rt:434:13
-put-byte-requires : tie.Need-put-byte-requires Inv-loop μ-loop
-put-byte-requires c κs = ?
-
--- src/lib.rt:435:9
-put-decimal-requires : tie.Need-put-decimal-requires Inv-loop μ-loop
-put-decimal-requires c κs = ?
-
--- src/lib.rt:436:9
-add-i : tie.Need-add-i Inv-loop μ-loop
-add-i c = ?
-
--- src/lib.rt:432:5
-loop-less : tie.Need-loop-less Inv-loop μ-loop
-loop-less c = ?
-
--- src/lib.rt:432:5
-loop-again : tie.Need-loop-again Inv-loop μ-loop
-loop-again c = ?
-
--- src/lib.rt:438:9
-put-byte-requires-2 : tie.Need-put-byte-requires-2 Inv-loop μ-loop
-put-byte-requires-2 c κs = ?
-
--- src/lib.rt:439:9
-put-unsigned-decimal-requires-2 : tie.Need-put-unsigned-decimal-requires-2 Inv-loop μ-loop
-put-unsigned-decimal-requires-2 c κs = ?
-
--- src/lib.rt:440:5
-put-byte-requires-3 : tie.Need-put-byte-requires-3 Inv-loop μ-loop
-put-byte-requires-3 c κs = ?
-
--- src/lib.rt:427:1
-same-length : tie.Need-same-length Inv-loop μ-loop
-same-length c = ?
-
--- src/lib.rt:427:1
-returns : tie.Need-returns Inv-loop μ-loop
-returns c = ?
+returns : tie.Need-returns
+returns c =
+    rw (row-is (c .before .before .before .before .before .before .before .before .before .before .before .before .before .before .before .before .before .before .before .before .before .args .number) (c .before .before .before .before .before .before .before .before .before .before .before .before .before .before .before .before .before .before .before .before .before .args .values .now) (c .before .before .before .before .before .before .before .before .before .before .before .before .before .before .before .before .before .before .before .before .before .args .refusal)) at
+    (put-then (put-then (put-then (put-then (c .before .before .before .before .before .before .before .before .before .before .before .before .before .before .before .before .before .before .put-unsigned-decimal .ensures) (c .before .before .before .before .before .before .before .before .before .before .before .before .before .before .put-values .ensures)) (c .before .before .before .before .before .before .before .before .before .before .put-byte .ensures)) (c .before .before .before .before .before .before .put-unsigned-decimal2 .ensures)) (c .before .before .put-byte2 .ensures))
 
 pub put-row-spec : {M : Type 1} → statement M
 put-row-spec =
     tie.close
     (tie.spec
-    Inv-loop
-    μ-loop
     put-unsigned-decimal-requires
-    loop-holds
-    mul-z
-    shared-slice-copy-out-z
+    put-values-requires
     put-byte-requires
-    put-decimal-requires
-    add-i
-    loop-less
-    loop-again
-    put-byte-requires-2
     put-unsigned-decimal-requires-2
-    put-byte-requires-3
+    put-byte-requires-2
     same-length
     returns)
