@@ -1,0 +1,80 @@
+-- `trace_text::put_unsigned_decimal` meets its contract. It calls itself with the number without its last digit; the measure is the
+-- number. Assumes nothing.
+use Prim.Native.Nat.{ℕ, _<_}
+use native.Mathlib.Omega.{arith}
+use borrow.Author.Needs.{needs}
+use borrow.Fn.Kinds.{In}
+use borrow.Fn.PlainCycle.{Measures, is, falls, and}
+use Rattle.trace_text.proofs.Puts.{put-then}
+use Rattle.trace_text.proofs.Printing.{decimal-small, decimal-more}
+use Rattle.trace_text.proofs.put_unsigned_decimal.Reads as reads
+use Rattle.trace_text.proofs.put_unsigned_decimal.Kinds as kinds
+use Rattle.trace_text.proofs.+put_unsigned_decimal.Lts-put_unsigned_decimal as lts
+use Rattle.trace_text.proofs.put_byte.Reads as put-byte-reads
+use Rattle.trace_text.proofs.+put_unsigned_decimal.{statement}
+use Rattle.trace_text.proofs.+put_unsigned_decimal.Tie.{close}
+
+abbrev μ : Measures 1 kinds.ps ℕ
+μ κs a = a .1 .1 .0
+
+abbrev at : ℕ → In 1 kinds.ps
+at t = and 1 kinds.ps (is 1 kinds.ps μ t) reads.Pre
+
+abbrev below : ℕ → In 1 kinds.ps
+below t = and 1 kinds.ps (falls 1 kinds.ps _<_ μ t) reads.Pre
+
+abbrev claims : ℕ → lts.Claims
+claims t = (put-byte-reads.Asked, put-byte-reads.Learnt, below t, reads.Post)
+
+add-put-byte : (t : ℕ) → lts.Need-add-put-byte (claims t) (at t) reads.Post
+add-put-byte t c = omega arith
+
+cast-put-byte : (t : ℕ) → lts.Need-cast-put-byte (claims t) (at t) reads.Post
+cast-put-byte t c = omega arith
+
+put-byte-requires : (t : ℕ) → lts.Need-put-byte-requires (claims t) (at t) reads.Post
+put-byte-requires t c κs = tt
+
+same-length : (t : ℕ) → lts.Need-same-length (claims t) (at t) reads.Post
+same-length t c = search needs
+
+returns : (t : ℕ) → lts.Need-returns (claims t) (at t) reads.Post
+returns t c =
+    let k = c .before .before .before .before in
+    rw (decimal-small (k .before .before .args .n) (k .if1 .taken)) (c .before .before .put-byte .ensures)
+
+put-unsigned-decimal-requires : (t : ℕ) → lts.Need-put-unsigned-decimal-requires (claims t) (at t) reads.Post
+put-unsigned-decimal-requires t c κs = omega arith
+
+add-put-byte-2 : (t : ℕ) → lts.Need-add-put-byte-2 (claims t) (at t) reads.Post
+add-put-byte-2 t c = omega arith
+
+cast-put-byte-2 : (t : ℕ) → lts.Need-cast-put-byte-2 (claims t) (at t) reads.Post
+cast-put-byte-2 t c = omega arith
+
+put-byte-requires-2 : (t : ℕ) → lts.Need-put-byte-requires-2 (claims t) (at t) reads.Post
+put-byte-requires-2 t c κs = tt
+
+same-length-2 : (t : ℕ) → lts.Need-same-length-2 (claims t) (at t) reads.Post
+same-length-2 t c = search needs
+
+returns-2 : (t : ℕ) → lts.Need-returns-2 (claims t) (at t) reads.Post
+returns-2 t c =
+    let k = c .before .before .before .before .before .before in
+    let s = k .before .before in
+    rw (decimal-more (s .before .before .args .n) (s .if1 .left)) (put-then (k .put-unsigned-decimal .ensures) (c .before .before .put-byte2 .ensures))
+
+pub +put-unsigned-decimal-spec : {M : Type 1} → statement M
++put-unsigned-decimal-spec =
+    close μ λ t. lts.spec (claims t) (at t) reads.Post
+    (add-put-byte t)
+    (cast-put-byte t)
+    (put-byte-requires t)
+    (same-length t)
+    (returns t)
+    (put-unsigned-decimal-requires t)
+    (add-put-byte-2 t)
+    (cast-put-byte-2 t)
+    (put-byte-requires-2 t)
+    (same-length-2 t)
+    (returns-2 t)

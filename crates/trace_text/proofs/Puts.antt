@@ -1,0 +1,99 @@
+-- Bytes put into a buffer one run after the other. Assumes nothing.
+use mathlib.Core.Path.{_≡_, refl, sym, ap, subst, _∙_}
+use mathlib.Core.Bool.{Bool, true, false}
+use mathlib.Core.List.{List, [], _∷_, _++_, append-nil}
+use Prim.Native.Nat.{ℕ, zero, suc, _+_, _≤_, _<_, min}
+use native.Mathlib.Numerals.{add-one}
+use native.Mathlib.Omega.{arith}
+use lib.Dec.{leb}
+use lib.ListN.{length, take, set, length-set, length-append}
+use lib.Seq.{sets, length-sets, set-out}
+use borrow.Author.Tests.{leb-true, leb-false}
+use Rattle.trace_text.specs.Output.{Put}
+
+-- ---- stores
+
+module _ {A : Type 0} where
+  -- past the end nothing is stored
+  pub sets-past : (l : List A) (i : ℕ) (vs : List A) → length l ≤ i → sets l i vs ≡ l
+  sets-past l i [] h = refl
+  sets-past l i (v ∷ vs) h = rw (set-out l i v h) (sets-past l (suc i) vs (omega arith))
+
+  pub sets-append : (l : List A) (i : ℕ) (xs ys : List A) → sets l i (xs ++ ys) ≡ sets (sets l i xs) (i + length xs) ys
+  sets-append l i [] ys = ap (λ (k : ℕ). sets l k ys) (omega arith)
+  sets-append l i (x ∷ xs) ys = sets-append (set l i x) (suc i) xs ys ∙ ap (λ (k : ℕ). sets (sets l i (x ∷ xs)) k ys) (omega arith)
+
+  -- a place past the end may be taken for the end
+  pub sets-clip : (l : List A) (i : ℕ) (vs : List A) → sets l (min i (length l)) vs ≡ sets l i vs
+  sets-clip l i vs = by (leb i (length l)) (leb-true i (length l)) (leb-false i (length l)) where
+    by : (t : Bool) → (t ≡ true → i ≤ length l) → (t ≡ false → length l < i) → sets l (min i (length l)) vs ≡ sets l i vs
+    by true y n = let h = y refl in ap (λ (k : ℕ). sets l k vs) (omega arith)
+    by false y n = let h = n refl in sets-past l (min i (length l)) vs (omega arith) ∙ sym (sets-past l i vs (omega arith))
+
+-- ---- puts
+
+pub put-nothing : (l : List ℕ) (at : ℕ) → Put l at [] l (min at (length l))
+put-nothing l at = record { memory = refl; place = ap (λ (k : ℕ). min k (length l)) (omega arith) }
+
+pub put-length : {l : List ℕ} {at : ℕ} {xs k : List ℕ} {p : ℕ} → Put l at xs k p → length k ≡ length l
+put-length {l} {at} {xs} h = ap length (h .memory) ∙ length-sets l at xs
+
+-- the place behind is in the buffer
+pub put-inside : {l : List ℕ} {at : ℕ} {xs k : List ℕ} {p : ℕ} → Put l at xs k p → p ≤ length l
+put-inside h = let e = h .place in omega arith
+
+-- what is put behind
+module _ {l : List ℕ} {at : ℕ} {xs k : List ℕ} {p : ℕ} (h : Put l at xs k p) (ys : List ℕ) where
+  pub put-sets : sets k p ys ≡ sets l at (xs ++ ys)
+  put-sets =
+      ap (λ (n : ℕ). sets k n ys) (h .place ∙ ap (min (at + length xs)) (sym (put-length h)))
+      ∙ sets-clip k (at + length xs) ys
+      ∙ ap (λ (m : List ℕ). sets m (at + length xs) ys) (h .memory)
+      ∙ sym (sets-append l at xs ys)
+
+  pub put-place : min (p + length ys) (length k) ≡ min (at + length (xs ++ ys)) (length l)
+  put-place = let e = h .place in rw length-append (omega (arith, put-length h))
+
+pub put-then : {l : List ℕ} {at : ℕ} {xs k : List ℕ} {p : ℕ} {ys m : List ℕ} {q : ℕ} → Put l at xs k p → Put k p ys m q → Put l at (xs ++ ys) m q
+put-then {ys} h g = record { memory = g .memory ∙ put-sets h ys; place = g .place ∙ put-place h ys }
+
+-- from a place past the end as from the end
+pub put-clip : {l : List ℕ} {at : ℕ} {xs k : List ℕ} {p : ℕ} → Put l (min at (length l)) xs k p → Put l at xs k p
+put-clip {l} {at} {xs} h = let e = h .place in record { memory = h .memory ∙ sets-clip l at xs; place = omega arith }
+
+-- ---- a run of bytes that is being put: what is left of it makes the whole
+pub record Putting (l : List ℕ) (at : ℕ) (all : List ℕ) (k : List ℕ) (p : ℕ) (rest : List ℕ) : Type 0 where
+  pub memory : sets k p rest ≡ sets l at all
+  pub place : min (p + length rest) (length k) ≡ min (at + length all) (length l)
+  pub same : length k ≡ length l
+  pub inside : p ≤ length k
+
+pub putting : (l : List ℕ) (at : ℕ) (all : List ℕ) → at ≤ length l → Putting l at all l at all
+putting l at all h = record { memory = refl; place = refl; same = refl; inside = h }
+
+-- after a first part
+pub putting-after : {l : List ℕ} {at : ℕ} {xs k : List ℕ} {p : ℕ} → Put l at xs k p → (rest : List ℕ) → Putting l at (xs ++ rest) k p rest
+putting-after h rest =
+    let e = put-inside h in
+    record { memory = put-sets h rest; place = put-place h rest; same = put-length h; inside = omega (arith, put-length h) }
+
+module _ {l : List ℕ} {at : ℕ} {all k : List ℕ} {p : ℕ} where
+  pub putting-next : {rest : List ℕ} (xs : List ℕ) {ys : List ℕ} → Putting l at all k p rest → rest ≡ xs ++ ys → {m : List ℕ} {q : ℕ} → Put k p xs m q → Putting l at all m q ys
+  putting-next xs {ys} h e g =
+      let i = put-inside g in
+      record {
+        memory = put-sets g ys ∙ ap (sets k p) (sym e) ∙ h .memory;
+        place = put-place g ys ∙ ap (λ (r : List ℕ). min (p + length r) (length k)) (sym e) ∙ h .place;
+        same = put-length g ∙ h .same;
+        inside = omega (arith, put-length g);
+      }
+
+  pub putting-done : {rest : List ℕ} → Putting l at all k p rest → rest ≡ [] → Put l at all k p
+  putting-done h e =
+      let i = h .inside in
+      let f = rw e at (h .place) in
+      record { memory = rw e at (h .memory); place = omega arith }
+
+  -- the rest is put at once
+  pub putting-last : {rest : List ℕ} → Putting l at all k p rest → {m : List ℕ} {q : ℕ} → Put k p rest m q → Put l at all m q
+  putting-last h g = record { memory = g .memory ∙ h .memory; place = g .place ∙ h .place }

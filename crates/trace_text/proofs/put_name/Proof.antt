@@ -1,0 +1,70 @@
+-- `trace_text::put_name` meets its contract. The loop's invariant: the bytes that are left, put from here, make the whole. Assumes nothing.
+use mathlib.Core.Path.{_≡_, refl, sym, ap, _∙_}
+use mathlib.Core.List.{_∷_, []}
+use Prim.Native.Nat.{_-_}
+use native.Mathlib.Omega.{arith}
+use lib.ListN.{length, getD}
+use borrow.Author.Needs.{needs}
+use Rattle.lexer.specs.Bytes.{part}
+use Rattle.trace_text.proofs.Puts.{put-then, put-inside, put-length, Putting, putting, putting-next, putting-done}
+use Rattle.trace_text.proofs.Printing.{part-next, part-end, part-past}
+use Rattle.trace_text.proofs.put_name.Statement.{statement}
+use Rattle.trace_text.proofs.put_name.Tie as tie
+
+abbrev Inv-loop : tie.InvT-loop
+Inv-loop out₀ at text start end place₀ i₀ out place i = Putting out₀ place₀ (part text i₀ end) out place (part text i end)
+
+abbrev μ-loop : tie.MeasureT-loop
+μ-loop out₀ at text start end place₀ i₀ out place i = end - i
+
+put-byte-requires : tie.Need-put-byte-requires Inv-loop μ-loop
+put-byte-requires c κs = tt
+
+loop-holds : tie.Need-loop-holds Inv-loop μ-loop
+loop-holds c = putting _ _ _ (omega (arith, put-inside (c .before .before .put-byte .ensures), put-length (c .before .before .put-byte .ensures)))
+
+same-length : tie.Need-same-length Inv-loop μ-loop
+same-length c = c .before .before .loop .inv .same ∙ put-length (c .before .before .before .before .before .put-byte .ensures)
+
+returns : tie.Need-returns Inv-loop μ-loop
+returns c = put-then (c .before .before .before .before .before .put-byte .ensures) (putting-done (c .before .before .loop .inv) (part-past (c .before .before .before .before .before .before .before .before .before .args .text .now) (c .before .before .loop .i) (c .before .before .before .before .before .before .before .before .before .args .end) (c .if1 .taken)))
+
+shared-slice-read-put-byte : tie.Need-shared-slice-read-put-byte Inv-loop μ-loop
+shared-slice-read-put-byte c = search needs
+
+put-byte-requires-2 : tie.Need-put-byte-requires-2 Inv-loop μ-loop
+put-byte-requires-2 c κs = tt
+
+add-i : tie.Need-add-i Inv-loop μ-loop
+add-i c = search needs
+
+loop-less : tie.Need-loop-less Inv-loop μ-loop
+loop-less c = omega arith
+
+loop-again : tie.Need-loop-again Inv-loop μ-loop
+loop-again c =
+    putting-next (getD (c .before .before .before .before .before .before .before .before .before .before .before .before .before .before .args .text .now) (c .before .before .before .before .before .before .before .loop .i) 0 ∷ []) (c .before .before .before .before .before .before .before .loop .inv) (part-next (c .before .before .before .before .before .before .before .before .before .before .before .before .before .before .args .text .now) (c .before .before .before .before .before .before .before .loop .i) (c .before .before .before .before .before .before .before .before .before .before .before .before .before .before .args .end) (c .before .before .before .before .before .before .loop-test .taken) (c .before .before .before .before .before .if1 .left)) (c .before .before .put-byte2 .ensures)
+
+same-length-2 : tie.Need-same-length-2 Inv-loop μ-loop
+same-length-2 c = c .before .loop .inv .same ∙ put-length (c .before .before .before .before .put-byte .ensures)
+
+returns-2 : tie.Need-returns-2 Inv-loop μ-loop
+returns-2 c = put-then (c .before .before .before .before .put-byte .ensures) (putting-done (c .before .loop .inv) (part-end (c .before .before .before .before .before .before .before .before .args .text .now) (c .before .loop .i) (c .before .before .before .before .before .before .before .before .args .end) (c .loop-test .left)))
+
+pub put-name-spec : {M : Type 1} → statement M
+put-name-spec =
+    tie.close
+    (tie.spec
+    Inv-loop
+    μ-loop
+    put-byte-requires
+    loop-holds
+    same-length
+    returns
+    shared-slice-read-put-byte
+    put-byte-requires-2
+    add-i
+    loop-less
+    loop-again
+    same-length-2
+    returns-2)

@@ -1,0 +1,95 @@
+-- `trace_text::put_names` meets its contract. The loop's invariant: the names that are left, put from here, make the whole. Assumes nothing.
+use mathlib.Core.Path.{_≡_, refl, sym, ap, _∙_}
+use mathlib.Core.List.{List, _∷_, [], _++_}
+use Prim.Native.Nat.{ℕ, _+_, _-_, _<_, _≤_}
+use native.Mathlib.Omega.{arith}
+use lib.ListN.{length, getD, drop, drop-of-length-le}
+use borrow.Author.Needs.{needs}
+use Rattle.lexer.specs.Bytes.{part}
+use Rattle.trace_text.specs.Output.{spaced, spelledBy}
+use Rattle.trace_text.proofs.Puts.{put-clip, Putting, putting, putting-next, putting-done}
+use Rattle.trace_text.proofs.Printing.{no-names, no-starts, no-ends, spelled-next}
+use Rattle.trace_text.proofs.put_names.Statement.{statement}
+use Rattle.trace_text.proofs.put_names.Tie as tie
+
+abbrev Inv-loop : tie.InvT-loop
+Inv-loop out₀ at text starts ends count place₀ i₀ out place i =
+    Putting out₀ place₀ (spaced (spelledBy text starts ends count)) out place (spaced (spelledBy text (drop i starts) (drop i ends) (count - i)))
+
+abbrev μ-loop : tie.MeasureT-loop
+μ-loop out₀ at text starts ends count place₀ i₀ out place i = count - i
+
+clip-requires : tie.Need-clip-requires Inv-loop μ-loop
+clip-requires c κs = tt
+
+loop-holds : tie.Need-loop-holds Inv-loop μ-loop
+loop-holds c = let e = c .clip .ensures in let z : c .before .before .before .before .before .args .count - 0 ≡ c .before .before .before .before .before .args .count = omega arith in rw z (putting _ _ _ (omega arith))
+
+same-length : tie.Need-same-length Inv-loop μ-loop
+same-length c = c .before .before .loop .inv .same
+
+returns : tie.Need-returns Inv-loop μ-loop
+returns c =
+    put-clip (rw (c .before .before .before .clip .ensures) at (putting-done (c .before .before .loop .inv) (rw (drop-of-length-le (c .before .before .before .before .before .before .before .before .args .starts .now) (c .if1 .taken), no-starts))))
+
+same-length-2 : tie.Need-same-length-2 Inv-loop μ-loop
+same-length-2 c = c .before .before .before .loop .inv .same
+
+returns-2 : tie.Need-returns-2 Inv-loop μ-loop
+returns-2 c = put-clip (rw (c .before .before .before .before .clip .ensures) at (putting-done (c .before .before .before .loop .inv) (rw (drop-of-length-le (c .before .before .before .before .before .before .before .before .before .args .ends .now) (c .if2 .taken), no-ends))))
+
+mul-s : tie.Need-mul-s Inv-loop μ-loop
+mul-s c = search needs
+
+shared-slice-read-s : tie.Need-shared-slice-read-s Inv-loop μ-loop
+shared-slice-read-s c = search needs
+
+mul-e : tie.Need-mul-e Inv-loop μ-loop
+mul-e c = search needs
+
+shared-slice-read-e : tie.Need-shared-slice-read-e Inv-loop μ-loop
+shared-slice-read-e c = search needs
+
+put-name-requires : tie.Need-put-name-requires Inv-loop μ-loop
+put-name-requires c κs = tt
+
+add-i : tie.Need-add-i Inv-loop μ-loop
+add-i c = search needs
+
+loop-less : tie.Need-loop-less Inv-loop μ-loop
+loop-less c = omega arith
+
+loop-again : tie.Need-loop-again Inv-loop μ-loop
+loop-again c =
+    putting-next (32 ∷ part (c .before .before .before .before .before .before .before .before .before .before .before .before .before .before .before .args .text .now) (getD (c .before .before .before .before .before .before .before .before .before .before .before .before .before .before .before .args .starts .now) (c .before .before .before .before .before .before .before .before .before .loop .i) 0) (getD (c .before .before .before .before .before .before .before .before .before .before .before .before .before .before .before .args .ends .now) (c .before .before .before .before .before .before .before .before .before .loop .i) 0)) (c .before .before .before .before .before .before .before .before .before .loop .inv)
+    (rw (spelled-next (c .before .before .before .before .before .before .before .before .before .before .before .before .before .before .before .args .text .now) (c .before .before .before .before .before .before .before .before .before .before .before .before .before .before .before .args .starts .now) (c .before .before .before .before .before .before .before .before .before .before .before .before .before .before .before .args .ends .now) (c .before .before .before .before .before .before .before .before .before .before .before .before .before .before .before .args .count) (c .before .before .before .before .before .before .before .before .before .loop .i) (c .before .before .before .before .before .before .before .before .loop-test .taken) (c .before .before .before .before .before .before .before .if1 .left) (c .before .before .before .before .before .before .if2 .left))) (c .before .before .put-name .ensures)
+
+same-length-3 : tie.Need-same-length-3 Inv-loop μ-loop
+same-length-3 c = c .before .loop .inv .same
+
+returns-3 : tie.Need-returns-3 Inv-loop μ-loop
+returns-3 c =
+    let z : c .before .before .before .before .before .before .before .args .count - c .before .loop .i ≡ 0 = omega arith in put-clip (rw (c .before .before .clip .ensures) at (putting-done (c .before .loop .inv) (rw (z, no-names))))
+
+pub put-names-spec : {M : Type 1} → statement M
+put-names-spec =
+    tie.close
+    (tie.spec
+    Inv-loop
+    μ-loop
+    clip-requires
+    loop-holds
+    same-length
+    returns
+    same-length-2
+    returns-2
+    mul-s
+    shared-slice-read-s
+    mul-e
+    shared-slice-read-e
+    put-name-requires
+    add-i
+    loop-less
+    loop-again
+    same-length-3
+    returns-3)

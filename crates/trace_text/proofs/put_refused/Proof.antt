@@ -1,0 +1,49 @@
+-- `trace_text::put_refused` meets its contract. Assumes nothing.
+use borrow.Author.Needs.{needs}
+use Rattle.trace_text.proofs.Puts.{put-then}
+use Rattle.trace_text.proofs.Printing.{refused-is}
+use Rattle.trace_text.proofs.put_refused.Statement.{statement}
+use Rattle.trace_text.proofs.put_refused.Tie as tie
+
+slice-aggregate-put-bytes : tie.Need-slice-aggregate-put-bytes
+slice-aggregate-put-bytes c = search needs
+
+put-bytes-requires : tie.Need-put-bytes-requires
+put-bytes-requires c κs = search needs
+
+put-unsigned-decimal-requires : tie.Need-put-unsigned-decimal-requires
+put-unsigned-decimal-requires c κs = search needs
+
+slice-aggregate-put-bytes-2 : tie.Need-slice-aggregate-put-bytes-2
+slice-aggregate-put-bytes-2 c = search needs
+
+put-bytes-requires-2 : tie.Need-put-bytes-requires-2
+put-bytes-requires-2 c κs = search needs
+
+put-unsigned-decimal-requires-2 : tie.Need-put-unsigned-decimal-requires-2
+put-unsigned-decimal-requires-2 c κs = search needs
+
+put-byte-requires : tie.Need-put-byte-requires
+put-byte-requires c κs = search needs
+
+same-length : tie.Need-same-length
+same-length c = search needs
+
+returns : tie.Need-returns
+returns c =
+    rw (refused-is (c .before .before .before .before .before .before .before .before .before .before .before .before .before .before .before .before .before .before .before .before .before .before .before .args .number) (c .before .before .before .before .before .before .before .before .before .before .before .before .before .before .before .before .before .before .before .before .before .before .before .args .place)) at
+    (put-then (put-then (put-then (put-then (c .before .before .before .before .before .before .before .before .before .before .before .before .before .before .before .before .before .before .before .put-bytes .ensures) (c .before .before .before .before .before .before .before .before .before .before .before .before .before .before .before .put-unsigned-decimal .ensures)) (c .before .before .before .before .before .before .before .before .before .before .put-bytes2 .ensures)) (c .before .before .before .before .before .before .put-unsigned-decimal2 .ensures)) (c .before .before .put-byte .ensures))
+
+pub put-refused-spec : {M : Type 1} → statement M
+put-refused-spec =
+    tie.close
+    (tie.spec
+    slice-aggregate-put-bytes
+    put-bytes-requires
+    put-unsigned-decimal-requires
+    slice-aggregate-put-bytes-2
+    put-bytes-requires-2
+    put-unsigned-decimal-requires-2
+    put-byte-requires
+    same-length
+    returns)

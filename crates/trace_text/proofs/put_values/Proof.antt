@@ -1,0 +1,77 @@
+-- `trace_text::put_values` meets its contract. The loop's invariant: the numbers that are left, put from here, make the whole. Assumes nothing.
+use mathlib.Core.Path.{_≡_, refl, sym, ap, _∙_}
+use mathlib.Core.List.{List, _∷_, [], _++_, map}
+use Prim.Native.Nat.{ℕ, _+_, _-_, _<_, _≤_}
+use native.Mathlib.Numerals.{add-one}
+use native.Mathlib.Omega.{arith}
+use lib.IntN.{ℤ, pos}
+use lib.ListN.{length, getD, drop, drop-of-length-le}
+use lib.Seq.{drop-cons}
+use borrow.Author.Needs.{needs}
+use mir.Syntax.{w32}
+use mir.Val.{SFits}
+use Rattle.arith.proofs.Laws.{same32}
+use Rattle.trace_text.specs.Output.{decimalOf, spaced}
+use Rattle.trace_text.proofs.Puts.{put-clip, put-then, Putting, putting, putting-next, putting-done}
+use Rattle.trace_text.proofs.put_values.Statement.{statement}
+use Rattle.trace_text.proofs.put_values.Tie as tie
+
+abbrev Inv-loop : tie.InvT-loop
+Inv-loop out₀ at values place₀ i₀ out place i = Putting out₀ place₀ (spaced (map decimalOf values)) out place (spaced (map decimalOf (drop i values)))
+
+abbrev μ-loop : tie.MeasureT-loop
+μ-loop out₀ at values place₀ i₀ out place i = length values - i
+
+clip-requires : tie.Need-clip-requires Inv-loop μ-loop
+clip-requires c κs = tt
+
+loop-holds : tie.Need-loop-holds Inv-loop μ-loop
+loop-holds c = let e = c .clip .ensures in putting _ _ _ (omega arith)
+
+mul-z : tie.Need-mul-z Inv-loop μ-loop
+mul-z c = search needs
+
+shared-slice-copy-out-z : tie.Need-shared-slice-copy-out-z Inv-loop μ-loop
+shared-slice-copy-out-z c = search needs
+
+put-byte-requires : tie.Need-put-byte-requires Inv-loop μ-loop
+put-byte-requires c κs = tt
+
+put-decimal-requires : tie.Need-put-decimal-requires Inv-loop μ-loop
+put-decimal-requires c κs = tt
+
+add-i : tie.Need-add-i Inv-loop μ-loop
+add-i c = search needs
+
+loop-less : tie.Need-loop-less Inv-loop μ-loop
+loop-less c = omega arith
+
+loop-again : tie.Need-loop-again Inv-loop μ-loop
+loop-again c =
+    let f : SFits w32 (getD (c .before .before .before .before .before .before .before .before .before .before .before .before .before .args .values .now) (c .before .before .before .before .before .before .before .before .before .before .loop .i) (pos 0)) = search needs in
+    let p = rw (same32 f) at (put-then (c .before .before .before .before .before .before .put-byte .ensures) (c .before .before .put-decimal .ensures)) in
+    putting-next (32 ∷ decimalOf (getD (c .before .before .before .before .before .before .before .before .before .before .before .before .before .args .values .now) (c .before .before .before .before .before .before .before .before .before .before .loop .i) (pos 0))) (c .before .before .before .before .before .before .before .before .before .before .loop .inv) (rw (drop-cons (c .before .before .before .before .before .before .before .before .before .before .before .before .before .args .values .now) (c .before .before .before .before .before .before .before .before .before .before .loop .i) (pos 0) (c .before .before .before .before .before .before .before .before .before .loop-test .taken), add-one)) p
+
+same-length : tie.Need-same-length Inv-loop μ-loop
+same-length c = c .before .loop .inv .same
+
+returns : tie.Need-returns Inv-loop μ-loop
+returns c = put-clip (rw (c .before .before .clip .ensures) at (putting-done (c .before .loop .inv) (rw (drop-of-length-le (c .before .before .before .before .args .values .now) (c .loop-test .left)))))
+
+pub put-values-spec : {M : Type 1} → statement M
+put-values-spec =
+    tie.close
+    (tie.spec
+    Inv-loop
+    μ-loop
+    clip-requires
+    loop-holds
+    mul-z
+    shared-slice-copy-out-z
+    put-byte-requires
+    put-decimal-requires
+    add-i
+    loop-less
+    loop-again
+    same-length
+    returns)

@@ -1,0 +1,81 @@
+-- `trace_text::split_chunk` meets its contract. The loop's invariant: what is left of the chunk makes the whole. Assumes nothing.
+use mathlib.Core.Path.{_≡_, refl, sym, ap, _∙_}
+use Prim.Native.Nat.{_-_}
+use native.Mathlib.Omega.{arith}
+use lib.ListN.{length}
+use borrow.Author.Needs.{needs}
+use Rattle.trace_text.proofs.Puts.{put-clip, putting}
+use Rattle.trace_text.proofs.Chunks.{Dividing, divide-all, divide-rows, divide-byte}
+use Rattle.trace_text.proofs.split_chunk.Statement.{statement}
+use Rattle.trace_text.proofs.split_chunk.Tie as tie
+
+abbrev Inv-loop : tie.InvT-loop
+Inv-loop text₀ chunk from stage₀ place₀ i₀ text stage place i = Dividing text₀ place₀ stage₀ chunk i₀ text place stage i
+
+abbrev μ-loop : tie.MeasureT-loop
+μ-loop text₀ chunk from stage₀ place₀ i₀ text stage place i = length chunk - i
+
+clip-requires : tie.Need-clip-requires Inv-loop μ-loop
+clip-requires c κs = tt
+
+loop-holds : tie.Need-loop-holds Inv-loop μ-loop
+loop-holds c =
+    let e = c .clip .ensures in
+    record { stages = refl; put = putting _ _ _ (omega arith); place = refl }
+
+is-rows-requires : tie.Need-is-rows-requires Inv-loop μ-loop
+is-rows-requires c κs = tt
+
+same-length : tie.Need-same-length Inv-loop μ-loop
+same-length c = c .before .before .before .loop .inv .put .same
+
+returns : tie.Need-returns Inv-loop μ-loop
+returns c =
+    let w = divide-rows (c .before .before .before .loop .inv) (sym (c .before .is-rows .ensures) ∙ c .if1 .taken) in
+    (w .0, (put-clip (rw (c .before .before .before .before .clip .ensures) at (w .1 .0)), w .1 .1))
+
+shared-slice-read-b : tie.Need-shared-slice-read-b Inv-loop μ-loop
+shared-slice-read-b c = search needs
+
+put-text-requires : tie.Need-put-text-requires Inv-loop μ-loop
+put-text-requires c κs = tt
+
+stage-after-requires : tie.Need-stage-after-requires Inv-loop μ-loop
+stage-after-requires c κs = tt
+
+add-i : tie.Need-add-i Inv-loop μ-loop
+add-i c = search needs
+
+loop-less : tie.Need-loop-less Inv-loop μ-loop
+loop-less c = omega arith
+
+loop-again : tie.Need-loop-again Inv-loop μ-loop
+loop-again c = divide-byte (c .before .before .before .before .before .before .before .before .before .loop .inv) (c .before .before .before .before .before .before .before .before .loop-test .taken) (sym (c .before .before .before .before .before .before .before .is-rows .ensures) ∙ c .before .before .before .before .before .before .if1 .left) (c .stage-after .ensures) (c .before .before .before .put-text .ensures)
+
+same-length-2 : tie.Need-same-length-2 Inv-loop μ-loop
+same-length-2 c = c .before .loop .inv .put .same
+
+returns-2 : tie.Need-returns-2 Inv-loop μ-loop
+returns-2 c =
+    let w = divide-all (c .before .loop .inv) (c .loop-test .left) in
+    (w .0, (put-clip (rw (c .before .before .clip .ensures) at (w .1 .0)), w .1 .1))
+
+pub split-chunk-spec : {M : Type 1} → statement M
+split-chunk-spec =
+    tie.close
+    (tie.spec
+    Inv-loop
+    μ-loop
+    clip-requires
+    loop-holds
+    is-rows-requires
+    same-length
+    returns
+    shared-slice-read-b
+    put-text-requires
+    stage-after-requires
+    add-i
+    loop-less
+    loop-again
+    same-length-2
+    returns-2)

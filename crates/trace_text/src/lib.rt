@@ -1,0 +1,480 @@
+// Rows from lines and decimal printing: what the program `trace` needs that is no service. Standard input and its lines have no
+// limit, so what is read is a state carried from byte to byte.
+ghost use mathlib.Core.Path.{_≡_};
+ghost use mathlib.Core.Bool.{true};
+ghost use mathlib.Core.List.{[], _∷_, map};
+ghost use Prim.Native.Nat.{_+_, _≤_, min};
+ghost use lib.ListN.{length, drop, set};
+ghost use lib.Seq.{sets};
+ghost use Rattle.lexer.specs.Bytes.{part};
+ghost use Rattle.trace_text.specs.Input.{bare};
+ghost use Rattle.trace_text.specs.Row.{longRow, handedOf};
+ghost use Rattle.trace_text.specs.Output.{Put, unsignedDecimal, decimalOf, spaced, refusedLine, headLine, rowLine, spelledBy};
+ghost use Rattle.trace_text.specs.Internal.{textStage, stageAfter, textAfter, stageOver, textOver, isRows, bytesBefore, digitAfter, numberBegins, signed as signedOf, inRange, counts, cellsEnd, lineAfter, cellsAfter, lineOver, cellsOver, countOf, cellsOf, bytesIn, isEnded, isBegun};
+
+// ---- the text and the rows
+
+// Where the splitting of standard input has come to.
+pub enum Stage {
+    // In the text, at the start of a line.
+    LineStart,
+    // In a line of the text.
+    InLine,
+    // `#` began a line of the text; it is held back.
+    Hash,
+    // Past the line `#`.
+    Rows,
+}
+
+// The stage, and how many bytes of the text are stored.
+pub struct Split {
+    pub stage: Stage,
+    pub length: usize,
+}
+
+// The splitter behind a chunk, and the place where the rows begin (the chunk's end where none does).
+pub struct Divided {
+    pub split: Split,
+    pub rows: usize,
+}
+
+pub fn split_start() -> Split
+    ensures { λ r. ⌜ (r .stage ≡ Stage.LineStart) × (r .length ≡ 0) ⌝ }
+{
+    Split {
+        stage: Stage::LineStart,
+        length: 0,
+    }
+}
+
+pub fn is_rows(stage: Stage) -> bool
+    ensures { λ r. ⌜ r ≡ isRows stage ⌝ }
+{
+    match stage {
+        Stage::LineStart => false,
+        Stage::InLine => false,
+        Stage::Hash => false,
+        Stage::Rows => true,
+    }
+}
+
+// The place, or the end where the place is past it.
+fn clip(end: usize, at: usize) -> usize
+    ensures { λ r. ⌜ r ≡ min at end ⌝ }
+{
+    if at < end {
+        return at;
+    }
+    end
+}
+
+// One byte, where there is room for it; the place behind it, at most the buffer's end.
+pub fn put_byte(out: &mut [u8], at: usize, b: u8) -> usize
+    ensures { λ r. ⌜ Put (now (out .entry)) at (b ∷ []) (now (out .exit)) r ⌝ }
+{
+    if at < out.len() {
+        out[at] = b;
+        return at + 1;
+    }
+    out.len()
+}
+
+fn text_stage(b: u8) -> Stage
+    ensures { λ r. ⌜ r ≡ textStage b ⌝ }
+{
+    if b == 10 {
+        return Stage::LineStart;
+    }
+    Stage::InLine
+}
+
+// The stage behind one byte of standard input.
+pub fn stage_after(stage: Stage, b: u8) -> Stage
+    ensures { λ r. ⌜ r ≡ stageAfter stage b ⌝ }
+{
+    match stage {
+        Stage::LineStart => {
+            if b == 35 {
+                return Stage::Hash;
+            }
+            text_stage(b)
+        }
+        Stage::InLine => text_stage(b),
+        Stage::Hash => {
+            if b == 10 {
+                return Stage::Rows;
+            }
+            Stage::InLine
+        }
+        Stage::Rows => Stage::Rows,
+    }
+}
+
+// What one byte of standard input adds to the text, as far as there is room; the place behind it.
+pub fn put_text(text: &mut [u8], at: usize, stage: Stage, b: u8) -> usize
+    ensures { λ r. ⌜ Put (now (text .entry)) at (textAfter stage b) (now (text .exit)) r ⌝ }
+{
+    match stage {
+        Stage::LineStart => {
+            if b == 35 {
+                return clip(text.len(), at);
+            }
+            put_byte(text, at, b)
+        }
+        Stage::InLine => put_byte(text, at, b),
+        Stage::Hash => {
+            if b == 10 {
+                return clip(text.len(), at);
+            }
+            let next = put_byte(text, at, 35);
+            put_byte(text, next, b)
+        }
+        Stage::Rows => clip(text.len(), at),
+    }
+}
+
+// The bytes of a chunk from a place on, as far as the rows.
+pub fn split_chunk(text: &mut [u8], s: Split, chunk: &[u8], from: usize) -> Divided
+    ensures { λ r. ⌜ r .split .stage ≡ stageOver (s .stage) (drop from (now (chunk .entry))) ⌝ }
+    ensures { λ r. ⌜ Put (now (text .entry)) (s .length) (textOver (s .stage) (drop from (now (chunk .entry)))) (now (text .exit)) (r .split .length) ⌝ }
+    ensures { λ r. ⌜ r .rows ≡ from + bytesBefore (s .stage) (drop from (now (chunk .entry))) ⌝ }
+{
+    let mut stage = s.stage;
+    let mut place = clip(text.len(), s.length);
+    let mut i = from;
+    while i < chunk.len() {
+        if is_rows(stage) {
+            let split = Split {
+                stage: stage,
+                length: place,
+            };
+            return Divided { split: split, rows: i };
+        }
+        let b = chunk[i];
+        place = put_text(text, place, stage, b);
+        stage = stage_after(stage, b);
+        i += 1;
+    }
+    let split = Split {
+        stage: stage,
+        length: place,
+    };
+    Divided { split: split, rows: i }
+}
+
+// ---- the row of a line
+
+// Where the reading of a line has come to, with the count of its numbers so far.
+pub enum Line {
+    // No byte yet.
+    Start,
+    // A number must begin.
+    Wanted(usize),
+    // A digit must follow `-`.
+    Minus(usize),
+    // In a number: whether it is negative, and its digits' value so far.
+    Number(usize, bool, u64),
+    // No row, or one of over 64 numbers.
+    NoRow,
+}
+
+// The line behind a chunk, the place behind its LF (or the chunk's end), and whether LF ended it.
+pub struct Fed {
+    pub line: Line,
+    pub next: usize,
+    pub ended: bool,
+}
+
+// A byte of the line was read: at the end of the input such a line is a row, and an empty one is no line.
+pub fn is_begun(s: Line) -> bool
+    ensures { λ r. ⌜ r ≡ isBegun s ⌝ }
+{
+    match s {
+        Line::Start => false,
+        Line::Wanted(_) => true,
+        Line::Minus(_) => true,
+        Line::Number(_, _, _) => true,
+        Line::NoRow => true,
+    }
+}
+
+fn wide(x: u8) -> u64
+    ensures { λ r. ⌜ r ≡ x ⌝ }
+{
+    x as u64
+}
+
+fn digit(n: usize, negative: bool, v: u64, b: u8) -> Line
+    ensures { λ r. ⌜ r ≡ digitAfter n negative v b ⌝ }
+{
+    if b < 48 {
+        return Line::NoRow;
+    }
+    if 58 <= b {
+        return Line::NoRow;
+    }
+    if 214748364 < v {
+        return Line::NoRow;
+    }
+    Line::Number(n, negative, 10 * v + wide(b) % 16)
+}
+
+fn begin(n: usize, b: u8) -> Line
+    ensures { λ r. ⌜ r ≡ numberBegins n b ⌝ }
+{
+    if b == 45 {
+        return Line::Minus(n);
+    }
+    digit(n, false, 0, b)
+}
+
+fn in_range(negative: bool, v: u64) -> bool
+    ensures { λ r. ⌜ r ≡ inRange negative v ⌝ }
+{
+    if negative {
+        return v <= 2147483648;
+    }
+    v <= 2147483647
+}
+
+fn signed(negative: bool, v: u64) -> i32
+    requires { ⌜ inRange negative v ≡ true ⌝ }
+    ensures { λ r. ⌜ r ≡ signedOf negative v ⌝ }
+{
+    if v == 0 {
+        return 0;
+    }
+    if negative {
+        let before = (v - 1) as i32;
+        return -1 - before;
+    }
+    v as i32
+}
+
+// One number, where there is room for it.
+fn store(cells: &mut [i32], at: usize, z: i32)
+    ensures { λ _. ⌜ now (cells .exit) ≡ set (now (cells .entry)) at z ⌝ }
+{
+    if at < cells.len() {
+        cells[at] = z;
+    }
+}
+
+// The n + 1st number of the line is whole: it is stored where it counts.
+fn end_number(cells: &mut [i32], n: usize, negative: bool, v: u64) -> bool
+    ensures { λ r. ⌜ (r ≡ counts n negative v) × (now (cells .exit) ≡ cellsEnd n negative v (now (cells .entry))) ⌝ }
+{
+    if in_range(negative, v) {
+        if n < 64 {
+            store(cells, n, signed(negative, v));
+            return true;
+        }
+    }
+    false
+}
+
+fn number_byte(cells: &mut [i32], n: usize, negative: bool, v: u64, b: u8) -> Line
+    ensures { λ r. ⌜ (r ≡ lineAfter (Line.Number n negative v) b) × (now (cells .exit) ≡ cellsAfter (Line.Number n negative v) (now (cells .entry)) b) ⌝ }
+{
+    if b == 32 {
+        if end_number(cells, n, negative, v) {
+            return Line::Wanted(n + 1);
+        }
+        return Line::NoRow;
+    }
+    digit(n, negative, v, b)
+}
+
+// One byte of a line. Numbers are stored where they end.
+pub fn line_byte(cells: &mut [i32], s: Line, b: u8) -> Line
+    ensures { λ r. ⌜ (r ≡ lineAfter s b) × (now (cells .exit) ≡ cellsAfter s (now (cells .entry)) b) ⌝ }
+{
+    match s {
+        Line::Start => begin(0, b),
+        Line::Wanted(n) => begin(n, b),
+        Line::Minus(n) => digit(n, true, 0, b),
+        Line::Number(n, negative, v) => number_byte(cells, n, negative, v, b),
+        Line::NoRow => Line::NoRow,
+    }
+}
+
+// The bytes of a chunk from a place on, as far as the line goes.
+pub fn line_chunk(cells: &mut [i32], s: Line, chunk: &[u8], from: usize) -> Fed
+    ensures { λ r. ⌜ r .line ≡ lineOver s (bare (drop from (now (chunk .entry)))) ⌝ }
+    ensures { λ _. ⌜ now (cells .exit) ≡ cellsOver s (now (cells .entry)) (bare (drop from (now (chunk .entry)))) ⌝ }
+    ensures { λ r. ⌜ (r .next ≡ from + bytesIn (drop from (now (chunk .entry)))) × (r .ended ≡ isEnded (drop from (now (chunk .entry)))) ⌝ }
+{
+    let mut line = s;
+    let mut i = from;
+    while i < chunk.len() {
+        let b = chunk[i];
+        i += 1;
+        if b == 10 {
+            return Fed { line: line, next: i, ended: true };
+        }
+        line = line_byte(cells, line, b);
+    }
+    Fed { line: line, next: i, ended: false }
+}
+
+// A row of a length that no image has.
+fn put_long_row(cells: &mut [i32]) -> usize
+    ensures { λ r. ⌜ (r ≡ 65) × (now (cells .exit) ≡ sets (now (cells .entry)) 0 longRow) ⌝ }
+{
+    let mut i = 0;
+    while i < 65 {
+        store(cells, i, 0);
+        i += 1;
+    }
+    i
+}
+
+// The line has ended: how many of the cells, from the first on, are the row for scan.
+pub fn line_end(cells: &mut [i32], s: Line) -> usize
+    ensures { λ r. ⌜ (r ≡ countOf s) × (now (cells .exit) ≡ cellsOf s (now (cells .entry))) ⌝ }
+{
+    match s {
+        Line::Start => 0,
+        Line::Number(n, negative, v) => {
+            if end_number(cells, n, negative, v) {
+                return n + 1;
+            }
+            put_long_row(cells)
+        }
+        Line::Wanted(_) => put_long_row(cells),
+        Line::Minus(_) => put_long_row(cells),
+        Line::NoRow => put_long_row(cells),
+    }
+}
+
+// The row of a whole line.
+pub fn read_row(cells: &mut [i32], line: &[u8]) -> usize
+    ensures { λ r. ⌜ (r ≡ length (handedOf (now (line .entry)))) × (now (cells .exit) ≡ sets (now (cells .entry)) 0 (handedOf (now (line .entry)))) ⌝ }
+{
+    let mut s = Line::Start;
+    let mut i = 0;
+    while i < line.len() {
+        s = line_byte(cells, s, line[i]);
+        i += 1;
+    }
+    line_end(cells, s)
+}
+
+// ---- printing
+
+// The shortest decimal.
+pub fn put_unsigned_decimal(out: &mut [u8], at: usize, n: u64) -> usize
+    ensures { λ r. ⌜ Put (now (out .entry)) at (unsignedDecimal n) (now (out .exit)) r ⌝ }
+{
+    if n < 10 {
+        return put_byte(out, at, (48 + n) as u8);
+    }
+    let next = put_unsigned_decimal(out, at, n / 10);
+    put_byte(out, next, (48 + n % 10) as u8)
+}
+
+pub fn put_decimal(out: &mut [u8], at: usize, z: i32) -> usize
+    ensures { λ r. ⌜ Put (now (out .entry)) at (decimalOf z) (now (out .exit)) r ⌝ }
+{
+    if 0 <= z {
+        return put_unsigned_decimal(out, at, z as u64);
+    }
+    let next = put_byte(out, at, 45);
+    let n = -1 - z;
+    put_unsigned_decimal(out, next, n as u64 + 1)
+}
+
+fn put_bytes(out: &mut [u8], at: usize, word: &[u8]) -> usize
+    ensures { λ r. ⌜ Put (now (out .entry)) at (now (word .entry)) (now (out .exit)) r ⌝ }
+{
+    let mut place = clip(out.len(), at);
+    let mut i = 0;
+    while i < word.len() {
+        place = put_byte(out, place, word[i]);
+        i += 1;
+    }
+    place
+}
+
+// The part of the text from `start` to `end`, after a space.
+fn put_name(out: &mut [u8], at: usize, text: &[u8], start: usize, end: usize) -> usize
+    ensures { λ r. ⌜ Put (now (out .entry)) at (32 ∷ part (now (text .entry)) start end) (now (out .exit)) r ⌝ }
+{
+    let mut place = put_byte(out, at, 32);
+    let mut i = start;
+    while i < end {
+        if text.len() <= i {
+            return place;
+        }
+        place = put_byte(out, place, text[i]);
+        i += 1;
+    }
+    place
+}
+
+// The names that the first `count` entries of the table spell, each after a space.
+fn put_names(out: &mut [u8], at: usize, text: &[u8], starts: &[usize], ends: &[usize], count: usize) -> usize
+    ensures { λ r. ⌜ Put (now (out .entry)) at (spaced (spelledBy (now (text .entry)) (now (starts .entry)) (now (ends .entry)) count)) (now (out .exit)) r ⌝ }
+{
+    let mut place = clip(out.len(), at);
+    let mut i = 0;
+    while i < count {
+        if starts.len() <= i {
+            return place;
+        }
+        if ends.len() <= i {
+            return place;
+        }
+        let s = starts[i];
+        let e = ends[i];
+        place = put_name(out, place, text, s, e);
+        i += 1;
+    }
+    place
+}
+
+// `scan`, the names that the first `count` entries of the table spell, `result`.
+pub fn put_head(out: &mut [u8], at: usize, text: &[u8], starts: &[usize], ends: &[usize], count: usize) -> usize
+    ensures { λ r. ⌜ Put (now (out .entry)) at (headLine (spelledBy (now (text .entry)) (now (starts .entry)) (now (ends .entry)) count)) (now (out .exit)) r ⌝ }
+{
+    let first = put_bytes(out, at, b"scan");
+    let second = put_names(out, first, text, starts, ends, count);
+    put_bytes(out, second, b" result\n")
+}
+
+// Numbers, each after a space.
+fn put_values(out: &mut [u8], at: usize, values: &[i32]) -> usize
+    ensures { λ r. ⌜ Put (now (out .entry)) at (spaced (map decimalOf (now (values .entry)))) (now (out .exit)) r ⌝ }
+{
+    let mut place = clip(out.len(), at);
+    let mut i = 0;
+    while i < values.len() {
+        let z = values[i];
+        let next = put_byte(out, place, 32);
+        place = put_decimal(out, next, z);
+        i += 1;
+    }
+    place
+}
+
+// Row number, values, refusal or 0.
+pub fn put_row(out: &mut [u8], at: usize, number: u64, values: &[i32], refusal: u64) -> usize
+    ensures { λ r. ⌜ Put (now (out .entry)) at (rowLine number (now (values .entry)) refusal) (now (out .exit)) r ⌝ }
+{
+    let first = put_unsigned_decimal(out, at, number);
+    let second = put_values(out, first, values);
+    let third = put_byte(out, second, 32);
+    let fourth = put_unsigned_decimal(out, third, refusal);
+    put_byte(out, fourth, 10)
+}
+
+// `refused K at P`
+pub fn put_refused(out: &mut [u8], at: usize, number: u64, place: u64) -> usize
+    ensures { λ r. ⌜ Put (now (out .entry)) at (refusedLine number place) (now (out .exit)) r ⌝ }
+{
+    let first = put_bytes(out, at, b"refused ");
+    let second = put_unsigned_decimal(out, first, number);
+    let third = put_bytes(out, second, b" at ");
+    let fourth = put_unsigned_decimal(out, third, place);
+    put_byte(out, fourth, 10)
+}
