@@ -1,0 +1,1 @@
+// The start and scan services. Definitions only.
