@@ -5,6 +5,8 @@ use mathlib.Core.List.{List, [], _∷_}
 use lib.ListN.{length}
 use lib.Dec.{ltb}
 use Rattle.limits.specs.Limits.{textLimit, tooLong}
+use Rattle.limits.specs.Answer.{Answer}
+use Rattle.limits.specs.Answer as A
 use Rattle.lexer.specs.Bytes.{pick}
 use Rattle.lexer.specs.Token.{inputWord, varWord}
 use Rattle.semantics.specs.Program.{Name, Rule, Program, knownFirst}
@@ -23,3 +25,11 @@ program text =
 
 unfoldable pub parse : List ℕ → Parsed Program
 parse text = let read = program text in pick (ltb textLimit (length text)) (refused tooLong 0) read
+
+-- the answer to a text: its program, or the number and place of the first refusal
+abbrev pub answerOf : Parsed Program → Answer Program
+answerOf (accepted p n) = A.accepted p
+answerOf (refused number place) = A.refused number place
+
+unfoldable pub programOf : List ℕ → Answer Program
+programOf text = answerOf (parse text)

@@ -1,0 +1,53 @@
+-- The bytes that a translator writes while it reads are those of the image: each part's bytes are its encoded instructions.
+-- Assumes nothing.
+use mathlib.Core.Path.{_≡_, refl, ap, sym, _∙_}
+use mathlib.Core.List.{List, [], _∷_, _++_, map, append-assoc, append-nil}
+use Prim.Native.Nat.{ℕ, _-_}
+use lib.ListN.{length, length-map}
+use Rattle.leb128.specs.Numbers.{number, zigzag}
+use Rattle.semantics.specs.Program.{Name, Expression, constant, current, previous, operation, negate, Condition, comparison, negated, both, either, Case, Rule, function, change, Program, rangesOf}
+use Rattle.bytecode.specs.Instructions.{Instruction, operationCode, comparisonCode, encode, encodeAll}
+use Rattle.bytecode.specs.Translation.{imageOf, encodeHeader, encodeRanges, codeRules}
+use Rattle.bytecode.specs.Translation as B
+use Rattle.grammar.specs.Emitted.{codeE, codeC, codeK, codeR, header, image}
+
+pub encode-append : (xs ys : List Instruction) → encodeAll (xs ++ ys) ≡ encodeAll xs ++ encodeAll ys
+encode-append [] ys = refl
+encode-append (i ∷ xs) ys = rw (encode-append xs ys, append-assoc)
+
+pub expression-emitted : (e : Expression) → codeE e ≡ encodeAll (B.codeE e)
+unfolding codeE
+expression-emitted (constant z) = simp append-nil
+expression-emitted (current i) = simp append-nil
+expression-emitted (previous i) = simp append-nil
+expression-emitted (operation o a b) = simp (expression-emitted a, expression-emitted b, encode-append, append-assoc)
+expression-emitted (negate a) = simp (expression-emitted a, encode-append)
+
+pub condition-emitted : (c : Condition) → codeC c ≡ encodeAll (B.codeC c)
+unfolding codeC
+condition-emitted (comparison o a b) = simp (expression-emitted a, expression-emitted b, encode-append, append-assoc)
+condition-emitted (negated a) = simp (condition-emitted a, encode-append)
+condition-emitted (both a b) = simp (condition-emitted a, condition-emitted b, encode-append, append-assoc)
+condition-emitted (either a b) = simp (condition-emitted a, condition-emitted b, encode-append, append-assoc)
+
+pub cases-emitted : (v : ℕ) (ks : List Case) → codeK v ks ≡ encodeAll (B.codeK v ks)
+unfolding codeK
+cases-emitted v [] = refl
+cases-emitted v (k ∷ ks) =
+    simp (condition-emitted (k .condition), expression-emitted (k .value), cases-emitted v ks, encode-append, append-assoc)
+
+pub rules-emitted : (rs : List Rule) → codeR rs ≡ encodeAll (codeRules rs)
+unfolding codeR
+rules-emitted [] = refl
+rules-emitted (function v e ∷ rs) = simp (expression-emitted e, rules-emitted rs, encode-append, append-assoc)
+rules-emitted (change v ks cs ∷ rs) = simp (cases-emitted v ks, rules-emitted rs, encode-append, append-assoc)
+
+pub header-emitted : (names : List Name) → header names ≡ encodeRanges (map (λ n. n .range) names)
+unfolding header
+header-emitted [] = refl
+header-emitted (x ∷ l) = rw (header-emitted l)
+
+-- what is emitted for a program is its image
+pub image-emitted : (p : Program) → image p ≡ imageOf p
+unfolding image imageOf
+image-emitted p = simp (rules-emitted (p .rules), header-emitted (p .names), length-map, append-assoc)
