@@ -1,0 +1,65 @@
+-- Laws of signed numbers between bounds, and of the bytes that are written. Assumes nothing.
+use mathlib.Core.Path.{_≡_, refl, sym, ap, _∙_}
+use mathlib.Core.Bool.{Bool, true, false, _&&_, false≢true}
+use mathlib.Core.List.{List, [], _∷_, _++_}
+use Prim.Native.Nat.{ℕ, zero, suc, _+_, _^_, _≤_, _<_}
+use native.Mathlib.Nat.{add-zero}
+use native.Mathlib.Omega.{arith}
+use lib.IntN.{ℤ, pos, negsuc, negℤ, _-ℤ_, +ℤ-idl}
+use lib.ListN.{length, set, length-append}
+use lib.Seq.{sets}
+use lib.Signed.{mag, leZ}
+use borrow.Author.Tests.{leb-true}
+use mir.Syntax.{w32, w64}
+use mir.Val.{SFits, toZ}
+use mir.Facts.{toZ-pos}
+use Rattle.arith.proofs.Laws.{mag-neg}
+use Rattle.leb128.specs.Numbers.{number, zigzag}
+use Rattle.leb128.proofs.Laws.{at-most-five}
+use Rattle.declarations.specs.Internal.{rangeBytes}
+
+-- ---- bounds
+
+-- what lies between two 32-bit numbers is one
+pub between : (a z b : ℤ) → leZ a z ≡ true → leZ z b ≡ true → SFits w32 a → SFits w32 b → SFits w32 z
+between a (pos n) (pos m) p q f g = let h : m < 2 ^ 31 = g .sfits in record { sfits = omega (arith, leb-true n m q) }
+between a (pos n) (negsuc m) p q f g = absurd (false≢true q)
+between (pos m) (negsuc n) b p q f g = absurd (false≢true p)
+between (negsuc m) (negsuc n) b p q f g = let h : m < 2 ^ 31 = f .sfits in record { sfits = omega (arith, leb-true n m p) }
+
+-- ---- the value of digits with its sign, in 64 bits
+module _ (v : ℕ) (h : v ≤ 2 ^ 32) where
+  pub held : toZ w64 v ≡ pos v
+  held = toZ-pos w64 (omega arith)
+
+  pub negated : pos 0 -ℤ toZ w64 v ≡ negℤ (pos v)
+  negated = rw (held, +ℤ-idl)
+
+  pub negated-fits : SFits w64 (negℤ (pos v))
+  negated-fits = record { sfits = omega (arith, mag-neg (pos v)) }
+
+-- ---- bytes
+
+pub sets-append : (l : List ℕ) (i : ℕ) (xs ys : List ℕ) → sets l i (xs ++ ys) ≡ sets (sets l i xs) (i + length xs) ys
+sets-append l i [] ys = rw (add-zero i)
+sets-append l i (x ∷ xs) ys = sets-append (set l i x) (suc i) xs ys ∙ ap (λ (k : ℕ). sets (sets (set l i x) (suc i) xs) k ys) (omega arith)
+
+-- a number takes five bytes at most
+pub near : (to a : ℕ) (z : ℤ) → a ≡ to + length (number (zigzag z)) → a ≤ to + 5
+near to a z e = omega (arith, at-most-five (zigzag z))
+
+-- three numbers, each written behind the one before
+pub three-written : (before m1 m2 after : List ℕ) (to a b end : ℕ) (low high start : ℤ) → (a ≡ to + length (number (zigzag low))) × (m1 ≡ sets before to (number (zigzag low))) → (b ≡ a + length (number (zigzag high))) × (m2 ≡ sets m1 a (number (zigzag high))) → (end ≡ b + length (number (zigzag start))) × (after ≡ sets m2 b (number (zigzag start))) → (end ≡ to + length (rangeBytes low high start)) × (after ≡ sets before to (rangeBytes low high start))
+unfolding rangeBytes
+three-written before m1 m2 after to a b end low high start p q r =
+    let x = number (zigzag low) in
+    let y = number (zigzag high) in
+    let z = number (zigzag start) in
+    let e1 : sets before to (x ++ (y ++ (z ++ []))) ≡ sets m1 a (y ++ (z ++ [])) = sets-append before to x (y ++ (z ++ [])) ∙ rw (p .0, p .1) in
+    let e2 : sets m1 a (y ++ (z ++ [])) ≡ sets m2 b (z ++ []) = sets-append m1 a y (z ++ []) ∙ rw (q .0, q .1) in
+    let e3 : sets m2 b (z ++ []) ≡ after = sets-append m2 b z [] ∙ sym (r .1) in
+    (simp length-append (omega (arith, p .0, q .0, r .0)), sym (e1 ∙ e2 ∙ e3))
+
+pub range-bytes : (low high start : ℤ) → length (rangeBytes low high start) ≤ 15
+unfolding rangeBytes
+range-bytes low high start = simp length-append (omega (arith, at-most-five (zigzag low), at-most-five (zigzag high), at-most-five (zigzag start)))
