@@ -1,0 +1,366 @@
+-- The cycle of `conditions::condition`, `conjunction`, `atom`, `inverted` and `square` meets its contracts. The measure is five for
+-- each bracket left to open, and the function's rank. The invariant of the two loops is `Turn`. Assumes nothing.
+use Prim.Native.Nat.{ℕ, _+_, _-_, _*_, _<_}
+use mathlib.Core.Path.{_≡_, _∙_}
+use native.Mathlib.Omega.{arith}
+use lib.ListN.{length}
+use borrow.Author.Needs.{needs}
+use borrow.Fn.Kinds.{In}
+use borrow.Fn.PlainCycle.{Measures, is, falls, and}
+use Rattle.lexer.specs.Token.{kindNumber, closeSquare}
+use Rattle.grammar.specs.Conditions.{connect, andOf, orOf, conjunction as conjunction-of, condition as condition-of}
+use Rattle.grammar.specs.Emitted.{codeC}
+use Rattle.expressions.specs.Scopes.{scopeOf}
+use Rattle.expressions.proofs.Steps.{known, accepted-by, refuses, refused-now, accepts, answers, same-part, passed, ahead-token, ahead-fault, closed-parses, room-at, room-next}
+use Rattle.expressions.proofs.Chain.{Turn, chain-first, turn-first, turn-next, turn-done, turn-refused, turn-room, turn-more}
+use Rattle.conditions.specs.Internal.{atomIn, conjunctionIn}
+use Rattle.conditions.proofs.Ways.{ands, ors, inverted-fault, inverted-square, inverted-none, atom-fault, atom-inverted, atom-square, atom-comparison, opposite-refuses, opposite-accepts, square-none, square-some, atom-grows, conjunction-grows, room-square}
+use Rattle.conditions.proofs.atom.Reads as atom
+use Rattle.conditions.proofs.atom.Kinds as atom-kinds
+use Rattle.conditions.proofs.+atom+condition+conjunction+inverted+square.Lts-atom as atom-lts
+use Rattle.conditions.proofs.condition.Reads as condition
+use Rattle.conditions.proofs.condition.Kinds as condition-kinds
+use Rattle.conditions.proofs.+atom+condition+conjunction+inverted+square.Lts-condition as condition-lts
+use Rattle.conditions.proofs.conjunction.Reads as conjunction
+use Rattle.conditions.proofs.conjunction.Kinds as conjunction-kinds
+use Rattle.conditions.proofs.+atom+condition+conjunction+inverted+square.Lts-conjunction as conjunction-lts
+use Rattle.conditions.proofs.inverted.Reads as inverted
+use Rattle.conditions.proofs.inverted.Kinds as inverted-kinds
+use Rattle.conditions.proofs.+atom+condition+conjunction+inverted+square.Lts-inverted as inverted-lts
+use Rattle.conditions.proofs.square.Reads as square
+use Rattle.conditions.proofs.square.Kinds as square-kinds
+use Rattle.conditions.proofs.+atom+condition+conjunction+inverted+square.Lts-square as square-lts
+use Rattle.conditions.proofs.and_code.Reads as and-code-reads
+use Rattle.conditions.proofs.comparison.Reads as comparison-reads
+use Rattle.conditions.proofs.or_code.Reads as or-code-reads
+use Rattle.expressions.proofs.ahead.Reads as ahead-reads
+use Rattle.expressions.proofs.closed.Reads as closed-reads
+use Rattle.leb128.proofs.put_byte.Reads as put-byte-reads
+use Rattle.conditions.proofs.+atom+condition+conjunction+inverted+square.{statement}
+use Rattle.conditions.proofs.+atom+condition+conjunction+inverted+square.Tie.{close}
+
+-- ---- measures, and what each function may assume and must show
+
+abbrev μ-atom : Measures 4 atom-kinds.ps ℕ
+μ-atom κs a = 5 * a .1 .1 .1 .1 .1 .0 + 2
+
+abbrev μ-condition : Measures 4 condition-kinds.ps ℕ
+μ-condition κs a = 5 * a .1 .1 .1 .1 .1 .0 + 4
+
+abbrev μ-conjunction : Measures 4 conjunction-kinds.ps ℕ
+μ-conjunction κs a = 5 * a .1 .1 .1 .1 .1 .0 + 3
+
+abbrev μ-inverted : Measures 4 inverted-kinds.ps ℕ
+μ-inverted κs a = 5 * a .1 .1 .1 .1 .1 .0 + 1
+
+abbrev μ-square : Measures 4 square-kinds.ps ℕ
+μ-square κs a = 5 * a .1 .1 .1 .1 .1 .1 .0
+
+abbrev atom-at : ℕ → In 4 atom-kinds.ps
+atom-at t = and 4 atom-kinds.ps (is 4 atom-kinds.ps μ-atom t) atom.Pre
+
+abbrev atom-below : ℕ → In 4 atom-kinds.ps
+atom-below t = and 4 atom-kinds.ps (falls 4 atom-kinds.ps _<_ μ-atom t) atom.Pre
+
+abbrev condition-at : ℕ → In 4 condition-kinds.ps
+condition-at t = and 4 condition-kinds.ps (is 4 condition-kinds.ps μ-condition t) condition.Pre
+
+abbrev condition-below : ℕ → In 4 condition-kinds.ps
+condition-below t = and 4 condition-kinds.ps (falls 4 condition-kinds.ps _<_ μ-condition t) condition.Pre
+
+abbrev conjunction-at : ℕ → In 4 conjunction-kinds.ps
+conjunction-at t = and 4 conjunction-kinds.ps (is 4 conjunction-kinds.ps μ-conjunction t) conjunction.Pre
+
+abbrev conjunction-below : ℕ → In 4 conjunction-kinds.ps
+conjunction-below t = and 4 conjunction-kinds.ps (falls 4 conjunction-kinds.ps _<_ μ-conjunction t) conjunction.Pre
+
+abbrev inverted-at : ℕ → In 4 inverted-kinds.ps
+inverted-at t = and 4 inverted-kinds.ps (is 4 inverted-kinds.ps μ-inverted t) inverted.Pre
+
+abbrev inverted-below : ℕ → In 4 inverted-kinds.ps
+inverted-below t = and 4 inverted-kinds.ps (falls 4 inverted-kinds.ps _<_ μ-inverted t) inverted.Pre
+
+abbrev square-at : ℕ → In 4 square-kinds.ps
+square-at t = and 4 square-kinds.ps (is 4 square-kinds.ps μ-square t) square.Pre
+
+abbrev square-below : ℕ → In 4 square-kinds.ps
+square-below t = and 4 square-kinds.ps (falls 4 square-kinds.ps _<_ μ-square t) square.Pre
+
+abbrev atom-claims : ℕ → atom-lts.Claims
+atom-claims t = (ahead-reads.Asked, ahead-reads.Learnt, inverted-below t, inverted.Post, square-below t, square.Post, comparison-reads.Asked, comparison-reads.Learnt)
+
+abbrev condition-claims : ℕ → condition-lts.Claims
+condition-claims t = (conjunction-below t, conjunction.Post, or-code-reads.Asked, or-code-reads.Learnt, put-byte-reads.Asked, put-byte-reads.Learnt)
+
+abbrev conjunction-claims : ℕ → conjunction-lts.Claims
+conjunction-claims t = (atom-below t, atom.Post, and-code-reads.Asked, and-code-reads.Learnt, put-byte-reads.Asked, put-byte-reads.Learnt)
+
+abbrev inverted-claims : ℕ → inverted-lts.Claims
+inverted-claims t = (ahead-reads.Asked, ahead-reads.Learnt, square-below t, square.Post, put-byte-reads.Asked, put-byte-reads.Learnt)
+
+abbrev square-claims : ℕ → square-lts.Claims
+square-claims t = (condition-below t, condition.Post, closed-reads.Asked, closed-reads.Learnt)
+
+-- ---- atom
+
+atom-returns : (t : ℕ) → atom-lts.Need-returns (atom-claims t) (atom-at t) atom.Post
+atom-returns t c = ahead-fault _ _ _ (c .before .before .ahead .ensures) (c .enum-told .given .1) (atom-fault _ _ _ _)
+
+atom-inverted-requires : (t : ℕ) → atom-lts.Need-inverted-requires (atom-claims t) (atom-at t) atom.Post
+atom-inverted-requires t c κs =
+    let h = ahead-token _ _ _ (c .before .before .before .before .before .before .ahead .ensures) (c .before .before .before .before .read .given .1) in
+    (omega (arith, c .before .before .before .before .before .before .before .before .before .before .before .pre .0), (c .before .before .before .before .before .before .before .before .before .before .before .pre .1 .0, room-next (room-at (h .0) (c .before .before .before .before .before .before .before .before .before .before .before .pre .1 .1)) (known (h .1))))
+
+atom-returns-2 : (t : ℕ) → atom-lts.Need-returns-2 (atom-claims t) (atom-at t) atom.Post
+unfolding kindNumber
+atom-returns-2 t c =
+    let h = ahead-token _ _ _ (c .before .before .before .before .before .before .before .before .before .ahead .ensures) (c .before .before .before .before .before .before .before .read .given .1) in
+    same-part (atom-inverted _ _ _ (known (h .1)) (h .0) (c .before .before .before .before .if1 .taken)) (c .before .before .inverted .ensures)
+
+atom-square-requires : (t : ℕ) → atom-lts.Need-square-requires (atom-claims t) (atom-at t) atom.Post
+atom-square-requires t c κs =
+    let h = ahead-token _ _ _ (c .before .before .before .before .before .before .before .before .ahead .ensures) (c .before .before .before .before .before .before .read .given .1) in
+    (omega (arith, c .before .before .before .before .before .before .before .before .before .before .before .before .before .pre .0), (c .before .before .before .before .before .before .before .before .before .before .before .before .before .pre .1 .0, room-next (room-at (h .0) (c .before .before .before .before .before .before .before .before .before .before .before .before .before .pre .1 .1)) (known (h .1))))
+
+atom-returns-3 : (t : ℕ) → atom-lts.Need-returns-3 (atom-claims t) (atom-at t) atom.Post
+unfolding kindNumber
+atom-returns-3 t c =
+    let h = ahead-token _ _ _ (c .before .before .before .before .before .before .before .before .before .before .before .ahead .ensures) (c .before .before .before .before .before .before .before .before .before .read .given .1) in
+    same-part (atom-square _ _ _ (known (h .1)) (h .0) (c .before .before .before .before .before .before .if1 .left) (c .before .before .before .before .if2 .taken)) (c .before .before .square .ensures)
+
+atom-comparison-requires : (t : ℕ) → atom-lts.Need-comparison-requires (atom-claims t) (atom-at t) atom.Post
+atom-comparison-requires t c κs = c .before .before .before .before .before .before .before .before .before .before .before .before .before .pre .1
+
+atom-returns-4 : (t : ℕ) → atom-lts.Need-returns-4 (atom-claims t) (atom-at t) atom.Post
+unfolding kindNumber
+atom-returns-4 t c =
+    let h = ahead-token _ _ _ (c .before .before .before .before .before .before .before .before .before .before .before .ahead .ensures) (c .before .before .before .before .before .before .before .before .before .read .given .1) in
+    same-part (atom-comparison _ _ _ (known (h .1)) (h .0) (c .before .before .before .before .before .before .if1 .left) (c .before .before .before .before .if2 .left)) (c .before .before .comparison .ensures)
+
+-- ---- condition
+
+abbrev condition-Inv-loop : condition-lts.InvT-loop
+condition-Inv-loop text starts ends names at left out₀ to behind₀ t₀ out behind t =
+    Turn codeC connect orOf (conjunctionIn left (scopeOf text starts ends names)) text out₀ behind₀ t₀ out behind t
+
+abbrev condition-μ-loop : condition-lts.MeasureT-loop
+condition-μ-loop text starts ends names at left out₀ to behind₀ t₀ out behind t = length text - behind .at
+
+condition-conjunction-requires : (t : ℕ) → condition-lts.Need-conjunction-requires (condition-claims t) (condition-at t) condition.Post condition-Inv-loop condition-μ-loop
+condition-conjunction-requires t c κs = (omega (arith, c .before .before .before .before .before .pre .0), c .before .before .before .before .before .pre .1)
+
+condition-returns : (t : ℕ) → condition-lts.Need-returns (condition-claims t) (condition-at t) condition.Post condition-Inv-loop condition-μ-loop
+unfolding condition-of
+condition-returns t c = chain-first ors _ _ _ (c .before .before .before .before .conjunction .ensures) (c .enum-told .given .1)
+
+condition-loop-holds : (t : ℕ) → condition-lts.Need-loop-holds (condition-claims t) (condition-at t) condition.Post condition-Inv-loop condition-μ-loop
+condition-loop-holds t c = turn-first ors _ _ (c .before .before .before .before .before .before .before .before .before .before .before .pre .1 .1) (conjunction-grows (c .before .before .before .before .before .before .before .before .before .before .before .pre .1 .0) _ (c .before .before .before .before .before .before .before .before .before .before .before .pre .1 .1)) (accepted-by (c .before .before .before .before .before .conjunction .ensures) (c .before .first .given .1))
+
+condition-same-length-2 : (t : ℕ) → condition-lts.Need-same-length-2 (condition-claims t) (condition-at t) condition.Post condition-Inv-loop condition-μ-loop
+condition-same-length-2 t c = c .before .before .loop .inv .size ∙ c .before .before .before .before .before .before .before .before .conjunction .kept .1 .1 .1 .1 .1 .1 .0
+
+condition-returns-2 : (t : ℕ) → condition-lts.Need-returns-2 (condition-claims t) (condition-at t) condition.Post condition-Inv-loop condition-μ-loop
+unfolding condition-of
+condition-returns-2 t c = turn-done ors _ _ (c .before .before .loop .inv) (c .before .or-code .ensures) (accepted-by (c .before .before .before .before .before .before .before .before .conjunction .ensures) (c .before .before .before .before .first .given .1)) (c .if1 .taken)
+
+condition-conjunction-requires-2 : (t : ℕ) → condition-lts.Need-conjunction-requires-2 (condition-claims t) (condition-at t) condition.Post condition-Inv-loop condition-μ-loop
+condition-conjunction-requires-2 t c κs = (omega (arith, c .before .before .before .before .before .before .before .before .before .before .before .before .before .before .before .pre .0), (c .before .before .before .before .before .before .before .before .before .before .before .before .before .before .before .pre .1 .0, turn-next ors _ _ (c .before .before .before .loop .inv)))
+
+condition-same-length-3 : (t : ℕ) → condition-lts.Need-same-length-3 (condition-claims t) (condition-at t) condition.Post condition-Inv-loop condition-μ-loop
+condition-same-length-3 t c = c .before .before .before .before .conjunction2 .kept .1 .1 .1 .1 .1 .1 .0 ∙ c .before .before .before .before .before .before .before .before .loop .inv .size ∙ c .before .before .before .before .before .before .before .before .before .before .before .before .before .before .conjunction .kept .1 .1 .1 .1 .1 .1 .0
+
+condition-returns-3 : (t : ℕ) → condition-lts.Need-returns-3 (condition-claims t) (condition-at t) condition.Post condition-Inv-loop condition-μ-loop
+unfolding condition-of
+condition-returns-3 t c = turn-refused ors _ _ (c .before .before .before .before .before .before .before .before .loop .inv) (c .before .before .before .before .before .before .before .or-code .ensures) (c .before .before .before .before .before .before .if1 .left) (accepted-by (c .before .before .before .before .before .before .before .before .before .before .before .before .before .before .conjunction .ensures) (c .before .before .before .before .before .before .before .before .before .before .first .given .1)) (c .before .before .before .before .conjunction2 .ensures) (c .enum-told2 .given .1)
+
+condition-put-byte-requires : (t : ℕ) → condition-lts.Need-put-byte-requires (condition-claims t) (condition-at t) condition.Post condition-Inv-loop condition-μ-loop
+condition-put-byte-requires t c κs =
+    let r = turn-room ors _ _ (c .before .before .before .before .before .before .before .before .before .before .loop .inv) (c .before .before .before .before .before .before .before .before .before .or-code .ensures) (c .before .before .before .before .before .before .before .before .if1 .left) (conjunction-grows (c .before .before .before .before .before .before .before .before .before .before .before .before .before .before .before .before .before .before .before .before .before .before .pre .1 .0) _ (turn-next ors _ _ (c .before .before .before .before .before .before .before .before .before .before .loop .inv))) (accepted-by (c .before .before .before .before .before .before .conjunction2 .ensures) (c .before .before .more .given .1)) in
+    omega (arith, r .0 .short, r .0 .within, r .0 .room)
+
+condition-loop-less : (t : ℕ) → condition-lts.Need-loop-less (condition-claims t) (condition-at t) condition.Post condition-Inv-loop condition-μ-loop
+condition-loop-less t c =
+    let r = turn-room ors _ _ (c .before .before .before .before .before .before .before .before .before .before .before .before .before .loop .inv) (c .before .before .before .before .before .before .before .before .before .before .before .before .or-code .ensures) (c .before .before .before .before .before .before .before .before .before .before .before .if1 .left) (conjunction-grows (c .before .before .before .before .before .before .before .before .before .before .before .before .before .before .before .before .before .before .before .before .before .before .before .before .before .pre .1 .0) _ (turn-next ors _ _ (c .before .before .before .before .before .before .before .before .before .before .before .before .before .loop .inv))) (accepted-by (c .before .before .before .before .before .before .before .before .before .conjunction2 .ensures) (c .before .before .before .before .before .more .given .1)) in
+    omega (arith, r .0 .within, r .1)
+
+condition-loop-again : (t : ℕ) → condition-lts.Need-loop-again (condition-claims t) (condition-at t) condition.Post condition-Inv-loop condition-μ-loop
+condition-loop-again t c =
+    turn-more ors _ _ (c .before .before .before .before .before .before .before .before .before .before .before .before .before .loop .inv) (c .before .before .before .before .before .before .before .before .before .before .before .before .or-code .ensures) (c .before .before .before .before .before .before .before .before .before .before .before .if1 .left) (conjunction-grows (c .before .before .before .before .before .before .before .before .before .before .before .before .before .before .before .before .before .before .before .before .before .before .before .before .before .pre .1 .0) _ (turn-next ors _ _ (c .before .before .before .before .before .before .before .before .before .before .before .before .before .loop .inv))) (accepted-by (c .before .before .before .before .before .before .before .before .before .conjunction2 .ensures) (c .before .before .before .before .before .more .given .1))
+    (c .before .before .put-byte .ensures .1) (c .before .before .put-byte .ensures .0) (c .before .before .put-byte .kept .0 ∙ c .before .before .before .before .before .before .before .before .before .conjunction2 .kept .1 .1 .1 .1 .1 .1 .0)
+
+-- ---- conjunction
+
+abbrev conjunction-Inv-loop : conjunction-lts.InvT-loop
+conjunction-Inv-loop text starts ends names at left out₀ to behind₀ t₀ out behind t =
+    Turn codeC connect andOf (atomIn left (scopeOf text starts ends names)) text out₀ behind₀ t₀ out behind t
+
+abbrev conjunction-μ-loop : conjunction-lts.MeasureT-loop
+conjunction-μ-loop text starts ends names at left out₀ to behind₀ t₀ out behind t = length text - behind .at
+
+conjunction-atom-requires : (t : ℕ) → conjunction-lts.Need-atom-requires (conjunction-claims t) (conjunction-at t) conjunction.Post conjunction-Inv-loop conjunction-μ-loop
+conjunction-atom-requires t c κs = (omega (arith, c .before .before .before .before .before .pre .0), c .before .before .before .before .before .pre .1)
+
+conjunction-returns : (t : ℕ) → conjunction-lts.Need-returns (conjunction-claims t) (conjunction-at t) conjunction.Post conjunction-Inv-loop conjunction-μ-loop
+unfolding conjunction-of
+conjunction-returns t c = chain-first ands _ _ _ (c .before .before .before .before .atom .ensures) (c .enum-told .given .1)
+
+conjunction-loop-holds : (t : ℕ) → conjunction-lts.Need-loop-holds (conjunction-claims t) (conjunction-at t) conjunction.Post conjunction-Inv-loop conjunction-μ-loop
+conjunction-loop-holds t c = turn-first ands _ _ (c .before .before .before .before .before .before .before .before .before .before .before .pre .1 .1) (atom-grows (c .before .before .before .before .before .before .before .before .before .before .before .pre .1 .0) _ (c .before .before .before .before .before .before .before .before .before .before .before .pre .1 .1)) (accepted-by (c .before .before .before .before .before .atom .ensures) (c .before .first .given .1))
+
+conjunction-same-length-2 : (t : ℕ) → conjunction-lts.Need-same-length-2 (conjunction-claims t) (conjunction-at t) conjunction.Post conjunction-Inv-loop conjunction-μ-loop
+conjunction-same-length-2 t c = c .before .before .loop .inv .size ∙ c .before .before .before .before .before .before .before .before .atom .kept .1 .1 .1 .1 .1 .1 .0
+
+conjunction-returns-2 : (t : ℕ) → conjunction-lts.Need-returns-2 (conjunction-claims t) (conjunction-at t) conjunction.Post conjunction-Inv-loop conjunction-μ-loop
+unfolding conjunction-of
+conjunction-returns-2 t c = turn-done ands _ _ (c .before .before .loop .inv) (c .before .and-code .ensures) (accepted-by (c .before .before .before .before .before .before .before .before .atom .ensures) (c .before .before .before .before .first .given .1)) (c .if1 .taken)
+
+conjunction-atom-requires-2 : (t : ℕ) → conjunction-lts.Need-atom-requires-2 (conjunction-claims t) (conjunction-at t) conjunction.Post conjunction-Inv-loop conjunction-μ-loop
+conjunction-atom-requires-2 t c κs = (omega (arith, c .before .before .before .before .before .before .before .before .before .before .before .before .before .before .before .pre .0), (c .before .before .before .before .before .before .before .before .before .before .before .before .before .before .before .pre .1 .0, turn-next ands _ _ (c .before .before .before .loop .inv)))
+
+conjunction-same-length-3 : (t : ℕ) → conjunction-lts.Need-same-length-3 (conjunction-claims t) (conjunction-at t) conjunction.Post conjunction-Inv-loop conjunction-μ-loop
+conjunction-same-length-3 t c = c .before .before .before .before .atom2 .kept .1 .1 .1 .1 .1 .1 .0 ∙ c .before .before .before .before .before .before .before .before .loop .inv .size ∙ c .before .before .before .before .before .before .before .before .before .before .before .before .before .before .atom .kept .1 .1 .1 .1 .1 .1 .0
+
+conjunction-returns-3 : (t : ℕ) → conjunction-lts.Need-returns-3 (conjunction-claims t) (conjunction-at t) conjunction.Post conjunction-Inv-loop conjunction-μ-loop
+unfolding conjunction-of
+conjunction-returns-3 t c = turn-refused ands _ _ (c .before .before .before .before .before .before .before .before .loop .inv) (c .before .before .before .before .before .before .before .and-code .ensures) (c .before .before .before .before .before .before .if1 .left) (accepted-by (c .before .before .before .before .before .before .before .before .before .before .before .before .before .before .atom .ensures) (c .before .before .before .before .before .before .before .before .before .before .first .given .1)) (c .before .before .before .before .atom2 .ensures) (c .enum-told2 .given .1)
+
+conjunction-put-byte-requires : (t : ℕ) → conjunction-lts.Need-put-byte-requires (conjunction-claims t) (conjunction-at t) conjunction.Post conjunction-Inv-loop conjunction-μ-loop
+conjunction-put-byte-requires t c κs =
+    let r = turn-room ands _ _ (c .before .before .before .before .before .before .before .before .before .before .loop .inv) (c .before .before .before .before .before .before .before .before .before .and-code .ensures) (c .before .before .before .before .before .before .before .before .if1 .left) (atom-grows (c .before .before .before .before .before .before .before .before .before .before .before .before .before .before .before .before .before .before .before .before .before .before .pre .1 .0) _ (turn-next ands _ _ (c .before .before .before .before .before .before .before .before .before .before .loop .inv))) (accepted-by (c .before .before .before .before .before .before .atom2 .ensures) (c .before .before .more .given .1)) in
+    omega (arith, r .0 .short, r .0 .within, r .0 .room)
+
+conjunction-loop-less : (t : ℕ) → conjunction-lts.Need-loop-less (conjunction-claims t) (conjunction-at t) conjunction.Post conjunction-Inv-loop conjunction-μ-loop
+conjunction-loop-less t c =
+    let r = turn-room ands _ _ (c .before .before .before .before .before .before .before .before .before .before .before .before .before .loop .inv) (c .before .before .before .before .before .before .before .before .before .before .before .before .and-code .ensures) (c .before .before .before .before .before .before .before .before .before .before .before .if1 .left) (atom-grows (c .before .before .before .before .before .before .before .before .before .before .before .before .before .before .before .before .before .before .before .before .before .before .before .before .before .pre .1 .0) _ (turn-next ands _ _ (c .before .before .before .before .before .before .before .before .before .before .before .before .before .loop .inv))) (accepted-by (c .before .before .before .before .before .before .before .before .before .atom2 .ensures) (c .before .before .before .before .before .more .given .1)) in
+    omega (arith, r .0 .within, r .1)
+
+conjunction-loop-again : (t : ℕ) → conjunction-lts.Need-loop-again (conjunction-claims t) (conjunction-at t) conjunction.Post conjunction-Inv-loop conjunction-μ-loop
+conjunction-loop-again t c =
+    turn-more ands _ _ (c .before .before .before .before .before .before .before .before .before .before .before .before .before .loop .inv) (c .before .before .before .before .before .before .before .before .before .before .before .before .and-code .ensures) (c .before .before .before .before .before .before .before .before .before .before .before .if1 .left) (atom-grows (c .before .before .before .before .before .before .before .before .before .before .before .before .before .before .before .before .before .before .before .before .before .before .before .before .before .pre .1 .0) _ (turn-next ands _ _ (c .before .before .before .before .before .before .before .before .before .before .before .before .before .loop .inv))) (accepted-by (c .before .before .before .before .before .before .before .before .before .atom2 .ensures) (c .before .before .before .before .before .more .given .1))
+    (c .before .before .put-byte .ensures .1) (c .before .before .put-byte .ensures .0) (c .before .before .put-byte .kept .0 ∙ c .before .before .before .before .before .before .before .before .before .atom2 .kept .1 .1 .1 .1 .1 .1 .0)
+
+-- ---- inverted
+
+inverted-returns : (t : ℕ) → inverted-lts.Need-returns (inverted-claims t) (inverted-at t) inverted.Post
+inverted-returns t c = ahead-fault _ _ _ (c .before .before .ahead .ensures) (c .enum-told .given .1) (inverted-fault _ _ _)
+
+inverted-square-requires : (t : ℕ) → inverted-lts.Need-square-requires (inverted-claims t) (inverted-at t) inverted.Post
+inverted-square-requires t c κs =
+    let h = ahead-token _ _ _ (c .before .before .before .before .before .before .ahead .ensures) (c .before .before .before .before .read .given .1) in
+    (omega (arith, c .before .before .before .before .before .before .before .before .before .before .before .pre .0), (c .before .before .before .before .before .before .before .before .before .before .before .pre .1 .0, room-next (room-at (h .0) (c .before .before .before .before .before .before .before .before .before .before .before .pre .1 .1)) (known (h .1))))
+
+inverted-returns-2 : (t : ℕ) → inverted-lts.Need-returns-2 (inverted-claims t) (inverted-at t) inverted.Post
+unfolding kindNumber
+inverted-returns-2 t c =
+    let h = ahead-token _ _ _ (c .before .before .before .before .before .before .before .before .before .before .before .ahead .ensures) (c .before .before .before .before .before .before .before .before .before .read .given .1) in
+    same-part (inverted-square _ _ (known (h .1)) (h .0) (c .before .before .before .before .before .before .if1 .taken)) (passed (c .before .before .before .before .square .ensures) (c .enum-told2 .given .1) opposite-refuses)
+
+inverted-put-byte-requires : (t : ℕ) → inverted-lts.Need-put-byte-requires (inverted-claims t) (inverted-at t) inverted.Post
+unfolding kindNumber
+inverted-put-byte-requires t c κs =
+    let h = ahead-token _ _ _ (c .before .before .before .before .before .before .before .before .before .before .before .before .before .ahead .ensures) (c .before .before .before .before .before .before .before .before .before .before .before .read .given .1) in
+    let r = room-square (c .before .before .before .before .before .before .before .before .before .before .before .before .before .before .before .before .before .before .pre .1 .0) _ (room-at (h .0) (c .before .before .before .before .before .before .before .before .before .before .before .before .before .before .before .before .before .before .pre .1 .1)) (known (h .1)) (c .before .before .before .before .before .before .before .before .if1 .taken) (accepted-by (c .before .before .before .before .before .before .square .ensures) (c .before .before .inner .given .1)) in
+    omega (arith, r .short, r .within, r .room)
+
+inverted-returns-3 : (t : ℕ) → inverted-lts.Need-returns-3 (inverted-claims t) (inverted-at t) inverted.Post
+unfolding kindNumber
+inverted-returns-3 t c =
+    let h = ahead-token _ _ _ (c .before .before .before .before .before .before .before .before .before .before .before .before .before .before .before .before .ahead .ensures) (c .before .before .before .before .before .before .before .before .before .before .before .before .before .before .read .given .1) in
+    same-part (inverted-square _ _ (known (h .1)) (h .0) (c .before .before .before .before .before .before .before .before .before .before .before .if1 .taken))
+    (accepts (opposite-accepts (accepted-by (c .before .before .before .before .before .before .before .before .before .square .ensures) (c .before .before .before .before .before .inner .given .1)) (c .before .before .put-byte .ensures .0) (c .before .before .put-byte .ensures .1)))
+
+inverted-returns-4 : (t : ℕ) → inverted-lts.Need-returns-4 (inverted-claims t) (inverted-at t) inverted.Post
+unfolding kindNumber
+inverted-returns-4 t c =
+    let h = ahead-token _ _ _ (c .before .before .before .before .before .ahead .ensures) (c .before .before .before .read .given .1) in
+    refuses (refused-now (inverted-none _ _ (known (h .1)) (h .0) (c .if1 .left)))
+
+-- ---- square
+
+square-returns : (t : ℕ) → square-lts.Need-returns (square-claims t) (square-at t) square.Post
+square-returns t c = refuses (refused-now (square-none _ _ _ _ (c .if1 .taken)))
+
+square-sub-condition : (t : ℕ) → square-lts.Need-sub-condition (square-claims t) (square-at t) square.Post
+square-sub-condition t c = omega (arith, c .if1 .left)
+
+square-condition-requires : (t : ℕ) → square-lts.Need-condition-requires (square-claims t) (square-at t) square.Post
+square-condition-requires t c κs = (omega (arith, c .before .before .before .before .before .before .pre .0, c .before .if1 .left), c .before .before .before .before .before .before .pre .1)
+
+square-returns-2 : (t : ℕ) → square-lts.Need-returns-2 (square-claims t) (square-at t) square.Post
+unfolding kindNumber
+square-returns-2 t c = same-part (square-some _ _ _ _ (c .before .before .before .before .before .if1 .left)) (answers (c .closed .ensures) (closed-parses closeSquare _ (c .before .before .before .condition .ensures)))
+
+pub +atom+condition+conjunction+inverted+square-spec : {M : Type 1} → statement M
++atom+condition+conjunction+inverted+square-spec =
+    close μ-atom μ-condition μ-conjunction μ-inverted μ-square
+    (λ t. atom-lts.spec (atom-claims t) (atom-at t) atom.Post
+    (λ c κs. search needs)
+    (λ c. search needs)
+    (λ c. search needs)
+    (atom-returns t)
+    (atom-inverted-requires t)
+    (λ c. search needs)
+    (atom-returns-2 t)
+    (atom-square-requires t)
+    (λ c. search needs)
+    (atom-returns-3 t)
+    (atom-comparison-requires t)
+    (λ c. search needs)
+    (atom-returns-4 t))
+    (λ t. condition-lts.spec (condition-claims t) (condition-at t) condition.Post condition-Inv-loop condition-μ-loop
+    (condition-conjunction-requires t)
+    (λ c. search needs)
+    (λ c. search needs)
+    (λ c. search needs)
+    (condition-returns t)
+    (condition-loop-holds t)
+    (λ c κs. search needs)
+    (condition-same-length-2 t)
+    (condition-returns-2 t)
+    (condition-conjunction-requires-2 t)
+    (λ c. search needs)
+    (λ c. search needs)
+    (condition-same-length-3 t)
+    (condition-returns-3 t)
+    (condition-put-byte-requires t)
+    (condition-loop-less t)
+    (condition-loop-again t))
+    (λ t. conjunction-lts.spec (conjunction-claims t) (conjunction-at t) conjunction.Post conjunction-Inv-loop conjunction-μ-loop
+    (conjunction-atom-requires t)
+    (λ c. search needs)
+    (λ c. search needs)
+    (λ c. search needs)
+    (conjunction-returns t)
+    (conjunction-loop-holds t)
+    (λ c κs. search needs)
+    (conjunction-same-length-2 t)
+    (conjunction-returns-2 t)
+    (conjunction-atom-requires-2 t)
+    (λ c. search needs)
+    (λ c. search needs)
+    (conjunction-same-length-3 t)
+    (conjunction-returns-3 t)
+    (conjunction-put-byte-requires t)
+    (conjunction-loop-less t)
+    (conjunction-loop-again t))
+    (λ t. inverted-lts.spec (inverted-claims t) (inverted-at t) inverted.Post
+    (λ c κs. search needs)
+    (λ c. search needs)
+    (λ c. search needs)
+    (inverted-returns t)
+    (inverted-square-requires t)
+    (λ c. search needs)
+    (λ c. search needs)
+    (λ c. search needs)
+    (inverted-returns-2 t)
+    (inverted-put-byte-requires t)
+    (λ c. search needs)
+    (inverted-returns-3 t)
+    (inverted-returns-4 t))
+    (λ t. square-lts.spec (square-claims t) (square-at t) square.Post
+    (square-returns t)
+    (square-sub-condition t)
+    (square-condition-requires t)
+    (λ c κs. search needs)
+    (λ c. search needs)
+    (square-returns-2 t))

@@ -1,0 +1,206 @@
+// Conditions, over the expressions of `expressions` and in the same way: each function takes the place where its part starts, writes
+// the part's code, and answers with the token behind it.
+use expressions::Names;
+use expressions::Step;
+ghost use mathlib.Core.Path.{_≡_};
+ghost use Rattle.bytecode.specs.Instructions.{comparisonCode};
+ghost use Rattle.grammar.specs.Conditions.{comparisonOf, andOf, orOf, square, wholeCondition, listed};
+ghost use Rattle.grammar.specs.Emitted.{codeC};
+ghost use Rattle.expressions.specs.Scopes.{scopeOf, Declared};
+ghost use Rattle.expressions.specs.Steps.{Parses, Room};
+ghost use Rattle.expressions.specs.Internal.{Codes};
+ghost use Rattle.conditions.specs.Internal.{connectiveCode, comparisonIn, invertedIn, atomIn, conjunctionIn, conditionIn};
+
+// Code bytes.
+const EQUAL: u8 = 10;
+const NOT_EQUAL: u8 = 11;
+const LESS: u8 = 12;
+const LESS_EQUAL: u8 = 13;
+const GREATER: u8 = 14;
+const GREATER_EQUAL: u8 = 15;
+const NOT: u8 = 16;
+const AND: u8 = 17;
+const OR: u8 = 18;
+
+// The code of a comparison sign, of `&` and of `|`; 0 for any other token.
+fn comparison_code(kind: u8) -> u8
+    ensures { λ r. ⌜ Codes comparisonCode comparisonOf kind r ⌝ }
+{
+    if kind == lexer::EQUALS {
+        return EQUAL;
+    }
+    if kind == lexer::NOT_EQUAL {
+        return NOT_EQUAL;
+    }
+    if kind == lexer::LESS {
+        return LESS;
+    }
+    if kind == lexer::LESS_EQUAL {
+        return LESS_EQUAL;
+    }
+    if kind == lexer::GREATER {
+        return GREATER;
+    }
+    if kind == lexer::GREATER_EQUAL {
+        return GREATER_EQUAL;
+    }
+    0
+}
+
+fn and_code(kind: u8) -> u8
+    ensures { λ r. ⌜ Codes connectiveCode andOf kind r ⌝ }
+{
+    if kind == lexer::AMPERSAND {
+        return AND;
+    }
+    0
+}
+
+fn or_code(kind: u8) -> u8
+    ensures { λ r. ⌜ Codes connectiveCode orOf kind r ⌝ }
+{
+    if kind == lexer::BAR {
+        return OR;
+    }
+    0
+}
+
+// Two expressions with a comparison sign between them.
+fn comparison(text: &[u8], starts: &[usize], ends: &[usize], names: Names, at: usize, left: usize, out: &mut [u8], to: usize) -> Step
+    requires { ⌜ Declared (now starts) (now ends) names ⌝ }
+    requires { ⌜ Room (now text) at to ⌝ }
+    ensures { λ r. ⌜ Parses (now (text .entry)) codeC (comparisonIn left (scopeOf (now (text .entry)) (now (starts .entry)) (now (ends .entry)) names) at) to (now (out .entry)) (now (out .exit)) r ⌝ }
+{
+    let first = expressions::expression(text, starts, ends, names, at, left, out, to);
+    let Step::Done(sign, t) = first else {
+        return first;
+    };
+    let code = comparison_code(sign.kind);
+    if code == 0 {
+        return Step::Refused(2, sign.start);
+    }
+    let second = expressions::expression(text, starts, ends, names, sign.end, left, out, t);
+    let Step::Done(behind, u) = second else {
+        return second;
+    };
+    Step::Done(behind, leb128::put_byte(out, u, code))
+}
+
+// Conjunctions with `|` between them.
+fn condition(text: &[u8], starts: &[usize], ends: &[usize], names: Names, at: usize, left: usize, out: &mut [u8], to: usize) -> Step
+    requires { ⌜ Declared (now starts) (now ends) names ⌝ }
+    requires { ⌜ Room (now text) at to ⌝ }
+    ensures { λ r. ⌜ Parses (now (text .entry)) codeC (conditionIn left (scopeOf (now (text .entry)) (now (starts .entry)) (now (ends .entry)) names) at) to (now (out .entry)) (now (out .exit)) r ⌝ }
+{
+    let first = conjunction(text, starts, ends, names, at, left, out, to);
+    let Step::Done(mut behind, mut t) = first else {
+        return first;
+    };
+    loop {
+        let code = or_code(behind.kind);
+        if code == 0 {
+            return Step::Done(behind, t);
+        }
+        let more = conjunction(text, starts, ends, names, behind.end, left, out, t);
+        let Step::Done(next, u) = more else {
+            return more;
+        };
+        t = leb128::put_byte(out, u, code);
+        behind = next;
+    }
+}
+
+// Atoms with `&` between them.
+fn conjunction(text: &[u8], starts: &[usize], ends: &[usize], names: Names, at: usize, left: usize, out: &mut [u8], to: usize) -> Step
+    requires { ⌜ Declared (now starts) (now ends) names ⌝ }
+    requires { ⌜ Room (now text) at to ⌝ }
+    ensures { λ r. ⌜ Parses (now (text .entry)) codeC (conjunctionIn left (scopeOf (now (text .entry)) (now (starts .entry)) (now (ends .entry)) names) at) to (now (out .entry)) (now (out .exit)) r ⌝ }
+{
+    let first = atom(text, starts, ends, names, at, left, out, to);
+    let Step::Done(mut behind, mut t) = first else {
+        return first;
+    };
+    loop {
+        let code = and_code(behind.kind);
+        if code == 0 {
+            return Step::Done(behind, t);
+        }
+        let more = atom(text, starts, ends, names, behind.end, left, out, t);
+        let Step::Done(next, u) = more else {
+            return more;
+        };
+        t = leb128::put_byte(out, u, code);
+        behind = next;
+    }
+}
+
+// `~[c]`, `[c]` or a comparison.
+fn atom(text: &[u8], starts: &[usize], ends: &[usize], names: Names, at: usize, left: usize, out: &mut [u8], to: usize) -> Step
+    requires { ⌜ Declared (now starts) (now ends) names ⌝ }
+    requires { ⌜ Room (now text) at to ⌝ }
+    ensures { λ r. ⌜ Parses (now (text .entry)) codeC (atomIn left (scopeOf (now (text .entry)) (now (starts .entry)) (now (ends .entry)) names) at) to (now (out .entry)) (now (out .exit)) r ⌝ }
+{
+    let read = expressions::ahead(text, at, to);
+    let Step::Done(here, _) = read else {
+        return read;
+    };
+    if here.kind == lexer::TILDE {
+        return inverted(text, starts, ends, names, here.end, left, out, to);
+    }
+    if here.kind == lexer::OPEN_SQUARE {
+        return square(text, starts, ends, names, here.start, here.end, left, out, to);
+    }
+    comparison(text, starts, ends, names, at, left, out, to)
+}
+
+// `[c]` behind a `~`.
+fn inverted(text: &[u8], starts: &[usize], ends: &[usize], names: Names, at: usize, left: usize, out: &mut [u8], to: usize) -> Step
+    requires { ⌜ Declared (now starts) (now ends) names ⌝ }
+    requires { ⌜ Room (now text) at to ⌝ }
+    ensures { λ r. ⌜ Parses (now (text .entry)) codeC (invertedIn left (scopeOf (now (text .entry)) (now (starts .entry)) (now (ends .entry)) names) at) to (now (out .entry)) (now (out .exit)) r ⌝ }
+{
+    let read = expressions::ahead(text, at, to);
+    let Step::Done(here, _) = read else {
+        return read;
+    };
+    if here.kind == lexer::OPEN_SQUARE {
+        let inner = square(text, starts, ends, names, here.start, here.end, left, out, to);
+        let Step::Done(behind, t) = inner else {
+            return inner;
+        };
+        return Step::Done(behind, leb128::put_byte(out, t, NOT));
+    }
+    Step::Refused(2, here.start)
+}
+
+// A condition in the bracket from `start` to `end`, with `left` brackets left to open.
+fn square(text: &[u8], starts: &[usize], ends: &[usize], names: Names, start: usize, end: usize, left: usize, out: &mut [u8], to: usize) -> Step
+    requires { ⌜ Declared (now starts) (now ends) names ⌝ }
+    requires { ⌜ Room (now text) end to ⌝ }
+    ensures { λ r. ⌜ Parses (now (text .entry)) codeC (square left (scopeOf (now (text .entry)) (now (starts .entry)) (now (ends .entry)) names) start end) to (now (out .entry)) (now (out .exit)) r ⌝ }
+{
+    if left == 0 {
+        return Step::Refused(8, start);
+    }
+    let inner = condition(text, starts, ends, names, end, left - 1, out, to);
+    expressions::closed(text, inner, lexer::CLOSE_SQUARE)
+}
+
+// A condition before which no bracket is open.
+pub fn whole_condition(text: &[u8], starts: &[usize], ends: &[usize], names: Names, at: usize, out: &mut [u8], to: usize) -> Step
+    requires { ⌜ Declared (now starts) (now ends) names ⌝ }
+    requires { ⌜ Room (now text) at to ⌝ }
+    ensures { λ r. ⌜ Parses (now (text .entry)) codeC (wholeCondition (scopeOf (now (text .entry)) (now (starts .entry)) (now (ends .entry)) names) at) to (now (out .entry)) (now (out .exit)) r ⌝ }
+{
+    condition(text, starts, ends, names, at, grammar::BRACKET_LIMIT, out, to)
+}
+
+// `[c]` as the rule forms show it, from behind its bracket.
+pub fn listed(text: &[u8], starts: &[usize], ends: &[usize], names: Names, at: usize, out: &mut [u8], to: usize) -> Step
+    requires { ⌜ Declared (now starts) (now ends) names ⌝ }
+    requires { ⌜ Room (now text) at to ⌝ }
+    ensures { λ r. ⌜ Parses (now (text .entry)) codeC (listed (scopeOf (now (text .entry)) (now (starts .entry)) (now (ends .entry)) names) at) to (now (out .entry)) (now (out .exit)) r ⌝ }
+{
+    let inner = whole_condition(text, starts, ends, names, at, out, to);
+    expressions::closed(text, inner, lexer::CLOSE_SQUARE)
+}

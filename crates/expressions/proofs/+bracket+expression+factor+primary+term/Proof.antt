@@ -1,0 +1,390 @@
+-- The cycle of `expressions::expression`, `term`, `factor`, `primary` and `bracket` meets its contracts. The measure is five for each
+-- bracket left to open, and the function's rank. The invariant of the two loops is `Turn`. Assumes nothing.
+use Prim.Native.Nat.{ℕ, _+_, _-_, _*_, _≤_, _<_}
+use mathlib.Core.Path.{_≡_, refl, sym, ap, _∙_}
+use native.Mathlib.Omega.{arith}
+use lib.ListN.{length}
+use borrow.Author.Needs.{needs}
+use borrow.Fn.Kinds.{In, Out}
+use borrow.Fn.PlainCycle.{Measures, is, falls, and}
+use Rattle.lexer.specs.Token.{kindNumber, closeRound}
+use Rattle.semantics.specs.Program.{operation}
+use Rattle.grammar.specs.Expressions.{productOf, sumOf, term as term-of, expression as expression-of}
+use Rattle.grammar.specs.Emitted.{codeE}
+use Rattle.expressions.specs.Scopes.{scopeOf}
+use Rattle.expressions.specs.Internal.{factorIn, termIn}
+use Rattle.expressions.proofs.Steps.{known, accepted-by, refuses, refused-now, accepts, same-part, passed, ahead-token, ahead-fault, answers, closed-parses, room-at, room-after, room-next, token-within}
+use Rattle.expressions.proofs.Chain.{Turn, chain-first, turn-first, turn-next, turn-done, turn-refused, turn-room, turn-more}
+use Rattle.expressions.proofs.Ways.{sums, products, factor-fault, factor-minus, factor-plain, primary-number, primary-current, primary-previous, primary-bracket, primary-none, number-text, negative-fault, negative-refuses, negative-accepts, bracket-none, bracket-some, primary-grows, factor-grows, term-grows}
+use Rattle.expressions.proofs.bracket.Reads as bracket
+use Rattle.expressions.proofs.bracket.Kinds as bracket-kinds
+use Rattle.expressions.proofs.+bracket+expression+factor+primary+term.Lts-bracket as bracket-lts
+use Rattle.expressions.proofs.expression.Reads as expression
+use Rattle.expressions.proofs.expression.Kinds as expression-kinds
+use Rattle.expressions.proofs.+bracket+expression+factor+primary+term.Lts-expression as expression-lts
+use Rattle.expressions.proofs.factor.Reads as factor
+use Rattle.expressions.proofs.factor.Kinds as factor-kinds
+use Rattle.expressions.proofs.+bracket+expression+factor+primary+term.Lts-factor as factor-lts
+use Rattle.expressions.proofs.primary.Reads as primary
+use Rattle.expressions.proofs.primary.Kinds as primary-kinds
+use Rattle.expressions.proofs.+bracket+expression+factor+primary+term.Lts-primary as primary-lts
+use Rattle.expressions.proofs.term.Reads as term
+use Rattle.expressions.proofs.term.Kinds as term-kinds
+use Rattle.expressions.proofs.+bracket+expression+factor+primary+term.Lts-term as term-lts
+use Rattle.expressions.proofs.ahead.Reads as ahead-reads
+use Rattle.expressions.proofs.closed.Reads as closed-reads
+use Rattle.expressions.proofs.current.Reads as current-reads
+use Rattle.expressions.proofs.number.Reads as number-reads
+use Rattle.expressions.proofs.previous.Reads as previous-reads
+use Rattle.expressions.proofs.product_code.Reads as product-code-reads
+use Rattle.expressions.proofs.sum_code.Reads as sum-code-reads
+use Rattle.leb128.proofs.put_byte.Reads as put-byte-reads
+use Rattle.expressions.proofs.+bracket+expression+factor+primary+term.{statement}
+use Rattle.expressions.proofs.+bracket+expression+factor+primary+term.Tie.{close}
+
+-- ---- measures, and what each function may assume and must show
+
+abbrev μ-bracket : Measures 4 bracket-kinds.ps ℕ
+μ-bracket κs a = 5 * a .1 .1 .1 .1 .1 .1 .0
+
+abbrev μ-expression : Measures 4 expression-kinds.ps ℕ
+μ-expression κs a = 5 * a .1 .1 .1 .1 .1 .0 + 4
+
+abbrev μ-factor : Measures 4 factor-kinds.ps ℕ
+μ-factor κs a = 5 * a .1 .1 .1 .1 .1 .0 + 2
+
+abbrev μ-primary : Measures 4 primary-kinds.ps ℕ
+μ-primary κs a = 5 * a .1 .1 .1 .1 .1 .0 + 1
+
+abbrev μ-term : Measures 4 term-kinds.ps ℕ
+μ-term κs a = 5 * a .1 .1 .1 .1 .1 .0 + 3
+
+abbrev bracket-at : ℕ → In 4 bracket-kinds.ps
+bracket-at t = and 4 bracket-kinds.ps (is 4 bracket-kinds.ps μ-bracket t) bracket.Pre
+
+abbrev bracket-below : ℕ → In 4 bracket-kinds.ps
+bracket-below t = and 4 bracket-kinds.ps (falls 4 bracket-kinds.ps _<_ μ-bracket t) bracket.Pre
+
+abbrev expression-at : ℕ → In 4 expression-kinds.ps
+expression-at t = and 4 expression-kinds.ps (is 4 expression-kinds.ps μ-expression t) expression.Pre
+
+abbrev expression-below : ℕ → In 4 expression-kinds.ps
+expression-below t = and 4 expression-kinds.ps (falls 4 expression-kinds.ps _<_ μ-expression t) expression.Pre
+
+abbrev factor-at : ℕ → In 4 factor-kinds.ps
+factor-at t = and 4 factor-kinds.ps (is 4 factor-kinds.ps μ-factor t) factor.Pre
+
+abbrev factor-below : ℕ → In 4 factor-kinds.ps
+factor-below t = and 4 factor-kinds.ps (falls 4 factor-kinds.ps _<_ μ-factor t) factor.Pre
+
+abbrev primary-at : ℕ → In 4 primary-kinds.ps
+primary-at t = and 4 primary-kinds.ps (is 4 primary-kinds.ps μ-primary t) primary.Pre
+
+abbrev primary-below : ℕ → In 4 primary-kinds.ps
+primary-below t = and 4 primary-kinds.ps (falls 4 primary-kinds.ps _<_ μ-primary t) primary.Pre
+
+abbrev term-at : ℕ → In 4 term-kinds.ps
+term-at t = and 4 term-kinds.ps (is 4 term-kinds.ps μ-term t) term.Pre
+
+abbrev term-below : ℕ → In 4 term-kinds.ps
+term-below t = and 4 term-kinds.ps (falls 4 term-kinds.ps _<_ μ-term t) term.Pre
+
+abbrev bracket-claims : ℕ → bracket-lts.Claims
+bracket-claims t = (expression-below t, expression.Post, closed-reads.Asked, closed-reads.Learnt)
+
+abbrev expression-claims : ℕ → expression-lts.Claims
+expression-claims t = (term-below t, term.Post, sum-code-reads.Asked, sum-code-reads.Learnt, put-byte-reads.Asked, put-byte-reads.Learnt)
+
+abbrev factor-claims : ℕ → factor-lts.Claims
+factor-claims t = (ahead-reads.Asked, ahead-reads.Learnt, primary-below t, primary.Post, put-byte-reads.Asked, put-byte-reads.Learnt)
+
+abbrev primary-claims : ℕ → primary-lts.Claims
+primary-claims t = (number-reads.Asked, number-reads.Learnt, current-reads.Asked, current-reads.Learnt, previous-reads.Asked, previous-reads.Learnt, bracket-below t, bracket.Post)
+
+abbrev term-claims : ℕ → term-lts.Claims
+term-claims t = (factor-below t, factor.Post, product-code-reads.Asked, product-code-reads.Learnt, put-byte-reads.Asked, put-byte-reads.Learnt)
+
+-- ---- bracket
+
+bracket-returns : (t : ℕ) → bracket-lts.Need-returns (bracket-claims t) (bracket-at t) bracket.Post
+bracket-returns t c = refuses (refused-now (bracket-none _ _ _ _ (c .if1 .taken)))
+
+bracket-sub-expression : (t : ℕ) → bracket-lts.Need-sub-expression (bracket-claims t) (bracket-at t) bracket.Post
+bracket-sub-expression t c = omega (arith, c .if1 .left)
+
+bracket-expression-requires : (t : ℕ) → bracket-lts.Need-expression-requires (bracket-claims t) (bracket-at t) bracket.Post
+bracket-expression-requires t c κs = (omega (arith, c .before .before .before .before .before .before .pre .0, c .before .if1 .left), c .before .before .before .before .before .before .pre .1)
+
+bracket-returns-2 : (t : ℕ) → bracket-lts.Need-returns-2 (bracket-claims t) (bracket-at t) bracket.Post
+unfolding kindNumber
+bracket-returns-2 t c = same-part (bracket-some _ _ _ _ (c .before .before .before .before .before .if1 .left)) (answers (c .closed .ensures) (closed-parses closeRound _ (c .before .before .before .expression .ensures)))
+
+-- ---- expression
+
+abbrev expression-Inv-loop : expression-lts.InvT-loop
+expression-Inv-loop text starts ends names at left out₀ to behind₀ t₀ out behind t =
+    Turn codeE operation sumOf (termIn left (scopeOf text starts ends names)) text out₀ behind₀ t₀ out behind t
+
+abbrev expression-μ-loop : expression-lts.MeasureT-loop
+expression-μ-loop text starts ends names at left out₀ to behind₀ t₀ out behind t = length text - behind .at
+
+expression-term-requires : (t : ℕ) → expression-lts.Need-term-requires (expression-claims t) (expression-at t) expression.Post expression-Inv-loop expression-μ-loop
+expression-term-requires t c κs = (omega (arith, c .before .before .before .before .before .pre .0), c .before .before .before .before .before .pre .1)
+
+expression-returns : (t : ℕ) → expression-lts.Need-returns (expression-claims t) (expression-at t) expression.Post expression-Inv-loop expression-μ-loop
+unfolding expression-of
+expression-returns t c = chain-first sums _ _ _ (c .before .before .before .before .term .ensures) (c .enum-told .given .1)
+
+expression-loop-holds : (t : ℕ) → expression-lts.Need-loop-holds (expression-claims t) (expression-at t) expression.Post expression-Inv-loop expression-μ-loop
+expression-loop-holds t c = turn-first sums _ _ (c .before .before .before .before .before .before .before .before .before .before .before .pre .1 .1) (term-grows (c .before .before .before .before .before .before .before .before .before .before .before .pre .1 .0) _ (c .before .before .before .before .before .before .before .before .before .before .before .pre .1 .1)) (accepted-by (c .before .before .before .before .before .term .ensures) (c .before .first .given .1))
+
+expression-same-length-2 : (t : ℕ) → expression-lts.Need-same-length-2 (expression-claims t) (expression-at t) expression.Post expression-Inv-loop expression-μ-loop
+expression-same-length-2 t c = c .before .before .loop .inv .size ∙ c .before .before .before .before .before .before .before .before .term .kept .1 .1 .1 .1 .1 .1 .0
+
+expression-returns-2 : (t : ℕ) → expression-lts.Need-returns-2 (expression-claims t) (expression-at t) expression.Post expression-Inv-loop expression-μ-loop
+unfolding expression-of
+expression-returns-2 t c = turn-done sums _ _ (c .before .before .loop .inv) (c .before .sum-code .ensures) (accepted-by (c .before .before .before .before .before .before .before .before .term .ensures) (c .before .before .before .before .first .given .1)) (c .if1 .taken)
+
+expression-term-requires-2 : (t : ℕ) → expression-lts.Need-term-requires-2 (expression-claims t) (expression-at t) expression.Post expression-Inv-loop expression-μ-loop
+expression-term-requires-2 t c κs = (omega (arith, c .before .before .before .before .before .before .before .before .before .before .before .before .before .before .before .pre .0), (c .before .before .before .before .before .before .before .before .before .before .before .before .before .before .before .pre .1 .0, turn-next sums _ _ (c .before .before .before .loop .inv)))
+
+expression-same-length-3 : (t : ℕ) → expression-lts.Need-same-length-3 (expression-claims t) (expression-at t) expression.Post expression-Inv-loop expression-μ-loop
+expression-same-length-3 t c = c .before .before .before .before .term2 .kept .1 .1 .1 .1 .1 .1 .0 ∙ c .before .before .before .before .before .before .before .before .loop .inv .size ∙ c .before .before .before .before .before .before .before .before .before .before .before .before .before .before .term .kept .1 .1 .1 .1 .1 .1 .0
+
+expression-returns-3 : (t : ℕ) → expression-lts.Need-returns-3 (expression-claims t) (expression-at t) expression.Post expression-Inv-loop expression-μ-loop
+unfolding expression-of
+expression-returns-3 t c = turn-refused sums _ _ (c .before .before .before .before .before .before .before .before .loop .inv) (c .before .before .before .before .before .before .before .sum-code .ensures) (c .before .before .before .before .before .before .if1 .left) (accepted-by (c .before .before .before .before .before .before .before .before .before .before .before .before .before .before .term .ensures) (c .before .before .before .before .before .before .before .before .before .before .first .given .1)) (c .before .before .before .before .term2 .ensures) (c .enum-told2 .given .1)
+
+expression-put-byte-requires : (t : ℕ) → expression-lts.Need-put-byte-requires (expression-claims t) (expression-at t) expression.Post expression-Inv-loop expression-μ-loop
+expression-put-byte-requires t c κs =
+    let r = turn-room sums _ _ (c .before .before .before .before .before .before .before .before .before .before .loop .inv) (c .before .before .before .before .before .before .before .before .before .sum-code .ensures) (c .before .before .before .before .before .before .before .before .if1 .left) (term-grows (c .before .before .before .before .before .before .before .before .before .before .before .before .before .before .before .before .before .before .before .before .before .before .pre .1 .0) _ (turn-next sums _ _ (c .before .before .before .before .before .before .before .before .before .before .loop .inv))) (accepted-by (c .before .before .before .before .before .before .term2 .ensures) (c .before .before .more .given .1)) in
+    omega (arith, r .0 .short, r .0 .within, r .0 .room)
+
+expression-loop-less : (t : ℕ) → expression-lts.Need-loop-less (expression-claims t) (expression-at t) expression.Post expression-Inv-loop expression-μ-loop
+expression-loop-less t c =
+    let r = turn-room sums _ _ (c .before .before .before .before .before .before .before .before .before .before .before .before .before .loop .inv) (c .before .before .before .before .before .before .before .before .before .before .before .before .sum-code .ensures) (c .before .before .before .before .before .before .before .before .before .before .before .if1 .left) (term-grows (c .before .before .before .before .before .before .before .before .before .before .before .before .before .before .before .before .before .before .before .before .before .before .before .before .before .pre .1 .0) _ (turn-next sums _ _ (c .before .before .before .before .before .before .before .before .before .before .before .before .before .loop .inv))) (accepted-by (c .before .before .before .before .before .before .before .before .before .term2 .ensures) (c .before .before .before .before .before .more .given .1)) in
+    omega (arith, r .0 .within, r .1)
+
+expression-loop-again : (t : ℕ) → expression-lts.Need-loop-again (expression-claims t) (expression-at t) expression.Post expression-Inv-loop expression-μ-loop
+expression-loop-again t c =
+    turn-more sums _ _ (c .before .before .before .before .before .before .before .before .before .before .before .before .before .loop .inv) (c .before .before .before .before .before .before .before .before .before .before .before .before .sum-code .ensures) (c .before .before .before .before .before .before .before .before .before .before .before .if1 .left) (term-grows (c .before .before .before .before .before .before .before .before .before .before .before .before .before .before .before .before .before .before .before .before .before .before .before .before .before .pre .1 .0) _ (turn-next sums _ _ (c .before .before .before .before .before .before .before .before .before .before .before .before .before .loop .inv))) (accepted-by (c .before .before .before .before .before .before .before .before .before .term2 .ensures) (c .before .before .before .before .before .more .given .1))
+    (c .before .before .put-byte .ensures .1) (c .before .before .put-byte .ensures .0) (c .before .before .put-byte .kept .0 ∙ c .before .before .before .before .before .before .before .before .before .term2 .kept .1 .1 .1 .1 .1 .1 .0)
+
+-- ---- factor
+
+factor-returns : (t : ℕ) → factor-lts.Need-returns (factor-claims t) (factor-at t) factor.Post
+factor-returns t c = ahead-fault _ _ _ (c .before .before .ahead .ensures) (c .enum-told .given .1) (factor-fault _ _ _)
+
+factor-returns-2 : (t : ℕ) → factor-lts.Need-returns-2 (factor-claims t) (factor-at t) factor.Post
+unfolding kindNumber
+factor-returns-2 t c =
+    let h = ahead-token _ _ _ (c .before .before .before .before .before .before .before .before .ahead .ensures) (c .before .before .before .before .before .before .read .given .1) in
+    ahead-fault _ _ _ (c .before .before .ahead2 .ensures) (c .enum-told2 .given .1) (λ q e. factor-minus _ _ (known (h .1)) (h .0) (c .before .before .before .if1 .taken) refl ∙ negative-fault _ _ _ q e)
+
+factor-primary-requires : (t : ℕ) → factor-lts.Need-primary-requires (factor-claims t) (factor-at t) factor.Post
+factor-primary-requires t c κs =
+    let h = ahead-token _ _ _ (c .before .before .before .before .before .before .before .before .before .before .ahead .ensures) (c .before .before .before .before .before .before .before .before .read .given .1) in
+    let g = ahead-token _ _ _ (c .before .before .before .before .ahead2 .ensures) (c .before .before .second .given .1) in
+    (omega (arith, c .before .before .before .before .before .before .before .before .before .before .before .before .before .before .before .pre .0), (c .before .before .before .before .before .before .before .before .before .before .before .before .before .before .before .pre .1 .0, (room-at (g .0) (room-next (room-at (h .0) (c .before .before .before .before .before .before .before .before .before .before .before .before .before .before .before .pre .1 .1)) (known (h .1))), g .1)))
+
+factor-returns-3 : (t : ℕ) → factor-lts.Need-returns-3 (factor-claims t) (factor-at t) factor.Post
+unfolding kindNumber
+factor-returns-3 t c =
+    let h = ahead-token _ _ _ (c .before .before .before .before .before .before .before .before .before .before .before .before .before .before .before .ahead .ensures) (c .before .before .before .before .before .before .before .before .before .before .before .before .before .read .given .1) in
+    let g = ahead-token _ _ _ (c .before .before .before .before .before .before .before .before .before .ahead2 .ensures) (c .before .before .before .before .before .before .before .second .given .1) in
+    same-part (factor-minus _ _ (known (h .1)) (h .0) (c .before .before .before .before .before .before .before .before .before .before .if1 .taken) (g .0)) (passed (c .before .before .before .before .primary .ensures) (c .enum-told3 .given .1) negative-refuses)
+
+factor-put-byte-requires : (t : ℕ) → factor-lts.Need-put-byte-requires (factor-claims t) (factor-at t) factor.Post
+factor-put-byte-requires t c κs =
+    let h = ahead-token _ _ _ (c .before .before .before .before .before .before .before .before .before .before .before .before .before .before .before .before .before .ahead .ensures) (c .before .before .before .before .before .before .before .before .before .before .before .before .before .before .before .read .given .1) in
+    let g = ahead-token _ _ _ (c .before .before .before .before .before .before .before .before .before .before .before .ahead2 .ensures) (c .before .before .before .before .before .before .before .before .before .second .given .1) in
+    let r = room-at (g .0) (room-next (room-at (h .0) (c .before .before .before .before .before .before .before .before .before .before .before .before .before .before .before .before .before .before .before .before .before .before .pre .1 .1)) (known (h .1))) in
+    let b = room-after r (primary-grows (c .before .before .before .before .before .before .before .before .before .before .before .before .before .before .before .before .before .before .before .before .before .before .pre .1 .0) _ r) (accepted-by (c .before .before .before .before .before .before .primary .ensures) (c .before .before .inner .given .1)) in
+    omega (arith, b .short, b .within, b .room)
+
+factor-returns-4 : (t : ℕ) → factor-lts.Need-returns-4 (factor-claims t) (factor-at t) factor.Post
+unfolding kindNumber
+factor-returns-4 t c =
+    let h = ahead-token _ _ _ (c .before .before .before .before .before .before .before .before .before .before .before .before .before .before .before .before .before .before .before .before .ahead .ensures) (c .before .before .before .before .before .before .before .before .before .before .before .before .before .before .before .before .before .before .read .given .1) in
+    let g = ahead-token _ _ _ (c .before .before .before .before .before .before .before .before .before .before .before .before .before .before .ahead2 .ensures) (c .before .before .before .before .before .before .before .before .before .before .before .before .second .given .1) in
+    same-part (factor-minus _ _ (known (h .1)) (h .0) (c .before .before .before .before .before .before .before .before .before .before .before .before .before .before .before .if1 .taken) (g .0))
+    (accepts (negative-accepts (accepted-by (c .before .before .before .before .before .before .before .before .before .primary .ensures) (c .before .before .before .before .before .inner .given .1)) (c .before .before .put-byte .ensures .0) (c .before .before .put-byte .ensures .1)))
+
+factor-primary-requires-2 : (t : ℕ) → factor-lts.Need-primary-requires-2 (factor-claims t) (factor-at t) factor.Post
+factor-primary-requires-2 t c κs =
+    let h = ahead-token _ _ _ (c .before .before .before .before .before .before .ahead .ensures) (c .before .before .before .before .read .given .1) in
+    (omega (arith, c .before .before .before .before .before .before .before .before .before .before .before .pre .0), (c .before .before .before .before .before .before .before .before .before .before .before .pre .1 .0, (room-at (h .0) (c .before .before .before .before .before .before .before .before .before .before .before .pre .1 .1), h .1)))
+
+factor-returns-5 : (t : ℕ) → factor-lts.Need-returns-5 (factor-claims t) (factor-at t) factor.Post
+unfolding kindNumber
+factor-returns-5 t c =
+    let h = ahead-token _ _ _ (c .before .before .before .before .before .before .before .before .before .ahead .ensures) (c .before .before .before .before .before .before .before .read .given .1) in
+    same-part (factor-plain _ _ (known (h .1)) (h .0) (c .before .before .before .before .if1 .left)) (c .before .before .primary2 .ensures)
+
+-- ---- primary
+
+primary-number-requires : (t : ℕ) → primary-lts.Need-number-requires (primary-claims t) (primary-at t) primary.Post
+primary-number-requires t c κs = omega (arith, c .before .before .before .before .before .before .before .pre .1 .1 .0 .short, c .before .before .before .before .before .before .before .pre .1 .1 .0 .within, c .before .before .before .before .before .before .before .pre .1 .1 .0 .room)
+
+primary-returns : (t : ℕ) → primary-lts.Need-returns (primary-claims t) (primary-at t) primary.Post
+unfolding kindNumber
+primary-returns t c = same-part (primary-number _ _ (known (c .before .before .before .before .before .before .before .before .before .before .pre .1 .1 .1)) (c .before .before .before .before .if1 .taken) ∙ number-text _ _ _) (c .before .before .number .ensures)
+
+primary-current-requires : (t : ℕ) → primary-lts.Need-current-requires (primary-claims t) (primary-at t) primary.Post
+primary-current-requires t c κs = (c .before .before .before .before .before .before .before .before .before .pre .1 .0, omega (arith, c .before .before .before .before .before .before .before .before .before .pre .1 .1 .0 .short, c .before .before .before .before .before .before .before .before .before .pre .1 .1 .0 .within, c .before .before .before .before .before .before .before .before .before .pre .1 .1 .0 .room))
+
+primary-returns-2 : (t : ℕ) → primary-lts.Need-returns-2 (primary-claims t) (primary-at t) primary.Post
+unfolding kindNumber
+primary-returns-2 t c = same-part (primary-current _ _ (known (c .before .before .before .before .before .before .before .before .before .before .before .before .pre .1 .1 .1)) (c .before .before .before .before .before .before .if1 .left) (c .before .before .before .before .if2 .taken)) (c .before .before .current .ensures)
+
+primary-previous-requires : (t : ℕ) → primary-lts.Need-previous-requires (primary-claims t) (primary-at t) primary.Post
+primary-previous-requires t c κs = 
+    let s = token-within (c .before .before .before .before .before .before .before .before .before .before .before .pre .1 .1 .0) (known (c .before .before .before .before .before .before .before .before .before .before .before .pre .1 .1 .1)) in
+    (c .before .before .before .before .before .before .before .before .before .before .before .pre .1 .0, omega (arith, s, c .before .before .before .before .before .before .before .before .before .before .before .pre .1 .1 .0 .short, c .before .before .before .before .before .before .before .before .before .before .before .pre .1 .1 .0 .within, c .before .before .before .before .before .before .before .before .before .before .before .pre .1 .1 .0 .room))
+
+primary-returns-3 : (t : ℕ) → primary-lts.Need-returns-3 (primary-claims t) (primary-at t) primary.Post
+unfolding kindNumber
+primary-returns-3 t c = same-part (primary-previous _ _ (known (c .before .before .before .before .before .before .before .before .before .before .before .before .before .before .pre .1 .1 .1)) (c .before .before .before .before .before .before .before .before .if1 .left) (c .before .before .before .before .before .before .if2 .left) (c .before .before .before .before .if3 .taken)) (c .before .before .previous .ensures)
+
+primary-bracket-requires : (t : ℕ) → primary-lts.Need-bracket-requires (primary-claims t) (primary-at t) primary.Post
+primary-bracket-requires t c κs = (omega (arith, c .before .before .before .before .before .before .before .before .before .before .before .before .before .pre .0), (c .before .before .before .before .before .before .before .before .before .before .before .before .before .pre .1 .0, room-next (c .before .before .before .before .before .before .before .before .before .before .before .before .before .pre .1 .1 .0) (known (c .before .before .before .before .before .before .before .before .before .before .before .before .before .pre .1 .1 .1))))
+
+primary-returns-4 : (t : ℕ) → primary-lts.Need-returns-4 (primary-claims t) (primary-at t) primary.Post
+unfolding kindNumber
+primary-returns-4 t c = same-part (primary-bracket _ _ (known (c .before .before .before .before .before .before .before .before .before .before .before .before .before .before .before .before .pre .1 .1 .1)) (c .before .before .before .before .before .before .before .before .before .before .if1 .left) (c .before .before .before .before .before .before .before .before .if2 .left) (c .before .before .before .before .before .before .if3 .left) (c .before .before .before .before .if4 .taken)) (c .before .before .bracket .ensures)
+
+primary-returns-5 : (t : ℕ) → primary-lts.Need-returns-5 (primary-claims t) (primary-at t) primary.Post
+unfolding kindNumber
+primary-returns-5 t c = refuses (refused-now (primary-none _ _ (known (c .before .before .before .before .before .before .before .before .before .before .before .before .pre .1 .1 .1)) (c .before .before .before .before .before .before .if1 .left) (c .before .before .before .before .if2 .left) (c .before .before .if3 .left) (c .if4 .left)))
+
+-- ---- term
+
+abbrev term-Inv-loop : term-lts.InvT-loop
+term-Inv-loop text starts ends names at left out₀ to behind₀ t₀ out behind t =
+    Turn codeE operation productOf (factorIn left (scopeOf text starts ends names)) text out₀ behind₀ t₀ out behind t
+
+abbrev term-μ-loop : term-lts.MeasureT-loop
+term-μ-loop text starts ends names at left out₀ to behind₀ t₀ out behind t = length text - behind .at
+
+term-factor-requires : (t : ℕ) → term-lts.Need-factor-requires (term-claims t) (term-at t) term.Post term-Inv-loop term-μ-loop
+term-factor-requires t c κs = (omega (arith, c .before .before .before .before .before .pre .0), c .before .before .before .before .before .pre .1)
+
+term-returns : (t : ℕ) → term-lts.Need-returns (term-claims t) (term-at t) term.Post term-Inv-loop term-μ-loop
+unfolding term-of
+term-returns t c = chain-first products _ _ _ (c .before .before .before .before .factor .ensures) (c .enum-told .given .1)
+
+term-loop-holds : (t : ℕ) → term-lts.Need-loop-holds (term-claims t) (term-at t) term.Post term-Inv-loop term-μ-loop
+term-loop-holds t c = turn-first products _ _ (c .before .before .before .before .before .before .before .before .before .before .before .pre .1 .1) (factor-grows (c .before .before .before .before .before .before .before .before .before .before .before .pre .1 .0) _ (c .before .before .before .before .before .before .before .before .before .before .before .pre .1 .1)) (accepted-by (c .before .before .before .before .before .factor .ensures) (c .before .first .given .1))
+
+term-same-length-2 : (t : ℕ) → term-lts.Need-same-length-2 (term-claims t) (term-at t) term.Post term-Inv-loop term-μ-loop
+term-same-length-2 t c = c .before .before .loop .inv .size ∙ c .before .before .before .before .before .before .before .before .factor .kept .1 .1 .1 .1 .1 .1 .0
+
+term-returns-2 : (t : ℕ) → term-lts.Need-returns-2 (term-claims t) (term-at t) term.Post term-Inv-loop term-μ-loop
+unfolding term-of
+term-returns-2 t c = turn-done products _ _ (c .before .before .loop .inv) (c .before .product-code .ensures) (accepted-by (c .before .before .before .before .before .before .before .before .factor .ensures) (c .before .before .before .before .first .given .1)) (c .if1 .taken)
+
+term-factor-requires-2 : (t : ℕ) → term-lts.Need-factor-requires-2 (term-claims t) (term-at t) term.Post term-Inv-loop term-μ-loop
+term-factor-requires-2 t c κs = (omega (arith, c .before .before .before .before .before .before .before .before .before .before .before .before .before .before .before .pre .0), (c .before .before .before .before .before .before .before .before .before .before .before .before .before .before .before .pre .1 .0, turn-next products _ _ (c .before .before .before .loop .inv)))
+
+term-same-length-3 : (t : ℕ) → term-lts.Need-same-length-3 (term-claims t) (term-at t) term.Post term-Inv-loop term-μ-loop
+term-same-length-3 t c = c .before .before .before .before .factor2 .kept .1 .1 .1 .1 .1 .1 .0 ∙ c .before .before .before .before .before .before .before .before .loop .inv .size ∙ c .before .before .before .before .before .before .before .before .before .before .before .before .before .before .factor .kept .1 .1 .1 .1 .1 .1 .0
+
+term-returns-3 : (t : ℕ) → term-lts.Need-returns-3 (term-claims t) (term-at t) term.Post term-Inv-loop term-μ-loop
+unfolding term-of
+term-returns-3 t c = turn-refused products _ _ (c .before .before .before .before .before .before .before .before .loop .inv) (c .before .before .before .before .before .before .before .product-code .ensures) (c .before .before .before .before .before .before .if1 .left) (accepted-by (c .before .before .before .before .before .before .before .before .before .before .before .before .before .before .factor .ensures) (c .before .before .before .before .before .before .before .before .before .before .first .given .1)) (c .before .before .before .before .factor2 .ensures) (c .enum-told2 .given .1)
+
+term-put-byte-requires : (t : ℕ) → term-lts.Need-put-byte-requires (term-claims t) (term-at t) term.Post term-Inv-loop term-μ-loop
+term-put-byte-requires t c κs =
+    let r = turn-room products _ _ (c .before .before .before .before .before .before .before .before .before .before .loop .inv) (c .before .before .before .before .before .before .before .before .before .product-code .ensures) (c .before .before .before .before .before .before .before .before .if1 .left) (factor-grows (c .before .before .before .before .before .before .before .before .before .before .before .before .before .before .before .before .before .before .before .before .before .before .pre .1 .0) _ (turn-next products _ _ (c .before .before .before .before .before .before .before .before .before .before .loop .inv))) (accepted-by (c .before .before .before .before .before .before .factor2 .ensures) (c .before .before .more .given .1)) in
+    omega (arith, r .0 .short, r .0 .within, r .0 .room)
+
+term-loop-less : (t : ℕ) → term-lts.Need-loop-less (term-claims t) (term-at t) term.Post term-Inv-loop term-μ-loop
+term-loop-less t c =
+    let r = turn-room products _ _ (c .before .before .before .before .before .before .before .before .before .before .before .before .before .loop .inv) (c .before .before .before .before .before .before .before .before .before .before .before .before .product-code .ensures) (c .before .before .before .before .before .before .before .before .before .before .before .if1 .left) (factor-grows (c .before .before .before .before .before .before .before .before .before .before .before .before .before .before .before .before .before .before .before .before .before .before .before .before .before .pre .1 .0) _ (turn-next products _ _ (c .before .before .before .before .before .before .before .before .before .before .before .before .before .loop .inv))) (accepted-by (c .before .before .before .before .before .before .before .before .before .factor2 .ensures) (c .before .before .before .before .before .more .given .1)) in
+    omega (arith, r .0 .within, r .1)
+
+term-loop-again : (t : ℕ) → term-lts.Need-loop-again (term-claims t) (term-at t) term.Post term-Inv-loop term-μ-loop
+term-loop-again t c =
+    turn-more products _ _ (c .before .before .before .before .before .before .before .before .before .before .before .before .before .loop .inv) (c .before .before .before .before .before .before .before .before .before .before .before .before .product-code .ensures) (c .before .before .before .before .before .before .before .before .before .before .before .if1 .left) (factor-grows (c .before .before .before .before .before .before .before .before .before .before .before .before .before .before .before .before .before .before .before .before .before .before .before .before .before .pre .1 .0) _ (turn-next products _ _ (c .before .before .before .before .before .before .before .before .before .before .before .before .before .loop .inv))) (accepted-by (c .before .before .before .before .before .before .before .before .before .factor2 .ensures) (c .before .before .before .before .before .more .given .1))
+    (c .before .before .put-byte .ensures .1) (c .before .before .put-byte .ensures .0) (c .before .before .put-byte .kept .0 ∙ c .before .before .before .before .before .before .before .before .before .factor2 .kept .1 .1 .1 .1 .1 .1 .0)
+
+pub +bracket+expression+factor+primary+term-spec : {M : Type 1} → statement M
++bracket+expression+factor+primary+term-spec =
+    close μ-bracket μ-expression μ-factor μ-primary μ-term
+    (λ t. bracket-lts.spec (bracket-claims t) (bracket-at t) bracket.Post
+    (bracket-returns t)
+    (bracket-sub-expression t)
+    (bracket-expression-requires t)
+    (λ c κs. search needs)
+    (λ c. search needs)
+    (bracket-returns-2 t))
+    (λ t. expression-lts.spec (expression-claims t) (expression-at t) expression.Post expression-Inv-loop expression-μ-loop
+    (expression-term-requires t)
+    (λ c. search needs)
+    (λ c. search needs)
+    (λ c. search needs)
+    (expression-returns t)
+    (expression-loop-holds t)
+    (λ c κs. search needs)
+    (expression-same-length-2 t)
+    (expression-returns-2 t)
+    (expression-term-requires-2 t)
+    (λ c. search needs)
+    (λ c. search needs)
+    (expression-same-length-3 t)
+    (expression-returns-3 t)
+    (expression-put-byte-requires t)
+    (expression-loop-less t)
+    (expression-loop-again t))
+    (λ t. factor-lts.spec (factor-claims t) (factor-at t) factor.Post
+    (λ c κs. search needs)
+    (λ c. search needs)
+    (λ c. search needs)
+    (factor-returns t)
+    (λ c κs. search needs)
+    (λ c. search needs)
+    (λ c. search needs)
+    (factor-returns-2 t)
+    (factor-primary-requires t)
+    (λ c. search needs)
+    (λ c. search needs)
+    (λ c. search needs)
+    (factor-returns-3 t)
+    (factor-put-byte-requires t)
+    (λ c. search needs)
+    (factor-returns-4 t)
+    (factor-primary-requires-2 t)
+    (λ c. search needs)
+    (factor-returns-5 t))
+    (λ t. primary-lts.spec (primary-claims t) (primary-at t) primary.Post
+    (primary-number-requires t)
+    (λ c. search needs)
+    (primary-returns t)
+    (primary-current-requires t)
+    (λ c. search needs)
+    (primary-returns-2 t)
+    (primary-previous-requires t)
+    (λ c. search needs)
+    (primary-returns-3 t)
+    (primary-bracket-requires t)
+    (λ c. search needs)
+    (primary-returns-4 t)
+    (primary-returns-5 t))
+    (λ t. term-lts.spec (term-claims t) (term-at t) term.Post term-Inv-loop term-μ-loop
+    (term-factor-requires t)
+    (λ c. search needs)
+    (λ c. search needs)
+    (λ c. search needs)
+    (term-returns t)
+    (term-loop-holds t)
+    (λ c κs. search needs)
+    (term-same-length-2 t)
+    (term-returns-2 t)
+    (term-factor-requires-2 t)
+    (λ c. search needs)
+    (λ c. search needs)
+    (term-same-length-3 t)
+    (term-returns-3 t)
+    (term-put-byte-requires t)
+    (term-loop-less t)
+    (term-loop-again t))

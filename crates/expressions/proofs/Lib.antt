@@ -1,0 +1,4 @@
+pub mod Steps
+pub mod Chain
+pub mod Scopes
+pub mod Ways

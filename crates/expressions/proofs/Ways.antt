@@ -1,0 +1,219 @@
+-- The ways through the parts of an expression: what each part comes to, by the token at hand. Assumes nothing.
+use mathlib.Core.Path.{_≡_, refl, ap, sym, _∙_, subst}
+use mathlib.Core.List.{List, [], _∷_, _++_}
+use mathlib.Core.Bool.{Bool, true, false}
+use mathlib.Core.Option.{Option, none, some}
+use Prim.Native.Nat.{ℕ, zero, suc, _+_, _-_, _*_, _^_, _≤_, _<_, min}
+use native.Mathlib.Numerals.{add-one}
+use native.Mathlib.Omega.{arith}
+use lib.ListN.{length, set, getD, length-append}
+use lib.Seq.{sets}
+use lib.Dec.{eqb, ltb}
+use lib.IntN.{ℤ, pos}
+use borrow.Author.Tests.{lt-ltb, le-ltb}
+use Rattle.limits.specs.Limits.{noToken, notAllowed, outOfLimit, wrongName, tooEarly, tooMany}
+use Rattle.leb128.specs.Numbers.{number, zigzag}
+use Rattle.lexer.specs.Bytes.{pick, part}
+use Rattle.lexer.specs.Token.{Kind, kindNumber, name, digits, ending, openRound, closeRound, minus, is, Read, token, fault}
+use Rattle.lexer.specs.Token as T
+use Rattle.lexer.specs.Lexer.{tokenAt, overLong, valueOf}
+use Rattle.lexer.specs.Names.{idOf}
+use Rattle.bytecode.specs.Instructions.{operationCode}
+use Rattle.arith.specs.Values.{Operation, add, subtract, multiply, divide, modulo}
+use Rattle.semantics.specs.Program.{Expression, constant, current, previous, operation, negate}
+use Rattle.grammar.specs.Parsed.{Parsed, accepted, refused, andThen, onToken, sign, expected, phrase, followed}
+use Rattle.grammar.specs.Expressions.{Scope, withId, currentAt, previousAt, numberLimit, numberAt, primary, negative, factor, productOf, sumOf, bracket}
+use Rattle.grammar.specs.Emitted.{codeE}
+use Rattle.grammar.proofs.Growth.{Grown, products-end, sums-end, primary-grown, factor-grown, term-grown, expression-grown, bracket-grown}
+use Rattle.expressions.specs.declared.Lookahead.{Lookahead}
+use Rattle.expressions.specs.declared.Step.{Step}
+use Rattle.expressions.specs.declared.Step.the-variants.{Done, Refused}
+use Rattle.expressions.specs.declared.Names.{Names}
+use Rattle.expressions.specs.Scopes.{scopeOf, Declared}
+use Rattle.expressions.specs.Steps.{stepAt, stepOf, Parses, Room}
+use Rattle.expressions.specs.Internal.{textOnly, primaryIn, factorIn, termIn, expressionIn}
+use Rattle.expressions.proofs.Steps.{lookedAhead, Refuses, Known, told, untold, Accepted, then-refused, closing, ended, one-more}
+use Rattle.expressions.proofs.Scopes.{few-names}
+use Rattle.expressions.proofs.Chain.{Operators}
+
+-- ---- operators
+
+operation-some : (o : Operation) → operationCode o ≡ 0 → ⊥
+operation-some add e = omega arith
+operation-some subtract e = omega arith
+operation-some multiply e = omega arith
+operation-some divide e = omega arith
+operation-some modulo e = omega arith
+
+pub sums : Operators codeE operation sumOf operationCode
+unfolding codeE
+sums = record { joined = λ o a b. refl; none-ends = sums-end; some-code = operation-some }
+
+pub products : Operators codeE operation productOf operationCode
+unfolding codeE
+products = record { joined = λ o a b. refl; none-ends = products-end; some-code = operation-some }
+
+-- ---- names and numbers
+
+module _ {A : Type 0} (sc : Scope) (p s n : ℕ) (f : ℕ → Parsed A) where
+  with-long : overLong s n ≡ true → withId sc p s n f ≡ refused tooMany p
+  unfolding withId
+  with-long e = rw e
+
+  module _ (short : overLong s n ≡ false) where
+    with-unknown : idOf (sc .names) (part (sc .text) s n) ≡ none → withId sc p s n f ≡ refused wrongName p
+    unfolding withId
+    with-unknown e = rw (short, e)
+
+    with-known : (i : ℕ) → idOf (sc .names) (part (sc .text) s n) ≡ some i → withId sc p s n f ≡ f i
+    unfolding withId
+    with-known i e = rw (short, e)
+
+module _ (sc : Scope) (s n : ℕ) where
+  pub current-long : overLong s n ≡ true → currentAt sc s n ≡ refused tooMany s
+  unfolding currentAt
+  current-long e = with-long sc s s n _ e
+
+  pub previous-long : overLong (s + 1) n ≡ true → previousAt sc s n ≡ refused tooMany s
+  unfolding previousAt
+  previous-long e = with-long sc s (s + 1) n _ e
+
+  module _ (short : overLong s n ≡ false) where
+    pub current-unknown : idOf (sc .names) (part (sc .text) s n) ≡ none → currentAt sc s n ≡ refused wrongName s
+    unfolding currentAt
+    current-unknown e = with-unknown sc s s n _ short e
+
+    module _ (i : ℕ) (e : idOf (sc .names) (part (sc .text) s n) ≡ some i) where
+      pub current-early : getD (sc .known) i false ≡ false → currentAt sc s n ≡ refused tooEarly s
+      unfolding currentAt
+      current-early k = with-known sc s s n _ short i e ∙ rw k
+
+      pub current-known : getD (sc .known) i false ≡ true → currentAt sc s n ≡ accepted (current i) n
+      unfolding currentAt
+      current-known k = with-known sc s s n _ short i e ∙ rw k
+
+  module _ (short : overLong (s + 1) n ≡ false) where
+    pub previous-unknown : idOf (sc .names) (part (sc .text) (s + 1) n) ≡ none → previousAt sc s n ≡ refused wrongName s
+    unfolding previousAt
+    previous-unknown e = with-unknown sc s (s + 1) n _ short e
+
+    pub previous-known : (i : ℕ) → idOf (sc .names) (part (sc .text) (s + 1) n) ≡ some i → previousAt sc s n ≡ accepted (previous i) n
+    unfolding previousAt
+    previous-known i e = with-known sc s (s + 1) n _ short i e
+
+  module _ (v : ℕ) (e : v ≡ min (valueOf (part (sc .text) s n)) (2 ^ 32)) where
+    pub number-large : numberLimit < v → numberAt sc s n ≡ refused outOfLimit s
+    unfolding numberAt
+    number-large h =
+        let l : numberLimit < valueOf (part (sc .text) s n) = omega arith in
+        rw (lt-ltb _ _ l)
+
+    pub number-fits : v ≤ numberLimit → numberAt sc s n ≡ accepted (constant (pos v)) n
+    unfolding numberAt
+    number-fits h =
+        let i : valueOf (part (sc .text) s n) ≡ v = omega arith in
+        rw (i, le-ltb _ _ h)
+
+-- an instruction's code byte and its operand
+pub written : {text : List ℕ} {n c o to t u : ℕ} {before mid after : List ℕ} {r : Step} → t ≡ to + 1 → mid ≡ set before to c → u ≡ t + length (number o) → after ≡ sets mid t (number o) → r ≡ stepAt (tokenAt text n) n u → Parses text (λ (x : ℕ). c ∷ number x) (accepted o n) to before after r
+written {o = o} {to = to} ht hm hu ha e = ended o refl (omega arith) (rw (ha, hm, ht, add-one to)) e
+
+pub constant-code : (v : ℕ) {z : ℕ} → z ≡ zigzag (pos v) → codeE (constant (pos v)) ≡ 1 ∷ number z
+unfolding codeE
+constant-code v e = rw e
+
+pub current-code : (i : ℕ) → codeE (current i) ≡ 2 ∷ number i
+unfolding codeE
+current-code i = refl
+
+pub previous-code : (i : ℕ) → codeE (previous i) ≡ 3 ∷ number i
+unfolding codeE
+previous-code i = refl
+
+-- ---- factors and primaries
+
+module _ (inner : ℕ → ℕ → Parsed Expression) (sc : Scope) {h : Lookahead} (k : Known (sc .text) h) where
+  pub factor-minus : {at n : ℕ} → h .at ≡ at → h .kind ≡ kindNumber minus → n ≡ h .end → factor inner sc at ≡ negative (primary inner sc n)
+  unfolding factor
+  factor-minus i e j = rw (← i, j, k .read, told k minus e)
+
+  pub factor-plain : {at : ℕ} → h .at ≡ at → (h .kind ≡ kindNumber minus → ⊥) → factor inner sc at ≡ primary inner sc (h .at)
+  unfolding factor
+  factor-plain i e = rw (← i, k .read, untold k minus e)
+
+  pub primary-number : h .kind ≡ kindNumber digits → primary inner sc (h .at) ≡ numberAt sc (h .start) (h .end)
+  unfolding primary
+  primary-number e = rw (k .read, told k digits e)
+
+  module _ (n1 : h .kind ≡ kindNumber digits → ⊥) where
+    pub primary-current : h .kind ≡ kindNumber name → primary inner sc (h .at) ≡ currentAt sc (h .start) (h .end)
+    unfolding primary
+    primary-current e = rw (k .read, untold k digits n1, told k name e)
+
+    module _ (n2 : h .kind ≡ kindNumber name → ⊥) where
+      pub primary-previous : h .kind ≡ kindNumber T.previous → primary inner sc (h .at) ≡ previousAt sc (h .start) (h .end)
+      unfolding primary
+      primary-previous e = rw (k .read, untold k digits n1, untold k name n2, told k T.previous e)
+
+      module _ (n3 : h .kind ≡ kindNumber T.previous → ⊥) where
+        pub primary-bracket : h .kind ≡ kindNumber openRound → primary inner sc (h .at) ≡ inner (h .start) (h .end)
+        unfolding primary
+        primary-bracket e = rw (k .read, untold k digits n1, untold k name n2, untold k T.previous n3, told k openRound e)
+
+        pub primary-none : (h .kind ≡ kindNumber openRound → ⊥) → primary inner sc (h .at) ≡ refused notAllowed (h .start)
+        unfolding primary
+        primary-none n4 = rw (k .read, untold k digits n1, untold k name n2, untold k T.previous n3, untold k openRound n4)
+
+module _ (inner : ℕ → ℕ → Parsed Expression) (sc : Scope) (at q : ℕ) (e : tokenAt (sc .text) at ≡ fault q) where
+  pub factor-fault : factor inner sc at ≡ refused noToken q
+  unfolding factor
+  factor-fault = rw e
+
+  pub negative-fault : negative (primary inner sc at) ≡ refused noToken q
+  unfolding negative primary
+  negative-fault = rw e
+
+pub number-text : (sc : Scope) (s n : ℕ) → numberAt sc s n ≡ numberAt (textOnly (sc .text)) s n
+unfolding numberAt
+number-text sc s n = refl
+
+-- ---- brackets
+
+down : (d : ℕ) → suc d - 1 ≡ d
+down d = omega arith
+
+module _ (sc : Scope) (s n : ℕ) where
+  pub bracket-none : (left : ℕ) → left ≡ 0 → bracket left sc s n ≡ refused tooMany s
+  unfolding bracket
+  bracket-none left e = rw e
+
+  pub bracket-some : (left : ℕ) → (left ≡ 0 → ⊥) → bracket left sc s n ≡ closing (sc .text) closeRound (expressionIn (left - 1) sc n)
+  unfolding bracket closing
+  bracket-some zero e = absurd (e refl)
+  bracket-some (suc d) e = ap (λ (x : ℕ). andThen (expressionIn x sc n) (λ a m. followed (sc .text) (sign closeRound ∷ []) a m)) (sym (down d))
+
+-- ---- the opposite
+
+module _ {text : List ℕ} {p : Parsed Expression} where
+  pub negative-refuses : {k q : ℕ} → Refuses text p k q → Refuses text (negative p) k q
+  unfolding negative lookedAhead
+  negative-refuses r = then-refused text _ (λ a n q e. record { looked = rw e }) p r
+
+  pub negative-accepts : {to : ℕ} {before after : List ℕ} {h : Lookahead} {t u : ℕ} {last : List ℕ} → Accepted text codeE p to before after h t → u ≡ t + 1 → last ≡ set after t 9 → Accepted text codeE (negative p) to before last h u
+  unfolding negative codeE
+  negative-accepts a e f = one-more a (negate (a .tree)) 9 (rw (a .is)) refl e f
+
+-- ---- growth
+
+module _ {text starts ends : List ℕ} {names : Names} (d : Declared starts ends names) (left : ℕ) {at to : ℕ} (r : Room text at to) where
+  pub primary-grows : Grown codeE (length text) at (primaryIn left (scopeOf text starts ends names) at)
+  primary-grows = primary-grown _ (few-names text d) _ (bracket-grown _ (few-names text d) left) at (r .within)
+
+  pub factor-grows : Grown codeE (length text) at (factorIn left (scopeOf text starts ends names) at)
+  factor-grows = factor-grown _ (few-names text d) _ (bracket-grown _ (few-names text d) left) at (r .within)
+
+  pub term-grows : Grown codeE (length text) at (termIn left (scopeOf text starts ends names) at)
+  term-grows = term-grown _ (few-names text d) _ (bracket-grown _ (few-names text d) left) at (r .within)
+
+  pub expression-grows : Grown codeE (length text) at (expressionIn left (scopeOf text starts ends names) at)
+  expression-grows = expression-grown _ (few-names text d) _ (bracket-grown _ (few-names text d) left) at (r .within)

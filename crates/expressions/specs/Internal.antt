@@ -1,0 +1,54 @@
+-- Shapes that the contracts of the functions inside need: the parts of an expression with so many brackets left to open, the code
+-- byte of an operator, a token at hand. Assumes nothing.
+use Prim.Native.Nat.{ℕ}
+use mathlib.Core.Path.{_≡_}
+use mathlib.Core.List.{List, []}
+use mathlib.Core.Option.{Option, none, some}
+use lib.Dec.{eqb}
+use Rattle.limits.specs.Limits.{notAllowed}
+use Rattle.lexer.specs.Bytes.{pick}
+use Rattle.lexer.specs.Token.{Kind, kindNumber}
+use Rattle.lexer.specs.Lexer.{tokenAt}
+use Rattle.semantics.specs.Program.{Expression}
+use Rattle.grammar.specs.Parsed.{Parsed}
+use Rattle.grammar.specs.Expressions.{Scope, primary, factor, term, expression, bracket}
+use Rattle.expressions.specs.declared.Lookahead.{Lookahead}
+use Rattle.expressions.specs.declared.Step.{Step}
+use Rattle.expressions.specs.declared.Step.the-variants.{Done, Refused}
+use Rattle.expressions.specs.Steps.{stepAt}
+
+-- a text alone, without names
+abbrev pub textOnly : List ℕ → Scope
+textOnly text = record { text = text; names = []; known = [] }
+
+abbrev pub primaryIn : ℕ → Scope → ℕ → Parsed Expression
+primaryIn left sc at = primary (λ s n. bracket left sc s n) sc at
+
+abbrev pub factorIn : ℕ → Scope → ℕ → Parsed Expression
+factorIn left sc at = factor (λ s n. bracket left sc s n) sc at
+
+abbrev pub termIn : ℕ → Scope → ℕ → Parsed Expression
+termIn left sc at = term (λ s n. bracket left sc s n) sc at
+
+abbrev pub expressionIn : ℕ → Scope → ℕ → Parsed Expression
+expressionIn left sc at = expression (λ s n. bracket left sc s n) sc at
+
+-- the code byte of an operator; 0 where there is none
+abbrev pub codeOf : {O : Type 0} → (O → ℕ) → Option O → ℕ
+codeOf code none = 0
+codeOf code (some o) = code o
+
+-- c is the code byte of an operator of the kind with the number n, and 0 if there is none of that kind
+abbrev pub Codes : {O : Type 0} → (O → ℕ) → (Kind → Option O) → ℕ → ℕ → Type 0
+Codes code operator n c = (k : Kind) → n ≡ kindNumber k → c ≡ codeOf code (operator k)
+
+-- h is the token that is read from its place
+abbrev pub Stands : List ℕ → Lookahead → Type 0
+Stands text h = Done h 0 ≡ stepAt (tokenAt text (h .at)) (h .at) 0
+
+-- a part with a token of the kind with the number w behind it, and the token behind that one; any other token there is refused 2
+abbrev pub closedStep : List ℕ → ℕ → Step → Step
+closedStep text w (Done h t) =
+    let next = stepAt (tokenAt text (h .end)) (h .end) t in
+    pick (eqb (h .kind) w) next (Refused notAllowed (h .start))
+closedStep text w (Refused k q) = Refused k q

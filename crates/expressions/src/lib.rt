@@ -1,0 +1,281 @@
+// Expressions: a recursive descent that writes the code of what it reads. Each function takes the place where its part starts, and
+// answers with the token behind the part, so that its caller need not read that token again.
+use lexer::Found;
+use lexer::Token;
+ghost use mathlib.Core.Path.{_≡_};
+ghost use mathlib.Core.List.{[], _∷_};
+ghost use Prim.Native.Nat.{ℕ, _+_, _/_, _%_, _^_, _≤_, _<_};
+ghost use lib.Dec.{eqb};
+ghost use Rattle.leb128.specs.Numbers.{number as numberBytes};
+ghost use Rattle.lexer.specs.Lexer.{tokenAt};
+ghost use Rattle.bytecode.specs.Instructions.{operationCode};
+ghost use Rattle.grammar.specs.Parsed.{accepted};
+ghost use Rattle.grammar.specs.Expressions.{numberAt, currentAt, previousAt, productOf, sumOf, bracket, wholeExpression};
+ghost use Rattle.grammar.specs.Emitted.{codeE};
+ghost use Rattle.expressions.specs.Scopes.{scopeOf, Declared};
+ghost use Rattle.expressions.specs.Steps.{stepAt, Parses, Room};
+ghost use Rattle.expressions.specs.Internal.{textOnly, primaryIn, factorIn, termIn, expressionIn, Codes, Stands, closedStep};
+
+// Code bytes.
+const CONSTANT: u8 = 1;
+const CURRENT: u8 = 2;
+const PREVIOUS: u8 = 3;
+const ADD: u8 = 4;
+const SUBTRACT: u8 = 5;
+const MULTIPLY: u8 = 6;
+const DIVIDE: u8 = 7;
+const MODULO: u8 = 8;
+const NEGATE: u8 = 9;
+
+// The names declared: how many, and which of them may be used with their current value (bit i for the name with id i).
+pub struct Names {
+    pub count: usize,
+    pub known: u64,
+}
+
+// A token, and the place from which it was read.
+pub struct Lookahead {
+    pub at: usize,
+    pub kind: u8,
+    pub start: usize,
+    pub end: usize,
+}
+
+// The token behind the part read and the end of the bytes written, or a refusal's number and place.
+pub enum Step {
+    Done(Lookahead, usize),
+    Refused(u8, usize),
+}
+
+// The first token at or after `at`, with the bytes written up to `to`.
+pub fn ahead(text: &[u8], at: usize, to: usize) -> Step
+    ensures { λ r. ⌜ r ≡ stepAt (tokenAt (now (text .entry)) at) at to ⌝ }
+{
+    let read = lexer::token_at(text, at);
+    match read {
+        Token::Is(kind, start, end) => Step::Done(Lookahead { at, kind, start, end }, to),
+        Token::Fault(place) => Step::Refused(1, place),
+    }
+}
+
+// A part with a token of the kind given behind it, and the token behind that one.
+pub fn closed(text: &[u8], part: Step, kind: u8) -> Step
+    ensures { λ r. ⌜ r ≡ closedStep (now (text .entry)) kind part ⌝ }
+{
+    let Step::Done(behind, t) = part else {
+        return part;
+    };
+    if behind.kind == kind {
+        return ahead(text, behind.end, t);
+    }
+    Step::Refused(2, behind.start)
+}
+
+// The code of an operator of a sum, and of a product; 0 for any other token.
+fn sum_code(kind: u8) -> u8
+    ensures { λ r. ⌜ Codes operationCode sumOf kind r ⌝ }
+{
+    if kind == lexer::PLUS {
+        return ADD;
+    }
+    if kind == lexer::MINUS {
+        return SUBTRACT;
+    }
+    0
+}
+
+fn product_code(kind: u8) -> u8
+    ensures { λ r. ⌜ Codes operationCode productOf kind r ⌝ }
+{
+    if kind == lexer::STAR {
+        return MULTIPLY;
+    }
+    if kind == lexer::SLASH {
+        return DIVIDE;
+    }
+    if kind == lexer::MOD {
+        return MODULO;
+    }
+    0
+}
+
+// An instruction with its operand, and the token at `end` behind them.
+fn instruction(text: &[u8], end: usize, code: u8, operand: u64, out: &mut [u8], to: usize) -> Step
+    requires { ⌜ (to + 1 < 2 ^ 31) × (operand < 2 ^ 32) ⌝ }
+    ensures { λ r. ⌜ Parses (now (text .entry)) (λ (o : ℕ). code ∷ numberBytes o) (accepted operand end) to (now (out .entry)) (now (out .exit)) r ⌝ }
+{
+    let t = leb128::put_byte(out, to, code);
+    let u = leb128::put_unsigned(out, t, operand);
+    ahead(text, end, u)
+}
+
+// The number that the digits from `start` to `end` spell.
+fn number(text: &[u8], start: usize, end: usize, out: &mut [u8], to: usize) -> Step
+    requires { ⌜ to + 1 < 2 ^ 31 ⌝ }
+    ensures { λ r. ⌜ Parses (now (text .entry)) codeE (numberAt (textOnly (now (text .entry))) start end) to (now (out .entry)) (now (out .exit)) r ⌝ }
+{
+    let v = lexer::value(lexer::name(text, start, end));
+    if 2147483647 < v {
+        return Step::Refused(3, start);
+    }
+    instruction(text, end, CONSTANT, leb128::zigzag(v as i32), out, to)
+}
+
+fn bit(bits: u64, i: u64) -> bool
+    requires { ⌜ i < 64 ⌝ }
+    ensures { λ r. ⌜ r ≡ eqb (bits / 2 ^ i % 2) 1 ⌝ }
+{
+    (bits >> i) % 2 == 1
+}
+
+// The current value of the name from `start` to `end`.
+fn current(text: &[u8], starts: &[usize], ends: &[usize], names: Names, start: usize, end: usize, out: &mut [u8], to: usize) -> Step
+    requires { ⌜ Declared (now starts) (now ends) names ⌝ }
+    requires { ⌜ to + 1 < 2 ^ 31 ⌝ }
+    ensures { λ r. ⌜ Parses (now (text .entry)) codeE (currentAt (scopeOf (now (text .entry)) (now (starts .entry)) (now (ends .entry)) names) start end) to (now (out .entry)) (now (out .exit)) r ⌝ }
+{
+    if lexer::is_over_long(start, end) {
+        return Step::Refused(8, start);
+    }
+    let found = lexer::find(text, starts, ends, names.count, start, end);
+    let Found::At(id) = found else {
+        return Step::Refused(4, start);
+    };
+    if bit(names.known, id as u64) {
+        return instruction(text, end, CURRENT, id as u64, out, to);
+    }
+    Step::Refused(5, start)
+}
+
+// The previous value of the name that stands behind the `_` at `start`.
+fn previous(text: &[u8], starts: &[usize], ends: &[usize], names: Names, start: usize, end: usize, out: &mut [u8], to: usize) -> Step
+    requires { ⌜ Declared (now starts) (now ends) names ⌝ }
+    requires { ⌜ (start < 2 ^ 31) × (to + 1 < 2 ^ 31) ⌝ }
+    ensures { λ r. ⌜ Parses (now (text .entry)) codeE (previousAt (scopeOf (now (text .entry)) (now (starts .entry)) (now (ends .entry)) names) start end) to (now (out .entry)) (now (out .exit)) r ⌝ }
+{
+    let from = start + 1;
+    if lexer::is_over_long(from, end) {
+        return Step::Refused(8, start);
+    }
+    let found = lexer::find(text, starts, ends, names.count, from, end);
+    let Found::At(id) = found else {
+        return Step::Refused(4, start);
+    };
+    instruction(text, end, PREVIOUS, id as u64, out, to)
+}
+
+// Terms with `+` and `-` between them.
+pub fn expression(text: &[u8], starts: &[usize], ends: &[usize], names: Names, at: usize, left: usize, out: &mut [u8], to: usize) -> Step
+    requires { ⌜ Declared (now starts) (now ends) names ⌝ }
+    requires { ⌜ Room (now text) at to ⌝ }
+    ensures { λ r. ⌜ Parses (now (text .entry)) codeE (expressionIn left (scopeOf (now (text .entry)) (now (starts .entry)) (now (ends .entry)) names) at) to (now (out .entry)) (now (out .exit)) r ⌝ }
+{
+    let first = term(text, starts, ends, names, at, left, out, to);
+    let Step::Done(mut behind, mut t) = first else {
+        return first;
+    };
+    loop {
+        let code = sum_code(behind.kind);
+        if code == 0 {
+            return Step::Done(behind, t);
+        }
+        let more = term(text, starts, ends, names, behind.end, left, out, t);
+        let Step::Done(next, u) = more else {
+            return more;
+        };
+        t = leb128::put_byte(out, u, code);
+        behind = next;
+    }
+}
+
+// Factors with `*`, `/` and `mod` between them.
+fn term(text: &[u8], starts: &[usize], ends: &[usize], names: Names, at: usize, left: usize, out: &mut [u8], to: usize) -> Step
+    requires { ⌜ Declared (now starts) (now ends) names ⌝ }
+    requires { ⌜ Room (now text) at to ⌝ }
+    ensures { λ r. ⌜ Parses (now (text .entry)) codeE (termIn left (scopeOf (now (text .entry)) (now (starts .entry)) (now (ends .entry)) names) at) to (now (out .entry)) (now (out .exit)) r ⌝ }
+{
+    let first = factor(text, starts, ends, names, at, left, out, to);
+    let Step::Done(mut behind, mut t) = first else {
+        return first;
+    };
+    loop {
+        let code = product_code(behind.kind);
+        if code == 0 {
+            return Step::Done(behind, t);
+        }
+        let more = factor(text, starts, ends, names, behind.end, left, out, t);
+        let Step::Done(next, u) = more else {
+            return more;
+        };
+        t = leb128::put_byte(out, u, code);
+        behind = next;
+    }
+}
+
+// At most one `-`, then a primary.
+fn factor(text: &[u8], starts: &[usize], ends: &[usize], names: Names, at: usize, left: usize, out: &mut [u8], to: usize) -> Step
+    requires { ⌜ Declared (now starts) (now ends) names ⌝ }
+    requires { ⌜ Room (now text) at to ⌝ }
+    ensures { λ r. ⌜ Parses (now (text .entry)) codeE (factorIn left (scopeOf (now (text .entry)) (now (starts .entry)) (now (ends .entry)) names) at) to (now (out .entry)) (now (out .exit)) r ⌝ }
+{
+    let read = ahead(text, at, to);
+    let Step::Done(here, _) = read else {
+        return read;
+    };
+    if here.kind == lexer::MINUS {
+        let second = ahead(text, here.end, to);
+        let Step::Done(operand, _) = second else {
+            return second;
+        };
+        let inner = primary(text, starts, ends, names, operand, left, out, to);
+        let Step::Done(behind, t) = inner else {
+            return inner;
+        };
+        return Step::Done(behind, leb128::put_byte(out, t, NEGATE));
+    }
+    primary(text, starts, ends, names, here, left, out, to)
+}
+
+// A number, a name, a previous value, or an expression in brackets.
+fn primary(text: &[u8], starts: &[usize], ends: &[usize], names: Names, here: Lookahead, left: usize, out: &mut [u8], to: usize) -> Step
+    requires { ⌜ Declared (now starts) (now ends) names ⌝ }
+    requires { ⌜ Room (now text) (here .at) to ⌝ }
+    requires { ⌜ Stands (now text) here ⌝ }
+    ensures { λ r. ⌜ Parses (now (text .entry)) codeE (primaryIn left (scopeOf (now (text .entry)) (now (starts .entry)) (now (ends .entry)) names) (here .at)) to (now (out .entry)) (now (out .exit)) r ⌝ }
+{
+    if here.kind == lexer::DIGITS {
+        return number(text, here.start, here.end, out, to);
+    }
+    if here.kind == lexer::NAME {
+        return current(text, starts, ends, names, here.start, here.end, out, to);
+    }
+    if here.kind == lexer::PREVIOUS {
+        return previous(text, starts, ends, names, here.start, here.end, out, to);
+    }
+    if here.kind == lexer::OPEN_ROUND {
+        return bracket(text, starts, ends, names, here.start, here.end, left, out, to);
+    }
+    Step::Refused(2, here.start)
+}
+
+// An expression in the bracket from `start` to `end`, with `left` brackets left to open.
+fn bracket(text: &[u8], starts: &[usize], ends: &[usize], names: Names, start: usize, end: usize, left: usize, out: &mut [u8], to: usize) -> Step
+    requires { ⌜ Declared (now starts) (now ends) names ⌝ }
+    requires { ⌜ Room (now text) end to ⌝ }
+    ensures { λ r. ⌜ Parses (now (text .entry)) codeE (bracket left (scopeOf (now (text .entry)) (now (starts .entry)) (now (ends .entry)) names) start end) to (now (out .entry)) (now (out .exit)) r ⌝ }
+{
+    if left == 0 {
+        return Step::Refused(8, start);
+    }
+    let inner = expression(text, starts, ends, names, end, left - 1, out, to);
+    closed(text, inner, lexer::CLOSE_ROUND)
+}
+
+// An expression before which no bracket is open.
+pub fn whole_expression(text: &[u8], starts: &[usize], ends: &[usize], names: Names, at: usize, out: &mut [u8], to: usize) -> Step
+    requires { ⌜ Declared (now starts) (now ends) names ⌝ }
+    requires { ⌜ Room (now text) at to ⌝ }
+    ensures { λ r. ⌜ Parses (now (text .entry)) codeE (wholeExpression (scopeOf (now (text .entry)) (now (starts .entry)) (now (ends .entry)) names) at) to (now (out .entry)) (now (out .exit)) r ⌝ }
+{
+    expression(text, starts, ends, names, at, grammar::BRACKET_LIMIT, out, to)
+}
