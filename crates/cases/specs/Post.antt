@@ -7,7 +7,7 @@ use lib.Seq.{sets}
 use Rattle.grammar.specs.Parsed.{Parsed, accepted, andThen}
 use Rattle.grammar.specs.Rules.{Span, Spanned, casesOf}
 use Rattle.grammar.specs.Emitted.{codeK}
-use Rattle.agreement.specs.Spans.{spansOf, spansIn}
+use Rattle.agreement.specs.Spans.{spansIn, spansOf, Spans}
 use Rattle.cases.specs.declared.Part.{Part}
 use Rattle.cases.specs.Results.{partOf}
 
@@ -33,5 +33,6 @@ abbrev pub endOfCondition : Spanned → ℕ
 endOfCondition c = c .span .to
 
 -- `from` and `upto` hold where the conditions of the cases stand
-pub record Lists (p : Parsed (List Spanned)) (from upto : List ℕ) : Type 0 where
-  pub listed : (cs : List Spanned) (n : ℕ) → p ≡ accepted cs n → spansOf from upto (length cs) ≡ spansIn cs
+pub record Lists (p : Parsed (List Spanned)) (text from upto : List ℕ) : Type 0 where
+  pub held : (cs : List Spanned) (n : ℕ) → p ≡ accepted cs n → Spans text from upto (length cs)
+  pub listed : (cs : List Spanned) (n : ℕ) → p ≡ accepted cs n → spansOf cs ≡ spansIn from upto (length cs)

@@ -17,7 +17,7 @@ ghost use Rattle.grammar.specs.Rules.{Spanned, caseAt, casesFrom, plainList, se
 ghost use Rattle.expressions.specs.Scopes.{scopeOf, Declared};
 ghost use Rattle.expressions.specs.Steps.{Room};
 ghost use Rattle.phrases.specs.Results.{expectedOf};
-ghost use Rattle.agreement.specs.Spans.{spansOf, spansIn};
+ghost use Rattle.agreement.specs.Spans.{spansIn, spansOf, Spans};
 ghost use Rattle.agreement.specs.Results.{comparedOf};
 ghost use Rattle.cases.specs.Results.{unexpectedPart, unreadPart, unlistedPart, placeOnly};
 ghost use Rattle.cases.specs.Post.{Writes, codeOfCase, codeOfCases, endOfCondition, Lists};
@@ -112,7 +112,7 @@ pub fn cases(text: &[u8], starts: &[usize], ends: &[usize], names: Names, w: Var
     requires { ⌜ w .id < nameLimit ⌝ }
     requires { ⌜ (caseLimit ≤ length (now from)) × (caseLimit ≤ length (now upto)) ⌝ }
     ensures { λ r. ⌜ Writes (codeOfCases (w .id)) length (casesFrom caseLimit (scopeOf (now (text .entry)) (now (starts .entry)) (now (ends .entry)) names) (part (now (text .entry)) (w .start) (w .end)) [] at) to (now (out .entry)) (now (out .exit)) r ⌝ }
-    ensures { λ r. ⌜ Lists (casesFrom caseLimit (scopeOf (now (text .entry)) (now (starts .entry)) (now (ends .entry)) names) (part (now (text .entry)) (w .start) (w .end)) [] at) (now (from .exit)) (now (upto .exit)) ⌝ }
+    ensures { λ r. ⌜ Lists (casesFrom caseLimit (scopeOf (now (text .entry)) (now (starts .entry)) (now (ends .entry)) names) (part (now (text .entry)) (w .start) (w .end)) [] at) (now (text .entry)) (now (from .exit)) (now (upto .exit)) ⌝ }
 {
     let mut a = at;
     let mut t = to;
@@ -204,10 +204,10 @@ fn settled(read: Expected, compared: Compared) -> Expected
 pub fn agreeing_list(text: &[u8], starts: &[usize], ends: &[usize], names: Names, from: &[usize], upto: &[usize], count: usize, at: usize) -> Expected
     requires { ⌜ Declared (now starts) (now ends) names ⌝ }
     requires { ⌜ Room (now text) at 0 ⌝ }
-    requires { ⌜ (count ≤ length (now from)) × (count ≤ length (now upto)) ⌝ }
-    ensures { λ r. ⌜ ((cases : List Spanned) → spansOf (now (from .entry)) (now (upto .entry)) count ≡ spansIn cases → expectedOf r ≡ placeOnly (agreeingList (scopeOf (now (text .entry)) (now (starts .entry)) (now (ends .entry)) names) cases at)) ⌝ }
+    requires { ⌜ Spans (now text) (now from) (now upto) count ⌝ }
+    ensures { λ r. ⌜ ((cases : List Spanned) → spansOf cases ≡ spansIn (now (from .entry)) (now (upto .entry)) count → expectedOf r ≡ placeOnly (agreeingList (scopeOf (now (text .entry)) (now (starts .entry)) (now (ends .entry)) names) cases at)) ⌝ }
 {
     let read = plain_list(text, starts, ends, names, at);
-    let compared = agreement::parts(text, from, upto, count, at);
+    let compared = agreement::compare_lists(text, from, upto, count, at);
     settled(read, compared)
 }

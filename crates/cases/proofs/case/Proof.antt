@@ -26,7 +26,7 @@ use Rattle.phrases.proofs.expect.Reads as expect-reads
 
 -- src/lib.rt:88:9
 listed-requires : tie.Need-listed-requires
-listed-requires c κs = (c .before .before .before .before .before .pre .0, (c .before .before .before .before .before .pre .1 .0, ?))
+listed-requires c κs = (c .before .before .before .before .before .pre .0, c .before .before .before .before .before .pre .1 .0)
 
 -- src/lib.rt:89:33
 enum-known-first : tie.Need-enum-known-first
@@ -91,7 +91,7 @@ whole-expression-requires c κs =
     let rl = room-after (c .before .before .before .before .before .before .before .before .before .before .before .before .before .before .before .before .before .before .before .before .pre .1 .0) (listed-grown _ few _ (c .before .before .before .before .before .before .before .before .before .before .before .before .before .before .before .before .before .before .before .before .pre .1 .0 .within)) l in
     let p = found (c .before .before .before .before .before .before .before .before .case-value-opening .ensures) (c .before .before .before .before .before .before .opened .given .1) in
     let rp = room-phrase {u = c .before .before .before .put-byte .result} (caseValueOpening _) (refl, (refl, (refl, tt))) rl p (omega (arith, c .before .before .before .put-byte .ensures .0)) in
-    (c .before .before .before .before .before .before .before .before .before .before .before .before .before .before .before .before .before .before .before .before .pre .0, (rp, ?))
+    (c .before .before .before .before .before .before .before .before .before .before .before .before .before .before .before .before .before .before .before .before .pre .0, rp)
 
 -- src/lib.rt:98:33
 enum-known-second : tie.Need-enum-known-second
