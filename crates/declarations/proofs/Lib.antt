@@ -1,1 +1,6 @@
 pub mod Numbers
+pub mod Bounds
+pub mod Ranges
+pub mod NewNames
+pub mod Entries
+pub mod Loop

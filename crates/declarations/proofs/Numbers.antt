@@ -16,6 +16,7 @@ use mir.Facts.{toZ-pos}
 use Rattle.arith.proofs.Laws.{mag-neg}
 use Rattle.leb128.specs.Numbers.{number, zigzag}
 use Rattle.leb128.proofs.Laws.{at-most-five}
+use Rattle.semantics.specs.Program.{Range}
 use Rattle.declarations.specs.Internal.{rangeBytes}
 
 -- ---- bounds
@@ -49,17 +50,17 @@ pub near : (to a : ℕ) (z : ℤ) → a ≡ to + length (number (zigzag z)) → 
 near to a z e = omega (arith, at-most-five (zigzag z))
 
 -- three numbers, each written behind the one before
-pub three-written : (before m1 m2 after : List ℕ) (to a b end : ℕ) (low high start : ℤ) → (a ≡ to + length (number (zigzag low))) × (m1 ≡ sets before to (number (zigzag low))) → (b ≡ a + length (number (zigzag high))) × (m2 ≡ sets m1 a (number (zigzag high))) → (end ≡ b + length (number (zigzag start))) × (after ≡ sets m2 b (number (zigzag start))) → (end ≡ to + length (rangeBytes low high start)) × (after ≡ sets before to (rangeBytes low high start))
+pub three-written : (before m1 m2 after : List ℕ) (to a b end : ℕ) (r : Range) → (a ≡ to + length (number (zigzag (r .low)))) × (m1 ≡ sets before to (number (zigzag (r .low)))) → (b ≡ a + length (number (zigzag (r .high)))) × (m2 ≡ sets m1 a (number (zigzag (r .high)))) → (end ≡ b + length (number (zigzag (r .start)))) × (after ≡ sets m2 b (number (zigzag (r .start)))) → (end ≡ to + length (rangeBytes r)) × (after ≡ sets before to (rangeBytes r))
 unfolding rangeBytes
-three-written before m1 m2 after to a b end low high start p q r =
-    let x = number (zigzag low) in
-    let y = number (zigzag high) in
-    let z = number (zigzag start) in
+three-written before m1 m2 after to a b end range p q r =
+    let x = number (zigzag (range .low)) in
+    let y = number (zigzag (range .high)) in
+    let z = number (zigzag (range .start)) in
     let e1 : sets before to (x ++ (y ++ (z ++ []))) ≡ sets m1 a (y ++ (z ++ [])) = sets-append before to x (y ++ (z ++ [])) ∙ rw (p .0, p .1) in
     let e2 : sets m1 a (y ++ (z ++ [])) ≡ sets m2 b (z ++ []) = sets-append m1 a y (z ++ []) ∙ rw (q .0, q .1) in
     let e3 : sets m2 b (z ++ []) ≡ after = sets-append m2 b z [] ∙ sym (r .1) in
     (simp length-append (omega (arith, p .0, q .0, r .0)), sym (e1 ∙ e2 ∙ e3))
 
-pub range-bytes : (low high start : ℤ) → length (rangeBytes low high start) ≤ 15
+pub range-bytes : (r : Range) → length (rangeBytes r) ≤ 15
 unfolding rangeBytes
-range-bytes low high start = simp length-append (omega (arith, at-most-five (zigzag low), at-most-five (zigzag high), at-most-five (zigzag start)))
+range-bytes r = simp length-append (omega (arith, at-most-five (zigzag (r .low)), at-most-five (zigzag (r .high)), at-most-five (zigzag (r .start))))

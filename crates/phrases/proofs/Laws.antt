@@ -1,53 +1,25 @@
--- Laws of phrases: one after another, as the code goes. Assumes nothing.
-use mathlib.Core.Path.{_≡_, refl, sym, ap, _∙_}
+-- Laws of tokens that are expected: one, and one after another as the code goes. Assumes nothing.
+use mathlib.Core.Path.{_≡_, refl, sym, ap, _∙_, subst}
+use mathlib.Core.Bool.{true, false}
 use mathlib.Core.List.{List, [], _∷_, _++_}
 use Prim.Native.Nat.{ℕ, _≤_}
-use Rattle.limits.specs.Limits.{notAllowed}
-use mathlib.Core.Bool.{true, false}
 use lib.ListN.{length}
 use borrow.Author.Tests.{eq-eqb}
-use Rattle.lexer.specs.Token.{kindNumber, is, Read, token, fault}
-use Rattle.lexer.specs.Lexer.{tokenAt}
-use Rattle.lexer.specs.Results.{kindOf, tokenRead, Lies, Placed}
+use Rattle.limits.specs.Limits.{notAllowed}
+use Rattle.lexer.specs.Token.{kindNumber, is}
+use Rattle.lexer.specs.Results.{kindOf}
 use Rattle.lexer.specs.declared.Token.{Token}
 use Rattle.lexer.specs.declared.Token.the-variants.{Is, Fault}
 use Rattle.lexer.proofs.KindNumbers.{kind-number, kind-is-not}
+use Rattle.lexer.proofs.Tokens.{Answers, is-token, is-fault}
 use Rattle.grammar.specs.Parsed.{Parsed, accepted, refused, andThen, Wanted, isWanted, expected, phrase}
+use Rattle.grammar.proofs.Growth.{Kept, phrase-kept}
 use Rattle.phrases.specs.Results.{expectedOf, faultOf}
 use Rattle.phrases.specs.declared.Expected.{Expected}
 use Rattle.phrases.specs.declared.Expected.the-variants.{After, Refused}
 
-then-none : (p : Parsed (Unit {0})) → andThen p (λ u n. accepted tt n) ≡ p
-then-none (accepted u n) = refl
-then-none (refused k q) = refl
+-- ---- kinds by their numbers
 
--- ---- a token that was read
-
-module _ (text : List ℕ) (at : ℕ) {t : Token} (e : tokenRead t ≡ tokenAt text at) where
-  pub token-is : {k s n : ℕ} → t ≡ Is k s n → tokenAt text at ≡ token (kindOf k) s n
-  token-is g = sym e ∙ ap tokenRead g
-
-  pub token-fault : {p : ℕ} → t ≡ Fault p → tokenAt text at ≡ fault p
-  token-fault g = sym e ∙ ap tokenRead g
-
-  pub faulty : {p : ℕ} {r : Expected} (w : Wanted) → t ≡ Fault p → r ≡ faultOf t → expectedOf r ≡ expected text w at
-  unfolding expected
-  faulty w g h = rw (h, token-fault g, g)
-
-  module _ {k s n : ℕ} (w : Wanted) (g : t ≡ Is k s n) where
-    pub wanted : isWanted text w (kindOf k) s n ≡ true → accepted tt n ≡ expected text w at
-    unfolding expected
-    wanted h = rw (token-is g, h)
-
-    pub unwanted : isWanted text w (kindOf k) s n ≡ false → refused notAllowed s ≡ expected text w at
-    unfolding expected
-    unwanted h = rw (token-is g, h)
-
-  -- where it stands
-  pub lies : {k s n : ℕ} → t ≡ Is k s n → Placed (length text) at t → Lies (length text) at k s n
-  lies g h = rw g at h
-
--- a kind by its number
 pub same-kinds : (k w : ℕ) → k ≡ w → is (kindOf k) (kindOf w) ≡ true
 unfolding is
 same-kinds k w e = eq-eqb _ _ (ap (λ (x : ℕ). kindNumber (kindOf x)) e)
@@ -55,15 +27,29 @@ same-kinds k w e = eq-eqb _ _ (ap (λ (x : ℕ). kindNumber (kindOf x)) e)
 pub other-kinds : (k w : ℕ) → k ≤ 30 → w ≤ 30 → (k ≡ w → ⊥) → is (kindOf k) (kindOf w) ≡ false
 other-kinds k w h i f = kind-is-not k (kindOf w) h (λ e. f (e ∙ kind-number w i))
 
+-- ---- one token, from what was read
+
+module _ (text : List ℕ) (at : ℕ) (w : Wanted) {t : Token} (a : Answers text at t) where
+  pub faulty : {p : ℕ} {r : Expected} → t ≡ Fault p → r ≡ faultOf t → expectedOf r ≡ expected text w at
+  unfolding expected
+  faulty g h = rw (h, is-fault text at t a _ g, g)
+
+  module _ {k s n : ℕ} (g : t ≡ Is k s n) where
+    pub wanted : isWanted text w (kindOf k) s n ≡ true → accepted tt n ≡ expected text w at
+    unfolding expected
+    wanted h = rw (is-token text at t a k s n g .0, h)
+
+    pub unwanted : isWanted text w (kindOf k) s n ≡ false → refused notAllowed s ≡ expected text w at
+    unfolding expected
+    unwanted h = rw (is-token text at t a k s n g .0, h)
+
 -- ---- tokens one after another
 
-module _ (text : List ℕ) where
-  -- one token
-  phrase-one : (w : Wanted) (at : ℕ) → phrase text (w ∷ []) at ≡ expected text w at
-  unfolding phrase
-  phrase-one w at = then-none (expected text w at)
+then-none : (p : Parsed (Unit {0})) → andThen p (λ u n. accepted tt n) ≡ p
+then-none (accepted u n) = refl
+then-none (refused k q) = refl
 
-  -- a phrase, then another
+module _ (text : List ℕ) where
   pub phrase-append : (xs ys : List Wanted) (at : ℕ) → phrase text (xs ++ ys) at ≡ andThen (phrase text xs at) (λ u n. phrase text ys n)
   unfolding phrase
   phrase-append [] ys at = refl
@@ -73,9 +59,10 @@ module _ (text : List ℕ) where
       go (accepted u n) h = h n
       go (refused k q) h = refl
 
-  -- what a function answers that expects one token
+  -- the last token
   pub last : {q : Parsed (Unit {0})} (w : Wanted) (at : ℕ) → q ≡ expected text w at → q ≡ phrase text (w ∷ []) at
-  last w at e = e ∙ sym (phrase-one w at)
+  unfolding phrase
+  last w at e = e ∙ sym (then-none (expected text w at))
 
   -- a refusal of the first token is the answer
   pub stops : {r : Expected} {k p : ℕ} (w : Wanted) (ws : List Wanted) (at : ℕ) → expectedOf r ≡ expected text w at → r ≡ Refused k p → expectedOf r ≡ phrase text (w ∷ ws) at
@@ -93,3 +80,16 @@ module _ (text : List ℕ) where
 
   pub goes-past : {r : Expected} {n : ℕ} {q : Parsed (Unit {0})} (xs ys : List Wanted) (at : ℕ) → expectedOf r ≡ phrase text xs at → r ≡ After n → q ≡ phrase text ys n → q ≡ phrase text (xs ++ ys) at
   goes-past xs ys at e g h = rw (phrase-append xs ys at, ← e, g) h
+
+-- ---- for callers: what an answer says once it is taken apart
+
+module _ (text : List ℕ) (ws : List Wanted) (at : ℕ) {r : Expected} (e : expectedOf r ≡ phrase text ws at) where
+  pub is-after : {n : ℕ} → r ≡ After n → phrase text ws at ≡ accepted tt n
+  is-after g = sym e ∙ ap expectedOf g
+
+  pub is-refused : {k p : ℕ} → r ≡ Refused k p → phrase text ws at ≡ refused k p
+  is-refused g = sym e ∙ ap expectedOf g
+
+  -- the tokens end at or after where they begin, within the text
+  pub after-kept : {n : ℕ} → at ≤ length text → r ≡ After n → (at ≤ n) × (n ≤ length text)
+  after-kept h g = subst (Kept (length text) at) (is-after g) (phrase-kept text ws at h)

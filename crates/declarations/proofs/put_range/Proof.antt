@@ -26,7 +26,7 @@ same-length c = search needs
 
 -- src/lib.rt:46:1
 returns : tie.Need-returns
-returns c = rw (same32 (c .before .before .before .before .before .before .before .before .before .before .before .before .before .fits .low), same32 (c .before .before .before .before .before .before .before .before .before .before .before .before .before .fits .high), same32 (c .before .before .before .before .before .before .before .before .before .before .before .before .before .fits .start)) at (three-written _ _ _ _ _ _ _ _ _ _ _ (c .before .before .before .before .before .before .before .before .before .before .put-signed .ensures) (c .before .before .before .before .before .before .put-signed2 .ensures) (c .before .before .put-signed3 .ensures))
+returns c = rw (same32 (c .before .before .before .before .before .before .before .before .before .before .before .before .before .fits .low), same32 (c .before .before .before .before .before .before .before .before .before .before .before .before .before .fits .high), same32 (c .before .before .before .before .before .before .before .before .before .before .before .before .before .fits .start)) at (three-written _ _ _ _ _ _ _ _ (record { low = _; high = _; start = _ }) (c .before .before .before .before .before .before .before .before .before .before .put-signed .ensures) (c .before .before .before .before .before .before .put-signed2 .ensures) (c .before .before .put-signed3 .ensures))
 
 pub put-range-spec : {M : Type 1} → statement M
 put-range-spec =

@@ -1,75 +1,88 @@
-use mathlib.Core.List.{[], _∷_}
-use Rattle.lexer.specs.Token.{closeRound, arrow}
-use Rattle.grammar.specs.Parsed.{sign}
+-- `phrases::change_opening` meets its contract: each token takes the definition one step on. Assumes nothing.
+use mathlib.Core.Path.{_≡_}
+use mathlib.Core.List.{List, [], _∷_, _++_}
+use Prim.Native.Nat.{ℕ}
 use borrow.Author.Needs.{needs}
+use Rattle.lexer.specs.Bytes.{part}
+use Rattle.lexer.specs.Token.{arrow, closeRound}
 use Rattle.lexer.specs.Results.{kindOf}
+use Rattle.grammar.specs.Parsed.{Parsed, Wanted, sign, phrase}
+use Rattle.phrases.specs.Forms.{unchangedValue, changeOpening}
 use Rattle.phrases.proofs.Laws.{last, stops, goes-on, stops-in, goes-past}
 use Rattle.phrases.proofs.change_opening.Statement.{statement}
 use Rattle.phrases.proofs.change_opening.Tie as tie
-use Rattle.phrases.proofs.change_opening.Reads as reads
-use Rattle.phrases.proofs.change_opening.Lts as lts
-use Rattle.phrases.proofs.expect.Reads as expect-reads
-use Rattle.phrases.proofs.unchanged_value.Reads as unchanged-value-reads
 
--- src/lib.rt:133:9
+-- q is the answer to the tokens ws, at n
+abbrev Left : tie.Start → Parsed (Unit {0}) → List Wanted → ℕ → Type 0
+Left s q ws n = q ≡ phrase (s .args .text .now) ws n
+
+-- the name
+abbrev w : tie.Start → List ℕ
+w s = part (s .args .text .now) (s .args .start) (s .args .end)
+
+-- q is the answer to all of them
+abbrev Whole : tie.Start → Parsed (Unit {0}) → Type 0
+Whole s q = Left s q (changeOpening (w s)) (s .args .at)
+
+-- after each of them, what is left of the tokens
+abbrev from-closing : List Wanted
+from-closing = sign closeRound ∷ sign arrow ∷ []
+
+past-opening : (c : tie.After-known-told) {q : Parsed (Unit {0})} → Left (c .before .before .before .before .before) q (unchangedValue (w (c .before .before .before .before .before)) ++ from-closing) (c .before .first .given .0 .0) → Whole (c .before .before .before .before .before) q
+unfolding kindOf
+past-opening c h = goes-on _ _ _ _ (c .before .before .before .expect .ensures) (c .before .first .given .1) h
+
+past-value : (c : tie.After-known-told2) {q : Parsed (Unit {0})} → Left (c .before .before .before .before .before .before .before .before .before) q from-closing (c .before .second .given .0 .0) → Whole (c .before .before .before .before .before .before .before .before .before) q
+past-value c h = past-opening (c .before .before .before .before) (goes-past _ _ _ _ (c .before .before .before .unchanged-value .ensures) (c .before .second .given .1) h)
+
+past-closing : (c : tie.After-known-told3) {q : Parsed (Unit {0})} → Left (c .before .before .before .before .before .before .before .before .before .before .before .before .before) q (sign arrow ∷ []) (c .before .third .given .0 .0) → Whole (c .before .before .before .before .before .before .before .before .before .before .before .before .before) q
+unfolding kindOf
+past-closing c h = past-value (c .before .before .before .before) (goes-on _ _ _ _ (c .before .before .before .expect2 .ensures) (c .before .third .given .1) h)
+
 expect-requires : tie.Need-expect-requires
 expect-requires c κs = search needs
 
--- src/lib.rt:134:25
 enum-known-first : tie.Need-enum-known-first
 enum-known-first c = search needs
 
--- src/lib.rt:135:9
 enum-told : tie.Need-enum-told
 enum-told c = search needs
 
--- src/lib.rt:135:9
 returns : tie.Need-returns
 unfolding kindOf
 returns c = stops _ _ _ _ (c .before .before .expect .ensures) (c .enum-told .given .1)
 
--- src/lib.rt:137:9
 unchanged-value-requires : tie.Need-unchanged-value-requires
 unchanged-value-requires c κs = search needs
 
--- src/lib.rt:138:25
 enum-known-second : tie.Need-enum-known-second
 enum-known-second c = search needs
 
--- src/lib.rt:139:9
 enum-told-2 : tie.Need-enum-told-2
 enum-told-2 c = search needs
 
--- src/lib.rt:139:9
 returns-2 : tie.Need-returns-2
-unfolding kindOf
-returns-2 c = goes-on _ _ _ _ (c .before .before .before .before .before .before .expect .ensures) (c .before .before .before .before .first .given .1) (stops-in _ _ (sign closeRound ∷ sign arrow ∷ []) _ (c .before .before .unchanged-value .ensures) (c .enum-told2 .given .1))
+returns-2 c = past-opening (c .before .before .before) (stops-in _ _ from-closing _ (c .before .before .unchanged-value .ensures) (c .enum-told2 .given .1))
 
--- src/lib.rt:141:9
 expect-requires-2 : tie.Need-expect-requires-2
 expect-requires-2 c κs = search needs
 
--- src/lib.rt:142:25
 enum-known-third : tie.Need-enum-known-third
 enum-known-third c = search needs
 
--- src/lib.rt:143:9
 enum-told-3 : tie.Need-enum-told-3
 enum-told-3 c = search needs
 
--- src/lib.rt:143:9
 returns-3 : tie.Need-returns-3
 unfolding kindOf
-returns-3 c = goes-on _ _ _ _ (c .before .before .before .before .before .before .before .before .before .before .expect .ensures) (c .before .before .before .before .before .before .before .before .first .given .1) (goes-past _ _ _ _ (c .before .before .before .before .before .before .unchanged-value .ensures) (c .before .before .before .before .second .given .1) (stops _ _ _ _ (c .before .before .expect2 .ensures) (c .enum-told3 .given .1)))
+returns-3 c = past-value (c .before .before .before) (stops _ _ _ _ (c .before .before .expect2 .ensures) (c .enum-told3 .given .1))
 
--- src/lib.rt:145:5
 expect-requires-3 : tie.Need-expect-requires-3
 expect-requires-3 c κs = search needs
 
--- src/lib.rt:130:1
 returns-4 : tie.Need-returns-4
 unfolding kindOf
-returns-4 c = goes-on _ _ _ _ (c .before .before .before .before .before .before .before .before .before .before .before .before .expect .ensures) (c .before .before .before .before .before .before .before .before .before .before .first .given .1) (goes-past _ _ _ _ (c .before .before .before .before .before .before .before .before .unchanged-value .ensures) (c .before .before .before .before .before .before .second .given .1) (goes-on _ _ _ _ (c .before .before .before .before .expect2 .ensures) (c .before .before .third .given .1) (last _ _ _ (c .expect3 .ensures))))
+returns-4 c = past-closing (c .before) (last _ _ _ (c .expect3 .ensures))
 
 pub change-opening-spec : {M : Type 1} → statement M
 change-opening-spec =

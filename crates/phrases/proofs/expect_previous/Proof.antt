@@ -1,75 +1,67 @@
+-- `phrases::expect_previous` meets its contract. Assumes nothing.
 use mathlib.Core.Path.{_≡_, sym, ap₂, _∙_}
+use Prim.Native.Nat.{_+_}
+use Rattle.lexer.specs.Bytes.{part}
 use Rattle.lexer.specs.Token.{kindNumber, previous}
 use Rattle.lexer.specs.Lexer.{sameName}
 use Rattle.lexer.specs.Results.{kindOf}
 use Rattle.lexer.proofs.KindNumbers.{kind-is, kind-is-not}
-use Rattle.phrases.proofs.Laws.{faulty, wanted, unwanted, lies}
+use Rattle.lexer.proofs.Tokens.{is-token}
+use Rattle.phrases.proofs.Laws.{faulty, wanted, unwanted}
 use native.Mathlib.Omega.{arith}
 use mir.Syntax.{w64}
 use mir.Val.{Fits}
 use borrow.Author.Needs.{needs}
 use Rattle.phrases.proofs.expect_previous.Statement.{statement}
 use Rattle.phrases.proofs.expect_previous.Tie as tie
-use Rattle.phrases.proofs.expect_previous.Reads as reads
-use Rattle.phrases.proofs.expect_previous.Lts as lts
-use Rattle.lexer.proofs.name.Reads as name-reads
-use Rattle.lexer.proofs.same_name.Reads as same-name-reads
-use Rattle.lexer.proofs.token_at.Reads as token-at-reads
-use Rattle.phrases.proofs.fault.Reads as fault-reads
 
--- src/lib.rt:62:9
 token-at-requires : tie.Need-token-at-requires
 token-at-requires c κs = search needs
 
--- src/lib.rt:63:19
 enum-known-read : tie.Need-enum-known-read
 enum-known-read c = search needs
 
--- src/lib.rt:64:9
 enum-told : tie.Need-enum-told
 enum-told c = search needs
 
--- src/lib.rt:64:9
 fault-requires : tie.Need-fault-requires
 fault-requires c κs = search needs
 
--- src/lib.rt:64:9
 returns : tie.Need-returns
-returns c = faulty _ _ (c .before .before .before .token-at .ensures .0) _ (c .before .enum-told .given .1) (c .fault .ensures)
+returns c = faulty _ _ _ (c .before .before .before .token-at .ensures) (c .before .enum-told .given .1) (c .fault .ensures)
 
--- src/lib.rt:67:29
 name-requires : tie.Need-name-requires
 name-requires c κs = search needs
 
--- src/lib.rt:67:78
 add-name : tie.Need-add-name
 add-name c =
-    let l = lies _ _ (c .before .before .before .before .before .token-at .ensures .0) (c .before .before .before .read .given .1) (c .before .before .before .before .before .token-at .ensures .1) in
+    let t = is-token _ _ _ (c .before .before .before .before .before .token-at .ensures) _ _ _ (c .before .before .before .read .given .1) in
     let f : Fits w64 (c .before .before .before .read .given .0 .1 .1 .0) = search needs in
-    record { fits = omega (arith, f .fits, l .moved (λ e. omega (arith, c .before .if1 .taken))) }
+    record { fits = omega (arith, f .fits, t .1 .moved (λ e. omega (arith, c .before .if1 .taken))) }
 
--- src/lib.rt:67:60
 name-requires-2 : tie.Need-name-requires-2
 name-requires-2 c κs = search needs
 
--- src/lib.rt:67:12
 same-name-requires : tie.Need-same-name-requires
 same-name-requires c κs = search needs
 
--- src/lib.rt:68:13
+-- the names as the definition compares them
+compared : (c : tie.After-same-name) → sameName (part (c .before .before .before .before .before .before .before .before .before .args .text .now) (c .before .before .before .before .before .before .before .before .before .args .start) (c .before .before .before .before .before .before .before .before .before .args .end)) (part (c .before .before .before .before .before .before .before .before .before .args .text .now) (c .before .before .before .before .before .read .given .0 .1 .0 + 1) (c .before .before .before .before .before .read .given .0 .1 .1 .0)) ≡ c .same-name .result
+compared c = ap₂ sameName (sym (c .before .before .name .ensures)) (sym (c .before .name2 .ensures)) ∙ sym (c .same-name .ensures)
+
 returns-2 : tie.Need-returns-2
 unfolding kindOf kindNumber
-returns-2 c = wanted _ _ (c .before .before .before .before .before .before .before .before .token-at .ensures .0) _ (c .before .before .before .before .before .before .read .given .1) (rw (kind-is _ previous (c .before .before .before .before .if1 .taken), ap₂ sameName (sym (c .before .before .before .name .ensures)) (sym (c .before .before .name2 .ensures)) ∙ sym (c .before .same-name .ensures) ∙ c .if2 .taken))
+returns-2 c = wanted _ _ _ (c .before .before .before .before .before .before .before .before .token-at .ensures) (c .before .before .before .before .before .before .read .given .1) (rw (kind-is _ previous (c .before .before .before .before .if1 .taken), compared (c .before) ∙ c .if2 .taken))
 
--- src/lib.rt:59:1
 returns-3 : tie.Need-returns-3
 unfolding kindOf kindNumber
-returns-3 c = unwanted _ _ (c .before .before .before .before .before .before .before .before .token-at .ensures .0) _ (c .before .before .before .before .before .before .read .given .1) (rw (kind-is _ previous (c .before .before .before .before .if1 .taken), ap₂ sameName (sym (c .before .before .before .name .ensures)) (sym (c .before .before .name2 .ensures)) ∙ sym (c .before .same-name .ensures) ∙ c .if2 .left))
+returns-3 c = unwanted _ _ _ (c .before .before .before .before .before .before .before .before .token-at .ensures) (c .before .before .before .before .before .before .read .given .1) (rw (kind-is _ previous (c .before .before .before .before .if1 .taken), compared (c .before) ∙ c .if2 .left))
 
--- src/lib.rt:59:1
 returns-4 : tie.Need-returns-4
 unfolding kindOf kindNumber
-returns-4 c = let l = lies _ _ (c .before .before .before .before .token-at .ensures .0) (c .before .before .read .given .1) (c .before .before .before .before .token-at .ensures .1) in unwanted _ _ (c .before .before .before .before .token-at .ensures .0) _ (c .before .before .read .given .1) (rw (kind-is-not _ previous (l .known-kind) (c .if1 .left)))
+returns-4 c =
+    let t = is-token _ _ _ (c .before .before .before .before .token-at .ensures) _ _ _ (c .before .before .read .given .1) in
+    unwanted _ _ _ (c .before .before .before .before .token-at .ensures) (c .before .before .read .given .1) (rw (kind-is-not _ previous (t .1 .known-kind) (c .if1 .left)))
 
 pub expect-previous-spec : {M : Type 1} → statement M
 expect-previous-spec =

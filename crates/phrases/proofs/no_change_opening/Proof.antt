@@ -1,169 +1,142 @@
+-- `phrases::no_change_opening` meets its contract: each token takes the definition one step on. Assumes nothing.
+use mathlib.Core.Path.{_≡_}
 use mathlib.Core.List.{List, [], _∷_, _++_}
 use Prim.Native.Nat.{ℕ}
 use borrow.Author.Needs.{needs}
-use Rattle.lexer.specs.Token.{nextWord, arrow, openRound, tilde}
-use Rattle.grammar.specs.Parsed.{Wanted, sign, own}
+use Rattle.lexer.specs.Bytes.{part}
+use Rattle.lexer.specs.Token.{arrow, openRound, tilde}
 use Rattle.lexer.specs.Results.{kindOf}
-use Rattle.phrases.specs.Forms.{ruleOpening, unchangedValue}
+use Rattle.grammar.specs.Parsed.{Parsed, Wanted, sign, own, phrase}
+use Rattle.phrases.specs.Forms.{ruleOpening, unchangedValue, noChangeOpening}
 use Rattle.phrases.proofs.Laws.{last, stops, goes-on, stops-in, goes-past}
 use Rattle.phrases.proofs.no_change_opening.Statement.{statement}
 use Rattle.phrases.proofs.no_change_opening.Tie as tie
-use Rattle.phrases.proofs.no_change_opening.Reads as reads
-use Rattle.phrases.proofs.no_change_opening.Lts as lts
-use Rattle.phrases.proofs.expect.Reads as expect-reads
-use Rattle.phrases.proofs.expect_name.Reads as expect-name-reads
-use Rattle.phrases.proofs.formula_closing.Reads as formula-closing-reads
-use Rattle.phrases.proofs.rule_opening.Reads as rule-opening-reads
-use Rattle.phrases.proofs.unchanged_value.Reads as unchanged-value-reads
 
--- what is left of the tokens
+-- q is the answer to the tokens ws, at n
+abbrev Left : tie.Start → Parsed (Unit {0}) → List Wanted → ℕ → Type 0
+Left s q ws n = q ≡ phrase (s .args .text .now) ws n
+
+-- the name
+abbrev w : tie.Start → List ℕ
+w s = part (s .args .text .now) (s .args .start) (s .args .end)
+
+-- q is the answer to all of them
+abbrev Whole : tie.Start → Parsed (Unit {0}) → Type 0
+Whole s q = Left s q (noChangeOpening (w s)) (s .args .at)
+
+-- after each of them, what is left of the tokens
 abbrev from-arrow : List Wanted
 from-arrow = sign arrow ∷ sign tilde ∷ sign openRound ∷ []
 
 abbrev from-value : List ℕ → List Wanted
 from-value w = unchangedValue w ++ from-arrow
 
-abbrev from-name : List ℕ → List Wanted
-from-name w = own w ∷ (ruleOpening ++ from-value w)
+abbrev from-opening : List ℕ → List Wanted
+from-opening w = ruleOpening ++ from-value w
 
--- src/lib.rt:151:9
+abbrev from-name : List ℕ → List Wanted
+from-name w = own w ∷ from-opening w
+
+past-closing : (c : tie.After-known-told) {q : Parsed (Unit {0})} → Left (c .before .before .before .before .before) q (from-name (w (c .before .before .before .before .before))) (c .before .first .given .0 .0) → Whole (c .before .before .before .before .before) q
+past-closing c h = goes-past _ _ _ _ (c .before .before .before .formula-closing .ensures) (c .before .first .given .1) h
+
+past-name : (c : tie.After-known-told2) {q : Parsed (Unit {0})} → Left (c .before .before .before .before .before .before .before .before .before) q (from-opening (w (c .before .before .before .before .before .before .before .before .before))) (c .before .second .given .0 .0) → Whole (c .before .before .before .before .before .before .before .before .before) q
+past-name c h = past-closing (c .before .before .before .before) (goes-on _ _ _ _ (c .before .before .before .expect-name .ensures) (c .before .second .given .1) h)
+
+past-opening : (c : tie.After-known-told3) {q : Parsed (Unit {0})} → Left (c .before .before .before .before .before .before .before .before .before .before .before .before .before) q (from-value (w (c .before .before .before .before .before .before .before .before .before .before .before .before .before))) (c .before .third .given .0 .0) → Whole (c .before .before .before .before .before .before .before .before .before .before .before .before .before) q
+past-opening c h = past-name (c .before .before .before .before) (goes-past _ _ _ _ (c .before .before .before .rule-opening .ensures) (c .before .third .given .1) h)
+
+past-value : (c : tie.After-known-told4) {q : Parsed (Unit {0})} → Left (c .before .before .before .before .before .before .before .before .before .before .before .before .before .before .before .before .before) q from-arrow (c .before .fourth .given .0 .0) → Whole (c .before .before .before .before .before .before .before .before .before .before .before .before .before .before .before .before .before) q
+past-value c h = past-opening (c .before .before .before .before) (goes-past _ _ _ _ (c .before .before .before .unchanged-value .ensures) (c .before .fourth .given .1) h)
+
+past-arrow : (c : tie.After-known-told5) {q : Parsed (Unit {0})} → Left (c .before .before .before .before .before .before .before .before .before .before .before .before .before .before .before .before .before .before .before .before .before) q (sign tilde ∷ sign openRound ∷ []) (c .before .fifth .given .0 .0) → Whole (c .before .before .before .before .before .before .before .before .before .before .before .before .before .before .before .before .before .before .before .before .before) q
+unfolding kindOf
+past-arrow c h = past-value (c .before .before .before .before) (goes-on _ _ _ _ (c .before .before .before .expect .ensures) (c .before .fifth .given .1) h)
+
+past-tilde : (c : tie.After-known-told6) {q : Parsed (Unit {0})} → Left (c .before .before .before .before .before .before .before .before .before .before .before .before .before .before .before .before .before .before .before .before .before .before .before .before .before) q (sign openRound ∷ []) (c .before .sixth .given .0 .0) → Whole (c .before .before .before .before .before .before .before .before .before .before .before .before .before .before .before .before .before .before .before .before .before .before .before .before .before) q
+unfolding kindOf
+past-tilde c h = past-arrow (c .before .before .before .before) (goes-on _ _ _ _ (c .before .before .before .expect2 .ensures) (c .before .sixth .given .1) h)
+
 formula-closing-requires : tie.Need-formula-closing-requires
 formula-closing-requires c κs = search needs
 
--- src/lib.rt:152:25
 enum-known-first : tie.Need-enum-known-first
 enum-known-first c = search needs
 
--- src/lib.rt:153:9
 enum-told : tie.Need-enum-told
 enum-told c = search needs
 
--- src/lib.rt:153:9
 returns : tie.Need-returns
-unfolding kindOf
-returns c =
-    stops-in _ _ (from-name _) _ (c .before .before .formula-closing .ensures) (c .enum-told .given .1)
+returns c = stops-in _ _ (from-name _) _ (c .before .before .formula-closing .ensures) (c .enum-told .given .1)
 
--- src/lib.rt:155:9
 expect-name-requires : tie.Need-expect-name-requires
 expect-name-requires c κs = search needs
 
--- src/lib.rt:156:25
 enum-known-second : tie.Need-enum-known-second
 enum-known-second c = search needs
 
--- src/lib.rt:157:9
 enum-told-2 : tie.Need-enum-told-2
 enum-told-2 c = search needs
 
--- src/lib.rt:157:9
 returns-2 : tie.Need-returns-2
-unfolding kindOf
-returns-2 c =
-    goes-past _ _ _ _ (c .before .before .before .before .before .before .formula-closing .ensures) (c .before .before .before .before .first .given .1)
-    (stops _ _ _ _ (c .before .before .expect-name .ensures) (c .enum-told2 .given .1))
+returns-2 c = past-closing (c .before .before .before) (stops _ _ _ _ (c .before .before .expect-name .ensures) (c .enum-told2 .given .1))
 
--- src/lib.rt:159:9
 rule-opening-requires : tie.Need-rule-opening-requires
 rule-opening-requires c κs = search needs
 
--- src/lib.rt:160:25
 enum-known-third : tie.Need-enum-known-third
 enum-known-third c = search needs
 
--- src/lib.rt:161:9
 enum-told-3 : tie.Need-enum-told-3
 enum-told-3 c = search needs
 
--- src/lib.rt:161:9
 returns-3 : tie.Need-returns-3
-unfolding kindOf
-returns-3 c =
-    goes-past _ _ _ _ (c .before .before .before .before .before .before .before .before .before .before .formula-closing .ensures) (c .before .before .before .before .before .before .before .before .first .given .1)
-    (goes-on _ _ _ _ (c .before .before .before .before .before .before .expect-name .ensures) (c .before .before .before .before .second .given .1)
-    (stops-in _ _ (from-value _) _ (c .before .before .rule-opening .ensures) (c .enum-told3 .given .1)))
+returns-3 c = past-name (c .before .before .before) (stops-in _ _ (from-value _) _ (c .before .before .rule-opening .ensures) (c .enum-told3 .given .1))
 
--- src/lib.rt:163:9
 unchanged-value-requires : tie.Need-unchanged-value-requires
 unchanged-value-requires c κs = search needs
 
--- src/lib.rt:164:25
 enum-known-fourth : tie.Need-enum-known-fourth
 enum-known-fourth c = search needs
 
--- src/lib.rt:165:9
 enum-told-4 : tie.Need-enum-told-4
 enum-told-4 c = search needs
 
--- src/lib.rt:165:9
 returns-4 : tie.Need-returns-4
-unfolding kindOf
-returns-4 c =
-    goes-past _ _ _ _ (c .before .before .before .before .before .before .before .before .before .before .before .before .before .before .formula-closing .ensures) (c .before .before .before .before .before .before .before .before .before .before .before .before .first .given .1)
-    (goes-on _ _ _ _ (c .before .before .before .before .before .before .before .before .before .before .expect-name .ensures) (c .before .before .before .before .before .before .before .before .second .given .1)
-    (goes-past _ _ _ _ (c .before .before .before .before .before .before .rule-opening .ensures) (c .before .before .before .before .third .given .1)
-    (stops-in _ _ from-arrow _ (c .before .before .unchanged-value .ensures) (c .enum-told4 .given .1))))
+returns-4 c = past-opening (c .before .before .before) (stops-in _ _ from-arrow _ (c .before .before .unchanged-value .ensures) (c .enum-told4 .given .1))
 
--- src/lib.rt:167:9
 expect-requires : tie.Need-expect-requires
 expect-requires c κs = search needs
 
--- src/lib.rt:168:25
 enum-known-fifth : tie.Need-enum-known-fifth
 enum-known-fifth c = search needs
 
--- src/lib.rt:169:9
 enum-told-5 : tie.Need-enum-told-5
 enum-told-5 c = search needs
 
--- src/lib.rt:169:9
 returns-5 : tie.Need-returns-5
 unfolding kindOf
-returns-5 c =
-    goes-past _ _ _ _ (c .before .before .before .before .before .before .before .before .before .before .before .before .before .before .before .before .before .before .formula-closing .ensures) (c .before .before .before .before .before .before .before .before .before .before .before .before .before .before .before .before .first .given .1)
-    (goes-on _ _ _ _ (c .before .before .before .before .before .before .before .before .before .before .before .before .before .before .expect-name .ensures) (c .before .before .before .before .before .before .before .before .before .before .before .before .second .given .1)
-    (goes-past _ _ _ _ (c .before .before .before .before .before .before .before .before .before .before .rule-opening .ensures) (c .before .before .before .before .before .before .before .before .third .given .1)
-    (goes-past _ _ _ _ (c .before .before .before .before .before .before .unchanged-value .ensures) (c .before .before .before .before .fourth .given .1)
-    (stops _ _ _ _ (c .before .before .expect .ensures) (c .enum-told5 .given .1)))))
+returns-5 c = past-value (c .before .before .before) (stops _ _ _ _ (c .before .before .expect .ensures) (c .enum-told5 .given .1))
 
--- src/lib.rt:171:9
 expect-requires-2 : tie.Need-expect-requires-2
 expect-requires-2 c κs = search needs
 
--- src/lib.rt:172:25
 enum-known-sixth : tie.Need-enum-known-sixth
 enum-known-sixth c = search needs
 
--- src/lib.rt:173:9
 enum-told-6 : tie.Need-enum-told-6
 enum-told-6 c = search needs
 
--- src/lib.rt:173:9
 returns-6 : tie.Need-returns-6
 unfolding kindOf
-returns-6 c =
-    goes-past _ _ _ _ (c .before .before .before .before .before .before .before .before .before .before .before .before .before .before .before .before .before .before .before .before .before .before .formula-closing .ensures) (c .before .before .before .before .before .before .before .before .before .before .before .before .before .before .before .before .before .before .before .before .first .given .1)
-    (goes-on _ _ _ _ (c .before .before .before .before .before .before .before .before .before .before .before .before .before .before .before .before .before .before .expect-name .ensures) (c .before .before .before .before .before .before .before .before .before .before .before .before .before .before .before .before .second .given .1)
-    (goes-past _ _ _ _ (c .before .before .before .before .before .before .before .before .before .before .before .before .before .before .rule-opening .ensures) (c .before .before .before .before .before .before .before .before .before .before .before .before .third .given .1)
-    (goes-past _ _ _ _ (c .before .before .before .before .before .before .before .before .before .before .unchanged-value .ensures) (c .before .before .before .before .before .before .before .before .fourth .given .1)
-    (goes-on _ _ _ _ (c .before .before .before .before .before .before .expect .ensures) (c .before .before .before .before .fifth .given .1)
-    (stops _ _ _ _ (c .before .before .expect2 .ensures) (c .enum-told6 .given .1))))))
+returns-6 c = past-arrow (c .before .before .before) (stops _ _ _ _ (c .before .before .expect2 .ensures) (c .enum-told6 .given .1))
 
--- src/lib.rt:175:5
 expect-requires-3 : tie.Need-expect-requires-3
 expect-requires-3 c κs = search needs
 
--- src/lib.rt:148:1
 returns-7 : tie.Need-returns-7
 unfolding kindOf
-returns-7 c =
-    goes-past _ _ _ _ (c .before .before .before .before .before .before .before .before .before .before .before .before .before .before .before .before .before .before .before .before .before .before .before .before .formula-closing .ensures) (c .before .before .before .before .before .before .before .before .before .before .before .before .before .before .before .before .before .before .before .before .before .before .first .given .1)
-    (goes-on _ _ _ _ (c .before .before .before .before .before .before .before .before .before .before .before .before .before .before .before .before .before .before .before .before .expect-name .ensures) (c .before .before .before .before .before .before .before .before .before .before .before .before .before .before .before .before .before .before .second .given .1)
-    (goes-past _ _ _ _ (c .before .before .before .before .before .before .before .before .before .before .before .before .before .before .before .before .rule-opening .ensures) (c .before .before .before .before .before .before .before .before .before .before .before .before .before .before .third .given .1)
-    (goes-past _ _ _ _ (c .before .before .before .before .before .before .before .before .before .before .before .before .unchanged-value .ensures) (c .before .before .before .before .before .before .before .before .before .before .fourth .given .1)
-    (goes-on _ _ _ _ (c .before .before .before .before .before .before .before .before .expect .ensures) (c .before .before .before .before .before .before .fifth .given .1)
-    (goes-on _ _ _ _ (c .before .before .before .before .expect2 .ensures) (c .before .before .sixth .given .1)
-    (last _ _ _ (c .expect3 .ensures)))))))
+returns-7 c = past-tilde (c .before) (last _ _ _ (c .expect3 .ensures))
 
 pub no-change-opening-spec : {M : Type 1} → statement M
 no-change-opening-spec =

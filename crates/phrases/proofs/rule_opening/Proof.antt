@@ -1,51 +1,39 @@
+-- `phrases::rule_opening` meets its contract: each token takes the definition one step on. Assumes nothing.
 use borrow.Author.Needs.{needs}
 use Rattle.lexer.specs.Results.{kindOf}
 use Rattle.phrases.proofs.Laws.{last, stops, goes-on}
 use Rattle.phrases.proofs.rule_opening.Statement.{statement}
 use Rattle.phrases.proofs.rule_opening.Tie as tie
-use Rattle.phrases.proofs.rule_opening.Reads as reads
-use Rattle.phrases.proofs.rule_opening.Lts as lts
-use Rattle.phrases.proofs.expect.Reads as expect-reads
 
--- src/lib.rt:55:9
 expect-requires : tie.Need-expect-requires
 expect-requires c κs = search needs
 
--- src/lib.rt:56:25
 enum-known-first : tie.Need-enum-known-first
 enum-known-first c = search needs
 
--- src/lib.rt:57:9
 enum-told : tie.Need-enum-told
 enum-told c = search needs
 
--- src/lib.rt:57:9
 returns : tie.Need-returns
 unfolding kindOf
 returns c = stops _ _ _ _ (c .before .before .expect .ensures) (c .enum-told .given .1)
 
--- src/lib.rt:59:9
 expect-requires-2 : tie.Need-expect-requires-2
 expect-requires-2 c κs = search needs
 
--- src/lib.rt:60:25
 enum-known-second : tie.Need-enum-known-second
 enum-known-second c = search needs
 
--- src/lib.rt:61:9
 enum-told-2 : tie.Need-enum-told-2
 enum-told-2 c = search needs
 
--- src/lib.rt:61:9
 returns-2 : tie.Need-returns-2
 unfolding kindOf
 returns-2 c = goes-on _ _ _ _ (c .before .before .before .before .before .before .expect .ensures) (c .before .before .before .before .first .given .1) (stops _ _ _ _ (c .before .before .expect2 .ensures) (c .enum-told2 .given .1))
 
--- src/lib.rt:63:5
 expect-requires-3 : tie.Need-expect-requires-3
 expect-requires-3 c κs = search needs
 
--- src/lib.rt:52:1
 returns-3 : tie.Need-returns-3
 unfolding kindOf
 returns-3 c = goes-on _ _ _ _ (c .before .before .before .before .before .before .before .before .expect .ensures) (c .before .before .before .before .before .before .first .given .1) (goes-on _ _ _ _ (c .before .before .before .before .expect2 .ensures) (c .before .before .second .given .1) (last _ _ _ (c .expect3 .ensures)))

@@ -1,0 +1,103 @@
+// The two lists of conditions of a change rule, compared token by token in spelling.
+use lexer::Token;
+ghost use mathlib.Core.Path.{_≡_};
+ghost use mathlib.Core.List.{List};
+ghost use Prim.Native.Nat.{_≤_};
+ghost use lib.Dec.{ltb};
+ghost use lib.ListN.{length};
+ghost use Rattle.lexer.specs.Bytes.{pick};
+ghost use Rattle.lexer.specs.Results.{kindOf};
+ghost use Rattle.grammar.specs.Rules.{Spanned, partFrom, kindAt, partsFrom};
+ghost use Rattle.agreement.specs.Results.{comparedOf, faultAt};
+ghost use Rattle.agreement.specs.Spans.{spansIn, spansOf, Spans};
+
+// The place after what agrees, or the place of the first token that is not the one wanted.
+pub enum Compared {
+    Agrees(usize),
+    Differs(usize),
+}
+
+// What is no token is not the one wanted.
+fn fault(read: Token) -> Compared
+    ensures { λ r. ⌜ r ≡ faultAt read ⌝ }
+{
+    match read {
+        Token::Is(_, _, _) => Compared::Differs(0),
+        Token::Fault(p) => Compared::Differs(p),
+    }
+}
+
+// The tokens from `from` up to `to` are wanted at `at`.
+pub fn compare_part(text: &[u8], from: usize, to: usize, at: usize) -> Compared
+    requires { ⌜ to ≤ length (now text) ⌝ }
+    ensures { λ r. ⌜ comparedOf r ≡ partFrom (length (now (text .entry))) (now (text .entry)) from to at ⌝ }
+{
+    let mut a = from;
+    let mut b = at;
+    while a < to {
+        let wanted = lexer::token_at(text, a);
+        let Token::Is(kind, start, end) = wanted else {
+            return fault(wanted);
+        };
+        let found = lexer::token_at(text, b);
+        let Token::Is(kind2, start2, end2) = found else {
+            return fault(found);
+        };
+        if lexer::same_token(text, kind, start, end, kind2, start2, end2) {
+            a = end;
+            b = end2;
+        } else {
+            return Compared::Differs(start2);
+        }
+    }
+    Compared::Agrees(b)
+}
+
+// A token of a kind is wanted at `at`.
+pub fn compare_sign(text: &[u8], kind: u8, at: usize) -> Compared
+    requires { ⌜ kind ≤ 30 ⌝ }
+    ensures { λ r. ⌜ comparedOf r ≡ kindAt (now (text .entry)) (kindOf kind) at ⌝ }
+{
+    let found = lexer::token_at(text, at);
+    let Token::Is(kind2, start, end) = found else {
+        return fault(found);
+    };
+    if kind2 == kind {
+        return Compared::Agrees(end);
+    }
+    Compared::Differs(start)
+}
+
+// The sign after a condition: `|` before another, `)` after the last.
+fn separator(next: usize, count: usize) -> u8
+    ensures { λ r. ⌜ r ≡ pick (ltb next count) 23 18 ⌝ }
+{
+    if next < count {
+        return lexer::BAR;
+    }
+    lexer::CLOSE_ROUND
+}
+
+// The conditions that stand from `from[i]` up to `to[i]` are wanted at `at`, with `|` between them and `)` after the last.
+pub fn compare_lists(text: &[u8], from: &[usize], to: &[usize], count: usize, at: usize) -> Compared
+    requires { ⌜ Spans (now text) (now from) (now to) count ⌝ }
+    ensures { λ r. ⌜ ((cases : List Spanned) → spansOf cases ≡ spansIn (now (from .entry)) (now (to .entry)) count → comparedOf r ≡ partsFrom (now (text .entry)) cases at) ⌝ }
+{
+    let mut i = 0;
+    let mut a = at;
+    while i < count {
+        let first = from[i];
+        let last = to[i];
+        let part = compare_part(text, first, last, a);
+        let Compared::Agrees(n) = part else {
+            return part;
+        };
+        i += 1;
+        let sign = compare_sign(text, separator(i, count), n);
+        let Compared::Agrees(m) = sign else {
+            return sign;
+        };
+        a = m;
+    }
+    Compared::Agrees(a)
+}

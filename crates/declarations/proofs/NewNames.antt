@@ -1,0 +1,97 @@
+-- Laws of a new name: the ways through its tests, and the table with it. Assumes nothing.
+use mathlib.Core.Path.{_≡_, refl, sym, ap, _∙_}
+use mathlib.Core.Bool.{Bool, true, false}
+use mathlib.Core.List.{List, [], _∷_, _++_}
+use mathlib.Core.Option.{Option, none, some}
+use Prim.Native.Nat.{ℕ, _+_, _≤_, _<_}
+use native.Mathlib.Omega.{arith}
+use lib.Dec.{ltb}
+use lib.ListN.{length}
+use borrow.Author.Tests.{lt-ltb, le-ltb}
+use Rattle.limits.specs.Limits.{nameLimit, noToken, notAllowed, wrongName, tooMany}
+use Rattle.lexer.specs.Bytes.{part}
+use Rattle.lexer.specs.Token.{Kind, name, is, Read, token, fault}
+use Rattle.lexer.specs.Lexer.{tokenAt, overLong}
+use Rattle.lexer.specs.Names.{idOf, namesOf}
+use Rattle.semantics.specs.Program.{Name}
+use Rattle.grammar.specs.Parsed.{Parsed, accepted, refused}
+use Rattle.grammar.specs.Declarations.{spellings, newName}
+use Rattle.phrases.specs.declared.Expected.{Expected}
+use Rattle.phrases.specs.declared.Expected.the-variants.{After, Refused}
+use Rattle.declarations.specs.Post.{Holds, Names}
+
+-- ---- the definition, test by test
+
+module _ (text : List ℕ) (names : List Name) (at : ℕ) where
+  name-fault : (p : ℕ) → tokenAt text at ≡ fault p → newName text names at ≡ refused noToken p
+  unfolding newName
+  name-fault p e = rw e
+
+  module _ (k : Kind) (s n : ℕ) (e : tokenAt text at ≡ token k s n) where
+    no-name : is k name ≡ false → newName text names at ≡ refused notAllowed s
+    unfolding newName
+    no-name f = rw (e, f)
+
+    module _ (f : is k name ≡ true) where
+      known-name : (i : ℕ) → idOf (spellings names) (part text s n) ≡ some i → newName text names at ≡ refused wrongName s
+      unfolding newName
+      known-name i g = rw (e, f, g)
+
+      module _ (g : idOf (spellings names) (part text s n) ≡ none) where
+        long-name : overLong s n ≡ true → newName text names at ≡ refused tooMany s
+        unfolding newName
+        long-name l = rw (e, f, g, l)
+
+        last-name : overLong s n ≡ false → nameLimit ≤ length names → newName text names at ≡ refused tooMany s
+        unfolding newName
+        last-name l h = rw (e, f, g, l, le-ltb _ _ h)
+
+        fresh-name : overLong s n ≡ false → length names < nameLimit → newName text names at ≡ accepted (part text s n) n
+        unfolding newName
+        fresh-name l h = rw (e, f, g, l, lt-ltb _ _ h)
+
+-- ---- the answer
+
+never : {A B : Type 0} (k q n : ℕ) (a : A) → refused k q ≡ accepted a n → B
+never k q n a h = let z : _≡_ {A = ℕ} 0 1 = cc in absurd (omega arith)
+
+not-after : {A : Type 0} (k p n : ℕ) → Refused k p ≡ After n → A
+not-after k p n h = let z : _≡_ {A = ℕ} 0 1 = cc in absurd (omega arith)
+
+same-word : (a b : List ℕ) (n m : ℕ) → accepted a n ≡ accepted b m → a ≡ b
+same-word a b n m e = cc
+
+module _ (text starts ends : List ℕ) (at count : ℕ) (starts' ends' : List ℕ) where
+  abbrev Answers : Expected → Type 0
+  Answers r = ((names : List Name) → Holds text starts ends count names → Names text names at count starts' ends' r) × ((n : ℕ) → r ≡ After n → count < 64)
+
+  refuses : {r : Expected} (k p : ℕ) → r ≡ Refused k p → ((names : List Name) → Holds text starts ends count names → newName text names at ≡ refused k p) → Answers r
+  refuses k p g f =
+      (λ names h. record { answer = rw (g, f names h); named = λ w n e. never k p n w (sym (f names h) ∙ e) }, λ n e. not-after k p n (sym g ∙ e))
+
+  pub faulty-name : {r : Expected} (p : ℕ) → r ≡ Refused noToken p → tokenAt text at ≡ fault p → Answers r
+  faulty-name p g e = refuses noToken p g (λ names h. name-fault text names at p e)
+
+  module _ (k : Kind) (s n : ℕ) (e : tokenAt text at ≡ token k s n) where
+    pub refuses-other : is k name ≡ false → Answers (Refused notAllowed s)
+    refuses-other f = refuses notAllowed s refl (λ names h. no-name text names at k s n e f)
+
+    module _ (f : is k name ≡ true) where
+      pub refuses-known : (i : ℕ) → idOf (namesOf text starts ends count) (part text s n) ≡ some i → Answers (Refused wrongName s)
+      refuses-known i g = refuses wrongName s refl (λ names h. known-name text names at k s n e f i (rw (h .spelled) at g))
+
+      module _ (g : idOf (namesOf text starts ends count) (part text s n) ≡ none) where
+        pub refuses-long : overLong s n ≡ true → Answers (Refused tooMany s)
+        refuses-long l = refuses tooMany s refl (λ names h. long-name text names at k s n e f (rw (h .spelled) at g) l)
+
+        pub refuses-last : overLong s n ≡ false → nameLimit ≤ count → Answers (Refused tooMany s)
+        refuses-last l m = refuses tooMany s refl (λ names h. last-name text names at k s n e f (rw (h .spelled) at g) l (omega (arith, h .counted)))
+
+        pub takes-name : overLong s n ≡ false → count < nameLimit → {c : ℕ} → c ≡ count + 1 → namesOf text starts' ends' c ≡ namesOf text starts ends count ++ (part text s n ∷ []) → Answers (After n)
+        takes-name l m ec a =
+            (λ names h.
+            let fresh = fresh-name text names at k s n e f (rw (h .spelled) at g) l (omega (arith, h .counted)) in
+            record {
+                answer = rw fresh;
+                named = λ w q i. (rw ec at a) ∙ ap (λ (x : List (List ℕ)). x ++ (part text s n ∷ [])) (h .spelled) ∙ ap (λ (x : List ℕ). spellings names ++ (x ∷ [])) (same-word (part text s n) w n q (sym fresh ∙ i)) },
+            λ q i. m)
