@@ -37,7 +37,7 @@ use Rattle.limits.specs.Limits.{nameLimit, caseLimit, textLimit}
 use Rattle.arith.specs.Values.{isInt32}
 
 -- what is accepted ends within the text, and twice its code's bytes are at most three times its own
-abbrev Pays : {A : Type 0} → (A → ℕ) → ℕ → ℕ → Parsed A → Type 0
+abbrev pub Pays : {A : Type 0} → (A → ℕ) → ℕ → ℕ → Parsed A → Type 0
 Pays bytes len at (accepted x n) = (2 * bytes x + 3 * at ≤ 3 * n) × (n ≤ len)
 Pays bytes len at (refused k q) = Unit {0}
 
@@ -220,7 +220,7 @@ module _ (text : List ℕ) where
           (λ i ei. tt))
           (λ e. tt))
 
-  declarations-pay : (f : ℕ) (word : Kind) (names : List Name) (at : ℕ) → at ≤ length text → 2 * length (header names) ≤ 3 * at → Pays (λ l. length (header l)) (length text) 0 (declarationsFrom f word text names at)
+  pub declarations-pay : (f : ℕ) (word : Kind) (names : List Name) (at : ℕ) → at ≤ length text → 2 * length (header names) ≤ 3 * at → Pays (λ l. length (header l)) (length text) 0 (declarationsFrom f word text names at)
   unfolding declarationsFrom
   declarations-pay zero word names at h g = (omega arith, h)
   declarations-pay (suc f) word names at h g =
