@@ -33,7 +33,7 @@ pub fn rules(text: &[u8], starts: &[usize], ends: &[usize], names: Names, at: us
     requires { ⌜ Declared (now starts) (now ends) names ⌝ }
     requires { ⌜ Room (now text) at to ⌝ }
     requires { ⌜ Below names ⌝ }
-    requires { ⌜ 0 ≡ 1 ⌝ }
+    requires { ⌜ length (now text) < 0 ⌝ }
     ensures { λ r. ⌜ Writes codeR length (rulesFrom 65 (scopeOf (now (text .entry)) (now (starts .entry)) (now (ends .entry)) names) [] at) to (now (out .entry)) (now (out .exit)) r ⌝ }
 {
     Part::Refused(0, 0)

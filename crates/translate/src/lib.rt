@@ -70,7 +70,7 @@ fn untranslated(a: Analysis) -> Translated
 }
 
 // All inputs, then all variables, into the table; the header's bytes behind the two counts.
-fn heading(text: &[u8], starts: &mut [usize], ends: &mut [usize], out: &mut [u8]) -> Heading
+fn read_heading(text: &[u8], starts: &mut [usize], ends: &mut [usize], out: &mut [u8]) -> Heading
     requires { ⌜ length (now text) ≤ textLimit ⌝ }
     requires { ⌜ Room (now starts) (now ends) 0 ⌝ }
     ensures { λ r. ⌜ Heads (now (text .entry)) (now (out .entry)) (now (out .exit)) (now (starts .exit)) (now (ends .exit)) r ⌝ }
@@ -92,7 +92,7 @@ fn descend(text: &[u8], starts: &mut [usize], ends: &mut [usize], out: &mut [u8]
     requires { ⌜ Room (now starts) (now ends) 0 ⌝ }
     ensures { λ r. ⌜ Descends (now (text .entry)) (program (now (text .entry))) (now (out .entry)) (now (out .exit)) (now (starts .exit)) (now (ends .exit)) r ⌝ }
 {
-    let head = heading(text, starts, ends, out);
+    let head = read_heading(text, starts, ends, out);
     let Heading::Until(a, t, inputs, count) = head else {
         return unheaded(head);
     };
