@@ -1,20 +1,18 @@
 -- The ways through the parts of a condition: what each part comes to, by the token at hand. Assumes nothing.
 use mathlib.Core.Path.{_≡_, refl, ap, sym, _∙_, subst}
 use mathlib.Core.List.{List, [], _∷_, _++_}
-use mathlib.Core.Option.{none, some}
-use Prim.Native.Nat.{ℕ, zero, suc, _+_, _-_, _*_, _≤_, _<_}
+use mathlib.Core.Option.{some}
+use Prim.Native.Nat.{ℕ, zero, suc, _+_, _-_, _<_}
 use native.Mathlib.Omega.{arith}
 use lib.ListN.{length, set, length-append}
-use lib.Seq.{sets}
 use Rattle.limits.specs.Limits.{noToken, notAllowed, tooMany}
-use Rattle.lexer.specs.Bytes.{pick}
-use Rattle.lexer.specs.Token.{Kind, kindNumber, ending, openSquare, closeSquare, tilde, is, Read, token, fault}
+use Rattle.lexer.specs.Token.{kindNumber, ending, openSquare, closeSquare, tilde, is, token, fault}
 use Rattle.lexer.specs.Lexer.{tokenAt}
 use Rattle.lexer.proofs.Laws.{token-at-moved}
 use Rattle.arith.specs.Values.{Comparison, equal, notEqual, less, lessEqual, greater, greaterEqual}
 use Rattle.bytecode.specs.Instructions.{comparisonCode}
-use Rattle.semantics.specs.Program.{Expression, Condition, comparison, negated, both, either}
-use Rattle.grammar.specs.Parsed.{Parsed, accepted, refused, andThen, onToken, sign, followed}
+use Rattle.semantics.specs.Program.{Expression, Condition, comparison, negated}
+use Rattle.grammar.specs.Parsed.{Parsed, accepted, refused, andThen, sign, followed}
 use Rattle.grammar.specs.Expressions.{Scope, expression, bracket}
 use Rattle.grammar.specs.Conditions.{comparisonOf, compared, comparisonAt, opposite, inverted, atom, Connective, andAlso, orElse, connect, andOf, orOf, square, wholeCondition, listed}
 use Rattle.grammar.specs.Emitted.{codeE, codeC}
@@ -106,9 +104,12 @@ module _ (inner : ℕ → ℕ → Parsed Expression) (sc : Scope) (at : ℕ) whe
 
         pub comparison-accepts : {v : ℕ} {last : List ℕ} → v ≡ u + 1 → last ≡ set after u c → Accepted (sc .text) codeC (comparisonAt inner sc at) to before last g v
         comparison-accepts hv hl = record {
-            tree = comparison (sign-of .which) (a .tree) (b .tree); is = second ∙ rw (b .is); stands = b .stands;
-            count = rw compared-code (simp length-append (omega (arith, a .count, b .count)));
-            wrote = rw (compared-code, sets-append before to (codeE (a .tree)) (codeE (b .tree) ++ (c ∷ [])), ← a .wrote, ← a .count, sets-append mid t (codeE (b .tree)) (c ∷ []), ← b .wrote, ← b .count) hl }
+          tree = comparison (sign-of .which) (a .tree) (b .tree);
+          is = second ∙ rw (b .is);
+          stands = b .stands;
+          count = rw compared-code (simp length-append (omega (arith, a .count, b .count)));
+          wrote = rw (compared-code, sets-append before to (codeE (a .tree)) (codeE (b .tree) ++ (c ∷ [])), ← a .wrote, ← a .count, sets-append mid t (codeE (b .tree)) (c ∷ []), ← b .wrote, ← b .count) hl;
+        }
 
 -- ---- atoms
 

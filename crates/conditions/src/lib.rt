@@ -13,13 +13,21 @@ ghost use Rattle.conditions.specs.Internal.{connectiveCode, comparisonIn
 
 // Code bytes.
 const EQUAL: u8 = 10;
+
 const NOT_EQUAL: u8 = 11;
+
 const LESS: u8 = 12;
+
 const LESS_EQUAL: u8 = 13;
+
 const GREATER: u8 = 14;
+
 const GREATER_EQUAL: u8 = 15;
+
 const NOT: u8 = 16;
+
 const AND: u8 = 17;
+
 const OR: u8 = 18;
 
 // The code of a comparison sign, of `&` and of `|`; 0 for any other token.
@@ -66,7 +74,16 @@ fn or_code(kind: u8) -> u8
 }
 
 // Two expressions with a comparison sign between them.
-fn comparison(text: &[u8], starts: &[usize], ends: &[usize], names: Names, at: usize, left: usize, out: &mut [u8], to: usize) -> Step
+fn comparison(
+    text: &[u8],
+    starts: &[usize],
+    ends: &[usize],
+    names: Names,
+    at: usize,
+    left: usize,
+    out: &mut [u8],
+    to: usize,
+) -> Step
     requires { ⌜ Declared (now starts) (now ends) names ⌝ }
     requires { ⌜ Room (now text) at to ⌝ }
     ensures { λ r. ⌜ Parses (now (text .entry)) codeC (comparisonIn left (scopeOf (now (text .entry)) (now (starts .entry)) (now (ends .entry)) names) at) to (now (out .entry)) (now (out .exit)) r ⌝ }
@@ -87,7 +104,16 @@ fn comparison(text: &[u8], starts: &[usize], ends: &[usize], names: Names, at: u
 }
 
 // Conjunctions with `|` between them.
-fn condition(text: &[u8], starts: &[usize], ends: &[usize], names: Names, at: usize, left: usize, out: &mut [u8], to: usize) -> Step
+fn condition(
+    text: &[u8],
+    starts: &[usize],
+    ends: &[usize],
+    names: Names,
+    at: usize,
+    left: usize,
+    out: &mut [u8],
+    to: usize,
+) -> Step
     requires { ⌜ Declared (now starts) (now ends) names ⌝ }
     requires { ⌜ Room (now text) at to ⌝ }
     ensures { λ r. ⌜ Parses (now (text .entry)) codeC (conditionIn left (scopeOf (now (text .entry)) (now (starts .entry)) (now (ends .entry)) names) at) to (now (out .entry)) (now (out .exit)) r ⌝ }
@@ -111,7 +137,16 @@ fn condition(text: &[u8], starts: &[usize], ends: &[usize], names: Names, at: us
 }
 
 // Atoms with `&` between them.
-fn conjunction(text: &[u8], starts: &[usize], ends: &[usize], names: Names, at: usize, left: usize, out: &mut [u8], to: usize) -> Step
+fn conjunction(
+    text: &[u8],
+    starts: &[usize],
+    ends: &[usize],
+    names: Names,
+    at: usize,
+    left: usize,
+    out: &mut [u8],
+    to: usize,
+) -> Step
     requires { ⌜ Declared (now starts) (now ends) names ⌝ }
     requires { ⌜ Room (now text) at to ⌝ }
     ensures { λ r. ⌜ Parses (now (text .entry)) codeC (conjunctionIn left (scopeOf (now (text .entry)) (now (starts .entry)) (now (ends .entry)) names) at) to (now (out .entry)) (now (out .exit)) r ⌝ }
@@ -135,7 +170,16 @@ fn conjunction(text: &[u8], starts: &[usize], ends: &[usize], names: Names, at: 
 }
 
 // `~[c]`, `[c]` or a comparison.
-fn atom(text: &[u8], starts: &[usize], ends: &[usize], names: Names, at: usize, left: usize, out: &mut [u8], to: usize) -> Step
+fn atom(
+    text: &[u8],
+    starts: &[usize],
+    ends: &[usize],
+    names: Names,
+    at: usize,
+    left: usize,
+    out: &mut [u8],
+    to: usize,
+) -> Step
     requires { ⌜ Declared (now starts) (now ends) names ⌝ }
     requires { ⌜ Room (now text) at to ⌝ }
     ensures { λ r. ⌜ Parses (now (text .entry)) codeC (atomIn left (scopeOf (now (text .entry)) (now (starts .entry)) (now (ends .entry)) names) at) to (now (out .entry)) (now (out .exit)) r ⌝ }
@@ -148,13 +192,32 @@ fn atom(text: &[u8], starts: &[usize], ends: &[usize], names: Names, at: usize, 
         return inverted(text, starts, ends, names, here.end, left, out, to);
     }
     if here.kind == lexer::OPEN_SQUARE {
-        return square(text, starts, ends, names, here.start, here.end, left, out, to);
+        return square(
+            text,
+            starts,
+            ends,
+            names,
+            here.start,
+            here.end,
+            left,
+            out,
+            to,
+        );
     }
     comparison(text, starts, ends, names, at, left, out, to)
 }
 
 // `[c]` behind a `~`.
-fn inverted(text: &[u8], starts: &[usize], ends: &[usize], names: Names, at: usize, left: usize, out: &mut [u8], to: usize) -> Step
+fn inverted(
+    text: &[u8],
+    starts: &[usize],
+    ends: &[usize],
+    names: Names,
+    at: usize,
+    left: usize,
+    out: &mut [u8],
+    to: usize,
+) -> Step
     requires { ⌜ Declared (now starts) (now ends) names ⌝ }
     requires { ⌜ Room (now text) at to ⌝ }
     ensures { λ r. ⌜ Parses (now (text .entry)) codeC (invertedIn left (scopeOf (now (text .entry)) (now (starts .entry)) (now (ends .entry)) names) at) to (now (out .entry)) (now (out .exit)) r ⌝ }
@@ -164,7 +227,17 @@ fn inverted(text: &[u8], starts: &[usize], ends: &[usize], names: Names, at: usi
         return read;
     };
     if here.kind == lexer::OPEN_SQUARE {
-        let inner = square(text, starts, ends, names, here.start, here.end, left, out, to);
+        let inner = square(
+            text,
+            starts,
+            ends,
+            names,
+            here.start,
+            here.end,
+            left,
+            out,
+            to,
+        );
         let Step::Done(behind, t) = inner else {
             return inner;
         };
@@ -174,7 +247,17 @@ fn inverted(text: &[u8], starts: &[usize], ends: &[usize], names: Names, at: usi
 }
 
 // A condition in the bracket from `start` to `end`, with `left` brackets left to open.
-fn square(text: &[u8], starts: &[usize], ends: &[usize], names: Names, start: usize, end: usize, left: usize, out: &mut [u8], to: usize) -> Step
+fn square(
+    text: &[u8],
+    starts: &[usize],
+    ends: &[usize],
+    names: Names,
+    start: usize,
+    end: usize,
+    left: usize,
+    out: &mut [u8],
+    to: usize,
+) -> Step
     requires { ⌜ Declared (now starts) (now ends) names ⌝ }
     requires { ⌜ Room (now text) end to ⌝ }
     ensures { λ r. ⌜ Parses (now (text .entry)) codeC (square left (scopeOf (now (text .entry)) (now (starts .entry)) (now (ends .entry)) names) start end) to (now (out .entry)) (now (out .exit)) r ⌝ }
@@ -187,16 +270,41 @@ fn square(text: &[u8], starts: &[usize], ends: &[usize], names: Names, start: us
 }
 
 // A condition before which no bracket is open.
-pub fn whole_condition(text: &[u8], starts: &[usize], ends: &[usize], names: Names, at: usize, out: &mut [u8], to: usize) -> Step
+pub fn whole_condition(
+    text: &[u8],
+    starts: &[usize],
+    ends: &[usize],
+    names: Names,
+    at: usize,
+    out: &mut [u8],
+    to: usize,
+) -> Step
     requires { ⌜ Declared (now starts) (now ends) names ⌝ }
     requires { ⌜ Room (now text) at to ⌝ }
     ensures { λ r. ⌜ Parses (now (text .entry)) codeC (wholeCondition (scopeOf (now (text .entry)) (now (starts .entry)) (now (ends .entry)) names) at) to (now (out .entry)) (now (out .exit)) r ⌝ }
 {
-    condition(text, starts, ends, names, at, grammar::BRACKET_LIMIT, out, to)
+    condition(
+        text,
+        starts,
+        ends,
+        names,
+        at,
+        grammar::BRACKET_LIMIT,
+        out,
+        to,
+    )
 }
 
 // `[c]` as the rule forms show it, from behind its bracket.
-pub fn listed(text: &[u8], starts: &[usize], ends: &[usize], names: Names, at: usize, out: &mut [u8], to: usize) -> Step
+pub fn listed(
+    text: &[u8],
+    starts: &[usize],
+    ends: &[usize],
+    names: Names,
+    at: usize,
+    out: &mut [u8],
+    to: usize,
+) -> Step
     requires { ⌜ Declared (now starts) (now ends) names ⌝ }
     requires { ⌜ Room (now text) at to ⌝ }
     ensures { λ r. ⌜ Parses (now (text .entry)) codeC (listed (scopeOf (now (text .entry)) (now (starts .entry)) (now (ends .entry)) names) at) to (now (out .entry)) (now (out .exit)) r ⌝ }

@@ -3,13 +3,13 @@
 use mathlib.Core.Path.{_≡_, refl, ap, sym, _∙_, subst}
 use mathlib.Core.List.{List, [], _∷_, _++_, append-assoc, append-nil}
 use mathlib.Core.Option.{Option, none, some}
-use Prim.Native.Nat.{ℕ, zero, suc, _+_, _*_, _≤_, _<_, _^_}
+use Prim.Native.Nat.{ℕ, zero, suc, _+_, _<_}
 use native.Mathlib.Nat.{add-zero}
 use native.Mathlib.Omega.{arith}
 use lib.ListN.{length, set, length-append}
 use lib.Seq.{sets}
 use Rattle.limits.specs.Limits.{noToken}
-use Rattle.lexer.specs.Token.{Kind, kindNumber, ending, Read, token, fault}
+use Rattle.lexer.specs.Token.{Kind, ending, token, fault}
 use Rattle.lexer.specs.Lexer.{tokenAt}
 use Rattle.grammar.specs.Parsed.{Parsed, accepted, refused, andThen, rest, chain}
 use Rattle.grammar.proofs.Growth.{Grown}
@@ -18,7 +18,7 @@ use Rattle.expressions.specs.declared.Step.{Step}
 use Rattle.expressions.specs.declared.Step.the-variants.{Done, Refused}
 use Rattle.expressions.specs.Steps.{Parses, Room}
 use Rattle.expressions.specs.Internal.{Stands, codeOf, Codes}
-use Rattle.expressions.proofs.Steps.{sets-append, lookedAhead, Refuses, Known, known, Accepted, accepted-by, accepts, passed, then-refused, room-after, room-next, room-more}
+use Rattle.expressions.proofs.Steps.{sets-append, lookedAhead, Refuses, Known, known, Accepted, accepts, passed, then-refused, room-after, room-next, room-more}
 
 -- ---- operators
 
@@ -99,10 +99,20 @@ module _ {O A : Type 0} {code : A → List ℕ} {join : O → A → A → A} {op
   -- the loop begins
   pub turn-first : {at to : ℕ} {before out : List ℕ} {h : Lookahead} {t : ℕ} → Room text at to → Grown code (length text) at (operand at) → Accepted text code (operand at) to before out h t → Turn code join operator operand text out h t out h t
   turn-first {t = t} r g a = record {
-      room = room-after r g a; stands = a .stands; size = refl;
-      chained = λ a₀. record {
-        fuel = suc (length text); tree = a₀; tail = []; same = refl; spelt = sym (append-nil (code a₀)); wrote = refl;
-        count = sym (add-zero t); fuels = omega arith } }
+    room = room-after r g a;
+    stands = a .stands;
+    size = refl;
+    chained = λ a₀. record {
+      fuel = suc (length text);
+      tree = a₀;
+      tail = [];
+      same = refl;
+      spelt = sym (append-nil (code a₀));
+      wrote = refl;
+      count = sym (add-zero t);
+      fuels = omega arith;
+    };
+  }
 
   module _ {out₀ : List ℕ} {h₀ : Lookahead} {t₀ : ℕ} {out : List ℕ} {h : Lookahead} {t : ℕ} (w : Turn code join operator operand text out₀ h₀ t₀ out h t) where
     here : Known text h
@@ -136,9 +146,12 @@ module _ {O A : Type 0} {code : A → List ℕ} {join : O → A → A → A} {op
           let d = w .chained (a .tree) in
           let i : operator (here .kind) ≡ none = operator-none operator number (here .kind) c (e (here .kind) (here .number)) (ops .some-code) z in
           accepts (record {
-            tree = d .tree; is = come a ∙ rest-none (d .fuel) (d .tree) here i; stands = w .stands;
+            tree = d .tree;
+            is = come a ∙ rest-none (d .fuel) (d .tree) here i;
+            stands = w .stands;
             count = rw (d .spelt) (simp length-append (omega (arith, d .count, a .count)));
-            wrote = d .wrote ∙ rw (a .wrote, a .count, d .spelt) (sym (sets-append before to (code (a .tree)) (d .tail))) })
+            wrote = d .wrote ∙ rw (a .wrote, a .count, d .spelt) (sym (sets-append before to (code (a .tree)) (d .tail)));
+          })
 
       -- the operand that follows is refused
       module _ (z : c ≡ 0 → ⊥) where
@@ -175,15 +188,21 @@ module _ {O A : Type 0} {code : A → List ℕ} {join : O → A → A → A} {op
             chained-more : (a₀ : A) (f : ℕ) (tree : A) (tail : List ℕ) → rest join operator operand text (suc (length text)) a₀ (h₀ .at) ≡ rest join operator operand text f tree (h .at) → code tree ≡ code a₀ ++ tail → out ≡ sets out₀ t₀ tail → t ≡ t₀ + length tail → length text < f + h .at → Chained code join operator operand text a₀ (h₀ .at) t₀ out₀ (g .at) (u + 1) out″
             chained-more a₀ zero tree tail hs hb hw ht hf = absurd (omega (arith, w .room .within))
             chained-more a₀ (suc f) tree tail hs hb hw ht hf = record {
-                fuel = f; tree = join (sign z .which) tree (b .tree); tail = tail ++ (code (b .tree) ++ (number (sign z .which) ∷ []));
-                same = hs ∙ (rest-some f tree here (sign z .which) (sign z .is) ∙ rw (b .is));
-                spelt = spelt-more a₀ tree tail hb;
-                wrote = wrote-more tail hw ht;
-                count = simp length-append (omega (arith, b .count));
-                fuels = omega (arith, turn-room .1) }
+              fuel = f;
+              tree = join (sign z .which) tree (b .tree);
+              tail = tail ++ (code (b .tree) ++ (number (sign z .which) ∷ []));
+              same = hs ∙ (rest-some f tree here (sign z .which) (sign z .is) ∙ rw (b .is));
+              spelt = spelt-more a₀ tree tail hb;
+              wrote = wrote-more tail hw ht;
+              count = simp length-append (omega (arith, b .count));
+              fuels = omega (arith, turn-room .1);
+            }
 
             pub turn-more : {v : ℕ} → v ≡ u + 1 → length out″ ≡ length out → Turn code join operator operand text out₀ h₀ t₀ out″ g v
             turn-more {v} i l =
                 subst (Turn code join operator operand text out₀ h₀ t₀ out″ g) (sym i) (record {
-                  room = turn-room .0; stands = b .stands; size = l ∙ w .size;
-                  chained = λ a₀. let d = w .chained a₀ in chained-more a₀ (d .fuel) (d .tree) (d .tail) (d .same) (d .spelt) (d .wrote) (d .count) (d .fuels) })
+                  room = turn-room .0;
+                  stands = b .stands;
+                  size = l ∙ w .size;
+                  chained = λ a₀. let d = w .chained a₀ in chained-more a₀ (d .fuel) (d .tree) (d .tail) (d .same) (d .spelt) (d .wrote) (d .count) (d .fuels);
+                })

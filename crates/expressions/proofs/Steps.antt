@@ -2,7 +2,7 @@
 use mathlib.Core.Path.{_≡_, refl, ap, sym, _∙_, subst}
 use mathlib.Core.List.{List, [], _∷_, _++_}
 use mathlib.Core.Bool.{true, false}
-use Prim.Native.Nat.{ℕ, suc, _+_, _*_, _≤_, _<_}
+use Prim.Native.Nat.{ℕ, suc, _+_, _≤_, _<_}
 use native.Mathlib.Nat.{add-zero}
 use native.Mathlib.Omega.{arith}
 use lib.ListN.{length, set, length-append}
@@ -126,7 +126,12 @@ module _ {A : Type 0} (text : List ℕ) (code : A → List ℕ) (to : ℕ) where
       let s = stands-at n _ (tokenAt text n) e in
       let i : accepted a n ≡ accepted a (h .at) = ap (accepted a) (sym (s .0)) in
       record {
-        tree = a; is = i; stands = subst (λ (m : ℕ). Done h 0 ≡ stepAt (tokenAt text m) m 0) (sym (s .0)) (s .2); count = s .1; wrote = w a i }
+        tree = a;
+        is = i;
+        stands = subst (λ (m : ℕ). Done h 0 ≡ stepAt (tokenAt text m) m 0) (sym (s .0)) (s .2);
+        count = s .1;
+        wrote = w a i;
+      }
   accepted-of before after (refused k q) e w = done-refused e
 
   refuses-of : (p : Parsed A) {k q : ℕ} → Refused k q ≡ stepOf text code to p → Refuses text p k q
@@ -152,8 +157,9 @@ module _ {A : Type 0} {text : List ℕ} {code : A → List ℕ} {p : Parsed A} {
   pub accepts : {h : Lookahead} {t : ℕ} → Accepted text code p to before after h t → Parses text code p to before after (Done h t)
   unfolding stepOf
   accepts {h} {t} a = record {
-      answer = rw (a .is, ← a .count) (stands-done (h .at) t (tokenAt text (h .at)) (a .stands));
-      wrote = λ b g u e f. a .wrote ∙ ap (λ (x : A). sets before to (code x)) (same-tree (sym (a .is) ∙ f)) }
+    answer = rw (a .is, ← a .count) (stands-done (h .at) t (tokenAt text (h .at)) (a .stands));
+    wrote = λ b g u e f. a .wrote ∙ ap (λ (x : A). sets before to (code x)) (same-tree (sym (a .is) ∙ f));
+  }
 
   pub refuses : {k q : ℕ} → Refuses text p k q → Parses text code p to before after (Refused k q)
   refuses e = record { answer = of-refuses text code to p e; wrote = λ a h t d. done-refused (sym d) }
@@ -219,15 +225,17 @@ module _ (text : List ℕ) (at to : ℕ) {r : Step} (e : r ≡ stepAt (tokenAt t
 pub ended : {A : Type 0} {text : List ℕ} {code : A → List ℕ} {p : Parsed A} {to t n : ℕ} {before after : List ℕ} {r : Step} (a : A) → p ≡ accepted a n → t ≡ to + length (code a) → after ≡ sets before to (code a) → r ≡ stepAt (tokenAt text n) n t → Parses text code p to before after r
 unfolding stepOf
 ended {A} {code = code} {to = to} {before = before} a hp ht hw e = record {
-    answer = rw (hp, ← ht) e;
-    wrote = λ b h u d f. hw ∙ ap (λ (x : A). sets before to (code x)) (same-tree (sym hp ∙ f)) }
+  answer = rw (hp, ← ht) e;
+  wrote = λ b h u d f. hw ∙ ap (λ (x : A). sets before to (code x)) (same-tree (sym hp ∙ f));
+}
 
 -- an accepted part that has the same code as another
 pub recoded : {A B : Type 0} {text : List ℕ} {code : A → List ℕ} {more : B → List ℕ} {to n : ℕ} {before after : List ℕ} {r : Step} {a : A} (b : B) → Parses text code (accepted a n) to before after r → more b ≡ code a → Parses text more (accepted b n) to before after r
 unfolding stepOf
 recoded {A} {B} {more = more} {to = to} {before = before} {a = a} b c e = record {
-    answer = rw e (c .answer);
-    wrote = λ x h t d f. c .wrote a h t d (ap (accepted a) (same-end f)) ∙ rw (← e, same-tree f) }
+  answer = rw e (c .answer);
+  wrote = λ x h t d f. c .wrote a h t d (ap (accepted a) (same-end f)) ∙ rw (← e, same-tree f);
+}
   where
     same-end : {x y : B} {n m : ℕ} → accepted x n ≡ accepted y m → n ≡ m
     same-end e = cc
@@ -237,9 +245,12 @@ recoded {A} {B} {more = more} {to = to} {before = before} {a = a} b c e = record
 -- the code of b is that of a part read before, and then the byte c
 pub one-more : {A B : Type 0} {text : List ℕ} {code : A → List ℕ} {more : B → List ℕ} {p : Parsed A} {w : Parsed B} {to : ℕ} {before after : List ℕ} {h : Lookahead} {t u : ℕ} {last : List ℕ} (a : Accepted text code p to before after h t) (b : B) (c : ℕ) → w ≡ accepted b (h .at) → more b ≡ code (a .tree) ++ (c ∷ []) → u ≡ t + 1 → last ≡ set after t c → Accepted text more w to before last h u
 one-more {code = code} {to = to} {before = before} a b c hw hc hu hl = record {
-    tree = b; is = hw; stands = a .stands;
-    count = rw hc (simp length-append (omega (arith, a .count)));
-    wrote = rw (hc, sets-append before to (code (a .tree)) (c ∷ []), ← a .wrote, ← a .count) hl }
+  tree = b;
+  is = hw;
+  stands = a .stands;
+  count = rw hc (simp length-append (omega (arith, a .count)));
+  wrote = rw (hc, sets-append before to (code (a .tree)) (c ∷ []), ← a .wrote, ← a .count) hl;
+}
 
 -- ---- a closing bracket
 

@@ -1,36 +1,34 @@
 -- The ways through the parts of an expression: what each part comes to, by the token at hand. Assumes nothing.
-use mathlib.Core.Path.{_≡_, refl, ap, sym, _∙_, subst}
-use mathlib.Core.List.{List, [], _∷_, _++_}
-use mathlib.Core.Bool.{Bool, true, false}
-use mathlib.Core.Option.{Option, none, some}
-use Prim.Native.Nat.{ℕ, zero, suc, _+_, _-_, _*_, _^_, _≤_, _<_, min}
+use mathlib.Core.Path.{_≡_, refl, ap, sym, _∙_}
+use mathlib.Core.List.{List, [], _∷_}
+use mathlib.Core.Bool.{true, false}
+use mathlib.Core.Option.{none, some}
+use Prim.Native.Nat.{ℕ, zero, suc, _+_, _-_, _^_, _≤_, _<_, min}
 use native.Mathlib.Numerals.{add-one}
 use native.Mathlib.Omega.{arith}
-use lib.ListN.{length, set, getD, length-append}
+use lib.ListN.{length, set, getD}
 use lib.Seq.{sets}
-use lib.Dec.{eqb, ltb}
-use lib.IntN.{ℤ, pos}
+use lib.IntN.{pos}
 use borrow.Author.Tests.{lt-ltb, le-ltb}
 use Rattle.limits.specs.Limits.{noToken, notAllowed, outOfLimit, wrongName, tooEarly, tooMany}
 use Rattle.leb128.specs.Numbers.{number, zigzag}
-use Rattle.lexer.specs.Bytes.{pick, part}
-use Rattle.lexer.specs.Token.{Kind, kindNumber, name, digits, ending, openRound, closeRound, minus, is, Read, token, fault}
+use Rattle.lexer.specs.Bytes.{part}
+use Rattle.lexer.specs.Token.{kindNumber, name, digits, openRound, closeRound, minus, token, fault}
 use Rattle.lexer.specs.Token as T
 use Rattle.lexer.specs.Lexer.{tokenAt, overLong, valueOf}
 use Rattle.lexer.specs.Names.{idOf}
 use Rattle.bytecode.specs.Instructions.{operationCode}
 use Rattle.arith.specs.Values.{Operation, add, subtract, multiply, divide, modulo}
 use Rattle.semantics.specs.Program.{Expression, constant, current, previous, operation, negate}
-use Rattle.grammar.specs.Parsed.{Parsed, accepted, refused, andThen, onToken, sign, expected, phrase, followed}
+use Rattle.grammar.specs.Parsed.{Parsed, accepted, refused, andThen, sign, followed}
 use Rattle.grammar.specs.Expressions.{Scope, withId, currentAt, previousAt, numberLimit, numberAt, primary, negative, factor, productOf, sumOf, bracket}
 use Rattle.grammar.specs.Emitted.{codeE}
 use Rattle.grammar.proofs.Growth.{Grown, products-end, sums-end, primary-grown, factor-grown, term-grown, expression-grown, bracket-grown}
 use Rattle.expressions.specs.declared.Lookahead.{Lookahead}
 use Rattle.expressions.specs.declared.Step.{Step}
-use Rattle.expressions.specs.declared.Step.the-variants.{Done, Refused}
 use Rattle.expressions.specs.declared.Names.{Names}
 use Rattle.expressions.specs.Scopes.{scopeOf, Declared}
-use Rattle.expressions.specs.Steps.{stepAt, stepOf, Parses, Room}
+use Rattle.expressions.specs.Steps.{stepAt, Parses, Room}
 use Rattle.expressions.specs.Internal.{textOnly, primaryIn, factorIn, termIn, expressionIn}
 use Rattle.expressions.proofs.Steps.{lookedAhead, Refuses, Known, told, untold, Accepted, then-refused, closing, ended, one-more}
 use Rattle.expressions.proofs.Scopes.{few-names}

@@ -3,28 +3,40 @@
 use lexer::Found;
 use lexer::Token;
 ghost use mathlib.Core.Path.{_≡_};
+ghost use mathlib.Core.Bool.{true, false};
 ghost use mathlib.Core.List.{[], _∷_};
 ghost use Prim.Native.Nat.{ℕ, _+_, _/_, _%_, _^_, _≤_, _<_};
+ghost use lib.ListN.{getD, set};
 ghost use lib.Dec.{eqb};
+ghost use Rattle.limits.specs.Limits.{nameLimit};
 ghost use Rattle.leb128.specs.Numbers.{number as numberBytes};
 ghost use Rattle.lexer.specs.Lexer.{tokenAt};
+ghost use Rattle.semantics.specs.Program.{knownFirst, allTrue};
 ghost use Rattle.bytecode.specs.Instructions.{operationCode};
 ghost use Rattle.grammar.specs.Parsed.{accepted};
 ghost use Rattle.grammar.specs.Expressions.{numberAt, currentAt, previousAt, productOf, sumOf, bracket, wholeExpression};
 ghost use Rattle.grammar.specs.Emitted.{codeE};
-ghost use Rattle.expressions.specs.Scopes.{scopeOf, Declared};
+ghost use Rattle.expressions.specs.Scopes.{knownOf, scopeOf, Declared};
 ghost use Rattle.expressions.specs.Steps.{stepAt, Parses, Room};
 ghost use Rattle.expressions.specs.Internal.{textOnly, primaryIn, factorIn, termIn, expressionIn, Codes, Stands, closedStep};
 
 // Code bytes.
 const CONSTANT: u8 = 1;
+
 const CURRENT: u8 = 2;
+
 const PREVIOUS: u8 = 3;
+
 const ADD: u8 = 4;
+
 const SUBTRACT: u8 = 5;
+
 const MULTIPLY: u8 = 6;
+
 const DIVIDE: u8 = 7;
+
 const MODULO: u8 = 8;
+
 const NEGATE: u8 = 9;
 
 // The names declared: how many, and which of them may be used with their current value (bit i for the name with id i).
@@ -47,13 +59,80 @@ pub enum Step {
     Refused(u8, usize),
 }
 
+// The names before the first rule, the first `inputs` of them inputs: just their current values may be used.
+pub fn first_names(inputs: usize, count: usize) -> Names
+    requires { ⌜ inputs ≤ nameLimit ⌝ }
+    ensures { λ r. ⌜ (r .count ≡ count) × (knownOf (r .known) count ≡ knownFirst inputs count) ⌝ }
+{
+    if inputs == 64 {
+        return Names {
+            count,
+            known: 18446744073709551615,
+        };
+    }
+    Names {
+        count,
+        known: (1 << inputs as u64) - 1,
+    }
+}
+
+// The names after the rule of the variable `id`: its current value may be used.
+pub fn ruled(names: Names, id: usize) -> Names
+    requires { ⌜ id < nameLimit ⌝ }
+    ensures { λ r. ⌜ (r .count ≡ names .count) × (knownOf (r .known) (names .count) ≡ set (knownOf (names .known) (names .count)) id true) ⌝ }
+{
+    Names {
+        count: names.count,
+        known: names.known | 1 << id as u64,
+    }
+}
+
+fn bit(bits: u64, i: u64) -> bool
+    requires { ⌜ i < 64 ⌝ }
+    ensures { λ r. ⌜ r ≡ eqb (bits / 2 ^ i % 2) 1 ⌝ }
+{
+    (bits >> i) % 2 == 1
+}
+
+// Whether the current value of the name `id` may be used.
+pub fn is_known(names: Names, id: usize) -> bool
+    requires { ⌜ (id < names .count) × (names .count ≤ nameLimit) ⌝ }
+    ensures { λ r. ⌜ r ≡ getD (knownOf (names .known) (names .count)) id false ⌝ }
+{
+    bit(names.known, id as u64)
+}
+
+// Whether the current value of every name may be used.
+pub fn all_known(names: Names) -> bool
+    requires { ⌜ names .count ≤ nameLimit ⌝ }
+    ensures { λ r. ⌜ r ≡ allTrue (knownOf (names .known) (names .count)) ⌝ }
+{
+    let mut i = 0;
+    while i < names.count {
+        if is_known(names, i) {
+            i += 1;
+        } else {
+            return false;
+        }
+    }
+    true
+}
+
 // The first token at or after `at`, with the bytes written up to `to`.
 pub fn ahead(text: &[u8], at: usize, to: usize) -> Step
     ensures { λ r. ⌜ r ≡ stepAt (tokenAt (now (text .entry)) at) at to ⌝ }
 {
     let read = lexer::token_at(text, at);
     match read {
-        Token::Is(kind, start, end) => Step::Done(Lookahead { at, kind, start, end }, to),
+        Token::Is(kind, start, end) => Step::Done(
+            Lookahead {
+                at,
+                kind,
+                start,
+                end,
+            },
+            to,
+        ),
         Token::Fault(place) => Step::Refused(1, place),
     }
 }
@@ -121,15 +200,17 @@ fn number(text: &[u8], start: usize, end: usize, out: &mut [u8], to: usize) -> S
     instruction(text, end, CONSTANT, leb128::zigzag(v as i32), out, to)
 }
 
-fn bit(bits: u64, i: u64) -> bool
-    requires { ⌜ i < 64 ⌝ }
-    ensures { λ r. ⌜ r ≡ eqb (bits / 2 ^ i % 2) 1 ⌝ }
-{
-    (bits >> i) % 2 == 1
-}
-
 // The current value of the name from `start` to `end`.
-fn current(text: &[u8], starts: &[usize], ends: &[usize], names: Names, start: usize, end: usize, out: &mut [u8], to: usize) -> Step
+fn current(
+    text: &[u8],
+    starts: &[usize],
+    ends: &[usize],
+    names: Names,
+    start: usize,
+    end: usize,
+    out: &mut [u8],
+    to: usize,
+) -> Step
     requires { ⌜ Declared (now starts) (now ends) names ⌝ }
     requires { ⌜ to + 1 < 2 ^ 31 ⌝ }
     ensures { λ r. ⌜ Parses (now (text .entry)) codeE (currentAt (scopeOf (now (text .entry)) (now (starts .entry)) (now (ends .entry)) names) start end) to (now (out .entry)) (now (out .exit)) r ⌝ }
@@ -148,7 +229,16 @@ fn current(text: &[u8], starts: &[usize], ends: &[usize], names: Names, start: u
 }
 
 // The previous value of the name that stands behind the `_` at `start`.
-fn previous(text: &[u8], starts: &[usize], ends: &[usize], names: Names, start: usize, end: usize, out: &mut [u8], to: usize) -> Step
+fn previous(
+    text: &[u8],
+    starts: &[usize],
+    ends: &[usize],
+    names: Names,
+    start: usize,
+    end: usize,
+    out: &mut [u8],
+    to: usize,
+) -> Step
     requires { ⌜ Declared (now starts) (now ends) names ⌝ }
     requires { ⌜ (start < 2 ^ 31) × (to + 1 < 2 ^ 31) ⌝ }
     ensures { λ r. ⌜ Parses (now (text .entry)) codeE (previousAt (scopeOf (now (text .entry)) (now (starts .entry)) (now (ends .entry)) names) start end) to (now (out .entry)) (now (out .exit)) r ⌝ }
@@ -165,7 +255,16 @@ fn previous(text: &[u8], starts: &[usize], ends: &[usize], names: Names, start: 
 }
 
 // Terms with `+` and `-` between them.
-pub fn expression(text: &[u8], starts: &[usize], ends: &[usize], names: Names, at: usize, left: usize, out: &mut [u8], to: usize) -> Step
+pub fn expression(
+    text: &[u8],
+    starts: &[usize],
+    ends: &[usize],
+    names: Names,
+    at: usize,
+    left: usize,
+    out: &mut [u8],
+    to: usize,
+) -> Step
     requires { ⌜ Declared (now starts) (now ends) names ⌝ }
     requires { ⌜ Room (now text) at to ⌝ }
     ensures { λ r. ⌜ Parses (now (text .entry)) codeE (expressionIn left (scopeOf (now (text .entry)) (now (starts .entry)) (now (ends .entry)) names) at) to (now (out .entry)) (now (out .exit)) r ⌝ }
@@ -189,7 +288,16 @@ pub fn expression(text: &[u8], starts: &[usize], ends: &[usize], names: Names, a
 }
 
 // Factors with `*`, `/` and `mod` between them.
-fn term(text: &[u8], starts: &[usize], ends: &[usize], names: Names, at: usize, left: usize, out: &mut [u8], to: usize) -> Step
+fn term(
+    text: &[u8],
+    starts: &[usize],
+    ends: &[usize],
+    names: Names,
+    at: usize,
+    left: usize,
+    out: &mut [u8],
+    to: usize,
+) -> Step
     requires { ⌜ Declared (now starts) (now ends) names ⌝ }
     requires { ⌜ Room (now text) at to ⌝ }
     ensures { λ r. ⌜ Parses (now (text .entry)) codeE (termIn left (scopeOf (now (text .entry)) (now (starts .entry)) (now (ends .entry)) names) at) to (now (out .entry)) (now (out .exit)) r ⌝ }
@@ -213,7 +321,16 @@ fn term(text: &[u8], starts: &[usize], ends: &[usize], names: Names, at: usize, 
 }
 
 // At most one `-`, then a primary.
-fn factor(text: &[u8], starts: &[usize], ends: &[usize], names: Names, at: usize, left: usize, out: &mut [u8], to: usize) -> Step
+fn factor(
+    text: &[u8],
+    starts: &[usize],
+    ends: &[usize],
+    names: Names,
+    at: usize,
+    left: usize,
+    out: &mut [u8],
+    to: usize,
+) -> Step
     requires { ⌜ Declared (now starts) (now ends) names ⌝ }
     requires { ⌜ Room (now text) at to ⌝ }
     ensures { λ r. ⌜ Parses (now (text .entry)) codeE (factorIn left (scopeOf (now (text .entry)) (now (starts .entry)) (now (ends .entry)) names) at) to (now (out .entry)) (now (out .exit)) r ⌝ }
@@ -237,7 +354,16 @@ fn factor(text: &[u8], starts: &[usize], ends: &[usize], names: Names, at: usize
 }
 
 // A number, a name, a previous value, or an expression in brackets.
-fn primary(text: &[u8], starts: &[usize], ends: &[usize], names: Names, here: Lookahead, left: usize, out: &mut [u8], to: usize) -> Step
+fn primary(
+    text: &[u8],
+    starts: &[usize],
+    ends: &[usize],
+    names: Names,
+    here: Lookahead,
+    left: usize,
+    out: &mut [u8],
+    to: usize,
+) -> Step
     requires { ⌜ Declared (now starts) (now ends) names ⌝ }
     requires { ⌜ Room (now text) (here .at) to ⌝ }
     requires { ⌜ Stands (now text) here ⌝ }
@@ -253,13 +379,33 @@ fn primary(text: &[u8], starts: &[usize], ends: &[usize], names: Names, here: Lo
         return previous(text, starts, ends, names, here.start, here.end, out, to);
     }
     if here.kind == lexer::OPEN_ROUND {
-        return bracket(text, starts, ends, names, here.start, here.end, left, out, to);
+        return bracket(
+            text,
+            starts,
+            ends,
+            names,
+            here.start,
+            here.end,
+            left,
+            out,
+            to,
+        );
     }
     Step::Refused(2, here.start)
 }
 
 // An expression in the bracket from `start` to `end`, with `left` brackets left to open.
-fn bracket(text: &[u8], starts: &[usize], ends: &[usize], names: Names, start: usize, end: usize, left: usize, out: &mut [u8], to: usize) -> Step
+fn bracket(
+    text: &[u8],
+    starts: &[usize],
+    ends: &[usize],
+    names: Names,
+    start: usize,
+    end: usize,
+    left: usize,
+    out: &mut [u8],
+    to: usize,
+) -> Step
     requires { ⌜ Declared (now starts) (now ends) names ⌝ }
     requires { ⌜ Room (now text) end to ⌝ }
     ensures { λ r. ⌜ Parses (now (text .entry)) codeE (bracket left (scopeOf (now (text .entry)) (now (starts .entry)) (now (ends .entry)) names) start end) to (now (out .entry)) (now (out .exit)) r ⌝ }
@@ -272,10 +418,27 @@ fn bracket(text: &[u8], starts: &[usize], ends: &[usize], names: Names, start: u
 }
 
 // An expression before which no bracket is open.
-pub fn whole_expression(text: &[u8], starts: &[usize], ends: &[usize], names: Names, at: usize, out: &mut [u8], to: usize) -> Step
+pub fn whole_expression(
+    text: &[u8],
+    starts: &[usize],
+    ends: &[usize],
+    names: Names,
+    at: usize,
+    out: &mut [u8],
+    to: usize,
+) -> Step
     requires { ⌜ Declared (now starts) (now ends) names ⌝ }
     requires { ⌜ Room (now text) at to ⌝ }
     ensures { λ r. ⌜ Parses (now (text .entry)) codeE (wholeExpression (scopeOf (now (text .entry)) (now (starts .entry)) (now (ends .entry)) names) at) to (now (out .entry)) (now (out .exit)) r ⌝ }
 {
-    expression(text, starts, ends, names, at, grammar::BRACKET_LIMIT, out, to)
+    expression(
+        text,
+        starts,
+        ends,
+        names,
+        at,
+        grammar::BRACKET_LIMIT,
+        out,
+        to,
+    )
 }

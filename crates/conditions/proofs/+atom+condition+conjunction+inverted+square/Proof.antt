@@ -1,11 +1,11 @@
 -- The cycle of `conditions::condition`, `conjunction`, `atom`, `inverted` and `square` meets its contracts. The measure is five for
 -- each bracket left to open, and the function's rank. The invariant of the two loops is `Turn`. Assumes nothing.
 use Prim.Native.Nat.{ℕ, _+_, _-_, _*_, _<_}
-use mathlib.Core.Path.{_≡_, _∙_}
+use mathlib.Core.Path.{_∙_}
 use native.Mathlib.Omega.{arith}
 use lib.ListN.{length}
 use borrow.Author.Needs.{needs}
-use borrow.Fn.Kinds.{In}
+use borrow.Fn.Kinds.{In, Out}
 use borrow.Fn.PlainCycle.{Measures, is, falls, and}
 use Rattle.lexer.specs.Token.{kindNumber, closeSquare}
 use Rattle.grammar.specs.Conditions.{connect, andOf, orOf, conjunction as conjunction-of, condition as condition-of}
@@ -86,56 +86,67 @@ square-at t = and 4 square-kinds.ps (is 4 square-kinds.ps μ-square t) square.Pr
 abbrev square-below : ℕ → In 4 square-kinds.ps
 square-below t = and 4 square-kinds.ps (falls 4 square-kinds.ps _<_ μ-square t) square.Pre
 
+-- ---- atom
+
 abbrev atom-claims : ℕ → atom-lts.Claims
 atom-claims t = (ahead-reads.Asked, ahead-reads.Learnt, inverted-below t, inverted.Post, square-below t, square.Post, comparison-reads.Asked, comparison-reads.Learnt)
 
-abbrev condition-claims : ℕ → condition-lts.Claims
-condition-claims t = (conjunction-below t, conjunction.Post, or-code-reads.Asked, or-code-reads.Learnt, put-byte-reads.Asked, put-byte-reads.Learnt)
+abbrev atom-need : ℕ → (atom-lts.Claims → In 4 atom-kinds.ps → Out 4 atom-kinds.ps atom-kinds.r → Type 0) → Type 0
+atom-need t need = need (atom-claims t) (atom-at t) atom.Post
 
-abbrev conjunction-claims : ℕ → conjunction-lts.Claims
-conjunction-claims t = (atom-below t, atom.Post, and-code-reads.Asked, and-code-reads.Learnt, put-byte-reads.Asked, put-byte-reads.Learnt)
-
-abbrev inverted-claims : ℕ → inverted-lts.Claims
-inverted-claims t = (ahead-reads.Asked, ahead-reads.Learnt, square-below t, square.Post, put-byte-reads.Asked, put-byte-reads.Learnt)
-
-abbrev square-claims : ℕ → square-lts.Claims
-square-claims t = (condition-below t, condition.Post, closed-reads.Asked, closed-reads.Learnt)
-
--- ---- atom
-
-atom-returns : (t : ℕ) → atom-lts.Need-returns (atom-claims t) (atom-at t) atom.Post
+atom-returns : (t : ℕ) → atom-need t atom-lts.Need-returns
 atom-returns t c = ahead-fault _ _ _ (c .before .before .ahead .ensures) (c .enum-told .given .1) (atom-fault _ _ _ _)
 
-atom-inverted-requires : (t : ℕ) → atom-lts.Need-inverted-requires (atom-claims t) (atom-at t) atom.Post
+atom-inverted-requires : (t : ℕ) → atom-need t atom-lts.Need-inverted-requires
 atom-inverted-requires t c κs =
-    let h = ahead-token _ _ _ (c .before .before .before .before .before .before .ahead .ensures) (c .before .before .before .before .read .given .1) in
-    (omega (arith, c .before .before .before .before .before .before .before .before .before .before .before .pre .0), (c .before .before .before .before .before .before .before .before .before .before .before .pre .1 .0, room-next (room-at (h .0) (c .before .before .before .before .before .before .before .before .before .before .before .pre .1 .1)) (known (h .1))))
+    let at-read = c .before .before .before .before in
+    let at-ahead = at-read .before .before in
+    let start = at-ahead .before .before .before .before .before in
+    let h = ahead-token _ _ _ (at-ahead .ahead .ensures) (at-read .read .given .1) in
+    (omega (arith, start .pre .0), (start .pre .1 .0, room-next (room-at (h .0) (start .pre .1 .1)) (known (h .1))))
 
-atom-returns-2 : (t : ℕ) → atom-lts.Need-returns-2 (atom-claims t) (atom-at t) atom.Post
+atom-returns-2 : (t : ℕ) → atom-need t atom-lts.Need-returns-2
 unfolding kindNumber
 atom-returns-2 t c =
-    let h = ahead-token _ _ _ (c .before .before .before .before .before .before .before .before .before .ahead .ensures) (c .before .before .before .before .before .before .before .read .given .1) in
-    same-part (atom-inverted _ _ _ (known (h .1)) (h .0) (c .before .before .before .before .if1 .taken)) (c .before .before .inverted .ensures)
+    let at-inverted = c .before .before in
+    let at-if1 = at-inverted .before .before in
+    let at-read = at-if1 .before .before .before in
+    let at-ahead = at-read .before .before in
+    let h = ahead-token _ _ _ (at-ahead .ahead .ensures) (at-read .read .given .1) in
+    same-part (atom-inverted _ _ _ (known (h .1)) (h .0) (at-if1 .if1 .taken)) (at-inverted .inverted .ensures)
 
-atom-square-requires : (t : ℕ) → atom-lts.Need-square-requires (atom-claims t) (atom-at t) atom.Post
+atom-square-requires : (t : ℕ) → atom-need t atom-lts.Need-square-requires
 atom-square-requires t c κs =
-    let h = ahead-token _ _ _ (c .before .before .before .before .before .before .before .before .ahead .ensures) (c .before .before .before .before .before .before .read .given .1) in
-    (omega (arith, c .before .before .before .before .before .before .before .before .before .before .before .before .before .pre .0), (c .before .before .before .before .before .before .before .before .before .before .before .before .before .pre .1 .0, room-next (room-at (h .0) (c .before .before .before .before .before .before .before .before .before .before .before .before .before .pre .1 .1)) (known (h .1))))
+    let at-read = c .before .before .before .before .before .before in
+    let at-ahead = at-read .before .before in
+    let start = at-ahead .before .before .before .before .before in
+    let h = ahead-token _ _ _ (at-ahead .ahead .ensures) (at-read .read .given .1) in
+    (omega (arith, start .pre .0), (start .pre .1 .0, room-next (room-at (h .0) (start .pre .1 .1)) (known (h .1))))
 
-atom-returns-3 : (t : ℕ) → atom-lts.Need-returns-3 (atom-claims t) (atom-at t) atom.Post
+atom-returns-3 : (t : ℕ) → atom-need t atom-lts.Need-returns-3
 unfolding kindNumber
 atom-returns-3 t c =
-    let h = ahead-token _ _ _ (c .before .before .before .before .before .before .before .before .before .before .before .ahead .ensures) (c .before .before .before .before .before .before .before .before .before .read .given .1) in
-    same-part (atom-square _ _ _ (known (h .1)) (h .0) (c .before .before .before .before .before .before .if1 .left) (c .before .before .before .before .if2 .taken)) (c .before .before .square .ensures)
+    let at-square = c .before .before in
+    let at-if2 = at-square .before .before in
+    let at-if1 = at-if2 .before .before in
+    let at-read = at-if1 .before .before .before in
+    let at-ahead = at-read .before .before in
+    let h = ahead-token _ _ _ (at-ahead .ahead .ensures) (at-read .read .given .1) in
+    same-part (atom-square _ _ _ (known (h .1)) (h .0) (at-if1 .if1 .left) (at-if2 .if2 .taken)) (at-square .square .ensures)
 
-atom-comparison-requires : (t : ℕ) → atom-lts.Need-comparison-requires (atom-claims t) (atom-at t) atom.Post
+atom-comparison-requires : (t : ℕ) → atom-need t atom-lts.Need-comparison-requires
 atom-comparison-requires t c κs = c .before .before .before .before .before .before .before .before .before .before .before .before .before .pre .1
 
-atom-returns-4 : (t : ℕ) → atom-lts.Need-returns-4 (atom-claims t) (atom-at t) atom.Post
+atom-returns-4 : (t : ℕ) → atom-need t atom-lts.Need-returns-4
 unfolding kindNumber
 atom-returns-4 t c =
-    let h = ahead-token _ _ _ (c .before .before .before .before .before .before .before .before .before .before .before .ahead .ensures) (c .before .before .before .before .before .before .before .before .before .read .given .1) in
-    same-part (atom-comparison _ _ _ (known (h .1)) (h .0) (c .before .before .before .before .before .before .if1 .left) (c .before .before .before .before .if2 .left)) (c .before .before .comparison .ensures)
+    let at-comparison = c .before .before in
+    let at-if2 = at-comparison .before .before in
+    let at-if1 = at-if2 .before .before in
+    let at-read = at-if1 .before .before .before in
+    let at-ahead = at-read .before .before in
+    let h = ahead-token _ _ _ (at-ahead .ahead .ensures) (at-read .read .given .1) in
+    same-part (atom-comparison _ _ _ (known (h .1)) (h .0) (at-if1 .if1 .left) (at-if2 .if2 .left)) (at-comparison .comparison .ensures)
 
 -- ---- condition
 
@@ -146,47 +157,97 @@ condition-Inv-loop text starts ends names at left out₀ to behind₀ t₀ out b
 abbrev condition-μ-loop : condition-lts.MeasureT-loop
 condition-μ-loop text starts ends names at left out₀ to behind₀ t₀ out behind t = length text - behind .at
 
-condition-conjunction-requires : (t : ℕ) → condition-lts.Need-conjunction-requires (condition-claims t) (condition-at t) condition.Post condition-Inv-loop condition-μ-loop
-condition-conjunction-requires t c κs = (omega (arith, c .before .before .before .before .before .pre .0), c .before .before .before .before .before .pre .1)
+abbrev condition-claims : ℕ → condition-lts.Claims
+condition-claims t = (conjunction-below t, conjunction.Post, or-code-reads.Asked, or-code-reads.Learnt, put-byte-reads.Asked, put-byte-reads.Learnt)
 
-condition-returns : (t : ℕ) → condition-lts.Need-returns (condition-claims t) (condition-at t) condition.Post condition-Inv-loop condition-μ-loop
+abbrev condition-need : ℕ → (condition-lts.Claims → In 4 condition-kinds.ps → Out 4 condition-kinds.ps condition-kinds.r → condition-lts.InvT-loop → condition-lts.MeasureT-loop → Type 0) → Type 0
+condition-need t need = need (condition-claims t) (condition-at t) condition.Post condition-Inv-loop condition-μ-loop
+
+condition-conjunction-requires : (t : ℕ) → condition-need t condition-lts.Need-conjunction-requires
+condition-conjunction-requires t c κs =
+    let start = c .before .before .before .before .before in
+    (omega (arith, start .pre .0), start .pre .1)
+
+condition-returns : (t : ℕ) → condition-need t condition-lts.Need-returns
 unfolding condition-of
 condition-returns t c = chain-first ors _ _ _ (c .before .before .before .before .conjunction .ensures) (c .enum-told .given .1)
 
-condition-loop-holds : (t : ℕ) → condition-lts.Need-loop-holds (condition-claims t) (condition-at t) condition.Post condition-Inv-loop condition-μ-loop
-condition-loop-holds t c = turn-first ors _ _ (c .before .before .before .before .before .before .before .before .before .before .before .pre .1 .1) (conjunction-grows (c .before .before .before .before .before .before .before .before .before .before .before .pre .1 .0) _ (c .before .before .before .before .before .before .before .before .before .before .before .pre .1 .1)) (accepted-by (c .before .before .before .before .before .conjunction .ensures) (c .before .first .given .1))
+condition-loop-holds : (t : ℕ) → condition-need t condition-lts.Need-loop-holds
+condition-loop-holds t c =
+    let at-first = c .before in
+    let at-conjunction = at-first .before .before .before .before in
+    let start = at-conjunction .before .before .before .before .before .before in
+    turn-first ors _ _ (start .pre .1 .1) (conjunction-grows (start .pre .1 .0) _ (start .pre .1 .1)) (accepted-by (at-conjunction .conjunction .ensures) (at-first .first .given .1))
 
-condition-same-length-2 : (t : ℕ) → condition-lts.Need-same-length-2 (condition-claims t) (condition-at t) condition.Post condition-Inv-loop condition-μ-loop
+condition-same-length-2 : (t : ℕ) → condition-need t condition-lts.Need-same-length-2
 condition-same-length-2 t c = c .before .before .loop .inv .size ∙ c .before .before .before .before .before .before .before .before .conjunction .kept .1 .1 .1 .1 .1 .1 .0
 
-condition-returns-2 : (t : ℕ) → condition-lts.Need-returns-2 (condition-claims t) (condition-at t) condition.Post condition-Inv-loop condition-μ-loop
+condition-returns-2 : (t : ℕ) → condition-need t condition-lts.Need-returns-2
 unfolding condition-of
-condition-returns-2 t c = turn-done ors _ _ (c .before .before .loop .inv) (c .before .or-code .ensures) (accepted-by (c .before .before .before .before .before .before .before .before .conjunction .ensures) (c .before .before .before .before .first .given .1)) (c .if1 .taken)
+condition-returns-2 t c =
+    let at-or-code = c .before in
+    let at-loop = at-or-code .before in
+    let at-first = at-loop .before .before in
+    let at-conjunction = at-first .before .before .before .before in
+    turn-done ors _ _ (at-loop .loop .inv) (at-or-code .or-code .ensures) (accepted-by (at-conjunction .conjunction .ensures) (at-first .first .given .1)) (c .if1 .taken)
 
-condition-conjunction-requires-2 : (t : ℕ) → condition-lts.Need-conjunction-requires-2 (condition-claims t) (condition-at t) condition.Post condition-Inv-loop condition-μ-loop
-condition-conjunction-requires-2 t c κs = (omega (arith, c .before .before .before .before .before .before .before .before .before .before .before .before .before .before .before .pre .0), (c .before .before .before .before .before .before .before .before .before .before .before .before .before .before .before .pre .1 .0, turn-next ors _ _ (c .before .before .before .loop .inv)))
+condition-conjunction-requires-2 : (t : ℕ) → condition-need t condition-lts.Need-conjunction-requires-2
+condition-conjunction-requires-2 t c κs =
+    let at-loop = c .before .before .before in
+    let start = at-loop .before .before .before .before .before .before .before .before .before .before .before .before in
+    (omega (arith, start .pre .0), (start .pre .1 .0, turn-next ors _ _ (at-loop .loop .inv)))
 
-condition-same-length-3 : (t : ℕ) → condition-lts.Need-same-length-3 (condition-claims t) (condition-at t) condition.Post condition-Inv-loop condition-μ-loop
-condition-same-length-3 t c = c .before .before .before .before .conjunction2 .kept .1 .1 .1 .1 .1 .1 .0 ∙ c .before .before .before .before .before .before .before .before .loop .inv .size ∙ c .before .before .before .before .before .before .before .before .before .before .before .before .before .before .conjunction .kept .1 .1 .1 .1 .1 .1 .0
+condition-same-length-3 : (t : ℕ) → condition-need t condition-lts.Need-same-length-3
+condition-same-length-3 t c =
+    let at-conjunction2 = c .before .before .before .before in
+    let at-loop = at-conjunction2 .before .before .before .before in
+    let at-conjunction = at-loop .before .before .before .before .before .before in
+    at-conjunction2 .conjunction2 .kept .1 .1 .1 .1 .1 .1 .0 ∙ at-loop .loop .inv .size ∙ at-conjunction .conjunction .kept .1 .1 .1 .1 .1 .1 .0
 
-condition-returns-3 : (t : ℕ) → condition-lts.Need-returns-3 (condition-claims t) (condition-at t) condition.Post condition-Inv-loop condition-μ-loop
+condition-returns-3 : (t : ℕ) → condition-need t condition-lts.Need-returns-3
 unfolding condition-of
-condition-returns-3 t c = turn-refused ors _ _ (c .before .before .before .before .before .before .before .before .loop .inv) (c .before .before .before .before .before .before .before .or-code .ensures) (c .before .before .before .before .before .before .if1 .left) (accepted-by (c .before .before .before .before .before .before .before .before .before .before .before .before .before .before .conjunction .ensures) (c .before .before .before .before .before .before .before .before .before .before .first .given .1)) (c .before .before .before .before .conjunction2 .ensures) (c .enum-told2 .given .1)
+condition-returns-3 t c =
+    let at-conjunction2 = c .before .before .before .before in
+    let at-if1 = at-conjunction2 .before .before in
+    let at-or-code = at-if1 .before in
+    let at-loop = at-or-code .before in
+    let at-first = at-loop .before .before in
+    let at-conjunction = at-first .before .before .before .before in
+    turn-refused ors _ _ (at-loop .loop .inv) (at-or-code .or-code .ensures) (at-if1 .if1 .left) (accepted-by (at-conjunction .conjunction .ensures) (at-first .first .given .1)) (at-conjunction2 .conjunction2 .ensures) (c .enum-told2 .given .1)
 
-condition-put-byte-requires : (t : ℕ) → condition-lts.Need-put-byte-requires (condition-claims t) (condition-at t) condition.Post condition-Inv-loop condition-μ-loop
+condition-put-byte-requires : (t : ℕ) → condition-need t condition-lts.Need-put-byte-requires
 condition-put-byte-requires t c κs =
-    let r = turn-room ors _ _ (c .before .before .before .before .before .before .before .before .before .before .loop .inv) (c .before .before .before .before .before .before .before .before .before .or-code .ensures) (c .before .before .before .before .before .before .before .before .if1 .left) (conjunction-grows (c .before .before .before .before .before .before .before .before .before .before .before .before .before .before .before .before .before .before .before .before .before .before .pre .1 .0) _ (turn-next ors _ _ (c .before .before .before .before .before .before .before .before .before .before .loop .inv))) (accepted-by (c .before .before .before .before .before .before .conjunction2 .ensures) (c .before .before .more .given .1)) in
+    let at-more = c .before .before in
+    let at-conjunction2 = at-more .before .before .before .before in
+    let at-if1 = at-conjunction2 .before .before in
+    let at-or-code = at-if1 .before in
+    let at-loop = at-or-code .before in
+    let start = at-loop .before .before .before .before .before .before .before .before .before .before .before .before in
+    let r = turn-room ors _ _ (at-loop .loop .inv) (at-or-code .or-code .ensures) (at-if1 .if1 .left) (conjunction-grows (start .pre .1 .0) _ (turn-next ors _ _ (at-loop .loop .inv))) (accepted-by (at-conjunction2 .conjunction2 .ensures) (at-more .more .given .1)) in
     omega (arith, r .0 .short, r .0 .within, r .0 .room)
 
-condition-loop-less : (t : ℕ) → condition-lts.Need-loop-less (condition-claims t) (condition-at t) condition.Post condition-Inv-loop condition-μ-loop
+condition-loop-less : (t : ℕ) → condition-need t condition-lts.Need-loop-less
 condition-loop-less t c =
-    let r = turn-room ors _ _ (c .before .before .before .before .before .before .before .before .before .before .before .before .before .loop .inv) (c .before .before .before .before .before .before .before .before .before .before .before .before .or-code .ensures) (c .before .before .before .before .before .before .before .before .before .before .before .if1 .left) (conjunction-grows (c .before .before .before .before .before .before .before .before .before .before .before .before .before .before .before .before .before .before .before .before .before .before .before .before .before .pre .1 .0) _ (turn-next ors _ _ (c .before .before .before .before .before .before .before .before .before .before .before .before .before .loop .inv))) (accepted-by (c .before .before .before .before .before .before .before .before .before .conjunction2 .ensures) (c .before .before .before .before .before .more .given .1)) in
+    let at-more = c .before .before .before .before .before in
+    let at-conjunction2 = at-more .before .before .before .before in
+    let at-if1 = at-conjunction2 .before .before in
+    let at-or-code = at-if1 .before in
+    let at-loop = at-or-code .before in
+    let start = at-loop .before .before .before .before .before .before .before .before .before .before .before .before in
+    let r = turn-room ors _ _ (at-loop .loop .inv) (at-or-code .or-code .ensures) (at-if1 .if1 .left) (conjunction-grows (start .pre .1 .0) _ (turn-next ors _ _ (at-loop .loop .inv))) (accepted-by (at-conjunction2 .conjunction2 .ensures) (at-more .more .given .1)) in
     omega (arith, r .0 .within, r .1)
 
-condition-loop-again : (t : ℕ) → condition-lts.Need-loop-again (condition-claims t) (condition-at t) condition.Post condition-Inv-loop condition-μ-loop
+condition-loop-again : (t : ℕ) → condition-need t condition-lts.Need-loop-again
 condition-loop-again t c =
-    turn-more ors _ _ (c .before .before .before .before .before .before .before .before .before .before .before .before .before .loop .inv) (c .before .before .before .before .before .before .before .before .before .before .before .before .or-code .ensures) (c .before .before .before .before .before .before .before .before .before .before .before .if1 .left) (conjunction-grows (c .before .before .before .before .before .before .before .before .before .before .before .before .before .before .before .before .before .before .before .before .before .before .before .before .before .pre .1 .0) _ (turn-next ors _ _ (c .before .before .before .before .before .before .before .before .before .before .before .before .before .loop .inv))) (accepted-by (c .before .before .before .before .before .before .before .before .before .conjunction2 .ensures) (c .before .before .before .before .before .more .given .1))
-    (c .before .before .put-byte .ensures .1) (c .before .before .put-byte .ensures .0) (c .before .before .put-byte .kept .0 ∙ c .before .before .before .before .before .before .before .before .before .conjunction2 .kept .1 .1 .1 .1 .1 .1 .0)
+    let at-put-byte = c .before .before in
+    let at-more = at-put-byte .before .before .before in
+    let at-conjunction2 = at-more .before .before .before .before in
+    let at-if1 = at-conjunction2 .before .before in
+    let at-or-code = at-if1 .before in
+    let at-loop = at-or-code .before in
+    let start = at-loop .before .before .before .before .before .before .before .before .before .before .before .before in
+    turn-more ors _ _ (at-loop .loop .inv) (at-or-code .or-code .ensures) (at-if1 .if1 .left) (conjunction-grows (start .pre .1 .0) _ (turn-next ors _ _ (at-loop .loop .inv))) (accepted-by (at-conjunction2 .conjunction2 .ensures) (at-more .more .given .1))
+    (at-put-byte .put-byte .ensures .1) (at-put-byte .put-byte .ensures .0) (at-put-byte .put-byte .kept .0 ∙ at-conjunction2 .conjunction2 .kept .1 .1 .1 .1 .1 .1 .0)
 
 -- ---- conjunction
 
@@ -197,98 +258,187 @@ conjunction-Inv-loop text starts ends names at left out₀ to behind₀ t₀ out
 abbrev conjunction-μ-loop : conjunction-lts.MeasureT-loop
 conjunction-μ-loop text starts ends names at left out₀ to behind₀ t₀ out behind t = length text - behind .at
 
-conjunction-atom-requires : (t : ℕ) → conjunction-lts.Need-atom-requires (conjunction-claims t) (conjunction-at t) conjunction.Post conjunction-Inv-loop conjunction-μ-loop
-conjunction-atom-requires t c κs = (omega (arith, c .before .before .before .before .before .pre .0), c .before .before .before .before .before .pre .1)
+abbrev conjunction-claims : ℕ → conjunction-lts.Claims
+conjunction-claims t = (atom-below t, atom.Post, and-code-reads.Asked, and-code-reads.Learnt, put-byte-reads.Asked, put-byte-reads.Learnt)
 
-conjunction-returns : (t : ℕ) → conjunction-lts.Need-returns (conjunction-claims t) (conjunction-at t) conjunction.Post conjunction-Inv-loop conjunction-μ-loop
+abbrev conjunction-need : ℕ → (conjunction-lts.Claims → In 4 conjunction-kinds.ps → Out 4 conjunction-kinds.ps conjunction-kinds.r → conjunction-lts.InvT-loop → conjunction-lts.MeasureT-loop → Type 0) → Type 0
+conjunction-need t need = need (conjunction-claims t) (conjunction-at t) conjunction.Post conjunction-Inv-loop conjunction-μ-loop
+
+conjunction-atom-requires : (t : ℕ) → conjunction-need t conjunction-lts.Need-atom-requires
+conjunction-atom-requires t c κs =
+    let start = c .before .before .before .before .before in
+    (omega (arith, start .pre .0), start .pre .1)
+
+conjunction-returns : (t : ℕ) → conjunction-need t conjunction-lts.Need-returns
 unfolding conjunction-of
 conjunction-returns t c = chain-first ands _ _ _ (c .before .before .before .before .atom .ensures) (c .enum-told .given .1)
 
-conjunction-loop-holds : (t : ℕ) → conjunction-lts.Need-loop-holds (conjunction-claims t) (conjunction-at t) conjunction.Post conjunction-Inv-loop conjunction-μ-loop
-conjunction-loop-holds t c = turn-first ands _ _ (c .before .before .before .before .before .before .before .before .before .before .before .pre .1 .1) (atom-grows (c .before .before .before .before .before .before .before .before .before .before .before .pre .1 .0) _ (c .before .before .before .before .before .before .before .before .before .before .before .pre .1 .1)) (accepted-by (c .before .before .before .before .before .atom .ensures) (c .before .first .given .1))
+conjunction-loop-holds : (t : ℕ) → conjunction-need t conjunction-lts.Need-loop-holds
+conjunction-loop-holds t c =
+    let at-first = c .before in
+    let at-atom = at-first .before .before .before .before in
+    let start = at-atom .before .before .before .before .before .before in
+    turn-first ands _ _ (start .pre .1 .1) (atom-grows (start .pre .1 .0) _ (start .pre .1 .1)) (accepted-by (at-atom .atom .ensures) (at-first .first .given .1))
 
-conjunction-same-length-2 : (t : ℕ) → conjunction-lts.Need-same-length-2 (conjunction-claims t) (conjunction-at t) conjunction.Post conjunction-Inv-loop conjunction-μ-loop
+conjunction-same-length-2 : (t : ℕ) → conjunction-need t conjunction-lts.Need-same-length-2
 conjunction-same-length-2 t c = c .before .before .loop .inv .size ∙ c .before .before .before .before .before .before .before .before .atom .kept .1 .1 .1 .1 .1 .1 .0
 
-conjunction-returns-2 : (t : ℕ) → conjunction-lts.Need-returns-2 (conjunction-claims t) (conjunction-at t) conjunction.Post conjunction-Inv-loop conjunction-μ-loop
+conjunction-returns-2 : (t : ℕ) → conjunction-need t conjunction-lts.Need-returns-2
 unfolding conjunction-of
-conjunction-returns-2 t c = turn-done ands _ _ (c .before .before .loop .inv) (c .before .and-code .ensures) (accepted-by (c .before .before .before .before .before .before .before .before .atom .ensures) (c .before .before .before .before .first .given .1)) (c .if1 .taken)
+conjunction-returns-2 t c =
+    let at-and-code = c .before in
+    let at-loop = at-and-code .before in
+    let at-first = at-loop .before .before in
+    let at-atom = at-first .before .before .before .before in
+    turn-done ands _ _ (at-loop .loop .inv) (at-and-code .and-code .ensures) (accepted-by (at-atom .atom .ensures) (at-first .first .given .1)) (c .if1 .taken)
 
-conjunction-atom-requires-2 : (t : ℕ) → conjunction-lts.Need-atom-requires-2 (conjunction-claims t) (conjunction-at t) conjunction.Post conjunction-Inv-loop conjunction-μ-loop
-conjunction-atom-requires-2 t c κs = (omega (arith, c .before .before .before .before .before .before .before .before .before .before .before .before .before .before .before .pre .0), (c .before .before .before .before .before .before .before .before .before .before .before .before .before .before .before .pre .1 .0, turn-next ands _ _ (c .before .before .before .loop .inv)))
+conjunction-atom-requires-2 : (t : ℕ) → conjunction-need t conjunction-lts.Need-atom-requires-2
+conjunction-atom-requires-2 t c κs =
+    let at-loop = c .before .before .before in
+    let start = at-loop .before .before .before .before .before .before .before .before .before .before .before .before in
+    (omega (arith, start .pre .0), (start .pre .1 .0, turn-next ands _ _ (at-loop .loop .inv)))
 
-conjunction-same-length-3 : (t : ℕ) → conjunction-lts.Need-same-length-3 (conjunction-claims t) (conjunction-at t) conjunction.Post conjunction-Inv-loop conjunction-μ-loop
-conjunction-same-length-3 t c = c .before .before .before .before .atom2 .kept .1 .1 .1 .1 .1 .1 .0 ∙ c .before .before .before .before .before .before .before .before .loop .inv .size ∙ c .before .before .before .before .before .before .before .before .before .before .before .before .before .before .atom .kept .1 .1 .1 .1 .1 .1 .0
+conjunction-same-length-3 : (t : ℕ) → conjunction-need t conjunction-lts.Need-same-length-3
+conjunction-same-length-3 t c =
+    let at-atom2 = c .before .before .before .before in
+    let at-loop = at-atom2 .before .before .before .before in
+    let at-atom = at-loop .before .before .before .before .before .before in
+    at-atom2 .atom2 .kept .1 .1 .1 .1 .1 .1 .0 ∙ at-loop .loop .inv .size ∙ at-atom .atom .kept .1 .1 .1 .1 .1 .1 .0
 
-conjunction-returns-3 : (t : ℕ) → conjunction-lts.Need-returns-3 (conjunction-claims t) (conjunction-at t) conjunction.Post conjunction-Inv-loop conjunction-μ-loop
+conjunction-returns-3 : (t : ℕ) → conjunction-need t conjunction-lts.Need-returns-3
 unfolding conjunction-of
-conjunction-returns-3 t c = turn-refused ands _ _ (c .before .before .before .before .before .before .before .before .loop .inv) (c .before .before .before .before .before .before .before .and-code .ensures) (c .before .before .before .before .before .before .if1 .left) (accepted-by (c .before .before .before .before .before .before .before .before .before .before .before .before .before .before .atom .ensures) (c .before .before .before .before .before .before .before .before .before .before .first .given .1)) (c .before .before .before .before .atom2 .ensures) (c .enum-told2 .given .1)
+conjunction-returns-3 t c =
+    let at-atom2 = c .before .before .before .before in
+    let at-if1 = at-atom2 .before .before in
+    let at-and-code = at-if1 .before in
+    let at-loop = at-and-code .before in
+    let at-first = at-loop .before .before in
+    let at-atom = at-first .before .before .before .before in
+    turn-refused ands _ _ (at-loop .loop .inv) (at-and-code .and-code .ensures) (at-if1 .if1 .left) (accepted-by (at-atom .atom .ensures) (at-first .first .given .1)) (at-atom2 .atom2 .ensures) (c .enum-told2 .given .1)
 
-conjunction-put-byte-requires : (t : ℕ) → conjunction-lts.Need-put-byte-requires (conjunction-claims t) (conjunction-at t) conjunction.Post conjunction-Inv-loop conjunction-μ-loop
+conjunction-put-byte-requires : (t : ℕ) → conjunction-need t conjunction-lts.Need-put-byte-requires
 conjunction-put-byte-requires t c κs =
-    let r = turn-room ands _ _ (c .before .before .before .before .before .before .before .before .before .before .loop .inv) (c .before .before .before .before .before .before .before .before .before .and-code .ensures) (c .before .before .before .before .before .before .before .before .if1 .left) (atom-grows (c .before .before .before .before .before .before .before .before .before .before .before .before .before .before .before .before .before .before .before .before .before .before .pre .1 .0) _ (turn-next ands _ _ (c .before .before .before .before .before .before .before .before .before .before .loop .inv))) (accepted-by (c .before .before .before .before .before .before .atom2 .ensures) (c .before .before .more .given .1)) in
+    let at-more = c .before .before in
+    let at-atom2 = at-more .before .before .before .before in
+    let at-if1 = at-atom2 .before .before in
+    let at-and-code = at-if1 .before in
+    let at-loop = at-and-code .before in
+    let start = at-loop .before .before .before .before .before .before .before .before .before .before .before .before in
+    let r = turn-room ands _ _ (at-loop .loop .inv) (at-and-code .and-code .ensures) (at-if1 .if1 .left) (atom-grows (start .pre .1 .0) _ (turn-next ands _ _ (at-loop .loop .inv))) (accepted-by (at-atom2 .atom2 .ensures) (at-more .more .given .1)) in
     omega (arith, r .0 .short, r .0 .within, r .0 .room)
 
-conjunction-loop-less : (t : ℕ) → conjunction-lts.Need-loop-less (conjunction-claims t) (conjunction-at t) conjunction.Post conjunction-Inv-loop conjunction-μ-loop
+conjunction-loop-less : (t : ℕ) → conjunction-need t conjunction-lts.Need-loop-less
 conjunction-loop-less t c =
-    let r = turn-room ands _ _ (c .before .before .before .before .before .before .before .before .before .before .before .before .before .loop .inv) (c .before .before .before .before .before .before .before .before .before .before .before .before .and-code .ensures) (c .before .before .before .before .before .before .before .before .before .before .before .if1 .left) (atom-grows (c .before .before .before .before .before .before .before .before .before .before .before .before .before .before .before .before .before .before .before .before .before .before .before .before .before .pre .1 .0) _ (turn-next ands _ _ (c .before .before .before .before .before .before .before .before .before .before .before .before .before .loop .inv))) (accepted-by (c .before .before .before .before .before .before .before .before .before .atom2 .ensures) (c .before .before .before .before .before .more .given .1)) in
+    let at-more = c .before .before .before .before .before in
+    let at-atom2 = at-more .before .before .before .before in
+    let at-if1 = at-atom2 .before .before in
+    let at-and-code = at-if1 .before in
+    let at-loop = at-and-code .before in
+    let start = at-loop .before .before .before .before .before .before .before .before .before .before .before .before in
+    let r = turn-room ands _ _ (at-loop .loop .inv) (at-and-code .and-code .ensures) (at-if1 .if1 .left) (atom-grows (start .pre .1 .0) _ (turn-next ands _ _ (at-loop .loop .inv))) (accepted-by (at-atom2 .atom2 .ensures) (at-more .more .given .1)) in
     omega (arith, r .0 .within, r .1)
 
-conjunction-loop-again : (t : ℕ) → conjunction-lts.Need-loop-again (conjunction-claims t) (conjunction-at t) conjunction.Post conjunction-Inv-loop conjunction-μ-loop
+conjunction-loop-again : (t : ℕ) → conjunction-need t conjunction-lts.Need-loop-again
 conjunction-loop-again t c =
-    turn-more ands _ _ (c .before .before .before .before .before .before .before .before .before .before .before .before .before .loop .inv) (c .before .before .before .before .before .before .before .before .before .before .before .before .and-code .ensures) (c .before .before .before .before .before .before .before .before .before .before .before .if1 .left) (atom-grows (c .before .before .before .before .before .before .before .before .before .before .before .before .before .before .before .before .before .before .before .before .before .before .before .before .before .pre .1 .0) _ (turn-next ands _ _ (c .before .before .before .before .before .before .before .before .before .before .before .before .before .loop .inv))) (accepted-by (c .before .before .before .before .before .before .before .before .before .atom2 .ensures) (c .before .before .before .before .before .more .given .1))
-    (c .before .before .put-byte .ensures .1) (c .before .before .put-byte .ensures .0) (c .before .before .put-byte .kept .0 ∙ c .before .before .before .before .before .before .before .before .before .atom2 .kept .1 .1 .1 .1 .1 .1 .0)
+    let at-put-byte = c .before .before in
+    let at-more = at-put-byte .before .before .before in
+    let at-atom2 = at-more .before .before .before .before in
+    let at-if1 = at-atom2 .before .before in
+    let at-and-code = at-if1 .before in
+    let at-loop = at-and-code .before in
+    let start = at-loop .before .before .before .before .before .before .before .before .before .before .before .before in
+    turn-more ands _ _ (at-loop .loop .inv) (at-and-code .and-code .ensures) (at-if1 .if1 .left) (atom-grows (start .pre .1 .0) _ (turn-next ands _ _ (at-loop .loop .inv))) (accepted-by (at-atom2 .atom2 .ensures) (at-more .more .given .1))
+    (at-put-byte .put-byte .ensures .1) (at-put-byte .put-byte .ensures .0) (at-put-byte .put-byte .kept .0 ∙ at-atom2 .atom2 .kept .1 .1 .1 .1 .1 .1 .0)
 
 -- ---- inverted
 
-inverted-returns : (t : ℕ) → inverted-lts.Need-returns (inverted-claims t) (inverted-at t) inverted.Post
+abbrev inverted-claims : ℕ → inverted-lts.Claims
+inverted-claims t = (ahead-reads.Asked, ahead-reads.Learnt, square-below t, square.Post, put-byte-reads.Asked, put-byte-reads.Learnt)
+
+abbrev inverted-need : ℕ → (inverted-lts.Claims → In 4 inverted-kinds.ps → Out 4 inverted-kinds.ps inverted-kinds.r → Type 0) → Type 0
+inverted-need t need = need (inverted-claims t) (inverted-at t) inverted.Post
+
+inverted-returns : (t : ℕ) → inverted-need t inverted-lts.Need-returns
 inverted-returns t c = ahead-fault _ _ _ (c .before .before .ahead .ensures) (c .enum-told .given .1) (inverted-fault _ _ _)
 
-inverted-square-requires : (t : ℕ) → inverted-lts.Need-square-requires (inverted-claims t) (inverted-at t) inverted.Post
+inverted-square-requires : (t : ℕ) → inverted-need t inverted-lts.Need-square-requires
 inverted-square-requires t c κs =
-    let h = ahead-token _ _ _ (c .before .before .before .before .before .before .ahead .ensures) (c .before .before .before .before .read .given .1) in
-    (omega (arith, c .before .before .before .before .before .before .before .before .before .before .before .pre .0), (c .before .before .before .before .before .before .before .before .before .before .before .pre .1 .0, room-next (room-at (h .0) (c .before .before .before .before .before .before .before .before .before .before .before .pre .1 .1)) (known (h .1))))
+    let at-read = c .before .before .before .before in
+    let at-ahead = at-read .before .before in
+    let start = at-ahead .before .before .before .before .before in
+    let h = ahead-token _ _ _ (at-ahead .ahead .ensures) (at-read .read .given .1) in
+    (omega (arith, start .pre .0), (start .pre .1 .0, room-next (room-at (h .0) (start .pre .1 .1)) (known (h .1))))
 
-inverted-returns-2 : (t : ℕ) → inverted-lts.Need-returns-2 (inverted-claims t) (inverted-at t) inverted.Post
+inverted-returns-2 : (t : ℕ) → inverted-need t inverted-lts.Need-returns-2
 unfolding kindNumber
 inverted-returns-2 t c =
-    let h = ahead-token _ _ _ (c .before .before .before .before .before .before .before .before .before .before .before .ahead .ensures) (c .before .before .before .before .before .before .before .before .before .read .given .1) in
-    same-part (inverted-square _ _ (known (h .1)) (h .0) (c .before .before .before .before .before .before .if1 .taken)) (passed (c .before .before .before .before .square .ensures) (c .enum-told2 .given .1) opposite-refuses)
+    let at-square = c .before .before .before .before in
+    let at-if1 = at-square .before .before in
+    let at-read = at-if1 .before .before .before in
+    let at-ahead = at-read .before .before in
+    let h = ahead-token _ _ _ (at-ahead .ahead .ensures) (at-read .read .given .1) in
+    same-part (inverted-square _ _ (known (h .1)) (h .0) (at-if1 .if1 .taken)) (passed (at-square .square .ensures) (c .enum-told2 .given .1) opposite-refuses)
 
-inverted-put-byte-requires : (t : ℕ) → inverted-lts.Need-put-byte-requires (inverted-claims t) (inverted-at t) inverted.Post
+inverted-put-byte-requires : (t : ℕ) → inverted-need t inverted-lts.Need-put-byte-requires
 unfolding kindNumber
 inverted-put-byte-requires t c κs =
-    let h = ahead-token _ _ _ (c .before .before .before .before .before .before .before .before .before .before .before .before .before .ahead .ensures) (c .before .before .before .before .before .before .before .before .before .before .before .read .given .1) in
-    let r = room-square (c .before .before .before .before .before .before .before .before .before .before .before .before .before .before .before .before .before .before .pre .1 .0) _ (room-at (h .0) (c .before .before .before .before .before .before .before .before .before .before .before .before .before .before .before .before .before .before .pre .1 .1)) (known (h .1)) (c .before .before .before .before .before .before .before .before .if1 .taken) (accepted-by (c .before .before .before .before .before .before .square .ensures) (c .before .before .inner .given .1)) in
+    let at-inner = c .before .before in
+    let at-square = at-inner .before .before .before .before in
+    let at-if1 = at-square .before .before in
+    let at-read = at-if1 .before .before .before in
+    let at-ahead = at-read .before .before in
+    let start = at-ahead .before .before .before .before .before in
+    let h = ahead-token _ _ _ (at-ahead .ahead .ensures) (at-read .read .given .1) in
+    let r = room-square (start .pre .1 .0) _ (room-at (h .0) (start .pre .1 .1)) (known (h .1)) (at-if1 .if1 .taken) (accepted-by (at-square .square .ensures) (at-inner .inner .given .1)) in
     omega (arith, r .short, r .within, r .room)
 
-inverted-returns-3 : (t : ℕ) → inverted-lts.Need-returns-3 (inverted-claims t) (inverted-at t) inverted.Post
+inverted-returns-3 : (t : ℕ) → inverted-need t inverted-lts.Need-returns-3
 unfolding kindNumber
 inverted-returns-3 t c =
-    let h = ahead-token _ _ _ (c .before .before .before .before .before .before .before .before .before .before .before .before .before .before .before .before .ahead .ensures) (c .before .before .before .before .before .before .before .before .before .before .before .before .before .before .read .given .1) in
-    same-part (inverted-square _ _ (known (h .1)) (h .0) (c .before .before .before .before .before .before .before .before .before .before .before .if1 .taken))
-    (accepts (opposite-accepts (accepted-by (c .before .before .before .before .before .before .before .before .before .square .ensures) (c .before .before .before .before .before .inner .given .1)) (c .before .before .put-byte .ensures .0) (c .before .before .put-byte .ensures .1)))
+    let at-put-byte = c .before .before in
+    let at-inner = at-put-byte .before .before .before in
+    let at-square = at-inner .before .before .before .before in
+    let at-if1 = at-square .before .before in
+    let at-read = at-if1 .before .before .before in
+    let at-ahead = at-read .before .before in
+    let h = ahead-token _ _ _ (at-ahead .ahead .ensures) (at-read .read .given .1) in
+    same-part (inverted-square _ _ (known (h .1)) (h .0) (at-if1 .if1 .taken))
+    (accepts (opposite-accepts (accepted-by (at-square .square .ensures) (at-inner .inner .given .1)) (at-put-byte .put-byte .ensures .0) (at-put-byte .put-byte .ensures .1)))
 
-inverted-returns-4 : (t : ℕ) → inverted-lts.Need-returns-4 (inverted-claims t) (inverted-at t) inverted.Post
+inverted-returns-4 : (t : ℕ) → inverted-need t inverted-lts.Need-returns-4
 unfolding kindNumber
 inverted-returns-4 t c =
-    let h = ahead-token _ _ _ (c .before .before .before .before .before .ahead .ensures) (c .before .before .before .read .given .1) in
+    let at-read = c .before .before .before in
+    let at-ahead = at-read .before .before in
+    let h = ahead-token _ _ _ (at-ahead .ahead .ensures) (at-read .read .given .1) in
     refuses (refused-now (inverted-none _ _ (known (h .1)) (h .0) (c .if1 .left)))
 
 -- ---- square
 
-square-returns : (t : ℕ) → square-lts.Need-returns (square-claims t) (square-at t) square.Post
+abbrev square-claims : ℕ → square-lts.Claims
+square-claims t = (condition-below t, condition.Post, closed-reads.Asked, closed-reads.Learnt)
+
+abbrev square-need : ℕ → (square-lts.Claims → In 4 square-kinds.ps → Out 4 square-kinds.ps square-kinds.r → Type 0) → Type 0
+square-need t need = need (square-claims t) (square-at t) square.Post
+
+square-returns : (t : ℕ) → square-need t square-lts.Need-returns
 square-returns t c = refuses (refused-now (square-none _ _ _ _ (c .if1 .taken)))
 
-square-sub-condition : (t : ℕ) → square-lts.Need-sub-condition (square-claims t) (square-at t) square.Post
+square-sub-condition : (t : ℕ) → square-need t square-lts.Need-sub-condition
 square-sub-condition t c = omega (arith, c .if1 .left)
 
-square-condition-requires : (t : ℕ) → square-lts.Need-condition-requires (square-claims t) (square-at t) square.Post
-square-condition-requires t c κs = (omega (arith, c .before .before .before .before .before .before .pre .0, c .before .if1 .left), c .before .before .before .before .before .before .pre .1)
+square-condition-requires : (t : ℕ) → square-need t square-lts.Need-condition-requires
+square-condition-requires t c κs =
+    let at-if1 = c .before in
+    let start = at-if1 .before .before .before .before .before in
+    (omega (arith, start .pre .0, at-if1 .if1 .left), start .pre .1)
 
-square-returns-2 : (t : ℕ) → square-lts.Need-returns-2 (square-claims t) (square-at t) square.Post
+square-returns-2 : (t : ℕ) → square-need t square-lts.Need-returns-2
 unfolding kindNumber
-square-returns-2 t c = same-part (square-some _ _ _ _ (c .before .before .before .before .before .if1 .left)) (answers (c .closed .ensures) (closed-parses closeSquare _ (c .before .before .before .condition .ensures)))
+square-returns-2 t c =
+    let at-condition = c .before .before .before in
+    let at-if1 = at-condition .before .before in
+    same-part (square-some _ _ _ _ (at-if1 .if1 .left)) (answers (c .closed .ensures) (closed-parses closeSquare _ (at-condition .condition .ensures)))
 
 pub +atom+condition+conjunction+inverted+square-spec : {M : Type 1} → statement M
 +atom+condition+conjunction+inverted+square-spec =

@@ -1,106 +1,84 @@
+-- `conditions::comparison` meets its contract: a refused expression, no sign, a refused second expression, or a comparison. Assumes
+-- nothing.
 use native.Mathlib.Omega.{arith}
+use borrow.Author.Needs.{needs}
 use Rattle.expressions.proofs.Steps.{known, accepted-by, passed, refuses, refused-now, accepts, room-after, room-next}
 use Rattle.expressions.proofs.Ways.{expression-grows}
 use Rattle.conditions.proofs.Ways.{comparison-refuses, comparison-none, second-refuses, second-room, comparison-accepts}
-use borrow.Author.Needs.{needs}
 use Rattle.conditions.proofs.comparison.Statement.{statement}
 use Rattle.conditions.proofs.comparison.Tie as tie
-use Rattle.conditions.proofs.comparison.Reads as reads
-use Rattle.conditions.proofs.comparison.Lts as lts
-use Rattle.conditions.proofs.comparison_code.Reads as comparison-code-reads
-use Rattle.expressions.proofs.expression.Reads as expression-reads
-use Rattle.leb128.proofs.put_byte.Reads as put-byte-reads
 
--- src/lib.rt:74:9
-expression-requires : tie.Need-expression-requires
-expression-requires c κs = search needs
-
--- src/lib.rt:75:20
-enum-known-first : tie.Need-enum-known-first
-enum-known-first c = search needs
-
--- src/lib.rt:76:9
-enum-told : tie.Need-enum-told
-enum-told c = search needs
-
--- src/lib.rt:76:9
-same-length : tie.Need-same-length
-same-length c = search needs
-
--- src/lib.rt:76:9
 returns : tie.Need-returns
 returns c = passed (c .before .before .before .before .expression .ensures) (c .enum-told .given .1) (comparison-refuses _ _ _)
 
--- src/lib.rt:78:9
-comparison-code-requires : tie.Need-comparison-code-requires
-comparison-code-requires c κs = search needs
-
--- src/lib.rt:80:9
-same-length-2 : tie.Need-same-length-2
-same-length-2 c = search needs
-
--- src/lib.rt:80:9
 returns-2 : tie.Need-returns-2
-returns-2 c = refuses (refused-now (comparison-none _ _ _ (accepted-by (c .before .before .before .before .before .before .before .expression .ensures) (c .before .before .before .first .given .1)) (c .before .comparison-code .ensures) (c .if1 .taken)))
+returns-2 c =
+    let at-comparison-code = c .before in
+    let at-first = at-comparison-code .before .before in
+    let at-expression = at-first .before .before .before .before in
+    refuses (refused-now (comparison-none _ _ _ (accepted-by (at-expression .expression .ensures) (at-first .first .given .1)) (at-comparison-code .comparison-code .ensures) (c .if1 .taken)))
 
--- src/lib.rt:82:9
 expression-requires-2 : tie.Need-expression-requires-2
 expression-requires-2 c κs =
-    let a = accepted-by (c .before .before .before .before .before .before .before .before .expression .ensures) (c .before .before .before .before .first .given .1) in
-    (c .before .before .before .before .before .before .before .before .before .before .before .before .before .before .pre .0, room-next (room-after (c .before .before .before .before .before .before .before .before .before .before .before .before .before .before .pre .1) (expression-grows (c .before .before .before .before .before .before .before .before .before .before .before .before .before .before .pre .0) _ (c .before .before .before .before .before .before .before .before .before .before .before .before .before .before .pre .1)) a) (known (a .stands)))
+    let at-first = c .before .before .before .before in
+    let at-expression = at-first .before .before .before .before in
+    let start = at-expression .before .before .before .before .before .before in
+    let a = accepted-by (at-expression .expression .ensures) (at-first .first .given .1) in
+    (start .pre .0, room-next (room-after (start .pre .1) (expression-grows (start .pre .0) _ (start .pre .1)) a) (known (a .stands)))
 
--- src/lib.rt:83:20
-enum-known-second : tie.Need-enum-known-second
-enum-known-second c = search needs
-
--- src/lib.rt:84:9
-enum-told-2 : tie.Need-enum-told-2
-enum-told-2 c = search needs
-
--- src/lib.rt:84:9
-same-length-3 : tie.Need-same-length-3
-same-length-3 c = search needs
-
--- src/lib.rt:84:9
 returns-3 : tie.Need-returns-3
-returns-3 c = passed (c .before .before .before .before .expression2 .ensures) (c .enum-told2 .given .1) (second-refuses _ _ _ (accepted-by (c .before .before .before .before .before .before .before .before .before .before .before .before .before .expression .ensures) (c .before .before .before .before .before .before .before .before .before .first .given .1)) (c .before .before .before .before .before .before .before .comparison-code .ensures) (c .before .before .before .before .before .before .if1 .left))
+returns-3 c =
+    let at-expression2 = c .before .before .before .before in
+    let at-if1 = at-expression2 .before .before in
+    let at-comparison-code = at-if1 .before in
+    let at-first = at-comparison-code .before .before in
+    let at-expression = at-first .before .before .before .before in
+    passed (at-expression2 .expression2 .ensures) (c .enum-told2 .given .1) (second-refuses _ _ _ (accepted-by (at-expression .expression .ensures) (at-first .first .given .1)) (at-comparison-code .comparison-code .ensures) (at-if1 .if1 .left))
 
--- src/lib.rt:86:24
 put-byte-requires : tie.Need-put-byte-requires
 put-byte-requires c κs =
-    let a = accepted-by (c .before .before .before .before .before .before .before .before .before .before .before .before .before .before .before .expression .ensures) (c .before .before .before .before .before .before .before .before .before .before .before .first .given .1) in
-    let b = accepted-by (c .before .before .before .before .before .before .expression2 .ensures) (c .before .before .second .given .1) in
-    let r = room-after (c .before .before .before .before .before .before .before .before .before .before .before .before .before .before .before .before .before .before .before .before .before .pre .1) (expression-grows (c .before .before .before .before .before .before .before .before .before .before .before .before .before .before .before .before .before .before .before .before .before .pre .0) _ (c .before .before .before .before .before .before .before .before .before .before .before .before .before .before .before .before .before .before .before .before .before .pre .1)) a in
-    let s = second-room _ _ _ a (c .before .before .before .before .before .before .before .before .before .comparison-code .ensures) (c .before .before .before .before .before .before .before .before .if1 .left) b r (expression-grows (c .before .before .before .before .before .before .before .before .before .before .before .before .before .before .before .before .before .before .before .before .before .pre .0) _ (room-next r (known (a .stands)))) in
+    let at-second = c .before .before in
+    let at-expression2 = at-second .before .before .before .before in
+    let at-if1 = at-expression2 .before .before in
+    let at-comparison-code = at-if1 .before in
+    let at-first = at-comparison-code .before .before in
+    let at-expression = at-first .before .before .before .before in
+    let start = at-expression .before .before .before .before .before .before in
+    let a = accepted-by (at-expression .expression .ensures) (at-first .first .given .1) in
+    let b = accepted-by (at-expression2 .expression2 .ensures) (at-second .second .given .1) in
+    let r = room-after (start .pre .1) (expression-grows (start .pre .0) _ (start .pre .1)) a in
+    let s = second-room _ _ _ a (at-comparison-code .comparison-code .ensures) (at-if1 .if1 .left) b r (expression-grows (start .pre .0) _ (room-next r (known (a .stands)))) in
     omega (arith, s .short, s .within, s .room)
 
--- src/lib.rt:69:1
-same-length-4 : tie.Need-same-length-4
-same-length-4 c = search needs
-
--- src/lib.rt:69:1
 returns-4 : tie.Need-returns-4
 returns-4 c =
-    let b = accepted-by (c .before .before .before .before .before .before .before .before .before .expression2 .ensures) (c .before .before .before .before .before .second .given .1) in
-    accepts (comparison-accepts _ _ _ (accepted-by (c .before .before .before .before .before .before .before .before .before .before .before .before .before .before .before .before .before .before .expression .ensures) (c .before .before .before .before .before .before .before .before .before .before .before .before .before .before .first .given .1)) (c .before .before .before .before .before .before .before .before .before .before .before .before .comparison-code .ensures) (c .before .before .before .before .before .before .before .before .before .before .before .if1 .left) b (c .before .before .put-byte .ensures .0) (c .before .before .put-byte .ensures .1))
+    let at-put-byte = c .before .before in
+    let at-second = at-put-byte .before .before .before in
+    let at-expression2 = at-second .before .before .before .before in
+    let at-if1 = at-expression2 .before .before in
+    let at-comparison-code = at-if1 .before in
+    let at-first = at-comparison-code .before .before in
+    let at-expression = at-first .before .before .before .before in
+    let b = accepted-by (at-expression2 .expression2 .ensures) (at-second .second .given .1) in
+    accepts (comparison-accepts _ _ _ (accepted-by (at-expression .expression .ensures) (at-first .first .given .1)) (at-comparison-code .comparison-code .ensures) (at-if1 .if1 .left) b (at-put-byte .put-byte .ensures .0) (at-put-byte .put-byte .ensures .1))
 
 pub comparison-spec : {M : Type 1} → statement M
 comparison-spec =
     tie.close
     (tie.spec
-    expression-requires
-    enum-known-first
-    enum-told
-    same-length
+    (λ c κs. search needs)
+    (λ c. search needs)
+    (λ c. search needs)
+    (λ c. search needs)
     returns
-    comparison-code-requires
-    same-length-2
+    (λ c κs. search needs)
+    (λ c. search needs)
     returns-2
     expression-requires-2
-    enum-known-second
-    enum-told-2
-    same-length-3
+    (λ c. search needs)
+    (λ c. search needs)
+    (λ c. search needs)
     returns-3
     put-byte-requires
-    same-length-4
+    (λ c. search needs)
     returns-4)

@@ -1,7 +1,7 @@
 -- The cycle of `expressions::expression`, `term`, `factor`, `primary` and `bracket` meets its contracts. The measure is five for each
 -- bracket left to open, and the function's rank. The invariant of the two loops is `Turn`. Assumes nothing.
-use Prim.Native.Nat.{ℕ, _+_, _-_, _*_, _≤_, _<_}
-use mathlib.Core.Path.{_≡_, refl, sym, ap, _∙_}
+use Prim.Native.Nat.{ℕ, _+_, _-_, _*_, _<_}
+use mathlib.Core.Path.{refl, _∙_}
 use native.Mathlib.Omega.{arith}
 use lib.ListN.{length}
 use borrow.Author.Needs.{needs}
@@ -89,35 +89,32 @@ term-at t = and 4 term-kinds.ps (is 4 term-kinds.ps μ-term t) term.Pre
 abbrev term-below : ℕ → In 4 term-kinds.ps
 term-below t = and 4 term-kinds.ps (falls 4 term-kinds.ps _<_ μ-term t) term.Pre
 
+-- ---- bracket
+
 abbrev bracket-claims : ℕ → bracket-lts.Claims
 bracket-claims t = (expression-below t, expression.Post, closed-reads.Asked, closed-reads.Learnt)
 
-abbrev expression-claims : ℕ → expression-lts.Claims
-expression-claims t = (term-below t, term.Post, sum-code-reads.Asked, sum-code-reads.Learnt, put-byte-reads.Asked, put-byte-reads.Learnt)
+abbrev bracket-need : ℕ → (bracket-lts.Claims → In 4 bracket-kinds.ps → Out 4 bracket-kinds.ps bracket-kinds.r → Type 0) → Type 0
+bracket-need t need = need (bracket-claims t) (bracket-at t) bracket.Post
 
-abbrev factor-claims : ℕ → factor-lts.Claims
-factor-claims t = (ahead-reads.Asked, ahead-reads.Learnt, primary-below t, primary.Post, put-byte-reads.Asked, put-byte-reads.Learnt)
-
-abbrev primary-claims : ℕ → primary-lts.Claims
-primary-claims t = (number-reads.Asked, number-reads.Learnt, current-reads.Asked, current-reads.Learnt, previous-reads.Asked, previous-reads.Learnt, bracket-below t, bracket.Post)
-
-abbrev term-claims : ℕ → term-lts.Claims
-term-claims t = (factor-below t, factor.Post, product-code-reads.Asked, product-code-reads.Learnt, put-byte-reads.Asked, put-byte-reads.Learnt)
-
--- ---- bracket
-
-bracket-returns : (t : ℕ) → bracket-lts.Need-returns (bracket-claims t) (bracket-at t) bracket.Post
+bracket-returns : (t : ℕ) → bracket-need t bracket-lts.Need-returns
 bracket-returns t c = refuses (refused-now (bracket-none _ _ _ _ (c .if1 .taken)))
 
-bracket-sub-expression : (t : ℕ) → bracket-lts.Need-sub-expression (bracket-claims t) (bracket-at t) bracket.Post
+bracket-sub-expression : (t : ℕ) → bracket-need t bracket-lts.Need-sub-expression
 bracket-sub-expression t c = omega (arith, c .if1 .left)
 
-bracket-expression-requires : (t : ℕ) → bracket-lts.Need-expression-requires (bracket-claims t) (bracket-at t) bracket.Post
-bracket-expression-requires t c κs = (omega (arith, c .before .before .before .before .before .before .pre .0, c .before .if1 .left), c .before .before .before .before .before .before .pre .1)
+bracket-expression-requires : (t : ℕ) → bracket-need t bracket-lts.Need-expression-requires
+bracket-expression-requires t c κs =
+    let at-if1 = c .before in
+    let start = at-if1 .before .before .before .before .before in
+    (omega (arith, start .pre .0, at-if1 .if1 .left), start .pre .1)
 
-bracket-returns-2 : (t : ℕ) → bracket-lts.Need-returns-2 (bracket-claims t) (bracket-at t) bracket.Post
+bracket-returns-2 : (t : ℕ) → bracket-need t bracket-lts.Need-returns-2
 unfolding kindNumber
-bracket-returns-2 t c = same-part (bracket-some _ _ _ _ (c .before .before .before .before .before .if1 .left)) (answers (c .closed .ensures) (closed-parses closeRound _ (c .before .before .before .expression .ensures)))
+bracket-returns-2 t c =
+    let at-expression = c .before .before .before in
+    let at-if1 = at-expression .before .before in
+    same-part (bracket-some _ _ _ _ (at-if1 .if1 .left)) (answers (c .closed .ensures) (closed-parses closeRound _ (at-expression .expression .ensures)))
 
 -- ---- expression
 
@@ -128,134 +125,267 @@ expression-Inv-loop text starts ends names at left out₀ to behind₀ t₀ out 
 abbrev expression-μ-loop : expression-lts.MeasureT-loop
 expression-μ-loop text starts ends names at left out₀ to behind₀ t₀ out behind t = length text - behind .at
 
-expression-term-requires : (t : ℕ) → expression-lts.Need-term-requires (expression-claims t) (expression-at t) expression.Post expression-Inv-loop expression-μ-loop
-expression-term-requires t c κs = (omega (arith, c .before .before .before .before .before .pre .0), c .before .before .before .before .before .pre .1)
+abbrev expression-claims : ℕ → expression-lts.Claims
+expression-claims t = (term-below t, term.Post, sum-code-reads.Asked, sum-code-reads.Learnt, put-byte-reads.Asked, put-byte-reads.Learnt)
 
-expression-returns : (t : ℕ) → expression-lts.Need-returns (expression-claims t) (expression-at t) expression.Post expression-Inv-loop expression-μ-loop
+abbrev expression-need : ℕ → (expression-lts.Claims → In 4 expression-kinds.ps → Out 4 expression-kinds.ps expression-kinds.r → expression-lts.InvT-loop → expression-lts.MeasureT-loop → Type 0) → Type 0
+expression-need t need = need (expression-claims t) (expression-at t) expression.Post expression-Inv-loop expression-μ-loop
+
+expression-term-requires : (t : ℕ) → expression-need t expression-lts.Need-term-requires
+expression-term-requires t c κs =
+    let start = c .before .before .before .before .before in
+    (omega (arith, start .pre .0), start .pre .1)
+
+expression-returns : (t : ℕ) → expression-need t expression-lts.Need-returns
 unfolding expression-of
 expression-returns t c = chain-first sums _ _ _ (c .before .before .before .before .term .ensures) (c .enum-told .given .1)
 
-expression-loop-holds : (t : ℕ) → expression-lts.Need-loop-holds (expression-claims t) (expression-at t) expression.Post expression-Inv-loop expression-μ-loop
-expression-loop-holds t c = turn-first sums _ _ (c .before .before .before .before .before .before .before .before .before .before .before .pre .1 .1) (term-grows (c .before .before .before .before .before .before .before .before .before .before .before .pre .1 .0) _ (c .before .before .before .before .before .before .before .before .before .before .before .pre .1 .1)) (accepted-by (c .before .before .before .before .before .term .ensures) (c .before .first .given .1))
+expression-loop-holds : (t : ℕ) → expression-need t expression-lts.Need-loop-holds
+expression-loop-holds t c =
+    let at-first = c .before in
+    let at-term = at-first .before .before .before .before in
+    let start = at-term .before .before .before .before .before .before in
+    turn-first sums _ _ (start .pre .1 .1) (term-grows (start .pre .1 .0) _ (start .pre .1 .1)) (accepted-by (at-term .term .ensures) (at-first .first .given .1))
 
-expression-same-length-2 : (t : ℕ) → expression-lts.Need-same-length-2 (expression-claims t) (expression-at t) expression.Post expression-Inv-loop expression-μ-loop
+expression-same-length-2 : (t : ℕ) → expression-need t expression-lts.Need-same-length-2
 expression-same-length-2 t c = c .before .before .loop .inv .size ∙ c .before .before .before .before .before .before .before .before .term .kept .1 .1 .1 .1 .1 .1 .0
 
-expression-returns-2 : (t : ℕ) → expression-lts.Need-returns-2 (expression-claims t) (expression-at t) expression.Post expression-Inv-loop expression-μ-loop
+expression-returns-2 : (t : ℕ) → expression-need t expression-lts.Need-returns-2
 unfolding expression-of
-expression-returns-2 t c = turn-done sums _ _ (c .before .before .loop .inv) (c .before .sum-code .ensures) (accepted-by (c .before .before .before .before .before .before .before .before .term .ensures) (c .before .before .before .before .first .given .1)) (c .if1 .taken)
+expression-returns-2 t c =
+    let at-sum-code = c .before in
+    let at-loop = at-sum-code .before in
+    let at-first = at-loop .before .before in
+    let at-term = at-first .before .before .before .before in
+    turn-done sums _ _ (at-loop .loop .inv) (at-sum-code .sum-code .ensures) (accepted-by (at-term .term .ensures) (at-first .first .given .1)) (c .if1 .taken)
 
-expression-term-requires-2 : (t : ℕ) → expression-lts.Need-term-requires-2 (expression-claims t) (expression-at t) expression.Post expression-Inv-loop expression-μ-loop
-expression-term-requires-2 t c κs = (omega (arith, c .before .before .before .before .before .before .before .before .before .before .before .before .before .before .before .pre .0), (c .before .before .before .before .before .before .before .before .before .before .before .before .before .before .before .pre .1 .0, turn-next sums _ _ (c .before .before .before .loop .inv)))
+expression-term-requires-2 : (t : ℕ) → expression-need t expression-lts.Need-term-requires-2
+expression-term-requires-2 t c κs =
+    let at-loop = c .before .before .before in
+    let start = at-loop .before .before .before .before .before .before .before .before .before .before .before .before in
+    (omega (arith, start .pre .0), (start .pre .1 .0, turn-next sums _ _ (at-loop .loop .inv)))
 
-expression-same-length-3 : (t : ℕ) → expression-lts.Need-same-length-3 (expression-claims t) (expression-at t) expression.Post expression-Inv-loop expression-μ-loop
-expression-same-length-3 t c = c .before .before .before .before .term2 .kept .1 .1 .1 .1 .1 .1 .0 ∙ c .before .before .before .before .before .before .before .before .loop .inv .size ∙ c .before .before .before .before .before .before .before .before .before .before .before .before .before .before .term .kept .1 .1 .1 .1 .1 .1 .0
+expression-same-length-3 : (t : ℕ) → expression-need t expression-lts.Need-same-length-3
+expression-same-length-3 t c =
+    let at-term2 = c .before .before .before .before in
+    let at-loop = at-term2 .before .before .before .before in
+    let at-term = at-loop .before .before .before .before .before .before in
+    at-term2 .term2 .kept .1 .1 .1 .1 .1 .1 .0 ∙ at-loop .loop .inv .size ∙ at-term .term .kept .1 .1 .1 .1 .1 .1 .0
 
-expression-returns-3 : (t : ℕ) → expression-lts.Need-returns-3 (expression-claims t) (expression-at t) expression.Post expression-Inv-loop expression-μ-loop
+expression-returns-3 : (t : ℕ) → expression-need t expression-lts.Need-returns-3
 unfolding expression-of
-expression-returns-3 t c = turn-refused sums _ _ (c .before .before .before .before .before .before .before .before .loop .inv) (c .before .before .before .before .before .before .before .sum-code .ensures) (c .before .before .before .before .before .before .if1 .left) (accepted-by (c .before .before .before .before .before .before .before .before .before .before .before .before .before .before .term .ensures) (c .before .before .before .before .before .before .before .before .before .before .first .given .1)) (c .before .before .before .before .term2 .ensures) (c .enum-told2 .given .1)
+expression-returns-3 t c =
+    let at-term2 = c .before .before .before .before in
+    let at-if1 = at-term2 .before .before in
+    let at-sum-code = at-if1 .before in
+    let at-loop = at-sum-code .before in
+    let at-first = at-loop .before .before in
+    let at-term = at-first .before .before .before .before in
+    turn-refused sums _ _ (at-loop .loop .inv) (at-sum-code .sum-code .ensures) (at-if1 .if1 .left) (accepted-by (at-term .term .ensures) (at-first .first .given .1)) (at-term2 .term2 .ensures) (c .enum-told2 .given .1)
 
-expression-put-byte-requires : (t : ℕ) → expression-lts.Need-put-byte-requires (expression-claims t) (expression-at t) expression.Post expression-Inv-loop expression-μ-loop
+expression-put-byte-requires : (t : ℕ) → expression-need t expression-lts.Need-put-byte-requires
 expression-put-byte-requires t c κs =
-    let r = turn-room sums _ _ (c .before .before .before .before .before .before .before .before .before .before .loop .inv) (c .before .before .before .before .before .before .before .before .before .sum-code .ensures) (c .before .before .before .before .before .before .before .before .if1 .left) (term-grows (c .before .before .before .before .before .before .before .before .before .before .before .before .before .before .before .before .before .before .before .before .before .before .pre .1 .0) _ (turn-next sums _ _ (c .before .before .before .before .before .before .before .before .before .before .loop .inv))) (accepted-by (c .before .before .before .before .before .before .term2 .ensures) (c .before .before .more .given .1)) in
+    let at-more = c .before .before in
+    let at-term2 = at-more .before .before .before .before in
+    let at-if1 = at-term2 .before .before in
+    let at-sum-code = at-if1 .before in
+    let at-loop = at-sum-code .before in
+    let start = at-loop .before .before .before .before .before .before .before .before .before .before .before .before in
+    let r = turn-room sums _ _ (at-loop .loop .inv) (at-sum-code .sum-code .ensures) (at-if1 .if1 .left) (term-grows (start .pre .1 .0) _ (turn-next sums _ _ (at-loop .loop .inv))) (accepted-by (at-term2 .term2 .ensures) (at-more .more .given .1)) in
     omega (arith, r .0 .short, r .0 .within, r .0 .room)
 
-expression-loop-less : (t : ℕ) → expression-lts.Need-loop-less (expression-claims t) (expression-at t) expression.Post expression-Inv-loop expression-μ-loop
+expression-loop-less : (t : ℕ) → expression-need t expression-lts.Need-loop-less
 expression-loop-less t c =
-    let r = turn-room sums _ _ (c .before .before .before .before .before .before .before .before .before .before .before .before .before .loop .inv) (c .before .before .before .before .before .before .before .before .before .before .before .before .sum-code .ensures) (c .before .before .before .before .before .before .before .before .before .before .before .if1 .left) (term-grows (c .before .before .before .before .before .before .before .before .before .before .before .before .before .before .before .before .before .before .before .before .before .before .before .before .before .pre .1 .0) _ (turn-next sums _ _ (c .before .before .before .before .before .before .before .before .before .before .before .before .before .loop .inv))) (accepted-by (c .before .before .before .before .before .before .before .before .before .term2 .ensures) (c .before .before .before .before .before .more .given .1)) in
+    let at-more = c .before .before .before .before .before in
+    let at-term2 = at-more .before .before .before .before in
+    let at-if1 = at-term2 .before .before in
+    let at-sum-code = at-if1 .before in
+    let at-loop = at-sum-code .before in
+    let start = at-loop .before .before .before .before .before .before .before .before .before .before .before .before in
+    let r = turn-room sums _ _ (at-loop .loop .inv) (at-sum-code .sum-code .ensures) (at-if1 .if1 .left) (term-grows (start .pre .1 .0) _ (turn-next sums _ _ (at-loop .loop .inv))) (accepted-by (at-term2 .term2 .ensures) (at-more .more .given .1)) in
     omega (arith, r .0 .within, r .1)
 
-expression-loop-again : (t : ℕ) → expression-lts.Need-loop-again (expression-claims t) (expression-at t) expression.Post expression-Inv-loop expression-μ-loop
+expression-loop-again : (t : ℕ) → expression-need t expression-lts.Need-loop-again
 expression-loop-again t c =
-    turn-more sums _ _ (c .before .before .before .before .before .before .before .before .before .before .before .before .before .loop .inv) (c .before .before .before .before .before .before .before .before .before .before .before .before .sum-code .ensures) (c .before .before .before .before .before .before .before .before .before .before .before .if1 .left) (term-grows (c .before .before .before .before .before .before .before .before .before .before .before .before .before .before .before .before .before .before .before .before .before .before .before .before .before .pre .1 .0) _ (turn-next sums _ _ (c .before .before .before .before .before .before .before .before .before .before .before .before .before .loop .inv))) (accepted-by (c .before .before .before .before .before .before .before .before .before .term2 .ensures) (c .before .before .before .before .before .more .given .1))
-    (c .before .before .put-byte .ensures .1) (c .before .before .put-byte .ensures .0) (c .before .before .put-byte .kept .0 ∙ c .before .before .before .before .before .before .before .before .before .term2 .kept .1 .1 .1 .1 .1 .1 .0)
+    let at-put-byte = c .before .before in
+    let at-more = at-put-byte .before .before .before in
+    let at-term2 = at-more .before .before .before .before in
+    let at-if1 = at-term2 .before .before in
+    let at-sum-code = at-if1 .before in
+    let at-loop = at-sum-code .before in
+    let start = at-loop .before .before .before .before .before .before .before .before .before .before .before .before in
+    turn-more sums _ _ (at-loop .loop .inv) (at-sum-code .sum-code .ensures) (at-if1 .if1 .left) (term-grows (start .pre .1 .0) _ (turn-next sums _ _ (at-loop .loop .inv))) (accepted-by (at-term2 .term2 .ensures) (at-more .more .given .1))
+    (at-put-byte .put-byte .ensures .1) (at-put-byte .put-byte .ensures .0) (at-put-byte .put-byte .kept .0 ∙ at-term2 .term2 .kept .1 .1 .1 .1 .1 .1 .0)
 
 -- ---- factor
 
-factor-returns : (t : ℕ) → factor-lts.Need-returns (factor-claims t) (factor-at t) factor.Post
+abbrev factor-claims : ℕ → factor-lts.Claims
+factor-claims t = (ahead-reads.Asked, ahead-reads.Learnt, primary-below t, primary.Post, put-byte-reads.Asked, put-byte-reads.Learnt)
+
+abbrev factor-need : ℕ → (factor-lts.Claims → In 4 factor-kinds.ps → Out 4 factor-kinds.ps factor-kinds.r → Type 0) → Type 0
+factor-need t need = need (factor-claims t) (factor-at t) factor.Post
+
+factor-returns : (t : ℕ) → factor-need t factor-lts.Need-returns
 factor-returns t c = ahead-fault _ _ _ (c .before .before .ahead .ensures) (c .enum-told .given .1) (factor-fault _ _ _)
 
-factor-returns-2 : (t : ℕ) → factor-lts.Need-returns-2 (factor-claims t) (factor-at t) factor.Post
+factor-returns-2 : (t : ℕ) → factor-need t factor-lts.Need-returns-2
 unfolding kindNumber
 factor-returns-2 t c =
-    let h = ahead-token _ _ _ (c .before .before .before .before .before .before .before .before .ahead .ensures) (c .before .before .before .before .before .before .read .given .1) in
-    ahead-fault _ _ _ (c .before .before .ahead2 .ensures) (c .enum-told2 .given .1) (λ q e. factor-minus _ _ (known (h .1)) (h .0) (c .before .before .before .if1 .taken) refl ∙ negative-fault _ _ _ q e)
+    let at-ahead2 = c .before .before in
+    let at-if1 = at-ahead2 .before in
+    let at-read = at-if1 .before .before .before in
+    let at-ahead = at-read .before .before in
+    let h = ahead-token _ _ _ (at-ahead .ahead .ensures) (at-read .read .given .1) in
+    ahead-fault _ _ _ (at-ahead2 .ahead2 .ensures) (c .enum-told2 .given .1) (λ q e. factor-minus _ _ (known (h .1)) (h .0) (at-if1 .if1 .taken) refl ∙ negative-fault _ _ _ q e)
 
-factor-primary-requires : (t : ℕ) → factor-lts.Need-primary-requires (factor-claims t) (factor-at t) factor.Post
+factor-primary-requires : (t : ℕ) → factor-need t factor-lts.Need-primary-requires
 factor-primary-requires t c κs =
-    let h = ahead-token _ _ _ (c .before .before .before .before .before .before .before .before .before .before .ahead .ensures) (c .before .before .before .before .before .before .before .before .read .given .1) in
-    let g = ahead-token _ _ _ (c .before .before .before .before .ahead2 .ensures) (c .before .before .second .given .1) in
-    (omega (arith, c .before .before .before .before .before .before .before .before .before .before .before .before .before .before .before .pre .0), (c .before .before .before .before .before .before .before .before .before .before .before .before .before .before .before .pre .1 .0, (room-at (g .0) (room-next (room-at (h .0) (c .before .before .before .before .before .before .before .before .before .before .before .before .before .before .before .pre .1 .1)) (known (h .1))), g .1)))
+    let at-second = c .before .before in
+    let at-ahead2 = at-second .before .before in
+    let at-read = at-ahead2 .before .before .before .before in
+    let at-ahead = at-read .before .before in
+    let start = at-ahead .before .before .before .before .before in
+    let h = ahead-token _ _ _ (at-ahead .ahead .ensures) (at-read .read .given .1) in
+    let g = ahead-token _ _ _ (at-ahead2 .ahead2 .ensures) (at-second .second .given .1) in
+    (omega (arith, start .pre .0), (start .pre .1 .0, (room-at (g .0) (room-next (room-at (h .0) (start .pre .1 .1)) (known (h .1))), g .1)))
 
-factor-returns-3 : (t : ℕ) → factor-lts.Need-returns-3 (factor-claims t) (factor-at t) factor.Post
+factor-returns-3 : (t : ℕ) → factor-need t factor-lts.Need-returns-3
 unfolding kindNumber
 factor-returns-3 t c =
-    let h = ahead-token _ _ _ (c .before .before .before .before .before .before .before .before .before .before .before .before .before .before .before .ahead .ensures) (c .before .before .before .before .before .before .before .before .before .before .before .before .before .read .given .1) in
-    let g = ahead-token _ _ _ (c .before .before .before .before .before .before .before .before .before .ahead2 .ensures) (c .before .before .before .before .before .before .before .second .given .1) in
-    same-part (factor-minus _ _ (known (h .1)) (h .0) (c .before .before .before .before .before .before .before .before .before .before .if1 .taken) (g .0)) (passed (c .before .before .before .before .primary .ensures) (c .enum-told3 .given .1) negative-refuses)
+    let at-primary = c .before .before .before .before in
+    let at-second = at-primary .before .before .before in
+    let at-ahead2 = at-second .before .before in
+    let at-if1 = at-ahead2 .before in
+    let at-read = at-if1 .before .before .before in
+    let at-ahead = at-read .before .before in
+    let h = ahead-token _ _ _ (at-ahead .ahead .ensures) (at-read .read .given .1) in
+    let g = ahead-token _ _ _ (at-ahead2 .ahead2 .ensures) (at-second .second .given .1) in
+    same-part (factor-minus _ _ (known (h .1)) (h .0) (at-if1 .if1 .taken) (g .0)) (passed (at-primary .primary .ensures) (c .enum-told3 .given .1) negative-refuses)
 
-factor-put-byte-requires : (t : ℕ) → factor-lts.Need-put-byte-requires (factor-claims t) (factor-at t) factor.Post
+factor-put-byte-requires : (t : ℕ) → factor-need t factor-lts.Need-put-byte-requires
 factor-put-byte-requires t c κs =
-    let h = ahead-token _ _ _ (c .before .before .before .before .before .before .before .before .before .before .before .before .before .before .before .before .before .ahead .ensures) (c .before .before .before .before .before .before .before .before .before .before .before .before .before .before .before .read .given .1) in
-    let g = ahead-token _ _ _ (c .before .before .before .before .before .before .before .before .before .before .before .ahead2 .ensures) (c .before .before .before .before .before .before .before .before .before .second .given .1) in
-    let r = room-at (g .0) (room-next (room-at (h .0) (c .before .before .before .before .before .before .before .before .before .before .before .before .before .before .before .before .before .before .before .before .before .before .pre .1 .1)) (known (h .1))) in
-    let b = room-after r (primary-grows (c .before .before .before .before .before .before .before .before .before .before .before .before .before .before .before .before .before .before .before .before .before .before .pre .1 .0) _ r) (accepted-by (c .before .before .before .before .before .before .primary .ensures) (c .before .before .inner .given .1)) in
+    let at-inner = c .before .before in
+    let at-primary = at-inner .before .before .before .before in
+    let at-second = at-primary .before .before .before in
+    let at-ahead2 = at-second .before .before in
+    let at-read = at-ahead2 .before .before .before .before in
+    let at-ahead = at-read .before .before in
+    let start = at-ahead .before .before .before .before .before in
+    let h = ahead-token _ _ _ (at-ahead .ahead .ensures) (at-read .read .given .1) in
+    let g = ahead-token _ _ _ (at-ahead2 .ahead2 .ensures) (at-second .second .given .1) in
+    let r = room-at (g .0) (room-next (room-at (h .0) (start .pre .1 .1)) (known (h .1))) in
+    let b = room-after r (primary-grows (start .pre .1 .0) _ r) (accepted-by (at-primary .primary .ensures) (at-inner .inner .given .1)) in
     omega (arith, b .short, b .within, b .room)
 
-factor-returns-4 : (t : ℕ) → factor-lts.Need-returns-4 (factor-claims t) (factor-at t) factor.Post
+factor-returns-4 : (t : ℕ) → factor-need t factor-lts.Need-returns-4
 unfolding kindNumber
 factor-returns-4 t c =
-    let h = ahead-token _ _ _ (c .before .before .before .before .before .before .before .before .before .before .before .before .before .before .before .before .before .before .before .before .ahead .ensures) (c .before .before .before .before .before .before .before .before .before .before .before .before .before .before .before .before .before .before .read .given .1) in
-    let g = ahead-token _ _ _ (c .before .before .before .before .before .before .before .before .before .before .before .before .before .before .ahead2 .ensures) (c .before .before .before .before .before .before .before .before .before .before .before .before .second .given .1) in
-    same-part (factor-minus _ _ (known (h .1)) (h .0) (c .before .before .before .before .before .before .before .before .before .before .before .before .before .before .before .if1 .taken) (g .0))
-    (accepts (negative-accepts (accepted-by (c .before .before .before .before .before .before .before .before .before .primary .ensures) (c .before .before .before .before .before .inner .given .1)) (c .before .before .put-byte .ensures .0) (c .before .before .put-byte .ensures .1)))
+    let at-put-byte = c .before .before in
+    let at-inner = at-put-byte .before .before .before in
+    let at-primary = at-inner .before .before .before .before in
+    let at-second = at-primary .before .before .before in
+    let at-ahead2 = at-second .before .before in
+    let at-if1 = at-ahead2 .before in
+    let at-read = at-if1 .before .before .before in
+    let at-ahead = at-read .before .before in
+    let h = ahead-token _ _ _ (at-ahead .ahead .ensures) (at-read .read .given .1) in
+    let g = ahead-token _ _ _ (at-ahead2 .ahead2 .ensures) (at-second .second .given .1) in
+    same-part (factor-minus _ _ (known (h .1)) (h .0) (at-if1 .if1 .taken) (g .0))
+    (accepts (negative-accepts (accepted-by (at-primary .primary .ensures) (at-inner .inner .given .1)) (at-put-byte .put-byte .ensures .0) (at-put-byte .put-byte .ensures .1)))
 
-factor-primary-requires-2 : (t : ℕ) → factor-lts.Need-primary-requires-2 (factor-claims t) (factor-at t) factor.Post
+factor-primary-requires-2 : (t : ℕ) → factor-need t factor-lts.Need-primary-requires-2
 factor-primary-requires-2 t c κs =
-    let h = ahead-token _ _ _ (c .before .before .before .before .before .before .ahead .ensures) (c .before .before .before .before .read .given .1) in
-    (omega (arith, c .before .before .before .before .before .before .before .before .before .before .before .pre .0), (c .before .before .before .before .before .before .before .before .before .before .before .pre .1 .0, (room-at (h .0) (c .before .before .before .before .before .before .before .before .before .before .before .pre .1 .1), h .1)))
+    let at-read = c .before .before .before .before in
+    let at-ahead = at-read .before .before in
+    let start = at-ahead .before .before .before .before .before in
+    let h = ahead-token _ _ _ (at-ahead .ahead .ensures) (at-read .read .given .1) in
+    (omega (arith, start .pre .0), (start .pre .1 .0, (room-at (h .0) (start .pre .1 .1), h .1)))
 
-factor-returns-5 : (t : ℕ) → factor-lts.Need-returns-5 (factor-claims t) (factor-at t) factor.Post
+factor-returns-5 : (t : ℕ) → factor-need t factor-lts.Need-returns-5
 unfolding kindNumber
 factor-returns-5 t c =
-    let h = ahead-token _ _ _ (c .before .before .before .before .before .before .before .before .before .ahead .ensures) (c .before .before .before .before .before .before .before .read .given .1) in
-    same-part (factor-plain _ _ (known (h .1)) (h .0) (c .before .before .before .before .if1 .left)) (c .before .before .primary2 .ensures)
+    let at-primary2 = c .before .before in
+    let at-if1 = at-primary2 .before .before in
+    let at-read = at-if1 .before .before .before in
+    let at-ahead = at-read .before .before in
+    let h = ahead-token _ _ _ (at-ahead .ahead .ensures) (at-read .read .given .1) in
+    same-part (factor-plain _ _ (known (h .1)) (h .0) (at-if1 .if1 .left)) (at-primary2 .primary2 .ensures)
 
 -- ---- primary
 
-primary-number-requires : (t : ℕ) → primary-lts.Need-number-requires (primary-claims t) (primary-at t) primary.Post
-primary-number-requires t c κs = omega (arith, c .before .before .before .before .before .before .before .pre .1 .1 .0 .short, c .before .before .before .before .before .before .before .pre .1 .1 .0 .within, c .before .before .before .before .before .before .before .pre .1 .1 .0 .room)
+abbrev primary-claims : ℕ → primary-lts.Claims
+primary-claims t = (number-reads.Asked, number-reads.Learnt, current-reads.Asked, current-reads.Learnt, previous-reads.Asked, previous-reads.Learnt, bracket-below t, bracket.Post)
 
-primary-returns : (t : ℕ) → primary-lts.Need-returns (primary-claims t) (primary-at t) primary.Post
+abbrev primary-need : ℕ → (primary-lts.Claims → In 4 primary-kinds.ps → Out 4 primary-kinds.ps primary-kinds.r → Type 0) → Type 0
+primary-need t need = need (primary-claims t) (primary-at t) primary.Post
+
+primary-number-requires : (t : ℕ) → primary-need t primary-lts.Need-number-requires
+primary-number-requires t c κs =
+    let start = c .before .before .before .before .before .before .before in
+    omega (arith, start .pre .1 .1 .0 .short, start .pre .1 .1 .0 .within, start .pre .1 .1 .0 .room)
+
+primary-returns : (t : ℕ) → primary-need t primary-lts.Need-returns
 unfolding kindNumber
-primary-returns t c = same-part (primary-number _ _ (known (c .before .before .before .before .before .before .before .before .before .before .pre .1 .1 .1)) (c .before .before .before .before .if1 .taken) ∙ number-text _ _ _) (c .before .before .number .ensures)
+primary-returns t c =
+    let at-number = c .before .before in
+    let at-if1 = at-number .before .before in
+    let start = at-if1 .before .before .before .before .before .before in
+    same-part (primary-number _ _ (known (start .pre .1 .1 .1)) (at-if1 .if1 .taken) ∙ number-text _ _ _) (at-number .number .ensures)
 
-primary-current-requires : (t : ℕ) → primary-lts.Need-current-requires (primary-claims t) (primary-at t) primary.Post
-primary-current-requires t c κs = (c .before .before .before .before .before .before .before .before .before .pre .1 .0, omega (arith, c .before .before .before .before .before .before .before .before .before .pre .1 .1 .0 .short, c .before .before .before .before .before .before .before .before .before .pre .1 .1 .0 .within, c .before .before .before .before .before .before .before .before .before .pre .1 .1 .0 .room))
+primary-current-requires : (t : ℕ) → primary-need t primary-lts.Need-current-requires
+primary-current-requires t c κs =
+    let start = c .before .before .before .before .before .before .before .before .before in
+    (start .pre .1 .0, omega (arith, start .pre .1 .1 .0 .short, start .pre .1 .1 .0 .within, start .pre .1 .1 .0 .room))
 
-primary-returns-2 : (t : ℕ) → primary-lts.Need-returns-2 (primary-claims t) (primary-at t) primary.Post
+primary-returns-2 : (t : ℕ) → primary-need t primary-lts.Need-returns-2
 unfolding kindNumber
-primary-returns-2 t c = same-part (primary-current _ _ (known (c .before .before .before .before .before .before .before .before .before .before .before .before .pre .1 .1 .1)) (c .before .before .before .before .before .before .if1 .left) (c .before .before .before .before .if2 .taken)) (c .before .before .current .ensures)
+primary-returns-2 t c =
+    let at-current = c .before .before in
+    let at-if2 = at-current .before .before in
+    let at-if1 = at-if2 .before .before in
+    let start = at-if1 .before .before .before .before .before .before in
+    same-part (primary-current _ _ (known (start .pre .1 .1 .1)) (at-if1 .if1 .left) (at-if2 .if2 .taken)) (at-current .current .ensures)
 
-primary-previous-requires : (t : ℕ) → primary-lts.Need-previous-requires (primary-claims t) (primary-at t) primary.Post
-primary-previous-requires t c κs = 
-    let s = token-within (c .before .before .before .before .before .before .before .before .before .before .before .pre .1 .1 .0) (known (c .before .before .before .before .before .before .before .before .before .before .before .pre .1 .1 .1)) in
-    (c .before .before .before .before .before .before .before .before .before .before .before .pre .1 .0, omega (arith, s, c .before .before .before .before .before .before .before .before .before .before .before .pre .1 .1 .0 .short, c .before .before .before .before .before .before .before .before .before .before .before .pre .1 .1 .0 .within, c .before .before .before .before .before .before .before .before .before .before .before .pre .1 .1 .0 .room))
+primary-previous-requires : (t : ℕ) → primary-need t primary-lts.Need-previous-requires
+primary-previous-requires t c κs =
+    let start = c .before .before .before .before .before .before .before .before .before .before .before in
+    let s = token-within (start .pre .1 .1 .0) (known (start .pre .1 .1 .1)) in
+    (start .pre .1 .0, omega (arith, s, start .pre .1 .1 .0 .short, start .pre .1 .1 .0 .within, start .pre .1 .1 .0 .room))
 
-primary-returns-3 : (t : ℕ) → primary-lts.Need-returns-3 (primary-claims t) (primary-at t) primary.Post
+primary-returns-3 : (t : ℕ) → primary-need t primary-lts.Need-returns-3
 unfolding kindNumber
-primary-returns-3 t c = same-part (primary-previous _ _ (known (c .before .before .before .before .before .before .before .before .before .before .before .before .before .before .pre .1 .1 .1)) (c .before .before .before .before .before .before .before .before .if1 .left) (c .before .before .before .before .before .before .if2 .left) (c .before .before .before .before .if3 .taken)) (c .before .before .previous .ensures)
+primary-returns-3 t c =
+    let at-previous = c .before .before in
+    let at-if3 = at-previous .before .before in
+    let at-if2 = at-if3 .before .before in
+    let at-if1 = at-if2 .before .before in
+    let start = at-if1 .before .before .before .before .before .before in
+    same-part (primary-previous _ _ (known (start .pre .1 .1 .1)) (at-if1 .if1 .left) (at-if2 .if2 .left) (at-if3 .if3 .taken)) (at-previous .previous .ensures)
 
-primary-bracket-requires : (t : ℕ) → primary-lts.Need-bracket-requires (primary-claims t) (primary-at t) primary.Post
-primary-bracket-requires t c κs = (omega (arith, c .before .before .before .before .before .before .before .before .before .before .before .before .before .pre .0), (c .before .before .before .before .before .before .before .before .before .before .before .before .before .pre .1 .0, room-next (c .before .before .before .before .before .before .before .before .before .before .before .before .before .pre .1 .1 .0) (known (c .before .before .before .before .before .before .before .before .before .before .before .before .before .pre .1 .1 .1))))
+primary-bracket-requires : (t : ℕ) → primary-need t primary-lts.Need-bracket-requires
+primary-bracket-requires t c κs =
+    let start = c .before .before .before .before .before .before .before .before .before .before .before .before .before in
+    (omega (arith, start .pre .0), (start .pre .1 .0, room-next (start .pre .1 .1 .0) (known (start .pre .1 .1 .1))))
 
-primary-returns-4 : (t : ℕ) → primary-lts.Need-returns-4 (primary-claims t) (primary-at t) primary.Post
+primary-returns-4 : (t : ℕ) → primary-need t primary-lts.Need-returns-4
 unfolding kindNumber
-primary-returns-4 t c = same-part (primary-bracket _ _ (known (c .before .before .before .before .before .before .before .before .before .before .before .before .before .before .before .before .pre .1 .1 .1)) (c .before .before .before .before .before .before .before .before .before .before .if1 .left) (c .before .before .before .before .before .before .before .before .if2 .left) (c .before .before .before .before .before .before .if3 .left) (c .before .before .before .before .if4 .taken)) (c .before .before .bracket .ensures)
+primary-returns-4 t c =
+    let at-bracket = c .before .before in
+    let at-if4 = at-bracket .before .before in
+    let at-if3 = at-if4 .before .before in
+    let at-if2 = at-if3 .before .before in
+    let at-if1 = at-if2 .before .before in
+    let start = at-if1 .before .before .before .before .before .before in
+    same-part (primary-bracket _ _ (known (start .pre .1 .1 .1)) (at-if1 .if1 .left) (at-if2 .if2 .left) (at-if3 .if3 .left) (at-if4 .if4 .taken)) (at-bracket .bracket .ensures)
 
-primary-returns-5 : (t : ℕ) → primary-lts.Need-returns-5 (primary-claims t) (primary-at t) primary.Post
+primary-returns-5 : (t : ℕ) → primary-need t primary-lts.Need-returns-5
 unfolding kindNumber
-primary-returns-5 t c = refuses (refused-now (primary-none _ _ (known (c .before .before .before .before .before .before .before .before .before .before .before .before .pre .1 .1 .1)) (c .before .before .before .before .before .before .if1 .left) (c .before .before .before .before .if2 .left) (c .before .before .if3 .left) (c .if4 .left)))
+primary-returns-5 t c =
+    let at-if3 = c .before .before in
+    let at-if2 = at-if3 .before .before in
+    let at-if1 = at-if2 .before .before in
+    let start = at-if1 .before .before .before .before .before .before in
+    refuses (refused-now (primary-none _ _ (known (start .pre .1 .1 .1)) (at-if1 .if1 .left) (at-if2 .if2 .left) (at-if3 .if3 .left) (c .if4 .left)))
 
 -- ---- term
 
@@ -266,47 +396,97 @@ term-Inv-loop text starts ends names at left out₀ to behind₀ t₀ out behind
 abbrev term-μ-loop : term-lts.MeasureT-loop
 term-μ-loop text starts ends names at left out₀ to behind₀ t₀ out behind t = length text - behind .at
 
-term-factor-requires : (t : ℕ) → term-lts.Need-factor-requires (term-claims t) (term-at t) term.Post term-Inv-loop term-μ-loop
-term-factor-requires t c κs = (omega (arith, c .before .before .before .before .before .pre .0), c .before .before .before .before .before .pre .1)
+abbrev term-claims : ℕ → term-lts.Claims
+term-claims t = (factor-below t, factor.Post, product-code-reads.Asked, product-code-reads.Learnt, put-byte-reads.Asked, put-byte-reads.Learnt)
 
-term-returns : (t : ℕ) → term-lts.Need-returns (term-claims t) (term-at t) term.Post term-Inv-loop term-μ-loop
+abbrev term-need : ℕ → (term-lts.Claims → In 4 term-kinds.ps → Out 4 term-kinds.ps term-kinds.r → term-lts.InvT-loop → term-lts.MeasureT-loop → Type 0) → Type 0
+term-need t need = need (term-claims t) (term-at t) term.Post term-Inv-loop term-μ-loop
+
+term-factor-requires : (t : ℕ) → term-need t term-lts.Need-factor-requires
+term-factor-requires t c κs =
+    let start = c .before .before .before .before .before in
+    (omega (arith, start .pre .0), start .pre .1)
+
+term-returns : (t : ℕ) → term-need t term-lts.Need-returns
 unfolding term-of
 term-returns t c = chain-first products _ _ _ (c .before .before .before .before .factor .ensures) (c .enum-told .given .1)
 
-term-loop-holds : (t : ℕ) → term-lts.Need-loop-holds (term-claims t) (term-at t) term.Post term-Inv-loop term-μ-loop
-term-loop-holds t c = turn-first products _ _ (c .before .before .before .before .before .before .before .before .before .before .before .pre .1 .1) (factor-grows (c .before .before .before .before .before .before .before .before .before .before .before .pre .1 .0) _ (c .before .before .before .before .before .before .before .before .before .before .before .pre .1 .1)) (accepted-by (c .before .before .before .before .before .factor .ensures) (c .before .first .given .1))
+term-loop-holds : (t : ℕ) → term-need t term-lts.Need-loop-holds
+term-loop-holds t c =
+    let at-first = c .before in
+    let at-factor = at-first .before .before .before .before in
+    let start = at-factor .before .before .before .before .before .before in
+    turn-first products _ _ (start .pre .1 .1) (factor-grows (start .pre .1 .0) _ (start .pre .1 .1)) (accepted-by (at-factor .factor .ensures) (at-first .first .given .1))
 
-term-same-length-2 : (t : ℕ) → term-lts.Need-same-length-2 (term-claims t) (term-at t) term.Post term-Inv-loop term-μ-loop
+term-same-length-2 : (t : ℕ) → term-need t term-lts.Need-same-length-2
 term-same-length-2 t c = c .before .before .loop .inv .size ∙ c .before .before .before .before .before .before .before .before .factor .kept .1 .1 .1 .1 .1 .1 .0
 
-term-returns-2 : (t : ℕ) → term-lts.Need-returns-2 (term-claims t) (term-at t) term.Post term-Inv-loop term-μ-loop
+term-returns-2 : (t : ℕ) → term-need t term-lts.Need-returns-2
 unfolding term-of
-term-returns-2 t c = turn-done products _ _ (c .before .before .loop .inv) (c .before .product-code .ensures) (accepted-by (c .before .before .before .before .before .before .before .before .factor .ensures) (c .before .before .before .before .first .given .1)) (c .if1 .taken)
+term-returns-2 t c =
+    let at-product-code = c .before in
+    let at-loop = at-product-code .before in
+    let at-first = at-loop .before .before in
+    let at-factor = at-first .before .before .before .before in
+    turn-done products _ _ (at-loop .loop .inv) (at-product-code .product-code .ensures) (accepted-by (at-factor .factor .ensures) (at-first .first .given .1)) (c .if1 .taken)
 
-term-factor-requires-2 : (t : ℕ) → term-lts.Need-factor-requires-2 (term-claims t) (term-at t) term.Post term-Inv-loop term-μ-loop
-term-factor-requires-2 t c κs = (omega (arith, c .before .before .before .before .before .before .before .before .before .before .before .before .before .before .before .pre .0), (c .before .before .before .before .before .before .before .before .before .before .before .before .before .before .before .pre .1 .0, turn-next products _ _ (c .before .before .before .loop .inv)))
+term-factor-requires-2 : (t : ℕ) → term-need t term-lts.Need-factor-requires-2
+term-factor-requires-2 t c κs =
+    let at-loop = c .before .before .before in
+    let start = at-loop .before .before .before .before .before .before .before .before .before .before .before .before in
+    (omega (arith, start .pre .0), (start .pre .1 .0, turn-next products _ _ (at-loop .loop .inv)))
 
-term-same-length-3 : (t : ℕ) → term-lts.Need-same-length-3 (term-claims t) (term-at t) term.Post term-Inv-loop term-μ-loop
-term-same-length-3 t c = c .before .before .before .before .factor2 .kept .1 .1 .1 .1 .1 .1 .0 ∙ c .before .before .before .before .before .before .before .before .loop .inv .size ∙ c .before .before .before .before .before .before .before .before .before .before .before .before .before .before .factor .kept .1 .1 .1 .1 .1 .1 .0
+term-same-length-3 : (t : ℕ) → term-need t term-lts.Need-same-length-3
+term-same-length-3 t c =
+    let at-factor2 = c .before .before .before .before in
+    let at-loop = at-factor2 .before .before .before .before in
+    let at-factor = at-loop .before .before .before .before .before .before in
+    at-factor2 .factor2 .kept .1 .1 .1 .1 .1 .1 .0 ∙ at-loop .loop .inv .size ∙ at-factor .factor .kept .1 .1 .1 .1 .1 .1 .0
 
-term-returns-3 : (t : ℕ) → term-lts.Need-returns-3 (term-claims t) (term-at t) term.Post term-Inv-loop term-μ-loop
+term-returns-3 : (t : ℕ) → term-need t term-lts.Need-returns-3
 unfolding term-of
-term-returns-3 t c = turn-refused products _ _ (c .before .before .before .before .before .before .before .before .loop .inv) (c .before .before .before .before .before .before .before .product-code .ensures) (c .before .before .before .before .before .before .if1 .left) (accepted-by (c .before .before .before .before .before .before .before .before .before .before .before .before .before .before .factor .ensures) (c .before .before .before .before .before .before .before .before .before .before .first .given .1)) (c .before .before .before .before .factor2 .ensures) (c .enum-told2 .given .1)
+term-returns-3 t c =
+    let at-factor2 = c .before .before .before .before in
+    let at-if1 = at-factor2 .before .before in
+    let at-product-code = at-if1 .before in
+    let at-loop = at-product-code .before in
+    let at-first = at-loop .before .before in
+    let at-factor = at-first .before .before .before .before in
+    turn-refused products _ _ (at-loop .loop .inv) (at-product-code .product-code .ensures) (at-if1 .if1 .left) (accepted-by (at-factor .factor .ensures) (at-first .first .given .1)) (at-factor2 .factor2 .ensures) (c .enum-told2 .given .1)
 
-term-put-byte-requires : (t : ℕ) → term-lts.Need-put-byte-requires (term-claims t) (term-at t) term.Post term-Inv-loop term-μ-loop
+term-put-byte-requires : (t : ℕ) → term-need t term-lts.Need-put-byte-requires
 term-put-byte-requires t c κs =
-    let r = turn-room products _ _ (c .before .before .before .before .before .before .before .before .before .before .loop .inv) (c .before .before .before .before .before .before .before .before .before .product-code .ensures) (c .before .before .before .before .before .before .before .before .if1 .left) (factor-grows (c .before .before .before .before .before .before .before .before .before .before .before .before .before .before .before .before .before .before .before .before .before .before .pre .1 .0) _ (turn-next products _ _ (c .before .before .before .before .before .before .before .before .before .before .loop .inv))) (accepted-by (c .before .before .before .before .before .before .factor2 .ensures) (c .before .before .more .given .1)) in
+    let at-more = c .before .before in
+    let at-factor2 = at-more .before .before .before .before in
+    let at-if1 = at-factor2 .before .before in
+    let at-product-code = at-if1 .before in
+    let at-loop = at-product-code .before in
+    let start = at-loop .before .before .before .before .before .before .before .before .before .before .before .before in
+    let r = turn-room products _ _ (at-loop .loop .inv) (at-product-code .product-code .ensures) (at-if1 .if1 .left) (factor-grows (start .pre .1 .0) _ (turn-next products _ _ (at-loop .loop .inv))) (accepted-by (at-factor2 .factor2 .ensures) (at-more .more .given .1)) in
     omega (arith, r .0 .short, r .0 .within, r .0 .room)
 
-term-loop-less : (t : ℕ) → term-lts.Need-loop-less (term-claims t) (term-at t) term.Post term-Inv-loop term-μ-loop
+term-loop-less : (t : ℕ) → term-need t term-lts.Need-loop-less
 term-loop-less t c =
-    let r = turn-room products _ _ (c .before .before .before .before .before .before .before .before .before .before .before .before .before .loop .inv) (c .before .before .before .before .before .before .before .before .before .before .before .before .product-code .ensures) (c .before .before .before .before .before .before .before .before .before .before .before .if1 .left) (factor-grows (c .before .before .before .before .before .before .before .before .before .before .before .before .before .before .before .before .before .before .before .before .before .before .before .before .before .pre .1 .0) _ (turn-next products _ _ (c .before .before .before .before .before .before .before .before .before .before .before .before .before .loop .inv))) (accepted-by (c .before .before .before .before .before .before .before .before .before .factor2 .ensures) (c .before .before .before .before .before .more .given .1)) in
+    let at-more = c .before .before .before .before .before in
+    let at-factor2 = at-more .before .before .before .before in
+    let at-if1 = at-factor2 .before .before in
+    let at-product-code = at-if1 .before in
+    let at-loop = at-product-code .before in
+    let start = at-loop .before .before .before .before .before .before .before .before .before .before .before .before in
+    let r = turn-room products _ _ (at-loop .loop .inv) (at-product-code .product-code .ensures) (at-if1 .if1 .left) (factor-grows (start .pre .1 .0) _ (turn-next products _ _ (at-loop .loop .inv))) (accepted-by (at-factor2 .factor2 .ensures) (at-more .more .given .1)) in
     omega (arith, r .0 .within, r .1)
 
-term-loop-again : (t : ℕ) → term-lts.Need-loop-again (term-claims t) (term-at t) term.Post term-Inv-loop term-μ-loop
+term-loop-again : (t : ℕ) → term-need t term-lts.Need-loop-again
 term-loop-again t c =
-    turn-more products _ _ (c .before .before .before .before .before .before .before .before .before .before .before .before .before .loop .inv) (c .before .before .before .before .before .before .before .before .before .before .before .before .product-code .ensures) (c .before .before .before .before .before .before .before .before .before .before .before .if1 .left) (factor-grows (c .before .before .before .before .before .before .before .before .before .before .before .before .before .before .before .before .before .before .before .before .before .before .before .before .before .pre .1 .0) _ (turn-next products _ _ (c .before .before .before .before .before .before .before .before .before .before .before .before .before .loop .inv))) (accepted-by (c .before .before .before .before .before .before .before .before .before .factor2 .ensures) (c .before .before .before .before .before .more .given .1))
-    (c .before .before .put-byte .ensures .1) (c .before .before .put-byte .ensures .0) (c .before .before .put-byte .kept .0 ∙ c .before .before .before .before .before .before .before .before .before .factor2 .kept .1 .1 .1 .1 .1 .1 .0)
+    let at-put-byte = c .before .before in
+    let at-more = at-put-byte .before .before .before in
+    let at-factor2 = at-more .before .before .before .before in
+    let at-if1 = at-factor2 .before .before in
+    let at-product-code = at-if1 .before in
+    let at-loop = at-product-code .before in
+    let start = at-loop .before .before .before .before .before .before .before .before .before .before .before .before in
+    turn-more products _ _ (at-loop .loop .inv) (at-product-code .product-code .ensures) (at-if1 .if1 .left) (factor-grows (start .pre .1 .0) _ (turn-next products _ _ (at-loop .loop .inv))) (accepted-by (at-factor2 .factor2 .ensures) (at-more .more .given .1))
+    (at-put-byte .put-byte .ensures .1) (at-put-byte .put-byte .ensures .0) (at-put-byte .put-byte .kept .0 ∙ at-factor2 .factor2 .kept .1 .1 .1 .1 .1 .1 .0)
 
 pub +bracket+expression+factor+primary+term-spec : {M : Type 1} → statement M
 +bracket+expression+factor+primary+term-spec =
