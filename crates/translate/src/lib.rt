@@ -5,11 +5,11 @@ use expressions::Names;
 ghost use mathlib.Core.Path.{_≡_};
 ghost use Prim.Native.Nat.{_≤_};
 ghost use lib.ListN.{length};
-ghost use Rattle.limits.specs.Limits.{textLimit, imageLimit};
+ghost use Rattle.limits.specs.Limits.{textLimit};
 ghost use Rattle.grammar.specs.Parse.{program, parse};
 ghost use Rattle.declarations.specs.Post.{Room};
 ghost use Rattle.translate.specs.Services.{translationOf};
-ghost use Rattle.translate.specs.Results.{afterTranslation, TranslatedWithin};
+ghost use Rattle.translate.specs.Results.{afterTranslation};
 ghost use Rattle.translate.specs.Internal.{undeclaredOf, unheadedOf, unruledOf, untranslatedOf, Heads, Descends, Analyses};
 
 const TEXT_LIMIT: usize = 32768;
@@ -121,7 +121,6 @@ pub fn analyse(text: &[u8], starts: &mut [usize], ends: &mut [usize]) -> Analysi
 fn translate_in(text: &[u8], image: &mut [u8], starts: &mut [usize], ends: &mut [usize]) -> Translated
     requires { ⌜ Room (now starts) (now ends) 0 ⌝ }
     ensures { λ r. ⌜ afterTranslation r (now (image .exit)) ≡ translationOf (now (text .entry)) (now (image .entry)) ⌝ }
-    ensures { λ r. ⌜ TranslatedWithin r ⌝ }
 {
     let analysis = analyse(text, starts, ends);
     let Analysis::Accepted(size, _, _) = analysis else {
@@ -136,7 +135,6 @@ fn translate_in(text: &[u8], image: &mut [u8], starts: &mut [usize], ends: &mut 
 
 pub fn translate(text: &[u8], image: &mut [u8]) -> Translated
     ensures { λ r. ⌜ afterTranslation r (now (image .exit)) ≡ translationOf (now (text .entry)) (now (image .entry)) ⌝ }
-    ensures { λ r. ⌜ TranslatedWithin r ⌝ }
 {
     let mut starts = [0usize; 64];
     let mut ends = [0usize; 64];

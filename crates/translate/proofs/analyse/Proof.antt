@@ -1,33 +1,31 @@
+-- `translate::analyse` meets its contract: the limit of texts, then the descent over an empty buffer. Assumes nothing.
+use Prim.Native.Nat.{_≤_}
+use native.Mathlib.Omega.{arith}
 use borrow.Author.Needs.{needs}
+use Rattle.translate.proofs.Service.{analyses-long, analyses-short}
 use Rattle.translate.proofs.analyse.Statement.{statement}
 use Rattle.translate.proofs.analyse.Tie as tie
 use Rattle.translate.proofs.analyse.Reads as reads
 use Rattle.translate.proofs.analyse.Lts as lts
 use Rattle.translate.proofs.descend.Reads as descend-reads
 
--- src/lib.rt:115:9
 returns : tie.Need-returns
-returns c = ?
+returns c = analyses-long _ _ _ (c .if1 .taken)
 
--- src/lib.rt:118:33
 slice-aggregate-descend : tie.Need-slice-aggregate-descend
 slice-aggregate-descend c = search needs
 
--- src/lib.rt:118:5
 descend-requires : tie.Need-descend-requires
 descend-requires c κs = search needs
 
--- src/lib.rt:110:1
 same-length : tie.Need-same-length
 same-length c = search needs
 
--- src/lib.rt:110:1
 same-length-2 : tie.Need-same-length-2
 same-length-2 c = search needs
 
--- src/lib.rt:110:1
 returns-2 : tie.Need-returns-2
-returns-2 c = ?
+returns-2 c = analyses-short _ _ _ _ _ (c .before .before .before .before .before .before .before .before .before .if1 .left) (c .before .before .before .before .before .descend .ensures)
 
 pub analyse-spec : {M : Type 1} → statement M
 analyse-spec =

@@ -18,7 +18,7 @@ returns c = search needs
 
 -- src/lib.rt:36:1
 returns-2 : tie.Need-returns-2
-returns-2 c = ?
+returns-2 c = rw (c .before .d .given .1)
 
 pub undeclared-spec : {M : Type 1} → statement M
 undeclared-spec = tie.close (tie.spec enum-told enum-known-d returns returns-2)

@@ -18,7 +18,7 @@ returns c = search needs
 
 -- src/lib.rt:45:1
 returns-2 : tie.Need-returns-2
-returns-2 c = ?
+returns-2 c = rw (c .before .h .given .1)
 
 pub unheaded-spec : {M : Type 1} → statement M
 unheaded-spec = tie.close (tie.spec enum-told enum-known-h returns returns-2)

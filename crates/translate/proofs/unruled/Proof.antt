@@ -18,7 +18,7 @@ returns c = search needs
 
 -- src/lib.rt:54:1
 returns-2 : tie.Need-returns-2
-returns-2 c = ?
+returns-2 c = rw (c .before .part .given .1)
 
 pub unruled-spec : {M : Type 1} → statement M
 unruled-spec = tie.close (tie.spec enum-told enum-known-part returns returns-2)

@@ -18,7 +18,7 @@ returns c = search needs
 
 -- src/lib.rt:63:1
 returns-2 : tie.Need-returns-2
-returns-2 c = ?
+returns-2 c = rw (c .before .a .given .1)
 
 pub untranslated-spec : {M : Type 1} → statement M
 untranslated-spec = tie.close (tie.spec enum-told enum-known-a returns returns-2)
