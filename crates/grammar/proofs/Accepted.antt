@@ -47,7 +47,7 @@ starts-within : (l : List Range) → RangesFit l → StartsWithin l
 starts-within [] h = tt
 starts-within (r ∷ l) h = (start-within r (h .0), starts-within l (h .1))
 
-each-name : (l : List Name) → NamesFit l → (i : ℕ) (w : List ℕ) → getElem? (map (λ x. x .spelling) l) i ≡ some w → IsName w
+pub each-name : (l : List Name) → NamesFit l → (i : ℕ) (w : List ℕ) → getElem? (map (λ x. x .spelling) l) i ≡ some w → IsName w
 each-name [] h i w e = let z : _≡_ {A = ℕ} 0 1 = cc in absurd (omega arith)
 each-name (x ∷ l) h zero w e = let q : x .spelling ≡ w = cc in subst IsName q (h .0 .is-name)
 each-name (x ∷ l) h (suc i) w e = each-name l (h .1) i w e
