@@ -1,15 +1,16 @@
--- What a parser accepts is spelled by the tokens that it went past. One law a combinator. Assumes nothing.
+-- What a parser accepts is spelled by the tokens that it went past: expressions and conditions. One law a combinator. Assumes nothing.
 use mathlib.Core.Path.{_≡_, refl, ap, sym, _∙_, subst}
 use mathlib.Core.List.{List, [], _∷_, _++_}
 use mathlib.Core.Bool.{Bool, true, false}
 use mathlib.Core.Option.{Option, none, some}
 use Prim.Native.Nat.{ℕ, zero, suc, _+_, _-_, _*_, _≤_, _<_}
 use native.Mathlib.Omega.{arith}
-use lib.ListN.{length, getD}
+use lib.ListN.{length, getD, getElem?}
 use lib.Dec.{ltb}
 use lib.IntN.{ℤ, pos}
 use borrow.Author.Tests.{ltb-false}
-use Rattle.lexer.specs.Bytes.{pick, part}
+use Rattle.limits.specs.Limits.{bracketLimit}
+use Rattle.lexer.specs.Bytes.{bytes, pick, part}
 use Rattle.lexer.specs.Token.{Kind, kindNumber, ending, name, digits, openRound, closeRound, openSquare, closeSquare, tilde, ampersand, bar, minus, is, Read, token, fault}
 use Rattle.lexer.specs.Token as T
 use Rattle.lexer.specs.Lexer.{tokenAt, overLong, valueOf}
@@ -18,41 +19,54 @@ use Rattle.lexer.proofs.Laws.{pick-prop, token-at-moved}
 use Rattle.lexer.proofs.Same.{same-kind}
 use Rattle.arith.specs.Values.{Operation, Comparison}
 use Rattle.semantics.specs.Program.{Expression, constant, current, previous, operation, negate, Condition, comparison, negated, both, either}
-use Rattle.grammar.specs.Parsed.{Parsed, accepted, refused, andThen, onToken, onOption, Wanted, sign, expected, phrase, followed, rest, chain}
+use Rattle.grammar.specs.Parsed.{Parsed, accepted, refused, andThen, onToken, onOption, sign, expected, rest, chain}
 use Rattle.grammar.specs.Expressions.{Scope, withId, currentAt, previousAt, numberLimit, numberAt, primary, negative, factor, productOf, sumOf, term, expression, bracket, wholeExpression}
-use Rattle.grammar.specs.Derivation.{Tok, tok, Stands, Spells, Level, SpellsE, a-number, a-current, a-previous, brackets, closing, plain, opposite, one-factor, product, one-term, sum}
-use Rattle.grammar.specs.Derivation as D
-use Rattle.grammar.specs.Derivation.{SpellsC, not-square, closingC, one-atom, conjoined, one-conjunction, disjoined}
 use Rattle.grammar.specs.Conditions.{comparisonOf, compared, comparisonAt, opposite as opposed, inverted, atom, Connective, andAlso, orElse, connect, andOf, orOf, conjunction, condition, square, wholeCondition, listed}
+use Rattle.grammar.specs.Derivation.{Stands, Spells, SpellsE, a-number, a-current, a-previous, brackets, plain, opposite, one-factor, product, one-term, sum, SpellsC, not-square, one-atom, conjoined, one-conjunction, disjoined}
+use Rattle.grammar.specs.Derivation as D
 use Rattle.grammar.specs.Emitted.{codeE, codeC}
 use Rattle.grammar.proofs.Combine.{token-prop, then-prop, option-prop}
 use Rattle.grammar.proofs.Bytes.{part-length}
-use Rattle.grammar.proofs.Growth.{Grown, Reads, Inside, factor-grown, term-grown, expression-grown, bracket-grown, square-grown, atom-grown, conjunction-grown, not-end}
+use Rattle.grammar.proofs.Growth.{Grown, Reads, Inside, factor-grown, term-grown, expression-grown, bracket-grown, square-grown, atom-grown, conjunction-grown, condition-grown, whole-condition-grown, not-end, products-end, sums-end, comparisons-end, ands-end, ors-end}
 use Rattle.grammar.proofs.Agree.{part-cons, one-sign}
-use Rattle.limits.specs.Limits.{bracketLimit}
+use Rattle.grammar.proofs.Spellings.{Spelling}
+use Rattle.grammar.proofs.Standing.{stands, stands-spelled, spells-append, id-names, product-sign, sum-sign, comparison-sign}
+
+-- an operator is not the end
+pub operator-end : {O : Type 0} (operator : Kind → Option O) → operator ending ≡ none → (k : Kind) (o : O) → operator k ≡ some o → k ≡ ending → ⊥
+operator-end operator h k o e f = let g : operator ending ≡ some o = ap operator (sym f) ∙ e in let z : _≡_ {A = ℕ} 0 1 = cc in omega arith
 
 module _ (text : List ℕ) where
-  pub spells-append : (a b c : ℕ) (ts us : List Tok) → Spells text a b ts → Spells text b c us → Spells text a c (ts ++ us)
-  spells-append a b c [] us h g = subst (λ (x : ℕ). Spells text x c us) (sym h) g
-  spells-append a b c (t ∷ ts) us h g = (h .0, h .1, spells-append (h .0) b c ts us (h .2) g)
-
-  pub record Derived {A : Type 0} (D : List Tok → A → Type 0) (at n : ℕ) (e : A) : Type 0 where
-    pub tokens : List Tok
+  -- tokens that spell e stand from `at` up to n
+  pub record Derived {A : Type 0} (R : List (List ℕ) → A → Type 0) (at n : ℕ) (e : A) : Type 0 where
+    pub tokens : List (List ℕ)
     pub spells : Spells text at n tokens
-    pub derives : D tokens e
+    pub derives : R tokens e
 
-  abbrev pub Derives : {A : Type 0} → (List Tok → A → Type 0) → ℕ → Parsed A → Type 0
-  Derives D at (accepted e n) = Derived D at n e
-  Derives D at (refused k q) = Unit {0}
+  abbrev pub Derives : {A : Type 0} → (List (List ℕ) → A → Type 0) → ℕ → Parsed A → Type 0
+  Derives R at (accepted e n) = Derived R at n e
+  Derives R at (refused k q) = Unit {0}
 
-  stands : (a : ℕ) (k : Kind) (s n : ℕ) → tokenAt text a ≡ token k s n → Stands text a n (tok k (part text s n))
-  stands a k s n e = record { start = s; is-token = e; spelled = refl }
+  -- one token before a part
+  pub before : {A : Type 0} (Q R : List (List ℕ) → A → Type 0) (w : List ℕ) → ((ts : List (List ℕ)) (x : A) → Q ts x → R (w ∷ ts) x) → (at n : ℕ) → Stands text at n w → (p : Parsed A) → Derives Q n p → Derives R at p
+  before Q R w f at n st (accepted x m) d = record { tokens = w ∷ d .tokens; spells = (n, st, d .spells); derives = f (d .tokens) x (d .derives) }
+  before Q R w f at n st (refused k q) d = tt
 
-  -- an operator between two parts
-  joined : (a n s m l : ℕ) (k : Kind) (ts us : List Tok) → Spells text a n ts → tokenAt text n ≡ token k s m → Spells text m l us → Spells text a l (ts ++ (tok k (part text s m) ∷ us))
-  joined a n s m l k ts us h e g = spells-append a n l ts (tok k (part text s m) ∷ us) h (m, stands n k s m e, g)
+  -- ... that makes something of it
+  pub making : {A B : Type 0} (Q : List (List ℕ) → A → Type 0) (R : List (List ℕ) → B → Type 0) (make : A → B) (w : List ℕ) → ((ts : List (List ℕ)) (x : A) → Q ts x → R (w ∷ ts) (make x)) → (at n : ℕ) → Stands text at n w → (p : Parsed A) → Derives Q n p → Derives R at (andThen p (λ x m. accepted (make x) m))
+  making Q R make w f at n st (accepted x m) d = record { tokens = w ∷ d .tokens; spells = (n, st, d .spells); derives = f (d .tokens) x (d .derives) }
+  making Q R make w f at n st (refused k q) d = tt
 
-  module _ {O A : Type 0} (Q R : List Tok → A → Type 0) (join : O → A → A → A) (operator : Kind → Option O) (one : (ts : List Tok) (a : A) → Q ts a → R ts a) (more : (k : Kind) (w : List ℕ) (o : O) (ts us : List Tok) (a b : A) → operator k ≡ some o → R ts a → Q us b → R (ts ++ (tok k w ∷ us)) (join o a b)) (operand : ℕ → Parsed A) (ho : (at : ℕ) → at ≤ length text → Derives Q at (operand at)) (code : A → List ℕ) (hg : Reads text code operand) where
+  -- the same tokens, another form
+  pub weaker : {A : Type 0} (Q R : List (List ℕ) → A → Type 0) → ((ts : List (List ℕ)) (x : A) → Q ts x → R ts x) → (at : ℕ) (p : Parsed A) → Derives Q at p → Derives R at p
+  weaker Q R f at (accepted x m) d = record { tokens = d .tokens; spells = d .spells; derives = f (d .tokens) x (d .derives) }
+  weaker Q R f at (refused k q) d = tt
+
+  -- a part, a token, a part
+  pub joined : (a n m l : ℕ) (w : List ℕ) (ts us : List (List ℕ)) → Spells text a n ts → Stands text n m w → Spells text m l us → Spells text a l (ts ++ w ∷ us)
+  joined a n m l w ts us h st g = spells-append text a n l ts (w ∷ us) h (m, st, g)
+
+  module _ {O A : Type 0} (Q R : List (List ℕ) → A → Type 0) (join : O → A → A → A) (operator : Kind → Option O) (no-end : operator ending ≡ none) (one : (ts : List (List ℕ)) (a : A) → Q ts a → R ts a) (more : (k : Kind) (w : List ℕ) (o : O) (ts us : List (List ℕ)) (a b : A) → operator k ≡ some o → Spelling k w → R ts a → Q us b → R (ts ++ w ∷ us) (join o a b)) (operand : ℕ → Parsed A) (ho : (at : ℕ) → at ≤ length text → Derives Q at (operand at)) (code : A → List ℕ) (hg : Reads text code operand) where
     rest-derives : (f at : ℕ) (a : A) (n : ℕ) → n ≤ length text → Derived R at n a → Derives R at (rest join operator operand text f a n)
     unfolding rest
     rest-derives zero at a n l h = h
@@ -60,13 +74,18 @@ module _ (text : List ℕ) where
         token-prop (Derives R at) (tokenAt text n) _ (λ k q. tt)
         (λ k s m et. option-prop (Derives R at) (operator k) _ _ (λ z. h)
         (λ o eo.
+        let ne = operator-end operator no-end k o eo in
         let mv = token-at-moved text n k s m l et in
         then-prop (Derives R at) (operand m) _ (λ k q. tt)
         (λ b n2 es.
         let d : Derived Q m n2 b = subst (Derives Q m) es (ho m (mv .2)) in
         let g = subst (Grown code (length text) m) es (hg m (mv .2)) in
         rest-derives f at (join o a b) n2 (g .1)
-        (record { tokens = h .tokens ++ (tok k (part text s m) ∷ d .tokens); spells = joined at n s m n2 k (h .tokens) (d .tokens) (h .spells) et (d .spells); derives = more k (part text s m) o (h .tokens) (d .tokens) a b eo (h .derives) (d .derives) }))))
+        (record {
+          tokens = h .tokens ++ part text s m ∷ d .tokens;
+          spells = joined at n m n2 (part text s m) (h .tokens) (d .tokens) (h .spells) (stands text n k s m l ne et) (d .spells);
+          derives = more k (part text s m) o (h .tokens) (d .tokens) a b eo (stands-spelled text n k s m l ne et) (h .derives) (d .derives);
+        }))))
 
     pub chain-derives : (at : ℕ) → at ≤ length text → Derives R at (chain join operator operand text at)
     unfolding chain
@@ -77,198 +96,266 @@ module _ (text : List ℕ) where
         let g = subst (Grown code (length text) at) es (hg at l) in
         rest-derives (suc (length text)) at a n (g .1) (record { tokens = d .tokens; spells = d .spells; derives = one (d .tokens) a (d .derives) }))
 
-  -- one sign after a part
-  sign-derives : {A : Type 0} (Q R : List Tok → A → Type 0) (w : Kind) → ((v : List ℕ) (ts : List Tok) (x : A) → Q ts x → R (ts ++ (tok w v ∷ [])) x) → (at : ℕ) (x : A) (n : ℕ) → Derived Q at n x → Derives R at (andThen (expected text (sign w) n) (λ u m. accepted x m))
+  -- a sign that is read is spelled as its kind says
+  pub sign-stands : (w : Kind) → is ending w ≡ false → (a : ℕ) (k : Kind) (s n : ℕ) → a ≤ length text → tokenAt text a ≡ token k s n → is k w ≡ true → Stands text a n (part text s n) × Spelling w (part text s n)
+  sign-stands w ne a k s n h et e =
+      let q : k ≡ w = same-kind k w e in
+      let no = not-end k w ne e in
+      (stands text a k s n h no et, subst (λ (x : Kind). Spelling x (part text s n)) q (stands-spelled text a k s n h no et))
+
+  -- a sign of one spelling
+  pub sign-is : (w : Kind) (v : List ℕ) → ((x : List ℕ) → Spelling w x → x ≡ v) → is ending w ≡ false → (a : ℕ) (k : Kind) (s n : ℕ) → a ≤ length text → tokenAt text a ≡ token k s n → is k w ≡ true → Stands text a n v
+  sign-is w v f ne a k s n h et e = let r = sign-stands w ne a k s n h et e in subst (Stands text a n) (f (part text s n) (r .1)) (r .0)
+
+  -- a part and one sign after it
+  pub record Closed {A : Type 0} (Q : List (List ℕ) → A → Type 0) (v : List ℕ) (ts : List (List ℕ)) (x : A) : Type 0 where
+    pub inner : List (List ℕ)
+    pub is-closed : ts ≡ inner ++ v ∷ []
+    pub derives : Q inner x
+
+  pub sign-derives : {A : Type 0} (Q : List (List ℕ) → A → Type 0) (w : Kind) (v : List ℕ) → ((x : List ℕ) → Spelling w x → x ≡ v) → is ending w ≡ false → (at : ℕ) (x : A) (n : ℕ) → n ≤ length text → Derived Q at n x → Derives (Closed Q v) at (andThen (expected text (sign w) n) (λ u m. accepted x m))
   unfolding expected
-  sign-derives Q R w f at x n d = go (tokenAt text n) refl
+  sign-derives Q w v f ne at x n h d = go (tokenAt text n) refl
     where
-      go : (r : Read) → tokenAt text n ≡ r → Derives R at (andThen (onToken r (λ k s n. pick (is k w) (accepted (tt {0}) n) (refused 2 s))) (λ u m. accepted x m))
+      go : (r : Read) → tokenAt text n ≡ r → Derives (Closed Q v) at (andThen (onToken r (λ k s n. pick (is k w) (accepted (tt {0}) n) (refused 2 s))) (λ u m. accepted x m))
       go (fault p) e = tt
       go (token k s m) e = close (is k w) refl
         where
-          close : (t : Bool) → is k w ≡ t → Derives R at (andThen (pick t (accepted (tt {0}) m) (refused 2 s)) (λ u m. accepted x m))
-          close true t = record { tokens = d .tokens ++ (tok w (part text s m) ∷ []); spells = joined at n s m m w (d .tokens) [] (d .spells) (e ∙ ap (λ (y : Kind). token y s m) (same-kind k w t)) refl; derives = f (part text s m) (d .tokens) x (d .derives) }
+          close : (t : Bool) → is k w ≡ t → Derives (Closed Q v) at (andThen (pick t (accepted (tt {0}) m) (refused 2 s)) (λ u m. accepted x m))
+          close true t =
+              record {
+                tokens = d .tokens ++ v ∷ [];
+                spells = joined at n m m v (d .tokens) [] (d .spells) (sign-is w v f ne n k s m h e t) refl;
+                derives = record { inner = d .tokens; is-closed = refl; derives = d .derives };
+              }
           close false t = tt
 
 -- ---- expressions
 
 module _ (sc : Scope) (few : length (sc .names) ≤ 64) where
-  id-derives : {A : Type 0} (D : List Tok → A → Type 0) (at p s n : ℕ) (f : ℕ → Parsed A) → s ≤ n → n ≤ length (sc .text) → ((i : ℕ) → idOf (sc .names) (part (sc .text) s n) ≡ some i → length (part (sc .text) s n) ≤ 16 → Derives (sc .text) D at (f i)) → Derives (sc .text) D at (withId sc p s n f)
-  unfolding withId overLong
-  id-derives D at p s n f i l h =
-      pick-prop (Derives (sc .text) D at) (ltb 16 (n - s)) _ _ (λ e. tt)
-      (λ e. option-prop (Derives (sc .text) D at) (idOf (sc .names) (part (sc .text) s n)) _ _ (λ z. tt)
-      (λ v ev. h v ev (omega (arith, part-length (sc .text) s n i l, ltb-false 16 (n - s) e))))
+  -- what follows the `(` of a bracket, with l brackets left before it
+  abbrev ClosedE : ℕ → List (List ℕ) → Expression → Type 0
+  ClosedE zero ts e = ⊥
+  ClosedE (suc l) ts e = Closed (sc .text) (SpellsE (sc .names) D.expression l) (bytes ")") ts e
 
-  module _ (l : ℕ) (inner : ℕ → ℕ → Parsed Expression) (hg : Inside (sc .text) codeE inner) (hi : (s n : ℕ) → n ≤ length (sc .text) → Derives (sc .text) (SpellsE sc D.closed l) n (inner s n)) where
-    primary-derives : (at : ℕ) → at ≤ length (sc .text) → Derives (sc .text) (SpellsE sc D.primary l) at (primary inner sc at)
-    unfolding primary numberAt currentAt previousAt is kindNumber stands
+  bracketed : (l : ℕ) (ts : List (List ℕ)) (e : Expression) → ClosedE l ts e → SpellsE (sc .names) D.primary l (bytes "(" ∷ ts) e
+  bracketed zero ts e c = absurd c
+  bracketed (suc l) ts e c = rw (c .is-closed) (brackets (c .inner) e (c .derives))
+
+  id-derives : {A : Type 0} (R : List (List ℕ) → A → Type 0) (at p s n : ℕ) (f : ℕ → Parsed A) → ((i : ℕ) → getElem? (sc .names) i ≡ some (part (sc .text) s n) → Derives (sc .text) R at (f i)) → Derives (sc .text) R at (withId sc p s n f)
+  unfolding withId
+  id-derives R at p s n f h =
+      pick-prop (Derives (sc .text) R at) (overLong s n) _ _ (λ e. tt)
+      (λ e. option-prop (Derives (sc .text) R at) (idOf (sc .names) (part (sc .text) s n)) _ _ (λ z. tt)
+      (λ v ev. h v (id-names (sc .names) (part (sc .text) s n) v ev)))
+
+  module _ (l : ℕ) (inner : ℕ → ℕ → Parsed Expression) (hg : Inside (sc .text) codeE inner) (hi : (s n : ℕ) → n ≤ length (sc .text) → Derives (sc .text) (ClosedE l) n (inner s n)) where
+    abbrev P : ℕ → Parsed Expression → Type 0
+    P at p = Derives (sc .text) (SpellsE (sc .names) D.primary l) at p
+
+    primary-derives : (at : ℕ) → at ≤ length (sc .text) → P at (primary inner sc at)
+    unfolding primary numberAt currentAt previousAt is kindNumber
     primary-derives at h =
-        token-prop (Derives (sc .text) (SpellsE sc D.primary l) at) (tokenAt (sc .text) at) _ (λ k q. tt)
+        token-prop (P at) (tokenAt (sc .text) at) _ (λ k q. tt)
         (λ k s n et.
-        let mv = token-at-moved (sc .text) at k s n h et in
         let w = part (sc .text) s n in
-        let at-kind : (v : Kind) → is k v ≡ true → Stands (sc .text) at n (tok v w) = λ v e. stands (sc .text) at v s n (et ∙ ap (λ (y : Kind). token y s n) (same-kind k v e)) in
-        pick-prop (Derives (sc .text) (SpellsE sc D.primary l) at) (is k digits) _ _
-        (λ e. pick-prop (Derives (sc .text) (SpellsE sc D.primary l) at) (ltb numberLimit (valueOf w)) _ _ (λ t. tt)
-        (λ t. record { tokens = tok digits w ∷ []; spells = (n, at-kind digits e, refl); derives = a-number w (ltb-false numberLimit (valueOf w) t) }))
-        (λ n1. pick-prop (Derives (sc .text) (SpellsE sc D.primary l) at) (is k name) _ _
-        (λ e. id-derives (SpellsE sc D.primary l) at s s n _ (mv .1) (mv .2)
-        (λ i ei lw. pick-prop (Derives (sc .text) (SpellsE sc D.primary l) at) (getD (sc .known) i false) _ _
-        (λ t. record { tokens = tok name w ∷ []; spells = (n, at-kind name e, refl); derives = a-current w i lw ei t }) (λ t. tt)))
-        (λ n2. pick-prop (Derives (sc .text) (SpellsE sc D.primary l) at) (is k T.previous) _ _
+        pick-prop (P at) (is k digits) _ _
         (λ e.
-        let lt = mv .3 (not-end k T.previous refl e) in
-        id-derives (SpellsE sc D.primary l) at s (s + 1) n _ (omega arith) (mv .2)
-        (λ i ei lw. record {
-          tokens = tok T.previous (getD (sc .text) s 0 ∷ part (sc .text) (s + 1) n) ∷ [];
-          spells = (n, record { start = s; is-token = at-kind T.previous e .is-token; spelled = part-cons (sc .text) s n lt (mv .2) }, refl);
-          derives = a-previous (getD (sc .text) s 0) (part (sc .text) (s + 1) n) i lw ei;
+        let r = sign-stands (sc .text) digits refl at k s n h et e in
+        pick-prop (P at) (ltb numberLimit (valueOf w)) _ _ (λ t. tt)
+        (λ t. record { tokens = w ∷ []; spells = (n, r .0, refl); derives = a-number w (r .1) (ltb-false numberLimit (valueOf w) t) }))
+        (λ n1. pick-prop (P at) (is k name) _ _
+        (λ e.
+        let r = sign-stands (sc .text) name refl at k s n h et e in
+        id-derives (SpellsE (sc .names) D.primary l) at s s n _
+        (λ i ei. pick-prop (P at) (getD (sc .known) i false) _ _
+        (λ t. record { tokens = w ∷ []; spells = (n, r .0, refl); derives = a-current w i ei }) (λ t. tt)))
+        (λ n2. pick-prop (P at) (is k T.previous) _ _
+        (λ e.
+        let r = sign-stands (sc .text) T.previous refl at k s n h et e in
+        let mv = token-at-moved (sc .text) at k s n h et in
+        let c = part-cons (sc .text) s n (mv .3 (not-end k T.previous refl e)) (mv .2) in
+        let b : getD (sc .text) s 0 ≡ 95 = heads _ _ _ _ (sym c ∙ r .1 .is-cons) in
+        let q : w ≡ bytes "_" ++ part (sc .text) (s + 1) n = c ∙ ap (λ (x : ℕ). x ∷ part (sc .text) (s + 1) n) b in
+        id-derives (SpellsE (sc .names) D.primary l) at s (s + 1) n _
+        (λ i ei. record {
+          tokens = (bytes "_" ++ part (sc .text) (s + 1) n) ∷ [];
+          spells = (n, subst (Stands (sc .text) at n) q (r .0), refl);
+          derives = a-previous (part (sc .text) (s + 1) n) i ei;
         }))
-        (λ n3. pick-prop (Derives (sc .text) (SpellsE sc D.primary l) at) (is k openRound) _ _
-        (λ e. open-bracket at s n (at-kind openRound e) (inner s n) (hi s n (mv .2)))
+        (λ n3. pick-prop (P at) (is k openRound) _ _
+        (λ e.
+        let mv = token-at-moved (sc .text) at k s n h et in
+        before (sc .text) (ClosedE l) (SpellsE (sc .names) D.primary l) (bytes "(") (bracketed l) at n (sign-is (sc .text) openRound (bytes "(") (λ x q. q) refl at k s n h et e) (inner s n) (hi s n (mv .2)))
         (λ n4. tt)))))
       where
-        open-bracket : (at s n : ℕ) → Stands (sc .text) at n (tok openRound (part (sc .text) s n)) → (p : Parsed Expression) → Derives (sc .text) (SpellsE sc D.closed l) n p → Derives (sc .text) (SpellsE sc D.primary l) at p
-        open-bracket at s n st (accepted e m) d = record { tokens = tok openRound (part (sc .text) s n) ∷ d .tokens; spells = (n, st, d .spells); derives = brackets (part (sc .text) s n) (d .tokens) e (d .derives) }
-        open-bracket at s n st (refused k q) d = tt
+        heads : (x y : ℕ) (k l : List ℕ) → x ∷ k ≡ y ∷ l → x ≡ y
+        heads x y k l e = cc
 
-    factor-derives : (at : ℕ) → at ≤ length (sc .text) → Derives (sc .text) (SpellsE sc D.factor l) at (factor inner sc at)
-    unfolding factor negative
+    factor-derives : (at : ℕ) → at ≤ length (sc .text) → Derives (sc .text) (SpellsE (sc .names) D.factor l) at (factor inner sc at)
+    unfolding factor negative is kindNumber
     factor-derives at h =
-        token-prop (Derives (sc .text) (SpellsE sc D.factor l) at) (tokenAt (sc .text) at) _ (λ k q. tt)
+        token-prop (Derives (sc .text) (SpellsE (sc .names) D.factor l) at) (tokenAt (sc .text) at) _ (λ k q. tt)
         (λ k s n et.
         let mv = token-at-moved (sc .text) at k s n h et in
-        pick-prop (Derives (sc .text) (SpellsE sc D.factor l) at) (is k minus) _ _
-        (λ e. less at s n (stands (sc .text) at minus s n (et ∙ ap (λ (y : Kind). token y s n) (same-kind k minus e))) (primary inner sc n) (primary-derives n (mv .2)))
-        (λ e. same at (primary inner sc at) (primary-derives at h)))
-      where
-        less : (at s n : ℕ) → Stands (sc .text) at n (tok minus (part (sc .text) s n)) → (p : Parsed Expression) → Derives (sc .text) (SpellsE sc D.primary l) n p → Derives (sc .text) (SpellsE sc D.factor l) at (andThen p (λ e n. accepted (negate e) n))
-        less at s n st (accepted e m) d = record { tokens = tok minus (part (sc .text) s n) ∷ d .tokens; spells = (n, st, d .spells); derives = opposite (part (sc .text) s n) (d .tokens) e (d .derives) }
-        less at s n st (refused k q) d = tt
+        pick-prop (Derives (sc .text) (SpellsE (sc .names) D.factor l) at) (is k minus) _ _
+        (λ e. making (sc .text) (SpellsE (sc .names) D.primary l) (SpellsE (sc .names) D.factor l) (λ x. negate x) (bytes "-") (λ ts x d. opposite ts x d) at n (sign-is (sc .text) minus (bytes "-") (λ x q. q) refl at k s n h et e) (primary inner sc n) (primary-derives n (mv .2)))
+        (λ e. weaker (sc .text) (SpellsE (sc .names) D.primary l) (SpellsE (sc .names) D.factor l) (λ ts x d. plain ts x d) at (primary inner sc at) (primary-derives at h)))
 
-        same : (at : ℕ) (p : Parsed Expression) → Derives (sc .text) (SpellsE sc D.primary l) at p → Derives (sc .text) (SpellsE sc D.factor l) at p
-        same at (accepted e m) d = record { tokens = d .tokens; spells = d .spells; derives = plain (d .tokens) e (d .derives) }
-        same at (refused k q) d = tt
-
-    term-derives : (at : ℕ) → at ≤ length (sc .text) → Derives (sc .text) (SpellsE sc D.term l) at (term inner sc at)
+    term-derives : (at : ℕ) → at ≤ length (sc .text) → Derives (sc .text) (SpellsE (sc .names) D.term l) at (term inner sc at)
     unfolding term
     term-derives at h =
-        chain-derives (sc .text) (SpellsE sc D.factor l) (SpellsE sc D.term l) operation productOf (λ ts a d. one-factor ts a d) (λ k w o ts us a b e d f. product k w o ts us a b e d f)
-        (factor inner sc) factor-derives codeE (factor-grown sc few inner hg) at h
+        chain-derives (sc .text) (SpellsE (sc .names) D.factor l) (SpellsE (sc .names) D.term l) operation productOf products-end (λ ts a d. one-factor ts a d)
+        (λ k w o ts us a b e sp d f. product w o ts us a b (product-sign k w sp o e) d f) (factor inner sc) factor-derives codeE (factor-grown sc few inner hg) at h
 
-    expression-derives : (at : ℕ) → at ≤ length (sc .text) → Derives (sc .text) (SpellsE sc D.expression l) at (expression inner sc at)
+    expression-derives : (at : ℕ) → at ≤ length (sc .text) → Derives (sc .text) (SpellsE (sc .names) D.expression l) at (expression inner sc at)
     unfolding expression
     expression-derives at h =
-        chain-derives (sc .text) (SpellsE sc D.term l) (SpellsE sc D.expression l) operation sumOf (λ ts a d. one-term ts a d) (λ k w o ts us a b e d f. sum k w o ts us a b e d f)
-        (term inner sc) term-derives codeE (term-grown sc few inner hg) at h
+        chain-derives (sc .text) (SpellsE (sc .names) D.term l) (SpellsE (sc .names) D.expression l) operation sumOf sums-end (λ ts a d. one-term ts a d)
+        (λ k w o ts us a b e sp d f. sum w o ts us a b (sum-sign k w sp o e) d f) (term inner sc) term-derives codeE (term-grown sc few inner hg) at h
 
-  bracket-derives : (l s n : ℕ) → n ≤ length (sc .text) → Derives (sc .text) (SpellsE sc D.closed l) n (bracket l sc s n)
-  unfolding bracket
+  bracket-derives : (l s n : ℕ) → n ≤ length (sc .text) → Derives (sc .text) (ClosedE l) n (bracket l sc s n)
+  unfolding bracket is kindNumber
   bracket-derives zero s n h = tt
   bracket-derives (suc l) s n h =
-      then-prop (Derives (sc .text) (SpellsE sc D.closed (suc l)) n) (expression (λ s n. bracket l sc s n) sc n) _ (λ k q. tt)
+      then-prop (Derives (sc .text) (ClosedE (suc l)) n) (expression (λ s n. bracket l sc s n) sc n) _ (λ k q. tt)
       (λ e m es.
-      let d : Derived (sc .text) (SpellsE sc D.expression l) n m e = subst (Derives (sc .text) (SpellsE sc D.expression l) n) es (expression-derives l (λ s n. bracket l sc s n) (bracket-grown sc few l) (bracket-derives l) n h) in
-      rw (one-sign (sc .text) closeRound e m) (sign-derives (sc .text) (SpellsE sc D.expression l) (SpellsE sc D.closed (suc l)) closeRound (λ v ts x g. closing v ts x g) n e m d))
+      let d : Derived (sc .text) (SpellsE (sc .names) D.expression l) n m e = subst (Derives (sc .text) (SpellsE (sc .names) D.expression l) n) es (expression-derives l (λ s n. bracket l sc s n) (bracket-grown sc few l) (bracket-derives l) n h) in
+      let g = subst (Grown codeE (length (sc .text)) n) es (expression-grown sc few (λ s n. bracket l sc s n) (bracket-grown sc few l) n h) in
+      rw (one-sign (sc .text) closeRound e m) (sign-derives (sc .text) (SpellsE (sc .names) D.expression l) closeRound (bytes ")") (λ x q. q) refl n e m (g .1) d))
 
   -- an expression that is accepted is spelled by the tokens from where it starts to where it ends
-  pub whole-expression-derives : (at : ℕ) → at ≤ length (sc .text) → Derives (sc .text) (SpellsE sc D.expression bracketLimit) at (wholeExpression sc at)
+  pub whole-expression-derives : (at : ℕ) → at ≤ length (sc .text) → Derives (sc .text) (SpellsE (sc .names) D.expression bracketLimit) at (wholeExpression sc at)
   unfolding wholeExpression
   whole-expression-derives at h = expression-derives bracketLimit (λ s n. bracket bracketLimit sc s n) (bracket-grown sc few bracketLimit) (bracket-derives bracketLimit) at h
 
   -- ---- conditions
 
-  and-derives : (l : ℕ) (k : Kind) (w : List ℕ) (o : Connective) (ts us : List Tok) (a b : Condition) → andOf k ≡ some o → SpellsC sc D.conjunction l ts a → SpellsC sc D.atom l us b → SpellsC sc D.conjunction l (ts ++ (tok k w ∷ us)) (connect o a b)
+  abbrev ClosedC : ℕ → List (List ℕ) → Condition → Type 0
+  ClosedC zero ts c = ⊥
+  ClosedC (suc l) ts c = Closed (sc .text) (SpellsC (sc .names) D.condition l) (bytes "]") ts c
+
+  squared : (l : ℕ) (ts : List (List ℕ)) (c : Condition) → ClosedC l ts c → SpellsC (sc .names) D.atom l (bytes "[" ∷ ts) c
+  squared zero ts c h = absurd h
+  squared (suc l) ts c h = rw (h .is-closed) (D.SpellsC.square (h .inner) c (h .derives))
+
+  not-squared : (l : ℕ) (ts : List (List ℕ)) (c : Condition) → ClosedC l ts c → SpellsC (sc .names) D.atom l (bytes "~" ∷ bytes "[" ∷ ts) (negated c)
+  not-squared zero ts c h = absurd h
+  not-squared (suc l) ts c h = rw (h .is-closed) (not-square (h .inner) c (h .derives))
+
+  and-derives : (l : ℕ) (k : Kind) (w : List ℕ) (o : Connective) (ts us : List (List ℕ)) (a b : Condition) → andOf k ≡ some o → Spelling k w → SpellsC (sc .names) D.conjunction l ts a → SpellsC (sc .names) D.atom l us b → SpellsC (sc .names) D.conjunction l (ts ++ w ∷ us) (connect o a b)
   unfolding andOf connect
-  and-derives l k w o ts us a b e d f = go (is k ampersand) refl e
+  and-derives l k w o ts us a b e sp d f = go (is k ampersand) refl e
     where
-      go : (t : Bool) → is k ampersand ≡ t → pick t (some andAlso) none ≡ some o → SpellsC sc D.conjunction l (ts ++ (tok k w ∷ us)) (connect o a b)
+      go : (t : Bool) → is k ampersand ≡ t → pick t (some andAlso) none ≡ some o → SpellsC (sc .names) D.conjunction l (ts ++ w ∷ us) (connect o a b)
       go true t q =
           let i : andAlso ≡ o = cc in
-          subst (λ (o : Connective). SpellsC sc D.conjunction l (ts ++ (tok k w ∷ us)) (connect o a b)) i
-          (subst (λ (k : Kind). SpellsC sc D.conjunction l (ts ++ (tok k w ∷ us)) (both a b)) (sym (same-kind k ampersand t)) (conjoined w ts us a b d f))
+          let j : w ≡ bytes "&" = subst (λ (x : Kind). Spelling x w) (same-kind k ampersand t) sp in
+          subst (λ (o : Connective). SpellsC (sc .names) D.conjunction l (ts ++ w ∷ us) (connect o a b)) i (rw j (conjoined ts us a b d f))
       go false t q = let z : _≡_ {A = ℕ} 0 1 = cc in let g : ⊥ = omega arith in absurd g
 
-  or-derives : (l : ℕ) (k : Kind) (w : List ℕ) (o : Connective) (ts us : List Tok) (a b : Condition) → orOf k ≡ some o → SpellsC sc D.condition l ts a → SpellsC sc D.conjunction l us b → SpellsC sc D.condition l (ts ++ (tok k w ∷ us)) (connect o a b)
+  or-derives : (l : ℕ) (k : Kind) (w : List ℕ) (o : Connective) (ts us : List (List ℕ)) (a b : Condition) → orOf k ≡ some o → Spelling k w → SpellsC (sc .names) D.condition l ts a → SpellsC (sc .names) D.conjunction l us b → SpellsC (sc .names) D.condition l (ts ++ w ∷ us) (connect o a b)
   unfolding orOf connect
-  or-derives l k w o ts us a b e d f = go (is k bar) refl e
+  or-derives l k w o ts us a b e sp d f = go (is k bar) refl e
     where
-      go : (t : Bool) → is k bar ≡ t → pick t (some orElse) none ≡ some o → SpellsC sc D.condition l (ts ++ (tok k w ∷ us)) (connect o a b)
+      go : (t : Bool) → is k bar ≡ t → pick t (some orElse) none ≡ some o → SpellsC (sc .names) D.condition l (ts ++ w ∷ us) (connect o a b)
       go true t q =
           let i : orElse ≡ o = cc in
-          subst (λ (o : Connective). SpellsC sc D.condition l (ts ++ (tok k w ∷ us)) (connect o a b)) i
-          (subst (λ (k : Kind). SpellsC sc D.condition l (ts ++ (tok k w ∷ us)) (either a b)) (sym (same-kind k bar t)) (disjoined w ts us a b d f))
+          let j : w ≡ bytes "|" = subst (λ (x : Kind). Spelling x w) (same-kind k bar t) sp in
+          subst (λ (o : Connective). SpellsC (sc .names) D.condition l (ts ++ w ∷ us) (connect o a b)) i (rw j (disjoined ts us a b d f))
       go false t q = let z : _≡_ {A = ℕ} 0 1 = cc in let g : ⊥ = omega arith in absurd g
 
-  module _ (l : ℕ) (inner : ℕ → ℕ → Parsed Expression) (hg : Inside (sc .text) codeE inner) (hi : (s n : ℕ) → n ≤ length (sc .text) → Derives (sc .text) (SpellsE sc D.closed l) n (inner s n)) (inside : ℕ → ℕ → Parsed Condition) (hc : Inside (sc .text) codeC inside) (hd : (s n : ℕ) → n ≤ length (sc .text) → Derives (sc .text) (SpellsC sc D.closedC l) n (inside s n)) where
-    compared-derives : (at : ℕ) (a : Expression) (n : ℕ) → n ≤ length (sc .text) → Derived (sc .text) (SpellsE sc D.expression l) at n a → Derives (sc .text) (SpellsC sc D.atom l) at (compared inner sc a n)
+  module _ (l : ℕ) (inner : ℕ → ℕ → Parsed Expression) (hg : Inside (sc .text) codeE inner) (hi : (s n : ℕ) → n ≤ length (sc .text) → Derives (sc .text) (ClosedE l) n (inner s n)) (inside : ℕ → ℕ → Parsed Condition) (hc : Inside (sc .text) codeC inside) (hd : (s n : ℕ) → n ≤ length (sc .text) → Derives (sc .text) (ClosedC l) n (inside s n)) where
+    abbrev A : ℕ → Parsed Condition → Type 0
+    A at p = Derives (sc .text) (SpellsC (sc .names) D.atom l) at p
+
+    compared-derives : (at : ℕ) (a : Expression) (n : ℕ) → n ≤ length (sc .text) → Derived (sc .text) (SpellsE (sc .names) D.expression l) at n a → A at (compared inner sc a n)
     unfolding compared
     compared-derives at a n h d =
-        token-prop (Derives (sc .text) (SpellsC sc D.atom l) at) (tokenAt (sc .text) n) _ (λ k q. tt)
-        (λ k s m et. option-prop (Derives (sc .text) (SpellsC sc D.atom l) at) (comparisonOf k) _ _ (λ z. tt)
+        token-prop (A at) (tokenAt (sc .text) n) _ (λ k q. tt)
+        (λ k s m et. option-prop (A at) (comparisonOf k) _ _ (λ z. tt)
         (λ o eo.
+        let ne = operator-end comparisonOf comparisons-end k o eo in
         let mv = token-at-moved (sc .text) n k s m h et in
-        then-prop (Derives (sc .text) (SpellsC sc D.atom l) at) (expression inner sc m) _ (λ k q. tt)
+        then-prop (A at) (expression inner sc m) _ (λ k q. tt)
         (λ b n2 es.
-        let f : Derived (sc .text) (SpellsE sc D.expression l) m n2 b = subst (Derives (sc .text) (SpellsE sc D.expression l) m) es (expression-derives l inner hg hi m (mv .2)) in
-        record { tokens = d .tokens ++ (tok k (part (sc .text) s m) ∷ f .tokens); spells = joined (sc .text) at n s m n2 k (d .tokens) (f .tokens) (d .spells) et (f .spells); derives = D.SpellsC.compared k (part (sc .text) s m) o (d .tokens) (f .tokens) a b eo (d .derives) (f .derives) })))
+        let f : Derived (sc .text) (SpellsE (sc .names) D.expression l) m n2 b = subst (Derives (sc .text) (SpellsE (sc .names) D.expression l) m) es (expression-derives l inner hg hi m (mv .2)) in
+        let w = part (sc .text) s m in
+        record {
+          tokens = d .tokens ++ w ∷ f .tokens;
+          spells = joined (sc .text) at n m n2 w (d .tokens) (f .tokens) (d .spells) (stands (sc .text) n k s m h ne et) (f .spells);
+          derives = D.SpellsC.compared w o (d .tokens) (f .tokens) a b (comparison-sign k w (stands-spelled (sc .text) n k s m h ne et) o eo) (d .derives) (f .derives);
+        })))
 
-    comparison-derives : (at : ℕ) → at ≤ length (sc .text) → Derives (sc .text) (SpellsC sc D.atom l) at (comparisonAt inner sc at)
+    comparison-derives : (at : ℕ) → at ≤ length (sc .text) → A at (comparisonAt inner sc at)
     unfolding comparisonAt
     comparison-derives at h =
-        then-prop (Derives (sc .text) (SpellsC sc D.atom l) at) (expression inner sc at) _ (λ k q. tt)
+        then-prop (A at) (expression inner sc at) _ (λ k q. tt)
         (λ a n es.
         let g = subst (Grown codeE (length (sc .text)) at) es (expression-grown sc few inner hg at h) in
-        compared-derives at a n (g .1) (subst (Derives (sc .text) (SpellsE sc D.expression l) at) es (expression-derives l inner hg hi at h)))
+        compared-derives at a n (g .1) (subst (Derives (sc .text) (SpellsE (sc .names) D.expression l) at) es (expression-derives l inner hg hi at h)))
 
-    atom-derives : (at : ℕ) → at ≤ length (sc .text) → Derives (sc .text) (SpellsC sc D.atom l) at (atom inner inside sc at)
-    unfolding atom inverted opposed
+    inverted-derives : (at n : ℕ) → n ≤ length (sc .text) → Stands (sc .text) at n (bytes "~") → A at (inverted inside sc n)
+    unfolding inverted opposed is kindNumber
+    inverted-derives at n h st =
+        token-prop (A at) (tokenAt (sc .text) n) _ (λ k q. tt)
+        (λ k s m et.
+        let mv = token-at-moved (sc .text) n k s m h et in
+        pick-prop (A at) (is k openSquare) _ _
+        (λ e. inverse at n m st (sign-is (sc .text) openSquare (bytes "[") (λ x q. q) refl n k s m h et e) (inside s m) (hd s m (mv .2)))
+        (λ e. tt))
+      where
+        inverse : (at n m : ℕ) → Stands (sc .text) at n (bytes "~") → Stands (sc .text) n m (bytes "[") → (p : Parsed Condition) → Derives (sc .text) (ClosedC l) m p → A at (andThen p (λ c n. accepted (negated c) n))
+        inverse at n m st su (accepted c i) d = record { tokens = bytes "~" ∷ bytes "[" ∷ d .tokens; spells = (n, st, (m, su, d .spells)); derives = not-squared l (d .tokens) c (d .derives) }
+        inverse at n m st su (refused k q) d = tt
+
+    atom-derives : (at : ℕ) → at ≤ length (sc .text) → A at (atom inner inside sc at)
+    unfolding atom is kindNumber
     atom-derives at h =
-        token-prop (Derives (sc .text) (SpellsC sc D.atom l) at) (tokenAt (sc .text) at) _ (λ k q. tt)
+        token-prop (A at) (tokenAt (sc .text) at) _ (λ k q. tt)
         (λ k s n et.
         let mv = token-at-moved (sc .text) at k s n h et in
-        pick-prop (Derives (sc .text) (SpellsC sc D.atom l) at) (is k tilde) _ _
-        (λ e. token-prop (Derives (sc .text) (SpellsC sc D.atom l) at) (tokenAt (sc .text) n) _ (λ k q. tt)
-        (λ k2 s2 n2 et2.
-        let mw = token-at-moved (sc .text) n k2 s2 n2 (mv .2) et2 in
-        pick-prop (Derives (sc .text) (SpellsC sc D.atom l) at) (is k2 openSquare) _ _
-        (λ e2. inverse at s n s2 n2 (stands (sc .text) at tilde s n (et ∙ ap (λ (y : Kind). token y s n) (same-kind k tilde e))) (stands (sc .text) n openSquare s2 n2 (et2 ∙ ap (λ (y : Kind). token y s2 n2) (same-kind k2 openSquare e2))) (inside s2 n2) (hd s2 n2 (mw .2)))
-        (λ e2. tt)))
-        (λ e. pick-prop (Derives (sc .text) (SpellsC sc D.atom l) at) (is k openSquare) _ _
-        (λ e2. in-square at s n (stands (sc .text) at openSquare s n (et ∙ ap (λ (y : Kind). token y s n) (same-kind k openSquare e2))) (inside s n) (hd s n (mv .2)))
+        pick-prop (A at) (is k tilde) _ _
+        (λ e. inverted-derives at n (mv .2) (sign-is (sc .text) tilde (bytes "~") (λ x q. q) refl at k s n h et e))
+        (λ e. pick-prop (A at) (is k openSquare) _ _
+        (λ e2. before (sc .text) (ClosedC l) (SpellsC (sc .names) D.atom l) (bytes "[") (squared l) at n (sign-is (sc .text) openSquare (bytes "[") (λ x q. q) refl at k s n h et e2) (inside s n) (hd s n (mv .2)))
         (λ e2. comparison-derives at h)))
-      where
-        in-square : (at s n : ℕ) → Stands (sc .text) at n (tok openSquare (part (sc .text) s n)) → (p : Parsed Condition) → Derives (sc .text) (SpellsC sc D.closedC l) n p → Derives (sc .text) (SpellsC sc D.atom l) at p
-        in-square at s n st (accepted c m) d = record { tokens = tok openSquare (part (sc .text) s n) ∷ d .tokens; spells = (n, st, d .spells); derives = D.SpellsC.square (part (sc .text) s n) (d .tokens) c (d .derives) }
-        in-square at s n st (refused k q) d = tt
 
-        inverse : (at s n s2 n2 : ℕ) → Stands (sc .text) at n (tok tilde (part (sc .text) s n)) → Stands (sc .text) n n2 (tok openSquare (part (sc .text) s2 n2)) → (p : Parsed Condition) → Derives (sc .text) (SpellsC sc D.closedC l) n2 p → Derives (sc .text) (SpellsC sc D.atom l) at (andThen p (λ c n. accepted (negated c) n))
-        inverse at s n s2 n2 st st2 (accepted c m) d = record { tokens = tok tilde (part (sc .text) s n) ∷ tok openSquare (part (sc .text) s2 n2) ∷ d .tokens; spells = (n, st, (n2, st2, d .spells)); derives = not-square (part (sc .text) s n) (part (sc .text) s2 n2) (d .tokens) c (d .derives) }
-        inverse at s n s2 n2 st st2 (refused k q) d = tt
-
-    conjunction-derives : (at : ℕ) → at ≤ length (sc .text) → Derives (sc .text) (SpellsC sc D.conjunction l) at (conjunction inner inside sc at)
+    conjunction-derives : (at : ℕ) → at ≤ length (sc .text) → Derives (sc .text) (SpellsC (sc .names) D.conjunction l) at (conjunction inner inside sc at)
     unfolding conjunction
     conjunction-derives at h =
-        chain-derives (sc .text) (SpellsC sc D.atom l) (SpellsC sc D.conjunction l) connect andOf (λ ts a d. one-atom ts a d) (and-derives l)
+        chain-derives (sc .text) (SpellsC (sc .names) D.atom l) (SpellsC (sc .names) D.conjunction l) connect andOf ands-end (λ ts a d. one-atom ts a d) (and-derives l)
         (atom inner inside sc) atom-derives codeC (atom-grown sc few inner hg inside hc) at h
 
-    condition-derives : (at : ℕ) → at ≤ length (sc .text) → Derives (sc .text) (SpellsC sc D.condition l) at (condition inner inside sc at)
+    condition-derives : (at : ℕ) → at ≤ length (sc .text) → Derives (sc .text) (SpellsC (sc .names) D.condition l) at (condition inner inside sc at)
     unfolding condition
     condition-derives at h =
-        chain-derives (sc .text) (SpellsC sc D.conjunction l) (SpellsC sc D.condition l) connect orOf (λ ts a d. one-conjunction ts a d) (or-derives l)
+        chain-derives (sc .text) (SpellsC (sc .names) D.conjunction l) (SpellsC (sc .names) D.condition l) connect orOf ors-end (λ ts a d. one-conjunction ts a d) (or-derives l)
         (conjunction inner inside sc) conjunction-derives codeC (conjunction-grown sc few inner hg inside hc) at h
 
-  square-derives : (l s n : ℕ) → n ≤ length (sc .text) → Derives (sc .text) (SpellsC sc D.closedC l) n (square l sc s n)
-  unfolding square
+  square-derives : (l s n : ℕ) → n ≤ length (sc .text) → Derives (sc .text) (ClosedC l) n (square l sc s n)
+  unfolding square is kindNumber
   square-derives zero s n h = tt
   square-derives (suc l) s n h =
-      then-prop (Derives (sc .text) (SpellsC sc D.closedC (suc l)) n) (condition (λ s n. bracket l sc s n) (λ s n. square l sc s n) sc n) _ (λ k q. tt)
-      (λ e m es.
-      let d : Derived (sc .text) (SpellsC sc D.condition l) n m e = subst (Derives (sc .text) (SpellsC sc D.condition l) n) es (condition-derives l (λ s n. bracket l sc s n) (bracket-grown sc few l) (bracket-derives l) (λ s n. square l sc s n) (square-grown sc few l) (square-derives l) n h) in
-      rw (one-sign (sc .text) closeSquare e m) (sign-derives (sc .text) (SpellsC sc D.condition l) (SpellsC sc D.closedC (suc l)) closeSquare (λ v ts x g. closingC v ts x g) n e m d))
+      let inner : ℕ → ℕ → Parsed Expression = λ s n. bracket l sc s n in
+      let inside : ℕ → ℕ → Parsed Condition = λ s n. square l sc s n in
+      then-prop (Derives (sc .text) (ClosedC (suc l)) n) (condition inner inside sc n) _ (λ k q. tt)
+      (λ c m es.
+      let d : Derived (sc .text) (SpellsC (sc .names) D.condition l) n m c = subst (Derives (sc .text) (SpellsC (sc .names) D.condition l) n) es (condition-derives l inner (bracket-grown sc few l) (bracket-derives l) inside (square-grown sc few l) (square-derives l) n h) in
+      let g = subst (Grown codeC (length (sc .text)) n) es (condition-grown sc few inner (bracket-grown sc few l) inside (square-grown sc few l) n h) in
+      rw (one-sign (sc .text) closeSquare c m) (sign-derives (sc .text) (SpellsC (sc .names) D.condition l) closeSquare (bytes "]") (λ x q. q) refl n c m (g .1) d))
 
-  pub whole-condition-derives : (at : ℕ) → at ≤ length (sc .text) → Derives (sc .text) (SpellsC sc D.condition bracketLimit) at (wholeCondition sc at)
+  pub whole-condition-derives : (at : ℕ) → at ≤ length (sc .text) → Derives (sc .text) (SpellsC (sc .names) D.condition bracketLimit) at (wholeCondition sc at)
   unfolding wholeCondition
   whole-condition-derives at h =
       condition-derives bracketLimit (λ s n. bracket bracketLimit sc s n) (bracket-grown sc few bracketLimit) (bracket-derives bracketLimit) (λ s n. square bracketLimit sc s n) (square-grown sc few bracketLimit) (square-derives bracketLimit) at h
+
+  -- `[c]` of a rule form, after its bracket
+  pub listed-derives : (at : ℕ) → at ≤ length (sc .text) → Derives (sc .text) (Closed (sc .text) (SpellsC (sc .names) D.condition bracketLimit) (bytes "]")) at (listed sc at)
+  unfolding listed is kindNumber
+  listed-derives at h =
+      then-prop (Derives (sc .text) (Closed (sc .text) (SpellsC (sc .names) D.condition bracketLimit) (bytes "]")) at) (wholeCondition sc at) _ (λ k q. tt)
+      (λ c m es.
+      let d = subst (Derives (sc .text) (SpellsC (sc .names) D.condition bracketLimit) at) es (whole-condition-derives at h) in
+      let g = subst (Grown codeC (length (sc .text)) at) es (whole-condition-grown sc few at h) in
+      rw (one-sign (sc .text) closeSquare c m) (sign-derives (sc .text) (SpellsC (sc .names) D.condition bracketLimit) closeSquare (bytes "]") (λ x q. q) refl at c m (g .1) d))

@@ -13,15 +13,15 @@ use Rattle.lexer.specs.Lexer.{tokenAt, sameToken}
 use Rattle.lexer.proofs.Laws.{pick-prop, token-at-moved}
 use Rattle.lexer.proofs.Same.{same-kind}
 use Rattle.semantics.specs.Program.{Expression, Condition, Case, Rule, function, change}
-use Rattle.grammar.specs.Parsed.{Parsed, accepted, refused, andThen, onToken, sign, own, phrase, followed}
+use Rattle.grammar.specs.Parsed.{Parsed, accepted, refused, andThen, onToken, sign, own, expected, phrase, followed}
 use Rattle.grammar.specs.Expressions.{Scope, wholeExpression}
 use Rattle.grammar.specs.Conditions.{listed}
 use Rattle.grammar.specs.Rules.{Span, Spanned, caseAt, casesFrom, listFrom, plainList, Compared, agrees, differs, onCompared, onFound, partFrom, kindAt, partsFrom, settled, agreeingList, casesOf, functionAt, changeAt}
 use Rattle.grammar.specs.Emitted.{codeE, codeC}
-use Rattle.grammar.specs.WellFormed.{conditionsOf}
+use Rattle.grammar.proofs.Shape.{conditionsOf}
 use Rattle.grammar.proofs.Combine.{token-prop, then-prop, option-prop}
 use Rattle.grammar.proofs.Growth.{Grown, Kept, phrase-kept, listed-grown, whole-expression-grown, not-end}
-use Rattle.grammar.proofs.Agree.{Alike, Twin, twin, listed-same, never, Found, found}
+use Rattle.grammar.proofs.Agree.{Alike, Twin, twin, listed-same, one-sign, never, Found, found}
 use Rattle.limits.specs.Limits.{caseLimit}
 
 module _ (sc : Scope) where
@@ -59,14 +59,18 @@ module _ (sc : Scope) where
       same-case : (x y : Spanned) (i j : ℕ) → accepted x i ≡ accepted y j → x ≡ y
       same-case x y i j q = cc
 
-record Both (x : Compared) (f : ℕ → Compared) (n : ℕ) : Type 0 where
-  place : ℕ
-  first : x ≡ agrees place
-  second : f place ≡ agrees n
+pub record Both (x : Compared) (f : ℕ → Compared) (n : ℕ) : Type 0 where
+  pub place : ℕ
+  pub first : x ≡ agrees place
+  pub second : f place ≡ agrees n
 
-compared-inv : (x : Compared) (f : ℕ → Compared) (n : ℕ) → onCompared x f ≡ agrees n → Both x f n
+pub compared-inv : (x : Compared) (f : ℕ → Compared) (n : ℕ) → onCompared x f ≡ agrees n → Both x f n
 compared-inv (agrees m) f n e = record { place = m; first = refl; second = e }
 compared-inv (differs p) f n e = let z : _≡_ {A = ℕ} 0 1 = cc in let g : ⊥ = omega arith in absurd g
+
+closes-here : {A : Type 0} (text : List ℕ) (x : A) (n s e : ℕ) → tokenAt text n ≡ token closeRound s e → andThen (expected text (sign closeRound) n) (λ u m. accepted x m) ≡ accepted x e
+unfolding expected is kindNumber
+closes-here text x n s e et = rw et
 
 record Settled (r : Parsed (List Condition)) (d : Compared) (ds : List Condition) (m : ℕ) : Type 0 where
   place : ℕ
@@ -160,7 +164,13 @@ module _ (sc : Scope) (few : length (sc .names) ≤ 64) where
   zero-refuses {A} at m done ds =
       token-prop (λ (p : Parsed (List Condition)). p ≡ accepted ds m → A) (tokenAt (sc .text) at) _ (λ k q e. never k q m ds e) (λ k s n et e. never 8 s m ds e)
 
-  lists-same : (c : Spanned) (cs : List Spanned) → SpanOf sc c → Spans sc cs → (left at n m : ℕ) (done ds : List Condition) → at ≤ length (sc .text) → partsFrom (sc .text) (c ∷ cs) at ≡ agrees n → listFrom left sc done at ≡ accepted ds m → ds ≡ done ++ conditionsOf (casesOf (c ∷ cs))
+  -- the second list reads as the first's conditions, up to its closing bracket, which ends at n
+  pub record Repeated (cs : List Spanned) (n m : ℕ) (done ds : List Condition) : Type 0 where
+    pub same : ds ≡ done ++ conditionsOf (casesOf cs)
+    pub start : ℕ
+    pub closes : tokenAt (sc .text) m ≡ token closeRound start n
+
+  lists-same : (c : Spanned) (cs : List Spanned) → SpanOf sc c → Spans sc cs → (left at n m : ℕ) (done ds : List Condition) → at ≤ length (sc .text) → partsFrom (sc .text) (c ∷ cs) at ≡ agrees n → listFrom left sc done at ≡ accepted ds m → Repeated (c ∷ cs) n m done ds
   unfolding partsFrom
   lists-same c cs x xs zero at n m done ds h e f = zero-refuses at m done ds f
   lists-same c [] x xs (suc left) at n m done ds h e f =
@@ -168,10 +178,17 @@ module _ (sc : Scope) (few : length (sc .names) ≤ 64) where
       let a = part-agreed c x at (i .place) h (i .first) in
       let k = kind-inv closeRound (i .place) n (i .second) in
       let et : tokenAt (sc .text) (i .place) ≡ token closeRound (k .start) (k .end) = k .is-token ∙ ap (λ (q : Kind). token q (k .start) (k .end)) (same-kind (k .kind) closeRound (k .passes)) in
-      same-list _ _ (i .place) m (sym (list-last c left at (i .place) (k .start) (k .end) done a et) ∙ f)
+      let r = sym (list-last c left at (i .place) (k .start) (k .end) done a et) ∙ f in
+      record { same = same-list _ _ (i .place) m r; start = k .start; closes = subst (λ (y : ℕ). tokenAt (sc .text) y ≡ token closeRound (k .start) n) (same-end _ _ (i .place) m r) (et ∙ ap (λ (y : ℕ). token closeRound (k .start) y) (same-place (k .end) n (k .more))) }
     where
       same-list : (x y : List Condition) (i j : ℕ) → accepted x i ≡ accepted y j → y ≡ x
       same-list x y i j q = cc
+
+      same-end : (x y : List Condition) (i j : ℕ) → accepted x i ≡ accepted y j → i ≡ j
+      same-end x y i j q = cc
+
+      same-place : (x y : ℕ) → agrees x ≡ agrees y → x ≡ y
+      same-place x y q = cc
   lists-same c (d ∷ cs) x xs (suc left) at n m done ds h e f =
       let i = compared-inv (partFrom (length (sc .text)) (sc .text) (c .span .from) (c .span .to) at) _ n e in
       let j = compared-inv (kindAt (sc .text) bar (i .place)) (λ m. partsFrom (sc .text) (d ∷ cs) m) n (i .second) in
@@ -183,7 +200,7 @@ module _ (sc : Scope) (few : length (sc .names) ≤ 64) where
       let r = lists-same d cs (xs .0) (xs .1) left (k .end) n m (done ++ (c .case .condition ∷ [])) ds (mv .2)
       (subst (λ (y : ℕ). partsFrom (sc .text) (d ∷ cs) y ≡ agrees n) q (j .second))
       (sym (list-on c left at (i .place) (k .start) (k .end) done a et) ∙ f) in
-      r ∙ append-assoc done (c .case .condition ∷ []) (conditionsOf (casesOf (d ∷ cs)))
+      record { same = r .same ∙ append-assoc done (c .case .condition ∷ []) (conditionsOf (casesOf (d ∷ cs))); start = r .start; closes = r .closes }
     where
       same-place : (x y : ℕ) → agrees x ≡ agrees y → y ≡ x
       same-place x y q = cc
@@ -198,14 +215,26 @@ module _ (sc : Scope) (few : length (sc .names) ≤ 64) where
       (λ t2. pick-prop (λ (x : Parsed (List Condition)). x ≡ accepted ds m → Settled (refused k q) (differs p) ds m) (leb k 5) _ _ (λ t3 f. never k q m ds f) (λ t3 f. never 7 p m ds f))
       (λ t2 f. never 7 p m ds f)) e
 
-  -- a no-change list that is accepted lists the conditions of the cases
-  pub agreeing-same : (c : Spanned) (cs : List Spanned) → Spans sc (c ∷ cs) → (at m : ℕ) (ds : List Condition) → at ≤ length (sc .text) → agreeingList sc (c ∷ cs) at ≡ accepted ds m → ds ≡ conditionsOf (casesOf (c ∷ cs))
-  unfolding agreeingList plainList followed
+  -- a no-change list that is accepted agrees with the cases up to where it ends, and lists their conditions
+  pub record Agreeing (cs : List Spanned) (at m : ℕ) (ds : List Condition) : Type 0 where
+    pub same : ds ≡ conditionsOf (casesOf cs)
+    pub agreed : partsFrom (sc .text) cs at ≡ agrees m
+
+  pub agreeing-same : (c : Spanned) (cs : List Spanned) → Spans sc (c ∷ cs) → (at m : ℕ) (ds : List Condition) → at ≤ length (sc .text) → agreeingList sc (c ∷ cs) at ≡ accepted ds m → Agreeing (c ∷ cs) at m ds
+  unfolding agreeingList plainList
   agreeing-same c cs xs at m ds h e =
       let i = settled-inv (plainList sc at) (partsFrom (sc .text) (c ∷ cs) at) ds m e in
-      then-prop (λ (p : Parsed (List Condition)). p ≡ accepted ds m → ds ≡ conditionsOf (casesOf (c ∷ cs))) (listFrom caseLimit sc [] at) _ (λ k q f. never k q m ds f)
-      (λ ds2 n e2. then-prop (λ (p : Parsed (List Condition)). p ≡ accepted ds m → ds ≡ conditionsOf (casesOf (c ∷ cs))) (phrase (sc .text) _ n) _ (λ k q f. never k q m ds f)
-      (λ u n2 e3 f. same-list ds2 ds n2 m f ∙ lists-same c cs (xs .0) (xs .1) caseLimit at (i .place) n [] ds2 h (i .agrees-at) e2)) (i .plain)
+      then-prop (λ (p : Parsed (List Condition)). p ≡ accepted ds m → Agreeing (c ∷ cs) at m ds) (listFrom caseLimit sc [] at) _ (λ k q f. never k q m ds f)
+      (λ ds2 n e2 f.
+      let r = lists-same c cs (xs .0) (xs .1) caseLimit at (i .place) n [] ds2 h (i .agrees-at) e2 in
+      let q : accepted ds2 (i .place) ≡ accepted ds m = sym (closed ds2 n (r .start) (i .place) (r .closes)) ∙ f in
+      record { same = same-list ds2 ds (i .place) m q ∙ r .same; agreed = i .agrees-at ∙ ap agrees (same-end ds2 ds (i .place) m q) }) (i .plain)
     where
+      closed : (x : List Condition) (n s e : ℕ) → tokenAt (sc .text) n ≡ token closeRound s e → followed (sc .text) (sign closeRound ∷ []) x n ≡ accepted x e
+      closed x n s e et = one-sign (sc .text) closeRound x n ∙ closes-here (sc .text) x n s e et
+
       same-list : (x y : List Condition) (i j : ℕ) → accepted x i ≡ accepted y j → y ≡ x
       same-list x y i j q = cc
+
+      same-end : (x y : List Condition) (i j : ℕ) → accepted x i ≡ accepted y j → i ≡ j
+      same-end x y i j q = cc

@@ -333,11 +333,11 @@ unfolding program declarations image header codeR
 program-small text =
     then-prop (Small (length text)) (declarations inputWord text [] 0) _ (λ k q. tt)
     (λ inputs n1 e1.
-    let g1 = subst (Ends (length text) (Names text 0)) e1 (declarations-fit text 65 inputWord [] 0 0 (omega arith) (tt, omega arith, omega arith)) in
+    let g1 = subst (Ends (length text) (Names text 0)) e1 (declarations-fit text 65 inputWord [] 0 0 (omega arith) (tt, omega arith, omega arith, tt)) in
     let p1 = subst (Pays (λ (l : List Name). length (header l)) (length text) 0) e1 (declarations-pay text 65 inputWord [] 0 (omega arith) (omega arith)) in
     then-prop (Small (length text)) (declarations varWord text inputs n1) _ (λ k q. tt)
     (λ names n2 e2.
-    let g2 = subst (Ends (length text) (Names text (length inputs))) e2 (declarations-fit text 65 varWord inputs n1 (length inputs) (g1 .1) (g1 .0 .0, g1 .0 .1, le-refl (length inputs))) in
+    let g2 = subst (Ends (length text) (Names text (length inputs))) e2 (declarations-fit text 65 varWord inputs n1 (length inputs) (g1 .1) (g1 .0 .0, g1 .0 .1, le-refl (length inputs), g1 .0 .3)) in
     let p2 = subst (Pays (λ (l : List Name). length (header l)) (length text) 0) e2 (declarations-pay text 65 varWord inputs n1 (g1 .1) (omega (arith, p1 .0))) in
     let sc : Scope = record { text = text; names = spellings names; known = knownFirst (length inputs) (length names) } in
     then-prop (Small (length text)) (rulesFrom 65 sc [] n2) _ (λ k q. tt)
@@ -350,6 +350,3 @@ program-small text =
 pub parse-small : (text : List ℕ) → Small (length text) (parse text)
 unfolding parse
 parse-small text = pick-prop (Small (length text)) (ltb textLimit (length text)) _ _ (λ e. tt) (λ e. program-small text)
-
-image-in : (text : List ℕ) (p : Program) (n : ℕ) → parse text ≡ accepted p n → length text ≤ 32768 → length (image p) ≤ 65536
-image-in text p n e h = let s : 2 * length (image p) ≤ 3 * length text + 4 = subst (Small (length text)) e (parse-small text) in omega arith

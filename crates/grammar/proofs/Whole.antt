@@ -1,4 +1,4 @@
--- The program of an accepted text is well formed. Assumes nothing.
+-- The program of an accepted text is as Shape says. Assumes nothing.
 use mathlib.Core.Path.{_≡_, refl, ap, sym, _∙_, subst}
 use mathlib.Core.List.{List, [], _∷_, _++_, append-assoc, append-nil}
 use mathlib.Core.Bool.{Bool, true, false, _&&_}
@@ -6,18 +6,18 @@ use mathlib.Core.Option.{Option, none, some}
 use Prim.Native.Nat.{ℕ, zero, suc, _+_, _-_, _*_, _≤_, _<_}
 use native.Mathlib.Nat.{le-refl}
 use native.Mathlib.Omega.{arith}
-use lib.ListN.{length, getD, set, length-append, length-set}
-use lib.Dec.{ltb, leb, eqb}
+use lib.ListN.{length, getD, set, length-append, length-set, length-map}
+use lib.Dec.{T, ltb, leb, eqb}
 use lib.IntN.{ℤ, pos, negℤ}
 use lib.Signed.{leZ}
 use borrow.Author.Tests.{lt-ltb, ltb-true, ltb-false}
 use Rattle.lexer.specs.Bytes.{pick, part}
-use Rattle.lexer.specs.Token.{Kind, name, digits, ending, openSquare, tilde, bar, minus, initWord, semicolon, dots, inputWord, varWord, is, Read, token, fault}
+use Rattle.lexer.specs.Token.{Kind, kindNumber, name, digits, ending, openSquare, tilde, bar, minus, initWord, semicolon, dots, inputWord, varWord, is, Read, token, fault}
 use Rattle.lexer.specs.Lexer.{tokenAt, overLong, valueOf}
 use Rattle.lexer.specs.Names.{idOf}
 use Rattle.lexer.proofs.Laws.{pick-prop, token-at-moved}
 use Rattle.semantics.specs.Program.{Name, Expression, Condition, Case, Rule, function, change, Program, target, allTrue, knownFirst, UsableE, UsableC}
-use Rattle.arith.proofs.Basics.{true-T}
+use Rattle.arith.proofs.Basics.{true-T, and-T}
 use Rattle.semantics.proofs.Reference.{length-known}
 use Rattle.grammar.specs.Parsed.{Parsed, accepted, refused, andThen, onToken, onOption, Wanted, sign, own, phrase, followed}
 use Rattle.grammar.specs.Expressions.{Scope, withId, wholeExpression}
@@ -26,14 +26,18 @@ use Rattle.grammar.specs.Declarations.{inRange, signedAt, boundAt, spell
 use Rattle.grammar.specs.Rules.{Span, Spanned, caseAt, casesFrom, listFrom, plainList, Compared, agrees, differs, partsFrom, settled, agreeingList, casesOf, functionAt, changeAt, formulas, ruleAt, ruled, rulesFrom}
 use Rattle.grammar.specs.Parse.{program, parse}
 use Rattle.grammar.specs.Emitted.{codeE, codeC}
-use Rattle.grammar.specs.WellFormed.{CaseFits, CasesFit, conditionsOf, RuleFits, OrderedRules, NameFits, NamesFit, WellFormed}
+use Rattle.grammar.specs.Derivation.{IsName}
+use Rattle.grammar.specs.Spelled.{Apart, Distinct}
+use Rattle.grammar.proofs.Shape.{CaseFits, CasesFit, conditionsOf, RuleFits, RulesFit, NameFits, NamesFit, Fitting}
 use Rattle.grammar.proofs.Combine.{token-prop, then-prop, option-prop}
 use Rattle.grammar.proofs.Bytes.{part-length, id-of}
 use Rattle.grammar.proofs.Growth.{Grown, Kept, phrase-kept, whole-expression-grown, listed-grown}
 use Rattle.grammar.proofs.Agree.{never}
 use Rattle.grammar.proofs.Lists.{Spans, cases-spans, agreeing-same}
+use Rattle.grammar.proofs.Distinct.{new-apart, distinct-snoc}
+use Rattle.grammar.proofs.Derived.{sign-stands}
 use Rattle.grammar.proofs.Fits.{Holds, followed-holds, FitE, FitC, whole-expression-fits, listed-fits}
-use Rattle.bytecode.specs.Translation.{depthE, depthC}
+use Rattle.bytecode.specs.Translation.{depthE, depthC, RangeFits}
 use Rattle.limits.specs.Limits.{nameLimit, caseLimit, textLimit}
 use Rattle.arith.specs.Values.{isInt32}
 
@@ -167,7 +171,7 @@ module _ (sc : Scope) (few : length (sc .names) ≤ 64) (lengths : length (sc .n
     where
       agreed : (cases : List Spanned) (n m : ℕ) (ds : List Condition) → 1 ≤ length cases → Spans sc cases → n ≤ length (sc .text) → agreeingList sc cases n ≡ accepted ds m → ds ≡ conditionsOf (casesOf cases)
       agreed [] n m ds i xs l e = absurd (omega arith)
-      agreed (c ∷ cs) n m ds i xs l e = agreeing-same sc few c cs xs n m ds l e
+      agreed (c ∷ cs) n m ds i xs l e = agreeing-same sc few c cs xs n m ds l e .same
 
   formulas-fit : (w : List ℕ) (v at : ℕ) → at ≤ length (sc .text) → Ends (length (sc .text)) (Ruled v) (formulas sc w v at)
   unfolding formulas
@@ -199,7 +203,7 @@ module _ (sc : Scope) (few : length (sc .names) ≤ 64) (lengths : length (sc .n
 record Continued (known : List Bool) (done rs : List Rule) : Type 0 where
   more : List Rule
   is-more : rs ≡ done ++ more
-  ordered : OrderedRules known more
+  ordered : RulesFit known more
 
 rules-fit : (f : ℕ) (sc : Scope) → length (sc .names) ≤ 64 → length (sc .names) ≡ length (sc .known) → (done : List Rule) (at : ℕ) → at ≤ length (sc .text) → Holds (Continued (sc .known) done) (rulesFrom f sc done at)
 unfolding rulesFrom
@@ -251,25 +255,28 @@ module _ (text : List ℕ) where
       (λ k2 s2 n2 et2. let mw = token-at-moved text n k2 s2 n2 (mv .2) et2 in signed-fits test negℤ k2 s2 n2 (mw .2)))
       (λ e. signed-fits test (λ z. z) k s n (mv .2)))
 
-  start-fits : (low high : ℤ) (at : ℕ) → at ≤ length text → Ends (length text) (λ z. inRange low high z ≡ true) (startAt text low high at)
+  start-fits : (low high : ℤ) (at : ℕ) → at ≤ length text → Ends (length text) (Bound (inRange low high)) (startAt text low high at)
   unfolding startAt
   start-fits low high at h =
-      token-prop (Ends (length text) (λ (z : ℤ). inRange low high z ≡ true)) (tokenAt text at) _ (λ k q. tt)
+      token-prop (Ends (length text) (Bound (inRange low high))) (tokenAt text at) _ (λ k q. tt)
       (λ k s n et.
       let mv = token-at-moved text at k s n h et in
-      pick-prop (Ends (length text) (λ (z : ℤ). inRange low high z ≡ true)) (is k initWord) _ _
-      (λ e. then-prop (Ends (length text) (λ (z : ℤ). inRange low high z ≡ true)) (boundAt (inRange low high) text n) _ (λ k q. tt)
+      pick-prop (Ends (length text) (Bound (inRange low high))) (is k initWord) _ _
+      (λ e. then-prop (Ends (length text) (Bound (inRange low high))) (boundAt (inRange low high) text n) _ (λ k q. tt)
       (λ z m es. let g = subst (Ends (length text) (Bound (inRange low high))) es (bound-fits (inRange low high) n (mv .2)) in
-      followed-ends (λ (z : ℤ). inRange low high z ≡ true) text _ z m (g .1) (g .0 .1)))
-      (λ e. pick-prop (Ends (length text) (λ (z : ℤ). inRange low high z ≡ true)) (is k semicolon) _ _
-      (λ e. pick-prop (Ends (length text) (λ (z : ℤ). inRange low high z ≡ true)) (inRange low high (pos 0)) _ _ (λ t. (t, mv .2)) (λ t. tt))
+      followed-ends (Bound (inRange low high)) text _ z m (g .1) (g .0)))
+      (λ e. pick-prop (Ends (length text) (Bound (inRange low high))) (is k semicolon) _ _
+      (λ e. pick-prop (Ends (length text) (Bound (inRange low high))) (inRange low high (pos 0)) _ _ (λ t. ((refl, t), mv .2)) (λ t. tt))
       (λ e. tt)))
 
-  abbrev Fresh : List Name → List ℕ → Type 0
-  Fresh names w = (length w ≤ 16) × (length names < 64)
+  -- a new name, and room for it
+  pub record Fresh (names : List Name) (w : List ℕ) : Type 0 where
+    pub is-name : IsName w
+    pub apart : Apart w (spellings names)
+    pub room : length names < 64
 
   name-fits : (names : List Name) (at : ℕ) → at ≤ length text → Ends (length text) (Fresh names) (newName text names at)
-  unfolding newName overLong
+  unfolding newName overLong is kindNumber
   name-fits names at h =
       token-prop (Ends (length text) (Fresh names)) (tokenAt text at) _ (λ k q. tt)
       (λ k s n et.
@@ -279,14 +286,38 @@ module _ (text : List ℕ) where
       (λ e. option-prop (Ends (length text) (Fresh names)) (idOf (spellings names) (part text s n)) _ _
       (λ z. pick-prop (Ends (length text) (Fresh names)) (ltb 16 (n - s)) _ _ (λ t. tt)
       (λ t. pick-prop (Ends (length text) (Fresh names)) (ltb (length names) nameLimit) _ _
-      (λ t2. ((omega (arith, ltb-false 16 (n - s) t), ltb-true (length names) 64 t2), mv .2)) (λ t2. tt)))
+      (λ t2.
+      let r = sign-stands text name refl at k s n h et e in (
+        record {
+          is-name = record { is-word = r .1 .0; short = omega (arith, ltb-false 16 (n - s) t); no-word = r .1 .1 };
+          apart = new-apart (spellings names) (part text s n) z;
+          room = ltb-true (length names) 64 t2;
+        },
+        mv .2,
+      ))
+      (λ t2. tt)))
       (λ i ei. tt))
       (λ e. tt))
 
-  abbrev Declared : List Name → Name → Type 0
-  Declared names x = NameFits x × (length names < 64)
+  pub record Declared (names : List Name) (x : Name) : Type 0 where
+    pub fits : NameFits x
+    pub apart : Apart (x .spelling) (spellings names)
+    pub room : length names < 64
 
-  declaration-fits : (names : List Name) (at : ℕ) → at ≤ length text → Ends (length text) (Declared names) (declaration text names at)
+  -- bounds and start in limit, in order
+  range-fits : (low high start : ℤ) → Bound (λ z. true) low → Bound (leZ low) high → Bound (inRange low high) start → RangeFits (record { low = low; high = high; start = start })
+  unfolding inRange
+  range-fits low high start l h s =
+      let b = both-hold (leZ low start) (leZ start high) (s .1) in (
+        true-T (isInt32 low) (l .0),
+        both-T (isInt32 high) (leZ low high) (h .0) (h .1),
+        and-T (isInt32 start && leZ low start) (leZ start high) (both-T (isInt32 start) (leZ low start) (s .0) (b .0)) (true-T (leZ start high) (b .1)),
+      )
+    where
+      both-T : (x y : Bool) → x ≡ true → y ≡ true → T (x && y)
+      both-T x y e f = and-T x y (true-T x e) (true-T y f)
+
+  pub declaration-fits : (names : List Name) (at : ℕ) → at ≤ length text → Ends (length text) (Declared names) (declaration text names at)
   unfolding declaration
   declaration-fits names at h =
       then-prop (Ends (length text) (Declared names)) (newName text names at) _ (λ k q. tt)
@@ -303,15 +334,25 @@ module _ (text : List ℕ) where
       let g4 = subst (Ends (length text) (Bound (leZ low))) e4 (bound-fits (leZ low) n3 (g3 .1)) in
       then-prop (Ends (length text) (Declared names)) (startAt text low high n4) _ (λ k q. tt)
       (λ start n5 e5.
-      let g5 = subst (Ends (length text) (λ (z : ℤ). inRange low high z ≡ true)) e5 (start-fits low high n4 (g4 .1)) in
-      ((record { low-fits = true-T _ (g2 .0 .0); high-fits = true-T _ (g4 .0 .0); starts = g5 .0; short = g1 .0 .0 }, g1 .0 .1), g5 .1))))))
+      let g5 = subst (Ends (length text) (Bound (inRange low high))) e5 (start-fits low high n4 (g4 .1)) in (
+        record {
+          fits = record { is-name = g1 .0 .is-name; range-fits = range-fits low high start (g2 .0) (g4 .0) (g5 .0) };
+          apart = g1 .0 .apart;
+          room = g1 .0 .room;
+        },
+        g5 .1,
+      ))))))
 
   names-append : (names : List Name) (x : Name) → NamesFit names → NameFits x → NamesFit (names ++ (x ∷ []))
   names-append [] x h g = (g, tt)
   names-append (y ∷ names) x h g = (h .0, names-append names x (h .1) g)
 
+  spellings-append : (names : List Name) (x : Name) → spellings (names ++ (x ∷ [])) ≡ spellings names ++ (x .spelling ∷ [])
+  spellings-append [] x = refl
+  spellings-append (y ∷ names) x = ap (λ (l : List (List ℕ)). y .spelling ∷ l) (spellings-append names x)
+
   abbrev pub Names : ℕ → List Name → Type 0
-  Names count l = NamesFit l × (length l ≤ 64) × (count ≤ length l)
+  Names count l = NamesFit l × (length l ≤ 64) × (count ≤ length l) × Distinct (spellings l)
 
   pub declarations-fit : (f : ℕ) (word : Kind) (names : List Name) (at count : ℕ) → at ≤ length text → Names count names → Ends (length text) (Names count) (declarationsFrom f word text names at)
   unfolding declarationsFrom
@@ -325,32 +366,31 @@ module _ (text : List ℕ) where
       (λ x m es.
       let d = subst (Ends (length text) (Declared names)) es (declaration-fits names n (mv .2)) in
       let l : length (names ++ (x ∷ [])) ≡ length names + 1 = length-append names (x ∷ []) in
-      declarations-fit f word (names ++ (x ∷ [])) m count (d .1) (names-append names x (g .0) (d .0 .0), omega (arith, d .0 .1), omega (arith, g .2))))
+      declarations-fit f word (names ++ (x ∷ [])) m count (d .1) (names-append names x (g .0) (d .0 .fits), omega (arith, d .0 .room), omega (arith, g .2), rw (spellings-append names x) (distinct-snoc (spellings names) (x .spelling) (g .3) (d .0 .apart)))))
       (λ e. (g, h)))
 
 -- ---- the whole text
 
 pub spellings-length : (names : List Name) → length (spellings names) ≡ length names
-spellings-length [] = refl
-spellings-length (x ∷ l) = ap suc (spellings-length l)
+spellings-length names = length-map names (λ x. x .spelling)
 
-pub program-fits : (text : List ℕ) → Holds WellFormed (program text)
+pub program-fits : (text : List ℕ) → Holds Fitting (program text)
 unfolding program declarations
 program-fits text =
-    then-prop (Holds WellFormed) (declarations inputWord text [] 0) _ (λ k q. tt)
+    then-prop (Holds Fitting) (declarations inputWord text [] 0) _ (λ k q. tt)
     (λ inputs n1 e1.
-    let g1 = subst (Ends (length text) (Names text 0)) e1 (declarations-fit text 65 inputWord [] 0 0 (omega arith) (tt, omega arith, omega arith)) in
-    then-prop (Holds WellFormed) (declarations varWord text inputs n1) _ (λ k q. tt)
+    let g1 = subst (Ends (length text) (Names text 0)) e1 (declarations-fit text 65 inputWord [] 0 0 (omega arith) (tt, omega arith, omega arith, tt)) in
+    then-prop (Holds Fitting) (declarations varWord text inputs n1) _ (λ k q. tt)
     (λ names n2 e2.
-    let g2 = subst (Ends (length text) (Names text (length inputs))) e2 (declarations-fit text 65 varWord inputs n1 (length inputs) (g1 .1) (g1 .0 .0, g1 .0 .1, le-refl (length inputs))) in
+    let g2 = subst (Ends (length text) (Names text (length inputs))) e2 (declarations-fit text 65 varWord inputs n1 (length inputs) (g1 .1) (g1 .0 .0, g1 .0 .1, le-refl (length inputs), g1 .0 .3)) in
     let sc : Scope = record { text = text; names = spellings names; known = knownFirst (length inputs) (length names) } in
-    then-prop (Holds WellFormed) (rulesFrom 65 sc [] n2) _ (λ k q. tt)
+    then-prop (Holds Fitting) (rulesFrom 65 sc [] n2) _ (λ k q. tt)
     (λ rules n3 e3.
     let c = subst (Holds (Continued (knownFirst (length inputs) (length names)) [])) e3
     (rules-fit 65 sc (omega (arith, spellings-length names, g2 .0 .1)) (spellings-length names ∙ sym (length-known (length inputs) (length names))) [] n2 (g2 .1)) in
-    record { few = g2 .0 .1; inputs-fit = g2 .0 .2; names-fit = g2 .0 .0; ordered = subst (OrderedRules (knownFirst (length inputs) (length names))) (sym (c .is-more)) (c .ordered) })))
+    record { few = g2 .0 .1; inputs-fit = g2 .0 .2; names-fit = g2 .0 .0; distinct = g2 .0 .3; ordered = subst (RulesFit (knownFirst (length inputs) (length names))) (sym (c .is-more)) (c .ordered) })))
 
--- the program of an accepted text is well formed
-pub parse-fits : (text : List ℕ) → Holds WellFormed (parse text)
+-- the program of an accepted text is as Shape says
+pub parse-fits : (text : List ℕ) → Holds Fitting (parse text)
 unfolding parse
-parse-fits text = pick-prop (Holds WellFormed) (ltb textLimit (length text)) _ _ (λ e. tt) (λ e. program-fits text)
+parse-fits text = pick-prop (Holds Fitting) (ltb textLimit (length text)) _ _ (λ e. tt) (λ e. program-fits text)

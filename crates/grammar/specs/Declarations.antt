@@ -38,9 +38,9 @@ boundAt test text at =
 
 -- ---- a declaration, after its word
 
+-- the names by their spellings, in the order of their ids
 abbrev pub spellings : List Name → List (List ℕ)
-spellings [] = []
-spellings (x ∷ l) = x .spelling ∷ spellings l
+spellings names = map (λ x. x .spelling) names
 
 -- a new name's part of the text: 4 if it is declared already, 8 if it is over-long or the 65th
 unfoldable pub newName : List ℕ → List Name → ℕ → Parsed (List ℕ)

@@ -1,68 +1,124 @@
 -- Which token lists spell an expression or a condition, apart from any way of reading them. Document 01, "The text". Assumes nothing.
-use Prim.Native.Nat.{ℕ, zero, suc, _≤_}
+use Prim.Native.Nat.{ℕ, zero, suc, _≤_, _<_}
 use mathlib.Core.Path.{_≡_}
-use mathlib.Core.Bool.{Bool, true, false}
+use mathlib.Core.Bool.{Bool, true}
 use mathlib.Core.List.{List, [], _∷_, _++_}
-use mathlib.Core.Option.{Option, none, some}
-use lib.ListN.{length, getD}
-use lib.IntN.{ℤ, pos}
-use Rattle.lexer.specs.Bytes.{part}
-use Rattle.lexer.specs.Token.{Kind, name, digits, openRound, closeRound, openSquare, closeSquare, tilde, minus, token}
-use Rattle.lexer.specs.Token as T
-use Rattle.lexer.specs.Lexer.{tokenAt, valueOf}
-use Rattle.lexer.specs.Names.{idOf}
-use Rattle.arith.specs.Values.{Operation, Comparison}
+use mathlib.Core.Option.{some}
+use lib.ListN.{length, getElem?}
+use lib.IntN.{pos}
+use Rattle.limits.specs.Limits.{spellingLimit}
+use Rattle.arith.specs.Values.{Operation, add, subtract, multiply, divide, modulo, Comparison, equal, notEqual, less, lessEqual, greater, greaterEqual}
 use Rattle.semantics.specs.Program.{Expression, constant, current, previous, operation, negate, Condition, comparison, negated, both, either}
-use Rattle.grammar.specs.Expressions.{Scope, numberLimit, productOf, sumOf}
-use Rattle.grammar.specs.Conditions.{comparisonOf}
+use Rattle.lexer.specs.Bytes.{bytes, part}
+use Rattle.lexer.specs.Token.{Kind, name, ending, token}
+use Rattle.lexer.specs.Lexer.{isDigit, isLetter, isAlphanumeric, wordOf, tokenAt, valueOf}
 
--- a token apart from its place
-pub record Tok : Type 0 where
+-- ---- tokens
+
+-- a token is the part of the text that spells it
+abbrev pub Tokens : Type 0
+Tokens = List (List ℕ)
+
+-- Tokens are read by longest match. The token w is the first from a on, and ends at n.
+pub record Stands (text : List ℕ) (a n : ℕ) (w : List ℕ) : Type 0 where
   pub kind : Kind
-  pub spelling : List ℕ
-
--- the token t stands at a and ends at n
-pub record Stands (text : List ℕ) (a n : ℕ) (t : Tok) : Type 0 where
   pub start : ℕ
-  pub is-token : tokenAt text a ≡ token (t .kind) start n
-  pub spelled : part text start n ≡ t .spelling
+  pub is-token : tokenAt text a ≡ token kind start n
+  pub some-bytes : start < n
+  pub spelled : part text start n ≡ w
 
 -- from a up to b stand just the tokens listed
-abbrev pub Spells : List ℕ → ℕ → ℕ → List Tok → Type 0
+abbrev pub Spells : List ℕ → ℕ → ℕ → Tokens → Type 0
 Spells text a b [] = a ≡ b
-Spells text a b (t ∷ ts) = (n : ℕ) × Stands text a n t × Spells text n b ts
+Spells text a b (w ∷ ws) = (n : ℕ) × Stands text a n w × Spells text n b ws
 
-abbrev pub tok : Kind → List ℕ → Tok
-tok k w = record { kind = k; spelling = w }
+-- the tokens of the whole text
+pub record TokensOf (text : List ℕ) (ws : Tokens) : Type 0 where
+  pub end : ℕ
+  pub spells : Spells text 0 end ws
+  pub ends : tokenAt text end ≡ token ending (length text) (length text)
 
--- e is `+ -` over `* / mod` over factors, a factor at most one `-` and then a primary; `closed` is what follows the `(` of a bracket
+abbrev pub All : (ℕ → Bool) → List ℕ → Type 0
+All test [] = Unit {0}
+All test (b ∷ l) = (test b ≡ true) × All test l
+
+-- a letter, then letters or digits
+abbrev pub IsWord : List ℕ → Type 0
+IsWord [] = ⊥
+IsWord (b ∷ l) = (isLetter b ≡ true) × All isAlphanumeric l
+
+-- A name is a letter, then letters or digits (ASCII), 1 to 16 bytes. Words of the grammar are no names.
+pub record IsName (w : List ℕ) : Type 0 where
+  pub is-word : IsWord w
+  pub short : length w ≤ spellingLimit
+  pub no-word : wordOf w ≡ name
+
+-- a run of digits
+abbrev pub IsDigits : List ℕ → Type 0
+IsDigits [] = ⊥
+IsDigits (b ∷ l) = (isDigit b ≡ true) × All isDigit l
+
+-- ---- expressions
+
+-- `+ -`
+pub data SumSign : List ℕ → Operation → Type 0 where
+  plus : SumSign (bytes "+") add
+  minus : SumSign (bytes "-") subtract
+
+-- `* / mod`
+pub data ProductSign : List ℕ → Operation → Type 0 where
+  times : ProductSign (bytes "*") multiply
+  over : ProductSign (bytes "/") divide
+  modulus : ProductSign (bytes "mod") modulo
+
+-- An expression is `+ -` over `* / mod` over factors, left to right; a factor is at most one `-`, then a primary.
 pub data Level : Type 0 where
-  primary closed factor term expression : Level
+  primary factor term expression : Level
 
--- with so many brackets left to open
-pub data SpellsE (sc : Scope) : Level → ℕ → List Tok → Expression → Type 0 where
-  a-number : {l : ℕ} (w : List ℕ) → valueOf w ≤ numberLimit → SpellsE sc primary l (tok digits w ∷ []) (constant (pos (valueOf w)))
-  a-current : {l : ℕ} (w : List ℕ) (i : ℕ) → length w ≤ 16 → idOf (sc .names) w ≡ some i → getD (sc .known) i false ≡ true → SpellsE sc primary l (tok name w ∷ []) (current i)
-  a-previous : {l : ℕ} (b : ℕ) (w : List ℕ) (i : ℕ) → length w ≤ 16 → idOf (sc .names) w ≡ some i → SpellsE sc primary l (tok T.previous (b ∷ w) ∷ []) (previous i)
-  brackets : {l : ℕ} (w : List ℕ) (ts : List Tok) (e : Expression) → SpellsE sc closed l ts e → SpellsE sc primary l (tok openRound w ∷ ts) e
-  closing : {l : ℕ} (w : List ℕ) (ts : List Tok) (e : Expression) → SpellsE sc expression l ts e → SpellsE sc closed (suc l) (ts ++ (tok closeRound w ∷ [])) e
-  plain : {l : ℕ} (ts : List Tok) (e : Expression) → SpellsE sc primary l ts e → SpellsE sc factor l ts e
-  opposite : {l : ℕ} (w : List ℕ) (ts : List Tok) (e : Expression) → SpellsE sc primary l ts e → SpellsE sc factor l (tok minus w ∷ ts) (negate e)
-  one-factor : {l : ℕ} (ts : List Tok) (e : Expression) → SpellsE sc factor l ts e → SpellsE sc term l ts e
-  product : {l : ℕ} (k : Kind) (w : List ℕ) (o : Operation) (ts us : List Tok) (a b : Expression) → productOf k ≡ some o → SpellsE sc term l ts a → SpellsE sc factor l us b → SpellsE sc term l (ts ++ (tok k w ∷ us)) (operation o a b)
-  one-term : {l : ℕ} (ts : List Tok) (e : Expression) → SpellsE sc term l ts e → SpellsE sc expression l ts e
-  sum : {l : ℕ} (k : Kind) (w : List ℕ) (o : Operation) (ts us : List Tok) (a b : Expression) → sumOf k ≡ some o → SpellsE sc expression l ts a → SpellsE sc term l us b → SpellsE sc expression l (ts ++ (tok k w ∷ us)) (operation o a b)
+-- Of the names declared, in the order of their ids: the tokens listed spell e, with at most l brackets open at the same time.
+pub data SpellsE (names : List (List ℕ)) : Level → ℕ → Tokens → Expression → Type 0 where
+  -- a number up to 2,147,483,647
+  a-number : {l : ℕ} (w : List ℕ) → IsDigits w → valueOf w ≤ 2147483647 → SpellsE names primary l (w ∷ []) (constant (pos (valueOf w)))
+  -- a name
+  a-current : {l : ℕ} (w : List ℕ) (i : ℕ) → getElem? names i ≡ some w → SpellsE names primary l (w ∷ []) (current i)
+  -- `_`name
+  a-previous : {l : ℕ} (w : List ℕ) (i : ℕ) → getElem? names i ≡ some w → SpellsE names primary l ((bytes "_" ++ w) ∷ []) (previous i)
+  -- `(e)`
+  brackets : {l : ℕ} (ts : Tokens) (e : Expression) → SpellsE names expression l ts e → SpellsE names primary (suc l) (bytes "(" ∷ ts ++ bytes ")" ∷ []) e
+  -- at most one `-`
+  plain : {l : ℕ} (ts : Tokens) (e : Expression) → SpellsE names primary l ts e → SpellsE names factor l ts e
+  opposite : {l : ℕ} (ts : Tokens) (e : Expression) → SpellsE names primary l ts e → SpellsE names factor l (bytes "-" ∷ ts) (negate e)
+  -- `* / mod` over factors, left to right
+  one-factor : {l : ℕ} (ts : Tokens) (e : Expression) → SpellsE names factor l ts e → SpellsE names term l ts e
+  product : {l : ℕ} (w : List ℕ) (o : Operation) (ts us : Tokens) (a b : Expression) → ProductSign w o → SpellsE names term l ts a → SpellsE names factor l us b → SpellsE names term l (ts ++ w ∷ us) (operation o a b)
+  -- `+ -` over these, left to right
+  one-term : {l : ℕ} (ts : Tokens) (e : Expression) → SpellsE names term l ts e → SpellsE names expression l ts e
+  sum : {l : ℕ} (w : List ℕ) (o : Operation) (ts us : Tokens) (a b : Expression) → SumSign w o → SpellsE names expression l ts a → SpellsE names term l us b → SpellsE names expression l (ts ++ w ∷ us) (operation o a b)
 
--- c is `|` over `&` over atoms; `closed` is what follows the `[` of a bracket
+-- ---- conditions
+
+-- `=` `<>` `<` `<=` `>` `>=`
+pub data ComparisonSign : List ℕ → Comparison → Type 0 where
+  equals : ComparisonSign (bytes "=") equal
+  differs : ComparisonSign (bytes "<>") notEqual
+  below : ComparisonSign (bytes "<") less
+  at-most : ComparisonSign (bytes "<=") lessEqual
+  above : ComparisonSign (bytes ">") greater
+  at-least : ComparisonSign (bytes ">=") greaterEqual
+
+-- A condition is `|` over `&` over atoms.
 pub data LevelC : Type 0 where
-  atom closedC conjunction condition : LevelC
+  atom conjunction condition : LevelC
 
-pub data SpellsC (sc : Scope) : LevelC → ℕ → List Tok → Condition → Type 0 where
-  compared : {l : ℕ} (k : Kind) (w : List ℕ) (o : Comparison) (ts us : List Tok) (a b : Expression) → comparisonOf k ≡ some o → SpellsE sc expression l ts a → SpellsE sc expression l us b → SpellsC sc atom l (ts ++ (tok k w ∷ us)) (comparison o a b)
-  square : {l : ℕ} (w : List ℕ) (ts : List Tok) (c : Condition) → SpellsC sc closedC l ts c → SpellsC sc atom l (tok openSquare w ∷ ts) c
-  not-square : {l : ℕ} (v w : List ℕ) (ts : List Tok) (c : Condition) → SpellsC sc closedC l ts c → SpellsC sc atom l (tok tilde v ∷ tok openSquare w ∷ ts) (negated c)
-  closingC : {l : ℕ} (w : List ℕ) (ts : List Tok) (c : Condition) → SpellsC sc condition l ts c → SpellsC sc closedC (suc l) (ts ++ (tok closeSquare w ∷ [])) c
-  one-atom : {l : ℕ} (ts : List Tok) (c : Condition) → SpellsC sc atom l ts c → SpellsC sc conjunction l ts c
-  conjoined : {l : ℕ} (w : List ℕ) (ts us : List Tok) (a b : Condition) → SpellsC sc conjunction l ts a → SpellsC sc atom l us b → SpellsC sc conjunction l (ts ++ (tok T.ampersand w ∷ us)) (both a b)
-  one-conjunction : {l : ℕ} (ts : List Tok) (c : Condition) → SpellsC sc conjunction l ts c → SpellsC sc condition l ts c
-  disjoined : {l : ℕ} (w : List ℕ) (ts us : List Tok) (a b : Condition) → SpellsC sc condition l ts a → SpellsC sc conjunction l us b → SpellsC sc condition l (ts ++ (tok T.bar w ∷ us)) (either a b)
+pub data SpellsC (names : List (List ℕ)) : LevelC → ℕ → Tokens → Condition → Type 0 where
+  -- an atom is a comparison of two expressions
+  compared : {l : ℕ} (w : List ℕ) (o : Comparison) (ts us : Tokens) (a b : Expression) → ComparisonSign w o → SpellsE names expression l ts a → SpellsE names expression l us b → SpellsC names atom l (ts ++ w ∷ us) (comparison o a b)
+  -- or `[c]`, the latter with at most one `~` before it
+  square : {l : ℕ} (ts : Tokens) (c : Condition) → SpellsC names condition l ts c → SpellsC names atom (suc l) (bytes "[" ∷ ts ++ bytes "]" ∷ []) c
+  not-square : {l : ℕ} (ts : Tokens) (c : Condition) → SpellsC names condition l ts c → SpellsC names atom (suc l) (bytes "~" ∷ bytes "[" ∷ ts ++ bytes "]" ∷ []) (negated c)
+  -- `&` over atoms
+  one-atom : {l : ℕ} (ts : Tokens) (c : Condition) → SpellsC names atom l ts c → SpellsC names conjunction l ts c
+  conjoined : {l : ℕ} (ts us : Tokens) (a b : Condition) → SpellsC names conjunction l ts a → SpellsC names atom l us b → SpellsC names conjunction l (ts ++ bytes "&" ∷ us) (both a b)
+  -- `|` over these
+  one-conjunction : {l : ℕ} (ts : Tokens) (c : Condition) → SpellsC names conjunction l ts c → SpellsC names condition l ts c
+  disjoined : {l : ℕ} (ts us : Tokens) (a b : Condition) → SpellsC names condition l ts a → SpellsC names conjunction l us b → SpellsC names condition l (ts ++ bytes "|" ∷ us) (either a b)

@@ -5,5 +5,6 @@ pub mod Declarations
 pub mod Rules
 pub mod Parse
 pub mod Derivation
+pub mod Spelled
+pub mod Accepts
 pub mod Emitted
-pub mod WellFormed

@@ -1,0 +1,204 @@
+-- Tokens that spell rules in the order of work are read as them. Assumes nothing.
+use mathlib.Core.Path.{_≡_, refl, ap, sym, _∙_, subst}
+use mathlib.Core.List.{List, [], _∷_, _++_, append-assoc, append-nil}
+use mathlib.Core.Bool.{Bool, true, false}
+use mathlib.Core.Option.{Option, none, some}
+use Prim.Native.Nat.{ℕ, zero, suc, _+_, _≤_, _<_}
+use native.Mathlib.Omega.{arith}
+use lib.ListN.{length, getD, set, getElem?, length-set}
+use lib.Dec.{T, ltb, ltb→lt}
+use Rattle.limits.specs.Limits.{caseLimit, bracketLimit}
+use Rattle.arith.proofs.Basics.{T-true}
+use Rattle.lexer.specs.Bytes.{bytes, pick, part}
+use Rattle.lexer.specs.Token.{Kind, kindNumber, ending, name, nextWord, arrow, semicolon, colon, openRound, closeRound, openSquare, tilde, bar, equals, is, Read, token, fault}
+use Rattle.lexer.specs.Lexer.{tokenAt}
+use Rattle.lexer.proofs.Laws.{token-at-moved}
+use Rattle.semantics.specs.Program.{Expression, Condition, Case, Rule, function, change, target, allTrue, UsableE, UsableK, UsableR, OrderedRules}
+use Rattle.grammar.specs.Parsed.{Parsed, accepted, refused, andThen, Wanted, sign, own, ownPrevious, phrase, followed}
+use Rattle.grammar.specs.Expressions.{Scope, productOf, sumOf, withId, wholeExpression}
+use Rattle.grammar.specs.Rules.{Spanned, casesFrom, plainList, Compared, agrees, partsFrom, settled, agreeingList, casesOf, functionAt, changeAt, formulas, ruleAt, ruled, rulesFrom}
+use Rattle.grammar.specs.Derivation.{Stands, Spells, IsName, SpellsE}
+use Rattle.grammar.specs.Derivation as D
+use Rattle.grammar.specs.Spelled.{changeForm, functionForm, SpellsCases, SpellsList, SpellsR, a-change, a-function, SpellsRules}
+use Rattle.grammar.specs.Spelled as S
+use Rattle.grammar.proofs.Spellings.{isFixed}
+use Rattle.grammar.proofs.Standing.{split, stands-in, spells-in, spells-append}
+use Rattle.grammar.proofs.Phrases.{signs, fixed-at, name-at, phrase-reads, followed-reads}
+use Rattle.grammar.proofs.Listed.{Listed, spells-parts}
+use Rattle.grammar.proofs.Converse.{Named, named-id, spelled-expression}
+use Rattle.grammar.proofs.ConverseCases.{CasesReads, cases-read, no-change-reads}
+
+module _ (sc : Scope) (good : Named (sc .names)) (w : List ℕ) (nm : IsName w) (v : ℕ) where
+  -- ---- a function, after `v: GX(`
+
+  function-goes : (a n1 n2 n3 : ℕ) (e : Expression) → phrase (sc .text) (own w ∷ sign equals ∷ sign openRound ∷ []) a ≡ accepted tt n1 → wholeExpression sc n1 ≡ accepted e n2 → followed (sc .text) (sign closeRound ∷ sign closeRound ∷ sign semicolon ∷ []) (function v e) n2 ≡ accepted (function v e) n3 → functionAt sc w v a ≡ accepted (function v e) n3
+  unfolding functionAt
+  function-goes a n1 n2 n3 e e1 e2 e3 = rw (e1, e2) e3
+
+  function-reads : (ts : List (List ℕ)) (e : Expression) → SpellsE (sc .names) D.expression bracketLimit ts e → UsableE (sc .known) e → (a m : ℕ) → a ≤ length (sc .text) → Spells (sc .text) a m (w ∷ bytes "=" ∷ bytes "(" ∷ ts ++ bytes ")" ∷ bytes ")" ∷ bytes ";" ∷ []) → functionAt sc w v a ≡ accepted (function v e) m
+  unfolding signs isFixed kindNumber productOf sumOf is
+  function-reads ts e d u a m h g =
+      let text = sc .text in
+      let p = split text a m (w ∷ bytes "=" ∷ bytes "(" ∷ ts) (bytes ")" ∷ bytes ")" ∷ bytes ";" ∷ []) g in
+      let q = split text a (p .place) (w ∷ bytes "=" ∷ bytes "(" ∷ []) ts (p .first) in
+      let i1 = spells-in text a (q .place) (w ∷ bytes "=" ∷ bytes "(" ∷ []) h (q .first) .1 in
+      let i2 = spells-in text (q .place) (p .place) ts i1 (q .second) .1 in
+      function-goes a (q .place) (p .place) m e
+      (phrase-reads text (own w ∷ sign equals ∷ sign openRound ∷ []) refl (nm, tt) a (q .place) h (q .first))
+      (spelled-expression sc good ts e d u (q .place) (p .place) i1 (q .second) closeRound (p .second .1 .start) (p .second .0) (fixed-at text closeRound refl (p .place) (p .second .0) i2 (p .second .1)) (refl, refl))
+      (followed-reads text (sign closeRound ∷ sign closeRound ∷ sign semicolon ∷ []) refl tt (function v e) (p .place) m i2 (p .second))
+
+  -- ---- a change formula and its no-change formula, after `v: GX(~`
+
+  abbrev head : List Wanted
+  head = sign openRound ∷ own w ∷ sign equals ∷ ownPrevious w ∷ sign closeRound ∷ sign arrow ∷ []
+
+  abbrev middle : List Wanted
+  middle = sign closeRound ∷ sign semicolon ∷ own w ∷ sign colon ∷ sign nextWord ∷ sign openRound ∷ own w ∷ sign equals ∷ ownPrevious w ∷ sign arrow ∷ sign tilde ∷ sign openRound ∷ []
+
+  abbrev headTokens : List (List ℕ)
+  headTokens = bytes "(" ∷ w ∷ bytes "=" ∷ (bytes "_" ++ w) ∷ bytes ")" ∷ bytes "->" ∷ []
+
+  abbrev middleTokens : List (List ℕ)
+  middleTokens = bytes ")" ∷ bytes ";" ∷ w ∷ bytes ":" ∷ bytes "GX" ∷ bytes "(" ∷ w ∷ bytes "=" ∷ (bytes "_" ++ w) ∷ bytes "->" ∷ bytes "~" ∷ bytes "(" ∷ []
+
+  agreeing-goes : (cases : List Spanned) (cs : List Condition) (a m : ℕ) → plainList sc a ≡ accepted cs m → partsFrom (sc .text) cases a ≡ agrees m → agreeingList sc cases a ≡ accepted cs m
+  unfolding agreeingList settled
+  agreeing-goes cases cs a m e1 e2 = rw (e2, e1)
+
+  change-goes : (cases : List Spanned) (cs : List Condition) (a n1 n2 n3 n4 n5 : ℕ) → phrase (sc .text) head a ≡ accepted tt n1 → casesFrom caseLimit sc w [] n1 ≡ accepted cases n2 → phrase (sc .text) middle n2 ≡ accepted tt n3 → agreeingList sc cases n3 ≡ accepted cs n4 → followed (sc .text) (sign closeRound ∷ sign semicolon ∷ []) (change v (casesOf cases) cs) n4 ≡ accepted (change v (casesOf cases) cs) n5 → changeAt sc w v a ≡ accepted (change v (casesOf cases) cs) n5
+  unfolding changeAt
+  change-goes cases cs a n1 n2 n3 n4 n5 e1 e2 e3 e4 e5 = rw (e1, e2, e3, e4) e5
+
+  change-reads : (ts ls : List (List ℕ)) (ks : List Case) (cs : List Condition) → SpellsCases (sc .names) w ts ls ks → length ks ≤ caseLimit → SpellsList (sc .names) ls cs → UsableK (sc .known) ks → (a m : ℕ) → a ≤ length (sc .text) → Spells (sc .text) a m ((headTokens ++ ts) ++ (middleTokens ++ ls) ++ bytes ")" ∷ bytes ")" ∷ bytes ";" ∷ []) → changeAt sc w v a ≡ accepted (change v ks cs) m
+  unfolding signs isFixed kindNumber is
+  change-reads ts ls ks cs d room e u a m h g =
+      let text = sc .text in
+      let p = split text a m ((headTokens ++ ts) ++ (middleTokens ++ ls)) (bytes ")" ∷ bytes ")" ∷ bytes ";" ∷ []) g in
+      let q = split text a (p .place) (headTokens ++ ts) (middleTokens ++ ls) (p .first) in
+      let r = split text a (q .place) headTokens ts (q .first) in
+      let t = split text (q .place) (p .place) middleTokens ls (q .second) in
+      let i1 = spells-in text a (r .place) headTokens h (r .first) .1 in
+      let i2 = spells-in text (r .place) (q .place) ts i1 (r .second) .1 in
+      let i3 = spells-in text (q .place) (t .place) middleTokens i2 (t .first) .1 in
+      let i4 = spells-in text (t .place) (p .place) ls i3 (t .second) .1 in
+      let n4 = p .second .0 in
+      let i5 = stands-in text (p .place) n4 (bytes ")") i4 (p .second .1) .1 in
+      let close = spells-append text (t .place) (p .place) n4 ls (bytes ")" ∷ []) (t .second) (n4, p .second .1, refl) in
+      let x = cases-read sc good w nm caseLimit [] ts ls ks d u room (r .place) (q .place) i1 (r .second) closeRound (t .first .1 .start) (t .first .0) (fixed-at text closeRound refl (q .place) (t .first .0) i2 (t .first .1)) refl in
+      subst (λ (l : List Case). changeAt sc w v a ≡ accepted (change v l cs) m) (x .are-cases)
+      (change-goes (x .spans) cs a (r .place) (q .place) (t .place) n4 m
+      (phrase-reads text head refl (nm, (nm, tt)) a (r .place) h (r .first)) (x .reads)
+      (phrase-reads text middle refl (nm, (nm, (nm, tt))) (q .place) (t .place) i2 (t .first))
+      (agreeing-goes (x .spans) cs (t .place) n4 (no-change-reads sc good w ts ls ks cs d e u room (t .place) n4 i3 close) (spells-parts text (x .spans) ls (x .lists) (t .place) n4 i3 close))
+      (followed-reads text (sign closeRound ∷ sign semicolon ∷ []) refl tt (change v (casesOf (x .spans)) cs) n4 m i5 (p .second .2)))
+
+  -- ---- the formulas of w, after its name
+
+  formulas-change : (r : Rule) (a n s m e : ℕ) → phrase (sc .text) (sign colon ∷ sign nextWord ∷ sign openRound ∷ []) a ≡ accepted tt n → tokenAt (sc .text) n ≡ token tilde s m → changeAt sc w v m ≡ accepted r e → formulas sc w v a ≡ accepted r e
+  unfolding formulas is kindNumber
+  formulas-change r a n s m e e1 e2 e3 = rw (e1, e2) e3
+
+  formulas-function : (r : Rule) (a n s m e : ℕ) → phrase (sc .text) (sign colon ∷ sign nextWord ∷ sign openRound ∷ []) a ≡ accepted tt n → tokenAt (sc .text) n ≡ token name s m → functionAt sc w v n ≡ accepted r e → formulas sc w v a ≡ accepted r e
+  unfolding formulas is kindNumber
+  formulas-function r a n s m e e1 e2 e3 = rw (e1, e2) e3
+
+-- ---- a rule
+
+-- where a rule's name stands, and what is read after it
+pub record RuleReads (sc : Scope) (a m : ℕ) (r : Rule) : Type 0 where
+  pub start : ℕ
+  pub place : ℕ
+  pub is-name : tokenAt (sc .text) a ≡ token name start place
+  pub reads : ruleAt sc start place ≡ accepted r m
+
+module _ (sc : Scope) (good : Named (sc .names)) where
+  rule-goes : (w : List ℕ) (v s n m : ℕ) (r : Rule) → s ≤ n → n ≤ length (sc .text) → part (sc .text) s n ≡ w → getElem? (sc .names) v ≡ some w → getD (sc .known) v false ≡ false → formulas sc w v n ≡ accepted r m → ruleAt sc s n ≡ accepted r m
+  unfolding ruleAt
+  rule-goes w v s n m r h i e ev new reads = named-id sc good {A = Rule} s s n v w _ h i e ev ∙ rw (new, e) reads
+
+  rule-reads : (ts : List (List ℕ)) (r : Rule) → SpellsR (sc .names) ts r → UsableR (sc .known) r → getD (sc .known) (target r) false ≡ false → (a m : ℕ) → a ≤ length (sc .text) → Spells (sc .text) a m ts → RuleReads sc a m r
+  unfolding signs isFixed kindNumber
+  rule-reads ts r (a-function w v us e ev d) u new a m h g =
+      let text = sc .text in
+      let nm = good .each v w ev in
+      let st = g .1 in
+      let n = g .0 in
+      let mv = token-at-moved text a (st .kind) (st .start) n h (st .is-token) in
+      let tail = w ∷ bytes "=" ∷ bytes "(" ∷ us ++ bytes ")" ∷ bytes ")" ∷ bytes ";" ∷ [] in
+      let p = split text n m (bytes ":" ∷ bytes "GX" ∷ bytes "(" ∷ []) tail (g .2) in
+      let i = spells-in text n (p .place) (bytes ":" ∷ bytes "GX" ∷ bytes "(" ∷ []) (mv .2) (p .first) .1 in
+      record {
+        start = st .start;
+        place = n;
+        is-name = name-at text w nm a n h st;
+        reads = rule-goes w v (st .start) n m (function v e) (mv .1) (mv .2) (st .spelled) ev new
+            (formulas-function sc good w nm v (function v e) n (p .place) (p .second .1 .start) (p .second .0) m
+            (phrase-reads text (sign colon ∷ sign nextWord ∷ sign openRound ∷ []) refl tt n (p .place) (mv .2) (p .first))
+            (name-at text w nm (p .place) (p .second .0) i (p .second .1))
+            (function-reads sc good w nm v us e d u (p .place) m i (p .second)));
+      }
+  rule-reads ts r (a-change w v us ls ks cs ev d room e) u new a m h g =
+      let text = sc .text in
+      let nm = good .each v w ev in
+      let st = g .1 in
+      let n = g .0 in
+      let mv = token-at-moved text a (st .kind) (st .start) n h (st .is-token) in
+      let tail = (headTokens sc good w nm v ++ us) ++ (middleTokens sc good w nm v ++ ls) ++ bytes ")" ∷ bytes ")" ∷ bytes ";" ∷ [] in
+      let p = split text n m (bytes ":" ∷ bytes "GX" ∷ bytes "(" ∷ []) (bytes "~" ∷ tail) (g .2) in
+      let i = spells-in text n (p .place) (bytes ":" ∷ bytes "GX" ∷ bytes "(" ∷ []) (mv .2) (p .first) .1 in
+      let j = stands-in text (p .place) (p .second .0) (bytes "~") i (p .second .1) .1 in
+      record {
+        start = st .start;
+        place = n;
+        is-name = name-at text w nm a n h st;
+        reads = rule-goes w v (st .start) n m (change v ks cs) (mv .1) (mv .2) (st .spelled) ev new
+            (formulas-change sc good w nm v (change v ks cs) n (p .place) (p .second .1 .start) (p .second .0) m
+            (phrase-reads text (sign colon ∷ sign nextWord ∷ sign openRound ∷ []) refl tt n (p .place) (mv .2) (p .first))
+            (fixed-at text tilde refl (p .place) (p .second .0) i (p .second .1))
+            (change-reads sc good w nm v us ls ks cs d room e u (p .second .0) m j (p .second .2)));
+      }
+
+-- ---- all rules
+
+-- how many names have no rule yet
+abbrev unruled : List Bool → ℕ
+unruled [] = 0
+unruled (true ∷ l) = unruled l
+unruled (false ∷ l) = suc (unruled l)
+
+rule-counts : (known : List Bool) (v : ℕ) → v < length known → getD known v false ≡ false → unruled known ≡ suc (unruled (set known v true))
+rule-counts [] v h e = absurd (omega arith)
+rule-counts (true ∷ l) zero h e = let z : _≡_ {A = ℕ} 0 1 = cc in absurd (omega arith)
+rule-counts (false ∷ l) zero h e = refl
+rule-counts (true ∷ l) (suc v) h e = rule-counts l v (omega arith) e
+rule-counts (false ∷ l) (suc v) h e = ap suc (rule-counts l v (omega arith) e)
+
+unruled-few : (known : List Bool) → unruled known ≤ length known
+unruled-few [] = omega arith
+unruled-few (true ∷ l) = omega (arith, unruled-few l)
+unruled-few (false ∷ l) = omega (arith, unruled-few l)
+
+rules-on : (sc : Scope) (f a s n m : ℕ) (done : List Rule) (r : Rule) → tokenAt (sc .text) a ≡ token name s n → ruleAt sc s n ≡ accepted r m → rulesFrom (suc f) sc done a ≡ rulesFrom f (ruled sc (target r)) (done ++ (r ∷ [])) m
+unfolding rulesFrom is kindNumber
+rules-on sc f a s n m done r e1 e2 = rw (e1, e2)
+
+rules-end : (sc : Scope) (f a s n : ℕ) (done : List Rule) → tokenAt (sc .text) a ≡ token ending s n → allTrue (sc .known) ≡ true → rulesFrom (suc f) sc done a ≡ accepted done n
+unfolding rulesFrom is kindNumber
+rules-end sc f a s n done e1 e2 = rw (e1, e2)
+
+pub rules-read : (f : ℕ) (sc : Scope) → Named (sc .names) → (done : List Rule) (ts : List (List ℕ)) (rs : List Rule) → SpellsRules (sc .names) ts rs → OrderedRules (sc .known) rs → unruled (sc .known) < f → (a n : ℕ) → a ≤ length (sc .text) → Spells (sc .text) a n ts → (s m : ℕ) → tokenAt (sc .text) n ≡ token ending s m → rulesFrom f sc done a ≡ accepted (done ++ rs) m
+rules-read zero sc good done ts rs d o fuel a n h g s m et = absurd (omega arith)
+rules-read (suc f) sc good done ts rs S.SpellsRules.none o fuel a n h g s m et =
+    rules-end sc f a s m done (subst (λ (y : ℕ). tokenAt (sc .text) y ≡ token ending s m) (sym g) et) (T-true (allTrue (sc .known)) o) ∙ ap (λ (y : List Rule). accepted y m) (sym (append-nil done))
+rules-read (suc f) sc good done ts rs (S.SpellsRules.more us vs r qs d e) o fuel a n h g s m et =
+    let p = split (sc .text) a n us vs g in
+    let i = spells-in (sc .text) a (p .place) us h (p .first) .1 in
+    let x = rule-reads sc good us r d (o .0) (o .2) a (p .place) h (p .first) in
+    let c = rule-counts (sc .known) (target r) (ltb→lt (target r) (length (sc .known)) (o .1)) (o .2) in
+    rules-on sc f a (x .start) (x .place) (p .place) done r (x .is-name) (x .reads)
+    ∙ (rules-read f (ruled sc (target r)) good (done ++ (r ∷ [])) vs qs e (o .3) (omega arith) (p .place) n i (p .second) s m et ∙ ap (λ (y : List Rule). accepted y m) (append-assoc done (r ∷ []) qs))
+
+-- 65 are enough
+pub few-unruled : (known : List Bool) → length known ≤ 64 → unruled known < 65
+few-unruled known h = omega (arith, unruled-few known)

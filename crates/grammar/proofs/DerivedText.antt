@@ -1,0 +1,113 @@
+-- A text that is accepted spells its program. Assumes nothing.
+use mathlib.Core.Path.{_≡_, refl, ap, sym, _∙_, subst}
+use mathlib.Core.List.{List, [], _∷_, _++_}
+use mathlib.Core.Bool.{Bool, true, false}
+use Prim.Native.Nat.{ℕ, zero, suc, _+_, _≤_, _<_}
+use native.Mathlib.Nat.{le-refl}
+use native.Mathlib.Omega.{arith}
+use lib.ListN.{length}
+use lib.Dec.{ltb}
+use Rattle.limits.specs.Limits.{textLimit}
+use Rattle.lexer.specs.Bytes.{bytes, pick}
+use Rattle.lexer.specs.Token.{kindNumber, inputWord, varWord}
+use Rattle.semantics.specs.Program.{Name, Rule, Program, knownFirst}
+use Rattle.grammar.specs.Parsed.{Parsed, accepted, refused, andThen}
+use Rattle.grammar.specs.Expressions.{Scope}
+use Rattle.grammar.specs.Declarations.{spellings, declarations, declarationsFrom}
+use Rattle.grammar.specs.Rules.{rulesFrom}
+use Rattle.grammar.specs.Parse.{program, parse}
+use Rattle.grammar.specs.Derivation.{Spells, TokensOf}
+use Rattle.grammar.specs.Spelled.{DeclareAll, SpellsRules, namesOf, Spelled}
+use Rattle.grammar.proofs.Combine.{then-prop}
+use Rattle.grammar.proofs.Agree.{never}
+use Rattle.grammar.proofs.Spellings.{isFixed}
+use Rattle.grammar.proofs.Standing.{spells-append, spells-in}
+use Rattle.grammar.proofs.Whole.{Ends, Names, declarations-fit, spellings-length}
+use Rattle.grammar.proofs.DerivedDeclarations.{DeclaredFrom, DeclaresFrom, declarations-derive}
+use Rattle.grammar.proofs.DerivedRules.{RulesRead, RulesReads, rules-derive}
+use Rattle.grammar.proofs.Accepted.{parse-short, parse-named, parse-few, parse-ordered}
+
+-- the declarations, the rules and the tokens of an accepted text
+pub record Read (text : List ℕ) (p : Program) : Type 0 where
+  pub input-tokens : List (List ℕ)
+  pub variable-tokens : List (List ℕ)
+  pub rule-tokens : List (List ℕ)
+  pub tokens : TokensOf text (input-tokens ++ variable-tokens ++ rule-tokens)
+  pub inputs : List Name
+  pub variables : List Name
+  pub declares-inputs : DeclareAll (bytes "input") input-tokens inputs
+  pub declares-variables : DeclareAll (bytes "var") variable-tokens variables
+  pub names : p .names ≡ inputs ++ variables
+  pub input-count : p .inputs ≡ length inputs
+  pub spells-rules : SpellsRules (namesOf p) rule-tokens (p .rules)
+
+abbrev Reads : List ℕ → Parsed Program → Type 0
+Reads text (accepted p n) = Read text p
+Reads text (refused k q) = Unit {0}
+
+read : (text : List ℕ) (inputs names : List Name) (rules : List Rule) (a b : ℕ) → DeclaredFrom text (bytes "input") [] 0 a inputs → DeclaredFrom text (bytes "var") inputs a b names → RulesRead text (spellings names) [] b rules → Read text (record { inputs = length inputs; names = names; rules = rules })
+read text inputs names rules a b d e r =
+    record {
+      input-tokens = d .tokens;
+      variable-tokens = e .tokens;
+      rule-tokens = r .tokens;
+      tokens = record {
+        end = r .end;
+        spells = spells-append text 0 b (r .end) (d .tokens ++ e .tokens) (r .tokens) (spells-append text 0 a b (d .tokens) (e .tokens) (d .spells) (e .spells)) (r .spells);
+        ends = r .ends;
+      };
+      inputs = inputs;
+      variables = e .more;
+      declares-inputs = subst (DeclareAll (bytes "input") (d .tokens)) (sym (d .is-more)) (d .derives);
+      declares-variables = e .derives;
+      names = e .is-more;
+      input-count = refl;
+      spells-rules = subst (SpellsRules (spellings names) (r .tokens)) (sym (r .is-more)) (r .derives);
+    }
+
+program-reads : (text : List ℕ) → Reads text (program text)
+unfolding program declarations isFixed kindNumber
+program-reads text =
+    then-prop (Reads text) (declarations inputWord text [] 0) _ (λ k q. tt)
+    (λ inputs n1 e1.
+    let g1 = subst (Ends (length text) (Names text 0)) e1 (declarations-fit text 65 inputWord [] 0 0 (omega arith) (tt, omega arith, omega arith, tt)) in
+    let d1 = subst (DeclaresFrom text (bytes "input") [] 0) e1 (declarations-derive text 65 inputWord refl [] 0 (omega arith)) in
+    then-prop (Reads text) (declarations varWord text inputs n1) _ (λ k q. tt)
+    (λ names n2 e2.
+    let g2 = subst (Ends (length text) (Names text (length inputs))) e2 (declarations-fit text 65 varWord inputs n1 (length inputs) (g1 .1) (g1 .0 .0, g1 .0 .1, le-refl (length inputs), g1 .0 .3)) in
+    let d2 = subst (DeclaresFrom text (bytes "var") inputs n1) e2 (declarations-derive text 65 varWord refl inputs n1 (g1 .1)) in
+    let sc : Scope = record { text = text; names = spellings names; known = knownFirst (length inputs) (length names) } in
+    then-prop (Reads text) (rulesFrom 65 sc [] n2) _ (λ k q. tt)
+    (λ rules n3 e3.
+    let r = subst (RulesReads text (spellings names) [] n2) e3 (rules-derive 65 sc (omega (arith, spellings-length names, g2 .0 .1)) [] n2 (g2 .1)) in
+    read text inputs names rules n1 n2 d1 d2 r)))
+
+parsed : (text : List ℕ) (p : Program) (n : ℕ) → parse text ≡ accepted p n → program text ≡ accepted p n
+unfolding parse
+parsed text p n e = go (ltb textLimit (length text)) e
+  where
+    go : (t : Bool) → pick t (refused 9 0) (program text) ≡ accepted p n → program text ≡ accepted p n
+    go true q = never 9 0 n p q
+    go false q = q
+
+-- what is accepted has document 01's grammar, limits, order and agreement
+pub parse-spelled : (text : List ℕ) (p : Program) (n : ℕ) → parse text ≡ accepted p n → Spelled text p
+parse-spelled text p n e =
+    let r : Read text p = subst (Reads text) (parsed text p n e) (program-reads text) in
+    record {
+      short = parse-short text p n e;
+      input-tokens = r .input-tokens;
+      variable-tokens = r .variable-tokens;
+      rule-tokens = r .rule-tokens;
+      tokens = r .tokens;
+      inputs = r .inputs;
+      variables = r .variables;
+      declares-inputs = r .declares-inputs;
+      declares-variables = r .declares-variables;
+      names = r .names;
+      input-count = r .input-count;
+      distinct = parse-named text p n e .distinct;
+      few = parse-few text p n e;
+      spells-rules = r .spells-rules;
+      ordered = parse-ordered text p n e;
+    }

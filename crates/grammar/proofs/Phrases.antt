@@ -1,0 +1,161 @@
+-- Fixed tokens in order: what is read as a phrase is spelled as it says, and the other way round. Assumes nothing.
+use mathlib.Core.Path.{_≡_, refl, ap, sym, _∙_, subst}
+use mathlib.Core.List.{List, [], _∷_, _++_}
+use mathlib.Core.Bool.{Bool, true, false, _&&_}
+use Prim.Native.Nat.{ℕ, zero, suc, _+_, _≤_, _<_}
+use native.Mathlib.Omega.{arith}
+use lib.ListN.{length, getD}
+use borrow.Author.Tests.{eq-eqb}
+use Rattle.lexer.specs.Bytes.{bytes, pick, part}
+use Rattle.lexer.specs.Token.{Kind, kindNumber, ending, name, previous, is, Read, token, fault}
+use Rattle.lexer.specs.Lexer.{tokenAt, sameName}
+use Rattle.lexer.proofs.Laws.{token-at-moved}
+use Rattle.lexer.proofs.Same.{same-kind, same-name, both-true}
+use Rattle.grammar.specs.Parsed.{Parsed, accepted, refused, andThen, onToken, Wanted, sign, own, ownPrevious, isWanted, expected, phrase, followed}
+use Rattle.grammar.specs.Derivation.{Stands, Spells, IsName}
+use Rattle.grammar.proofs.Agree.{part-cons, tails, never}
+use Rattle.grammar.proofs.Distinct.{same-itself}
+use Rattle.grammar.proofs.Spellings.{Spelling, spellingOf, isFixed, fixed-spelling}
+use Rattle.grammar.proofs.Standing.{stands, stands-spelled, at-kind, stands-in}
+
+-- the tokens that a phrase wants
+abbrev pub wantedToken : Wanted → List ℕ
+wantedToken (sign k) = spellingOf k
+wantedToken (own w) = w
+wantedToken (ownPrevious w) = bytes "_" ++ w
+
+abbrev pub wantedTokens : List Wanted → List (List ℕ)
+wantedTokens [] = []
+wantedTokens (w ∷ ws) = wantedToken w ∷ wantedTokens ws
+
+-- its signs have one spelling each
+unfoldable pub signs : List Wanted → Bool
+signs [] = true
+signs (sign k ∷ ws) = isFixed k && signs ws
+signs (own w ∷ ws) = signs ws
+signs (ownPrevious w ∷ ws) = signs ws
+
+pub heads : (x y : ℕ) (k l : List ℕ) → x ∷ k ≡ y ∷ l → x ≡ y
+heads x y k l e = cc
+
+and-both : (a b : Bool) → a && b ≡ true → (a ≡ true) × (b ≡ true)
+and-both true b e = (refl, e)
+and-both false b e = let z : _≡_ {A = ℕ} 0 1 = cc in absurd (omega arith)
+
+-- a kind with one spelling is not the end
+fixed-end : (k : Kind) → isFixed k ≡ true → k ≡ ending → ⊥
+unfolding isFixed kindNumber
+fixed-end k f e = let z : false ≡ true = subst (λ (x : Kind). isFixed x ≡ true) e f in let y : _≡_ {A = ℕ} 0 1 = cc in omega arith
+
+module _ (text : List ℕ) where
+  -- ---- from what is read to tokens
+
+  pub fixed-stands : (w : Kind) → isFixed w ≡ true → (a : ℕ) (k : Kind) (s n : ℕ) → a ≤ length text → tokenAt text a ≡ token k s n → is k w ≡ true → Stands text a n (spellingOf w)
+  fixed-stands w f a k s n h et e =
+      let q : k ≡ w = same-kind k w e in
+      let ne : k ≡ ending → ⊥ = λ z. fixed-end w f (sym q ∙ z) in
+      subst (Stands text a n) (fixed-spelling w f (part text s n) .0 (subst (λ (x : Kind). Spelling x (part text s n)) q (stands-spelled text a k s n h ne et))) (stands text a k s n h ne et)
+
+  own-stands : (w : List ℕ) (a : ℕ) (k : Kind) (s n : ℕ) → a ≤ length text → tokenAt text a ≡ token k s n → isWanted text (own w) k s n ≡ true → Stands text a n w
+  unfolding kindNumber
+  own-stands w a k s n h et e =
+      let b = both-true (is k name) (sameName w (part text s n)) e in
+      let ne : k ≡ ending → ⊥ = λ z. let y : kindNumber name ≡ kindNumber ending = ap kindNumber (sym (same-kind k name (b .0)) ∙ z) in omega arith in
+      subst (Stands text a n) (sym (same-name w (part text s n) (b .1))) (stands text a k s n h ne et)
+
+  previous-stands : (w : List ℕ) (a : ℕ) (k : Kind) (s n : ℕ) → a ≤ length text → tokenAt text a ≡ token k s n → isWanted text (ownPrevious w) k s n ≡ true → Stands text a n (bytes "_" ++ w)
+  unfolding kindNumber
+  previous-stands w a k s n h et e =
+      let b = both-true (is k previous) (sameName w (part text (s + 1) n)) e in
+      let q : k ≡ previous = same-kind k previous (b .0) in
+      let ne : k ≡ ending → ⊥ = λ z. let y : kindNumber previous ≡ kindNumber ending = ap kindNumber (sym q ∙ z) in omega arith in
+      let mv = token-at-moved text a k s n h et in
+      let c = part-cons text s n (mv .3 ne) (mv .2) in
+      let sp : Spelling previous (part text s n) = subst (λ (x : Kind). Spelling x (part text s n)) q (stands-spelled text a k s n h ne et) in
+      let d : getD text s 0 ≡ 95 = heads _ _ _ _ (sym c ∙ sp .is-cons) in
+      let v : w ≡ part text (s + 1) n = same-name w (part text (s + 1) n) (b .1) in
+      let r : part text s n ≡ bytes "_" ++ w = c ∙ (ap (λ (x : ℕ). x ∷ part text (s + 1) n) d ∙ ap (λ (l : List ℕ). 95 ∷ l) (sym v)) in
+      subst (Stands text a n) r (stands text a k s n h ne et)
+
+  -- a token that is wanted
+  wanted-stands : (w : Wanted) (ws : List Wanted) → signs (w ∷ ws) ≡ true → (a : ℕ) (k : Kind) (s n : ℕ) → a ≤ length text → tokenAt text a ≡ token k s n → isWanted text w k s n ≡ true → Stands text a n (wantedToken w)
+  unfolding signs
+  wanted-stands (sign v) ws f a k s n h et t = fixed-stands v (and-both (isFixed v) (signs ws) f .0) a k s n h et t
+  wanted-stands (own v) ws f a k s n h et t = own-stands v a k s n h et t
+  wanted-stands (ownPrevious v) ws f a k s n h et t = previous-stands v a k s n h et t
+
+  expected-stands : (w : Wanted) (ws : List Wanted) → signs (w ∷ ws) ≡ true → (a : ℕ) (u : Unit {0}) (n : ℕ) → a ≤ length text → expected text w a ≡ accepted u n → Stands text a n (wantedToken w)
+  unfolding expected
+  expected-stands w ws f a u n h e = read (tokenAt text a) refl e
+    where
+      read : (r : Read) → tokenAt text a ≡ r → onToken r (λ k s n. pick (isWanted text w k s n) (accepted tt n) (refused 2 s)) ≡ accepted u n → Stands text a n (wantedToken w)
+      read (fault p) et q = never 1 p n u q
+      read (token k s m) et q = test (isWanted text w k s m) refl q
+        where
+          test : (t : Bool) → isWanted text w k s m ≡ t → pick t (accepted tt m) (refused 2 s) ≡ accepted u n → Stands text a n (wantedToken w)
+          test true t z = let i : m ≡ n = cc in subst (λ (x : ℕ). Stands text a x (wantedToken w)) i (wanted-stands w ws f a k s m h et t)
+          test false t z = never 2 s n u z
+
+  signs-more : (w : Wanted) (ws : List Wanted) → signs (w ∷ ws) ≡ true → signs ws ≡ true
+  unfolding signs
+  signs-more (sign v) ws f = and-both (isFixed v) (signs ws) f .1
+  signs-more (own v) ws f = f
+  signs-more (ownPrevious v) ws f = f
+
+  -- a phrase that is accepted is spelled by the tokens that it wants
+  pub phrase-spells : (ws : List Wanted) → signs ws ≡ true → (a : ℕ) (u : Unit {0}) (n : ℕ) → a ≤ length text → phrase text ws a ≡ accepted u n → Spells text a n (wantedTokens ws)
+  unfolding phrase
+  phrase-spells [] f a u n h e = let i : a ≡ n = cc in i
+  phrase-spells (w ∷ ws) f a u n h e = first (expected text w a) refl (λ m i q. phrase-spells ws (signs-more w ws f) m u n i q) e
+    where
+      first : (p : Parsed (Unit {0})) → expected text w a ≡ p → ((m : ℕ) → m ≤ length text → phrase text ws m ≡ accepted u n → Spells text m n (wantedTokens ws)) → andThen p (λ u n. phrase text ws n) ≡ accepted u n → Spells text a n (wantedTokens (w ∷ ws))
+      first (accepted v m) ep more q =
+          let st = expected-stands w ws f a v m h ep in
+          (m, st, more m (stands-in text a m (wantedToken w) h st .1) q)
+      first (refused k q) ep more z = never k q n u z
+
+  -- ---- from tokens to what is read
+
+  -- the names that a phrase wants are names
+  abbrev pub Owns : List Wanted → Type 0
+  Owns [] = Unit {0}
+  Owns (sign k ∷ ws) = Owns ws
+  Owns (own w ∷ ws) = IsName w × Owns ws
+  Owns (ownPrevious w ∷ ws) = IsName w × Owns ws
+
+  pub fixed-at : (k : Kind) → isFixed k ≡ true → (a n : ℕ) → a ≤ length text → (st : Stands text a n (spellingOf k)) → tokenAt text a ≡ token k (st .start) n
+  fixed-at k f a n h st = at-kind text k (spellingOf k) (fixed-spelling k f (spellingOf k) .1 refl) a n h st
+
+  pub name-at : (w : List ℕ) → IsName w → (a n : ℕ) → a ≤ length text → (st : Stands text a n w) → tokenAt text a ≡ token name (st .start) n
+  name-at w nm a n h st = at-kind text name w (nm .is-word, nm .no-word) a n h st
+
+  is-itself : (k : Kind) → is k k ≡ true
+  unfolding is
+  is-itself k = eq-eqb (kindNumber k) (kindNumber k) refl
+
+  expected-reads : (w : Wanted) (ws : List Wanted) → signs (w ∷ ws) ≡ true → Owns (w ∷ ws) → (a n : ℕ) → a ≤ length text → Stands text a n (wantedToken w) → expected text w a ≡ accepted tt n
+  unfolding expected signs is kindNumber
+  expected-reads (sign k) ws f o a n h st = rw (fixed-at k (and-both (isFixed k) (signs ws) f .0) a n h st, is-itself k)
+  expected-reads (own w) ws f o a n h st = rw (name-at w (o .0) a n h st, st .spelled, same-itself w)
+  expected-reads (ownPrevious w) ws f o a n h st =
+      let mv = token-at-moved text a (st .kind) (st .start) n h (st .is-token) in
+      let t : part text (st .start + 1) n ≡ w = tails _ _ _ _ (sym (part-cons text (st .start) n (st .some-bytes) (mv .2)) ∙ st .spelled) in
+      rw (at-kind text previous (bytes "_" ++ w) (record { rest = w; is-cons = refl; is-word = o .0 .is-word; no-word = o .0 .no-word }) a n h st, t, same-itself w)
+
+  owns-more : (w : Wanted) (ws : List Wanted) → Owns (w ∷ ws) → Owns ws
+  owns-more (sign k) ws o = o
+  owns-more (own w) ws o = o .1
+  owns-more (ownPrevious w) ws o = o .1
+
+  -- tokens that a phrase wants are read as it
+  pub phrase-reads : (ws : List Wanted) → signs ws ≡ true → Owns ws → (a n : ℕ) → a ≤ length text → Spells text a n (wantedTokens ws) → phrase text ws a ≡ accepted tt n
+  unfolding phrase
+  phrase-reads [] f o a n h g = ap (λ (x : ℕ). accepted (tt {0}) x) g
+  phrase-reads (w ∷ ws) f o a n h g =
+      let mv = stands-in text a (g .0) (wantedToken w) h (g .1) in
+      rw (expected-reads w ws f o a (g .0) h (g .1)) (phrase-reads ws (signs-more w ws f) (owns-more w ws o) (g .0) n (mv .1) (g .2))
+
+  -- what is followed by a phrase
+  pub followed-reads : {A : Type 0} (ws : List Wanted) → signs ws ≡ true → Owns ws → (x : A) (a n : ℕ) → a ≤ length text → Spells text a n (wantedTokens ws) → followed text ws x a ≡ accepted x n
+  unfolding followed
+  followed-reads ws f o x a n h g = rw (phrase-reads ws f o a n h g)

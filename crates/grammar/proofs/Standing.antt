@@ -1,0 +1,129 @@
+-- Tokens that stand in a text: from what is read to the tokens listed, and back. Assumes nothing.
+use mathlib.Core.Path.{_≡_, refl, ap, sym, _∙_, subst}
+use mathlib.Core.List.{List, [], _∷_, _++_, append-assoc}
+use mathlib.Core.Bool.{Bool, true, false}
+use mathlib.Core.Option.{Option, none, some}
+use Prim.Native.Nat.{ℕ, zero, suc, _+_, _≤_, _<_}
+use native.Mathlib.Omega.{arith}
+use native.Mathlib.Numerals.{add-one}
+use lib.ListN.{length, getElem?}
+use Rattle.lexer.specs.Bytes.{bytes, pick, part}
+use Rattle.lexer.specs.Token.{Kind, kindNumber, ending, is, token}
+use Rattle.lexer.specs.Token as T
+use Rattle.lexer.specs.Lexer.{tokenAt, sameName}
+use Rattle.lexer.specs.Names.{idFrom, idOf}
+use Rattle.lexer.proofs.Laws.{pick-prop, token-at-moved}
+use Rattle.lexer.proofs.Same.{same-kind, same-name}
+use Rattle.arith.specs.Values.{Operation, add, subtract, multiply, divide, modulo, Comparison, equal, notEqual, less, lessEqual, greater, greaterEqual}
+use Rattle.grammar.specs.Expressions.{productOf, sumOf}
+use Rattle.grammar.specs.Conditions.{comparisonOf, Connective, andAlso, orElse, andOf, orOf}
+use Rattle.grammar.specs.Derivation.{Stands, Spells, SumSign, ProductSign, ComparisonSign}
+use Rattle.grammar.specs.Derivation as D
+use Rattle.grammar.proofs.Spellings.{Spelling, token-spelled, one-kind}
+
+module _ (text : List ℕ) where
+  -- a token that is read, and is not the end, stands there
+  pub stands : (a : ℕ) (k : Kind) (s n : ℕ) → a ≤ length text → (k ≡ ending → ⊥) → tokenAt text a ≡ token k s n → Stands text a n (part text s n)
+  stands a k s n h ne e = record { kind = k; start = s; is-token = e; some-bytes = token-at-moved text a k s n h e .3 ne; spelled = refl }
+
+  pub stands-spelled : (a : ℕ) (k : Kind) (s n : ℕ) → a ≤ length text → (k ≡ ending → ⊥) → tokenAt text a ≡ token k s n → Spelling k (part text s n)
+  stands-spelled a k s n h ne e = token-spelled text a k s n h (token-at-moved text a k s n h e .3 ne) e
+
+  pub stands-kind : (a n : ℕ) (w : List ℕ) → a ≤ length text → (st : Stands text a n w) → Spelling (st .kind) w
+  stands-kind a n w h st = subst (Spelling (st .kind)) (st .spelled) (token-spelled text a (st .kind) (st .start) n h (st .some-bytes) (st .is-token))
+
+  -- a token whose spelling is of a kind is read as one of that kind
+  pub at-kind : (k : Kind) (w : List ℕ) → Spelling k w → (a n : ℕ) → a ≤ length text → (st : Stands text a n w) → tokenAt text a ≡ token k (st .start) n
+  at-kind k w sp a n h st = st .is-token ∙ ap (λ (x : Kind). token x (st .start) n) (one-kind (st .kind) k w (stands-kind a n w h st) sp)
+
+  -- ---- lists of tokens
+
+  pub spells-append : (a b c : ℕ) (ts us : List (List ℕ)) → Spells text a b ts → Spells text b c us → Spells text a c (ts ++ us)
+  spells-append a b c [] us h g = subst (λ (x : ℕ). Spells text x c us) (sym h) g
+  spells-append a b c (t ∷ ts) us h g = (h .0, h .1, spells-append (h .0) b c ts us (h .2) g)
+
+  pub spells-append-left : (a b c : ℕ) (ts us vs : List (List ℕ)) → Spells text a b ts → Spells text b c (us ++ vs) → Spells text a c (ts ++ us ++ vs)
+  spells-append-left a b c ts us vs h g = subst (Spells text a c) (sym (append-assoc ts us vs)) (spells-append a b c ts (us ++ vs) h g)
+
+  -- a list of tokens in two parts stands in two parts
+  pub record Split (a n : ℕ) (ts us : List (List ℕ)) : Type 0 where
+    pub place : ℕ
+    pub first : Spells text a place ts
+    pub second : Spells text place n us
+
+  pub split : (a n : ℕ) (ts us : List (List ℕ)) → Spells text a n (ts ++ us) → Split a n ts us
+  split a n [] us h = record { place = a; first = refl; second = h }
+  split a n (t ∷ ts) us h =
+      let r = split (h .0) n ts us (h .2) in
+      record { place = r .place; first = (h .0, h .1, r .first); second = r .second }
+
+  pub stands-in : (a n : ℕ) (w : List ℕ) → a ≤ length text → Stands text a n w → (a < n) × (n ≤ length text)
+  stands-in a n w h st =
+      let mv = token-at-moved text a (st .kind) (st .start) n h (st .is-token) in
+      let some = st .some-bytes in
+      (omega (arith, mv .0), mv .2)
+
+  -- tokens stand within the text
+  pub spells-in : (a n : ℕ) (ts : List (List ℕ)) → a ≤ length text → Spells text a n ts → (a ≤ n) × (n ≤ length text)
+  spells-in a n [] h g = (omega (arith, g), subst (λ (x : ℕ). x ≤ length text) g h)
+  spells-in a n (t ∷ ts) h g =
+      let mv = stands-in a (g .0) t h (g .1) in
+      let r = spells-in (g .0) n ts (mv .1) (g .2) in
+      (omega (arith, mv .0, r .0), r .1)
+
+-- ---- names
+
+id-from-names : (l : List (List ℕ)) (w : List ℕ) (i j : ℕ) → idFrom l w i ≡ some j → (d : ℕ) × (j ≡ i + d) × (getElem? l d ≡ some w)
+unfolding idFrom
+id-from-names [] w i j e = let z : _≡_ {A = ℕ} 0 1 = cc in absurd (omega arith)
+id-from-names (x ∷ l) w i j e = go (sameName w x) refl (λ h. id-from-names l w (i + 1) j h) e
+  where
+    go : (t : Bool) → sameName w x ≡ t → (idFrom l w (i + 1) ≡ some j → (d : ℕ) × (j ≡ i + 1 + d) × (getElem? l d ≡ some w)) → pick t (some i) (idFrom l w (i + 1)) ≡ some j → (d : ℕ) × (j ≡ i + d) × (getElem? (x ∷ l) d ≡ some w)
+    go true t f h = let q : i ≡ j = cc in (0, omega arith, ap some (sym (same-name w x t)))
+    go false t f h = let r = f h in (suc (r .0), omega (arith, r .1), r .2)
+
+-- the id of a name is its place among the names
+pub id-names : (names : List (List ℕ)) (w : List ℕ) (i : ℕ) → idOf names w ≡ some i → getElem? names i ≡ some w
+unfolding idOf
+id-names names w i e = let r = id-from-names names w 0 i e in let q : r .0 ≡ i = omega (arith, r .1) in subst (λ (d : ℕ). getElem? names d ≡ some w) q (r .2)
+
+-- ---- signs of operations
+
+module _ (k : Kind) (w : List ℕ) (sp : Spelling k w) where
+  told : (v : Kind) → is k v ≡ true → Spelling v w
+  told v e = subst (λ (x : Kind). Spelling x w) (same-kind k v e) sp
+
+  pub product-sign : (o : Operation) → productOf k ≡ some o → ProductSign w o
+  unfolding productOf
+  product-sign o =
+      pick-prop P (is k T.star) _ _ (λ e h. let q : multiply ≡ o = cc in rw (told T.star e, ← q) D.times)
+      (λ n. pick-prop P (is k T.slash) _ _ (λ e h. let q : divide ≡ o = cc in rw (told T.slash e, ← q) D.over)
+      (λ n. pick-prop P (is k T.modWord) _ _ (λ e h. let q : modulo ≡ o = cc in rw (told T.modWord e, ← q) D.modulus)
+      (λ n h. let z : _≡_ {A = ℕ} 0 1 = cc in absurd (omega arith))))
+    where
+      P : Option Operation → Type 0
+      P x = x ≡ some o → ProductSign w o
+
+  pub sum-sign : (o : Operation) → sumOf k ≡ some o → SumSign w o
+  unfolding sumOf
+  sum-sign o =
+      pick-prop P (is k T.plus) _ _ (λ e h. let q : add ≡ o = cc in rw (told T.plus e, ← q) D.plus)
+      (λ n. pick-prop P (is k T.minus) _ _ (λ e h. let q : subtract ≡ o = cc in rw (told T.minus e, ← q) D.minus)
+      (λ n h. let z : _≡_ {A = ℕ} 0 1 = cc in absurd (omega arith)))
+    where
+      P : Option Operation → Type 0
+      P x = x ≡ some o → SumSign w o
+
+  pub comparison-sign : (o : Comparison) → comparisonOf k ≡ some o → ComparisonSign w o
+  unfolding comparisonOf
+  comparison-sign o =
+      pick-prop P (is k T.equals) _ _ (λ e h. let q : equal ≡ o = cc in rw (told T.equals e, ← q) D.equals)
+      (λ n. pick-prop P (is k T.notEqual) _ _ (λ e h. let q : notEqual ≡ o = cc in rw (told T.notEqual e, ← q) D.differs)
+      (λ n. pick-prop P (is k T.less) _ _ (λ e h. let q : less ≡ o = cc in rw (told T.less e, ← q) D.below)
+      (λ n. pick-prop P (is k T.lessEqual) _ _ (λ e h. let q : lessEqual ≡ o = cc in rw (told T.lessEqual e, ← q) D.at-most)
+      (λ n. pick-prop P (is k T.greater) _ _ (λ e h. let q : greater ≡ o = cc in rw (told T.greater e, ← q) D.above)
+      (λ n. pick-prop P (is k T.greaterEqual) _ _ (λ e h. let q : greaterEqual ≡ o = cc in rw (told T.greaterEqual e, ← q) D.at-least)
+      (λ n h. let z : _≡_ {A = ℕ} 0 1 = cc in absurd (omega arith)))))))
+    where
+      P : Option Comparison → Type 0
+      P x = x ≡ some o → ComparisonSign w o

@@ -1,0 +1,116 @@
+-- Which texts spell a program: document 01's grammar, limits, order of work and agreement of the two lists, apart from any way of
+-- reading them. Document 01, "The text". Assumes nothing.
+use Prim.Native.Nat.{ℕ, _≤_}
+use mathlib.Core.Path.{_≡_}
+use mathlib.Core.Bool.{false}
+use mathlib.Core.List.{List, [], _∷_, _++_, map}
+use mathlib.Core.Option.{some}
+use lib.ListN.{length, getElem?}
+use lib.IntN.{ℤ, pos, negℤ}
+use Rattle.limits.specs.Limits.{textLimit, nameLimit, caseLimit, bracketLimit}
+use Rattle.semantics.specs.Program.{Range, Name, Expression, Condition, Case, Rule, function, change, Program, Ordered}
+use Rattle.bytecode.specs.Translation.{RangeFits}
+use Rattle.lexer.specs.Bytes.{bytes}
+use Rattle.lexer.specs.Lexer.{sameName, valueOf}
+use Rattle.grammar.specs.Derivation.{Tokens, TokensOf, IsName, IsDigits, SpellsE, expression, SpellsC, condition}
+
+-- ---- declarations
+
+-- Bounds and start may carry `-`.
+pub data SpellsZ : Tokens → ℤ → Type 0 where
+  positive : (w : List ℕ) → IsDigits w → SpellsZ (w ∷ []) (pos (valueOf w))
+  negative : (w : List ℕ) → IsDigits w → SpellsZ (bytes "-" ∷ w ∷ []) (negℤ (pos (valueOf w)))
+
+-- An absent `init` means 0.
+pub data SpellsStart : Tokens → ℤ → Type 0 where
+  absent : SpellsStart [] (pos 0)
+  given : (ts : Tokens) (z : ℤ) → SpellsZ ts z → SpellsStart (bytes "init" ∷ ts) z
+
+-- `input go 0..1 init 0;` `var run 0..1;`
+abbrev pub declarationForm : List ℕ → List ℕ → Tokens → Tokens → Tokens → Tokens
+declarationForm word name low high start = word ∷ name ∷ low ++ bytes ".." ∷ high ++ start ++ bytes ";" ∷ []
+
+-- Bounds and start lie in −2,147,483,648..2,147,483,647, low ≤ high, start within them.
+pub data Declares (word : List ℕ) : Tokens → Name → Type 0 where
+  declares : (w : List ℕ) (ts us vs : Tokens) (r : Range) → IsName w → SpellsZ ts (r .low) → SpellsZ us (r .high) → SpellsStart vs (r .start) → RangeFits r → Declares word (declarationForm word w ts us vs) (record { spelling = w; range = r })
+
+pub data DeclareAll (word : List ℕ) : Tokens → List Name → Type 0 where
+  none : DeclareAll word [] []
+  more : (ts us : Tokens) (x : Name) (l : List Name) → Declares word ts x → DeclareAll word us l → DeclareAll word (ts ++ us) (x ∷ l)
+
+-- names are the same when their bytes are the same; none is declared twice
+abbrev pub Apart : List ℕ → List (List ℕ) → Type 0
+Apart w [] = Unit {0}
+Apart w (x ∷ l) = (sameName w x ≡ false) × Apart w l
+
+abbrev pub Distinct : List (List ℕ) → Type 0
+Distinct [] = Unit {0}
+Distinct (x ∷ l) = Apart x l × Distinct l
+
+-- ---- rules
+
+-- `[c]`, its bracket not counted
+abbrev pub squared : Tokens → Tokens
+squared ts = bytes "[" ∷ ts ++ bytes "]" ∷ []
+
+-- `[c] & v = (e)`, their brackets not counted
+abbrev pub cased : List ℕ → Tokens → Tokens → Tokens
+cased v ts us = squared ts ++ bytes "&" ∷ v ∷ bytes "=" ∷ bytes "(" ∷ us ++ bytes ")" ∷ []
+
+-- the cases of the variable v, `[c] & v = (e) | [c] & v = (e)`; the tokens of their list of conditions, `[c] | [c]`
+pub data SpellsCases (names : List (List ℕ)) (v : List ℕ) : Tokens → Tokens → List Case → Type 0 where
+  one-case : (ts us : Tokens) (k : Case) → SpellsC names condition bracketLimit ts (k .condition) → SpellsE names expression bracketLimit us (k .value) → SpellsCases names v (cased v ts us) (squared ts) (k ∷ [])
+  more-cases : (ts us cs ls : Tokens) (k : Case) (ks : List Case) → SpellsC names condition bracketLimit ts (k .condition) → SpellsE names expression bracketLimit us (k .value) → SpellsCases names v cs ls ks → SpellsCases names v (cased v ts us ++ bytes "|" ∷ cs) (squared ts ++ bytes "|" ∷ ls) (k ∷ ks)
+
+-- `[c] | [c]`
+pub data SpellsList (names : List (List ℕ)) : Tokens → List Condition → Type 0 where
+  one-listed : (ts : Tokens) (c : Condition) → SpellsC names condition bracketLimit ts c → SpellsList names (squared ts) (c ∷ [])
+  more-listed : (ts ls : Tokens) (c : Condition) (cs : List Condition) → SpellsC names condition bracketLimit ts c → SpellsList names ls cs → SpellsList names (squared ts ++ bytes "|" ∷ ls) (c ∷ cs)
+
+-- A change formula, `v: GX(~(v = _v) -> [c] & v = (e) | [c] & v = (e));`, is followed directly by its no-change formula,
+-- `v: GX(v = _v -> ~([c] | [c]));`.
+abbrev pub changeForm : List ℕ → Tokens → Tokens → Tokens
+changeForm v cases list =
+    v ∷ bytes ":" ∷ bytes "GX" ∷ bytes "(" ∷ bytes "~" ∷ bytes "(" ∷ v ∷ bytes "=" ∷ (bytes "_" ++ v) ∷ bytes ")" ∷ bytes "->" ∷ cases ++ bytes ")" ∷ bytes ";"
+    ∷ v ∷ bytes ":" ∷ bytes "GX" ∷ bytes "(" ∷ v ∷ bytes "=" ∷ (bytes "_" ++ v) ∷ bytes "->" ∷ bytes "~" ∷ bytes "(" ∷ list ++ bytes ")" ∷ bytes ")" ∷ bytes ";" ∷ []
+
+-- Or a function: `v: GX(v = (e));`
+abbrev pub functionForm : List ℕ → Tokens → Tokens
+functionForm v e = v ∷ bytes ":" ∷ bytes "GX" ∷ bytes "(" ∷ v ∷ bytes "=" ∷ bytes "(" ∷ e ++ bytes ")" ∷ bytes ")" ∷ bytes ";" ∷ []
+
+-- A rule of the variable v, whose id is i.
+pub data SpellsR (names : List (List ℕ)) : Tokens → Rule → Type 0 where
+  -- with 1 to 32 cases, both lists of conditions equal token by token in spelling
+  a-change : (v : List ℕ) (i : ℕ) (ts ls : Tokens) (ks : List Case) (cs : List Condition) → getElem? names i ≡ some v → SpellsCases names v ts ls ks → length ks ≤ caseLimit → SpellsList names ls cs → SpellsR names (changeForm v ts ls) (change i ks cs)
+  a-function : (v : List ℕ) (i : ℕ) (ts : Tokens) (e : Expression) → getElem? names i ≡ some v → SpellsE names expression bracketLimit ts e → SpellsR names (functionForm v ts) (function i e)
+
+pub data SpellsRules (names : List (List ℕ)) : Tokens → List Rule → Type 0 where
+  none : SpellsRules names [] []
+  more : (ts us : Tokens) (r : Rule) (rs : List Rule) → SpellsR names ts r → SpellsRules names us rs → SpellsRules names (ts ++ us) (r ∷ rs)
+
+-- ---- the text
+
+abbrev pub namesOf : Program → List (List ℕ)
+namesOf p = map (λ x. x .spelling) (p .names)
+
+pub record Spelled (text : List ℕ) (p : Program) : Type 0 where
+  -- At most 32,768 bytes.
+  pub short : length text ≤ textLimit
+  -- All inputs, then all variables. Then the rules.
+  pub input-tokens : Tokens
+  pub variable-tokens : Tokens
+  pub rule-tokens : Tokens
+  pub tokens : TokensOf text (input-tokens ++ variable-tokens ++ rule-tokens)
+  pub inputs : List Name
+  pub variables : List Name
+  pub declares-inputs : DeclareAll (bytes "input") input-tokens inputs
+  pub declares-variables : DeclareAll (bytes "var") variable-tokens variables
+  pub names : p .names ≡ inputs ++ variables
+  pub input-count : p .inputs ≡ length inputs
+  pub distinct : Distinct (namesOf p)
+  -- At most 64 names in all.
+  pub few : length (p .names) ≤ nameLimit
+  pub spells-rules : SpellsRules (namesOf p) rule-tokens (p .rules)
+  -- The rules are in the order of work; every variable has exactly one. A current value is used only for inputs and for variables
+  -- whose rule stands earlier; a previous value for any name.
+  pub ordered : Ordered p
