@@ -67,7 +67,7 @@ module _ (text : List ℕ) where
     pub inputs-few : (inputs : List Name) (n1 : ℕ) → declarations inputWord text [] 0 ≡ accepted inputs n1 → (length inputs ≤ nameLimit) × (n1 ≤ length text) × (2 * length (header inputs) ≤ 3 * n1)
     unfolding declarations header
     inputs-few inputs n1 e =
-        let g = subst (Ends (length text) (Names text 0)) e (declarations-fit text 65 inputWord [] 0 0 (omega arith) (tt, omega arith, omega arith)) in
+        let g = subst (Ends (length text) (Names text 0)) e (declarations-fit text 65 inputWord [] 0 0 (omega arith) (tt, omega arith, omega arith, tt)) in
         let p = subst (Pays (λ (l : List Name). length (header l)) (length text) 0) e (declarations-pay text 65 inputWord [] 0 (omega arith) (omega arith)) in
         (g .0 .1, g .1, omega (arith, p .0))
 
@@ -75,9 +75,9 @@ module _ (text : List ℕ) where
         → (length names ≤ nameLimit) × (length inputs ≤ length names) × (n2 ≤ length text) × (2 * length (header names) ≤ 3 * n2)
     unfolding declarations header
     names-few inputs names n1 n2 e f =
-        let g1 = subst (Ends (length text) (Names text 0)) e (declarations-fit text 65 inputWord [] 0 0 (omega arith) (tt, omega arith, omega arith)) in
+        let g1 = subst (Ends (length text) (Names text 0)) e (declarations-fit text 65 inputWord [] 0 0 (omega arith) (tt, omega arith, omega arith, tt)) in
         let p1 = subst (Pays (λ (l : List Name). length (header l)) (length text) 0) e (declarations-pay text 65 inputWord [] 0 (omega arith) (omega arith)) in
-        let g2 = subst (Ends (length text) (Names text (length inputs))) f (declarations-fit text 65 varWord inputs n1 (length inputs) (g1 .1) (g1 .0 .0, g1 .0 .1, le-refl (length inputs))) in
+        let g2 = subst (Ends (length text) (Names text (length inputs))) f (declarations-fit text 65 varWord inputs n1 (length inputs) (g1 .1) (g1 .0 .0, g1 .0 .1, le-refl (length inputs), g1 .0 .3)) in
         let p2 = subst (Pays (λ (l : List Name). length (header l)) (length text) 0) f (declarations-pay text 65 varWord inputs n1 (g1 .1) (omega (arith, p1 .0))) in
         (g2 .0 .1, g2 .0 .2, g2 .1, omega (arith, p2 .0))
 
