@@ -15,7 +15,7 @@ plain-list-requires c κs = search needs
 
 -- src/lib.rt:211:9
 compare-lists-requires : tie.Need-compare-lists-requires
-compare-lists-requires c κs = (c .before .before .before .before .before .before .pre .1 .1, ?)
+compare-lists-requires c κs = c .before .before .before .before .before .before .pre .1 .1
 
 -- src/lib.rt:212:5
 settled-requires : tie.Need-settled-requires

@@ -1,0 +1,222 @@
+use borrow.Author.Needs.{needs}
+use Rattle.rules.proofs.change.Statement.{statement}
+use Rattle.rules.proofs.change.Tie as tie
+use Rattle.rules.proofs.change.Reads as reads
+use Rattle.rules.proofs.change.Lts as lts
+use Rattle.cases.proofs.agreeing_list.Reads as agreeing-list-reads
+use Rattle.cases.proofs.cases.Reads as cases-reads
+use Rattle.cases.proofs.put.Reads as put-reads
+use Rattle.cases.proofs.unexpected.Reads as unexpected-reads
+use Rattle.phrases.proofs.change_opening.Reads as change-opening-reads
+use Rattle.phrases.proofs.formula_closing.Reads as formula-closing-reads
+use Rattle.phrases.proofs.no_change_opening.Reads as no-change-opening-reads
+
+-- src/lib.rt:59:9
+change-opening-requires : tie.Need-change-opening-requires
+change-opening-requires c κs = search needs
+
+-- src/lib.rt:60:25
+enum-known-opened : tie.Need-enum-known-opened
+enum-known-opened c = search needs
+
+-- src/lib.rt:61:9
+enum-told : tie.Need-enum-told
+enum-told c = search needs
+
+-- src/lib.rt:61:9
+unexpected-requires : tie.Need-unexpected-requires
+unexpected-requires c κs = search needs
+
+-- src/lib.rt:61:9
+returns : tie.Need-returns
+returns c = ?
+
+-- src/lib.rt:63:9
+cases-requires : tie.Need-cases-requires
+cases-requires c κs = ?
+
+-- src/lib.rt:64:20
+enum-known-listed : tie.Need-enum-known-listed
+enum-known-listed c = search needs
+
+-- src/lib.rt:65:9
+enum-told-2 : tie.Need-enum-told-2
+enum-told-2 c = search needs
+
+-- src/lib.rt:65:9
+same-length : tie.Need-same-length
+same-length c = search needs
+
+-- src/lib.rt:65:9
+same-length-2 : tie.Need-same-length-2
+same-length-2 c = search needs
+
+-- src/lib.rt:65:9
+same-length-3 : tie.Need-same-length-3
+same-length-3 c = search needs
+
+-- src/lib.rt:65:9
+returns-2 : tie.Need-returns-2
+returns-2 c = ?
+
+-- src/lib.rt:67:9
+no-change-opening-requires : tie.Need-no-change-opening-requires
+no-change-opening-requires c κs = search needs
+
+-- src/lib.rt:68:25
+enum-known-next : tie.Need-enum-known-next
+enum-known-next c = search needs
+
+-- src/lib.rt:69:9
+enum-told-3 : tie.Need-enum-told-3
+enum-told-3 c = search needs
+
+-- src/lib.rt:69:9
+unexpected-requires-2 : tie.Need-unexpected-requires-2
+unexpected-requires-2 c κs = search needs
+
+-- src/lib.rt:69:9
+same-length-4 : tie.Need-same-length-4
+same-length-4 c = search needs
+
+-- src/lib.rt:69:9
+same-length-5 : tie.Need-same-length-5
+same-length-5 c = search needs
+
+-- src/lib.rt:69:9
+same-length-6 : tie.Need-same-length-6
+same-length-6 c = search needs
+
+-- src/lib.rt:69:9
+returns-3 : tie.Need-returns-3
+returns-3 c = ?
+
+-- src/lib.rt:71:9
+agreeing-list-requires : tie.Need-agreeing-list-requires
+agreeing-list-requires c κs = ?
+
+-- src/lib.rt:72:25
+enum-known-agreed : tie.Need-enum-known-agreed
+enum-known-agreed c = search needs
+
+-- src/lib.rt:73:9
+enum-told-4 : tie.Need-enum-told-4
+enum-told-4 c = search needs
+
+-- src/lib.rt:73:9
+unexpected-requires-3 : tie.Need-unexpected-requires-3
+unexpected-requires-3 c κs = search needs
+
+-- src/lib.rt:73:9
+same-length-7 : tie.Need-same-length-7
+same-length-7 c = search needs
+
+-- src/lib.rt:73:9
+same-length-8 : tie.Need-same-length-8
+same-length-8 c = search needs
+
+-- src/lib.rt:73:9
+same-length-9 : tie.Need-same-length-9
+same-length-9 c = search needs
+
+-- src/lib.rt:73:9
+returns-4 : tie.Need-returns-4
+returns-4 c = ?
+
+-- src/lib.rt:75:9
+formula-closing-requires : tie.Need-formula-closing-requires
+formula-closing-requires c κs = search needs
+
+-- src/lib.rt:76:25
+enum-known-closed : tie.Need-enum-known-closed
+enum-known-closed c = search needs
+
+-- src/lib.rt:77:9
+enum-told-5 : tie.Need-enum-told-5
+enum-told-5 c = search needs
+
+-- src/lib.rt:77:9
+unexpected-requires-4 : tie.Need-unexpected-requires-4
+unexpected-requires-4 c κs = search needs
+
+-- src/lib.rt:77:9
+same-length-10 : tie.Need-same-length-10
+same-length-10 c = search needs
+
+-- src/lib.rt:77:9
+same-length-11 : tie.Need-same-length-11
+same-length-11 c = search needs
+
+-- src/lib.rt:77:9
+same-length-12 : tie.Need-same-length-12
+same-length-12 c = search needs
+
+-- src/lib.rt:77:9
+returns-5 : tie.Need-returns-5
+returns-5 c = ?
+
+-- src/lib.rt:79:19
+put-requires : tie.Need-put-requires
+put-requires c κs = ?
+
+-- src/lib.rt:52:1
+same-length-13 : tie.Need-same-length-13
+same-length-13 c = search needs
+
+-- src/lib.rt:52:1
+same-length-14 : tie.Need-same-length-14
+same-length-14 c = search needs
+
+-- src/lib.rt:52:1
+same-length-15 : tie.Need-same-length-15
+same-length-15 c = search needs
+
+-- src/lib.rt:52:1
+returns-6 : tie.Need-returns-6
+returns-6 c = ?
+
+pub change-spec : {M : Type 1} → statement M
+change-spec =
+    tie.close
+    (tie.spec
+    change-opening-requires
+    enum-known-opened
+    enum-told
+    unexpected-requires
+    returns
+    cases-requires
+    enum-known-listed
+    enum-told-2
+    same-length
+    same-length-2
+    same-length-3
+    returns-2
+    no-change-opening-requires
+    enum-known-next
+    enum-told-3
+    unexpected-requires-2
+    same-length-4
+    same-length-5
+    same-length-6
+    returns-3
+    agreeing-list-requires
+    enum-known-agreed
+    enum-told-4
+    unexpected-requires-3
+    same-length-7
+    same-length-8
+    same-length-9
+    returns-4
+    formula-closing-requires
+    enum-known-closed
+    enum-told-5
+    unexpected-requires-4
+    same-length-10
+    same-length-11
+    same-length-12
+    returns-5
+    put-requires
+    same-length-13
+    same-length-14
+    same-length-15
+    returns-6)
