@@ -1,3 +1,19 @@
+use mathlib.Core.Path.{_≡_, refl, sym, subst}
+use mathlib.Core.List.{[]}
+use Prim.Native.Nat.{ℕ}
+use native.Mathlib.Omega.{arith}
+use lib.ListN.{length}
+use Rattle.limits.specs.Limits.{caseLimit}
+use Rattle.lexer.specs.Token.{is, kindNumber}
+use Rattle.semantics.specs.Program as Program
+use Rattle.grammar.specs.Rules.{casesOf}
+use Rattle.grammar.proofs.Growth.{Kept, phrase-kept}
+use Rattle.expressions.proofs.Scopes.{few-names}
+use Rattle.phrases.specs.Forms.{changeOpening, noChangeOpening}
+use Rattle.agreement.specs.Spans.{Spans}
+use Rattle.cases.proofs.Parts.{got, writes, not-expected, not-part, found, placed}
+use Rattle.cases.proofs.Ways.{room-phrase, place-refused}
+use Rattle.rules.proofs.Ways.{change-unopened, cases-refused, no-change-unopened, list-refused, change-unclosed, change-accepted, change-bytes, change-length, room-cases, room-list, told-spans, told-listed}
 use borrow.Author.Needs.{needs}
 use Rattle.rules.proofs.change.Statement.{statement}
 use Rattle.rules.proofs.change.Tie as tie
@@ -29,11 +45,15 @@ unexpected-requires c κs = search needs
 
 -- src/lib.rt:61:9
 returns : tie.Need-returns
-returns c = ?
+returns c = not-expected (c .unexpected .ensures) (c .before .before .before .change-opening .ensures) (c .before .enum-told .given .1) (change-unopened _ _ _ _)
 
 -- src/lib.rt:63:9
 cases-requires : tie.Need-cases-requires
-cases-requires c κs = ?
+unfolding is kindNumber
+cases-requires c κs = 
+    let p = found (c .before .before .before .before .before .before .change-opening .ensures) (c .before .before .before .before .opened .given .1) in
+    let r = room-phrase {u = c .before .before .before .before .before .before .before .before .before .before .before .before .before .args .to} (changeOpening _) (refl, (refl, (refl, (refl, tt)))) (c .before .before .before .before .before .before .before .before .before .before .before .before .before .pre .1 .0) p (omega arith) in
+    (c .before .before .before .before .before .before .before .before .before .before .before .before .before .pre .0, (r, (c .before .before .before .before .before .before .before .before .before .before .before .before .before .pre .1 .1 .0, (c .before .before .before .before .before .before .before .before .before .before .before .before .before .pre .1 .1 .1 .in-from, c .before .before .before .before .before .before .before .before .before .before .before .before .before .pre .1 .1 .1 .in-upto))))
 
 -- src/lib.rt:64:20
 enum-known-listed : tie.Need-enum-known-listed
@@ -57,7 +77,9 @@ same-length-3 c = search needs
 
 -- src/lib.rt:65:9
 returns-2 : tie.Need-returns-2
-returns-2 c = ?
+returns-2 c = 
+    let p = found (c .before .before .before .before .before .before .before .before .before .before .before .before .before .before .before .change-opening .ensures) (c .before .before .before .before .before .before .before .before .before .before .before .before .before .opened .given .1) in
+    not-part (c .before .before .before .before .before .before .before .before .cases .ensures .0) (c .enum-told2 .given .1) (cases-refused _ _ _ _ p)
 
 -- src/lib.rt:67:9
 no-change-opening-requires : tie.Need-no-change-opening-requires
@@ -89,11 +111,21 @@ same-length-6 c = search needs
 
 -- src/lib.rt:69:9
 returns-3 : tie.Need-returns-3
-returns-3 c = ?
+returns-3 c = 
+    let p = found (c .before .before .before .before .before .before .before .before .before .before .before .before .before .before .before .before .before .before .before .before .change-opening .ensures) (c .before .before .before .before .before .before .before .before .before .before .before .before .before .before .before .before .before .before .opened .given .1) in
+    let g = got (c .before .before .before .before .before .before .before .before .before .before .before .before .before .cases .ensures .0) (c .before .before .before .before .before .listed .given .1) in
+    not-expected (c .unexpected2 .ensures) (c .before .before .before .no-change-opening .ensures) (c .before .enum-told3 .given .1) (no-change-unopened _ _ _ _ p (g .is))
 
 -- src/lib.rt:71:9
 agreeing-list-requires : tie.Need-agreeing-list-requires
-agreeing-list-requires c κs = ?
+unfolding is kindNumber
+agreeing-list-requires c κs = 
+    let p = found (c .before .before .before .before .before .before .before .before .before .before .before .before .before .before .before .before .before .before .before .before .before .before .change-opening .ensures) (c .before .before .before .before .before .before .before .before .before .before .before .before .before .before .before .before .before .before .before .before .opened .given .1) in
+    let r = room-phrase {u = c .before .before .before .before .before .before .before .before .before .before .before .before .before .before .before .before .before .before .before .before .before .before .before .before .before .before .before .before .before .args .to} (changeOpening _) (refl, (refl, (refl, (refl, tt)))) (c .before .before .before .before .before .before .before .before .before .before .before .before .before .before .before .before .before .before .before .before .before .before .before .before .before .before .before .before .before .pre .1 .0) p (omega arith) in
+    let g = got (c .before .before .before .before .before .before .before .before .before .before .before .before .before .before .before .cases .ensures .0) (c .before .before .before .before .before .before .before .listed .given .1) in
+    let q = found (c .before .before .before .before .before .no-change-opening .ensures) (c .before .before .before .next .given .1) in
+    let rc = room-cases _ _ _ _ _ (few-names _ (c .before .before .before .before .before .before .before .before .before .before .before .before .before .before .before .before .before .before .before .before .before .before .before .before .before .before .before .before .before .pre .0)) (c .before .before .before .before .before .before .before .before .before .before .before .before .before .before .before .before .before .before .before .before .before .before .before .before .before .before .before .before .before .pre .1 .1 .0) r g in
+    (c .before .before .before .before .before .before .before .before .before .before .before .before .before .before .before .before .before .before .before .before .before .before .before .before .before .before .before .before .before .pre .0, (room-list (noChangeOpening _) rc q, told-spans _ _ _ _ _ (c .before .before .before .before .before .before .before .before .before .before .before .before .before .before .before .cases .ensures .1) g))
 
 -- src/lib.rt:72:25
 enum-known-agreed : tie.Need-enum-known-agreed
@@ -121,7 +153,12 @@ same-length-9 c = search needs
 
 -- src/lib.rt:73:9
 returns-4 : tie.Need-returns-4
-returns-4 c = ?
+returns-4 c = 
+    let p = found (c .before .before .before .before .before .before .before .before .before .before .before .before .before .before .before .before .before .before .before .before .before .before .before .before .before .before .change-opening .ensures) (c .before .before .before .before .before .before .before .before .before .before .before .before .before .before .before .before .before .before .before .before .before .before .before .before .opened .given .1) in
+    let g = got (c .before .before .before .before .before .before .before .before .before .before .before .before .before .before .before .before .before .before .before .cases .ensures .0) (c .before .before .before .before .before .before .before .before .before .before .before .listed .given .1) in
+    let q = found (c .before .before .before .before .before .before .before .before .before .no-change-opening .ensures) (c .before .before .before .before .before .before .before .next .given .1) in
+    let l = c .before .before .before .agreeing-list .ensures (g .tree) (told-listed _ _ _ _ _ (c .before .before .before .before .before .before .before .before .before .before .before .before .before .before .before .before .before .before .before .cases .ensures .1) g) in
+    not-expected (c .unexpected3 .ensures) l (c .before .enum-told4 .given .1) (λ e. list-refused _ _ _ _ p (g .is) q (place-refused _ e))
 
 -- src/lib.rt:75:9
 formula-closing-requires : tie.Need-formula-closing-requires
@@ -153,11 +190,23 @@ same-length-12 c = search needs
 
 -- src/lib.rt:77:9
 returns-5 : tie.Need-returns-5
-returns-5 c = ?
+returns-5 c = 
+    let p = found (c .before .before .before .before .before .before .before .before .before .before .before .before .before .before .before .before .before .before .before .before .before .before .before .before .before .before .before .before .before .before .change-opening .ensures) (c .before .before .before .before .before .before .before .before .before .before .before .before .before .before .before .before .before .before .before .before .before .before .before .before .before .before .before .before .opened .given .1) in
+    let g = got (c .before .before .before .before .before .before .before .before .before .before .before .before .before .before .before .before .before .before .before .before .before .before .before .cases .ensures .0) (c .before .before .before .before .before .before .before .before .before .before .before .before .before .before .before .listed .given .1) in
+    let q = found (c .before .before .before .before .before .before .before .before .before .before .before .before .before .no-change-opening .ensures) (c .before .before .before .before .before .before .before .before .before .before .before .next .given .1) in
+    let l = c .before .before .before .before .before .before .before .agreeing-list .ensures (g .tree) (told-listed _ _ _ _ _ (c .before .before .before .before .before .before .before .before .before .before .before .before .before .before .before .before .before .before .before .before .before .before .before .cases .ensures .1) g) in
+    let a = placed _ (found l (c .before .before .before .before .before .agreed .given .1)) in
+    not-expected (c .unexpected4 .ensures) (c .before .before .before .formula-closing .ensures) (c .before .enum-told5 .given .1) (change-unclosed _ _ _ _ p (g .is) q (a .is))
 
 -- src/lib.rt:79:19
 put-requires : tie.Need-put-requires
-put-requires c κs = ?
+unfolding is kindNumber
+put-requires c κs = 
+    let p = found (c .before .before .before .before .before .before .before .before .before .before .before .before .before .before .before .before .before .before .before .before .before .before .before .before .before .before .before .before .before .before .before .change-opening .ensures) (c .before .before .before .before .before .before .before .before .before .before .before .before .before .before .before .before .before .before .before .before .before .before .before .before .before .before .before .before .before .opened .given .1) in
+    let r = room-phrase {u = c .before .before .before .before .before .before .before .before .before .before .before .before .before .before .before .before .before .before .before .before .before .before .before .before .before .before .before .before .before .before .before .before .before .before .before .before .before .before .args .to} (changeOpening _) (refl, (refl, (refl, (refl, tt)))) (c .before .before .before .before .before .before .before .before .before .before .before .before .before .before .before .before .before .before .before .before .before .before .before .before .before .before .before .before .before .before .before .before .before .before .before .before .before .before .pre .1 .0) p (omega arith) in
+    let g = got (c .before .before .before .before .before .before .before .before .before .before .before .before .before .before .before .before .before .before .before .before .before .before .before .before .cases .ensures .0) (c .before .before .before .before .before .before .before .before .before .before .before .before .before .before .before .before .listed .given .1) in
+    let rc = room-cases _ _ _ _ _ (few-names _ (c .before .before .before .before .before .before .before .before .before .before .before .before .before .before .before .before .before .before .before .before .before .before .before .before .before .before .before .before .before .before .before .before .before .before .before .before .before .before .pre .0)) (c .before .before .before .before .before .before .before .before .before .before .before .before .before .before .before .before .before .before .before .before .before .before .before .before .before .before .before .before .before .before .before .before .before .before .before .before .before .before .pre .1 .1 .0) r g in
+    (omega arith, c .before .before .before .before .before .before .before .before .before .before .before .before .before .before .before .before .before .before .before .before .before .before .before .before .before .before .before .before .before .before .before .before .before .before .before .before .before .before .pre .1 .1 .0)
 
 -- src/lib.rt:52:1
 same-length-13 : tie.Need-same-length-13
@@ -173,7 +222,17 @@ same-length-15 c = search needs
 
 -- src/lib.rt:52:1
 returns-6 : tie.Need-returns-6
-returns-6 c = ?
+returns-6 c = 
+    let p = found (c .before .before .before .before .before .before .before .before .before .before .before .before .before .before .before .before .before .before .before .before .before .before .before .before .before .before .before .before .before .before .before .before .before .before .change-opening .ensures) (c .before .before .before .before .before .before .before .before .before .before .before .before .before .before .before .before .before .before .before .before .before .before .before .before .before .before .before .before .before .before .before .before .opened .given .1) in
+    let g = got (c .before .before .before .before .before .before .before .before .before .before .before .before .before .before .before .before .before .before .before .before .before .before .before .before .before .before .before .cases .ensures .0) (c .before .before .before .before .before .before .before .before .before .before .before .before .before .before .before .before .before .before .before .listed .given .1) in
+    let q = found (c .before .before .before .before .before .before .before .before .before .before .before .before .before .before .before .before .before .no-change-opening .ensures) (c .before .before .before .before .before .before .before .before .before .before .before .before .before .before .before .next .given .1) in
+    let l = c .before .before .before .before .before .before .before .before .before .before .before .agreeing-list .ensures (g .tree) (told-listed _ _ _ _ _ (c .before .before .before .before .before .before .before .before .before .before .before .before .before .before .before .before .before .before .before .before .before .before .before .before .before .before .before .cases .ensures .1) g) in
+    let a = placed _ (found l (c .before .before .before .before .before .before .before .before .before .agreed .given .1)) in
+    let z = found (c .before .before .before .before .before .before .before .formula-closing .ensures) (c .before .before .before .before .before .closed .given .1) in
+    writes (record {
+      tree = Program.change (c .before .before .before .before .before .before .before .before .before .before .before .before .before .before .before .before .before .before .before .before .before .before .before .before .before .before .before .before .before .before .before .before .before .before .before .before .before .before .before .before .before .args .w .id) (casesOf (g .tree)) (a .tree); is = change-accepted _ _ _ _ p (g .is) q (a .is) z;
+      ended = change-length (c .before .before .before .before .before .before .before .before .before .before .before .before .before .before .before .before .before .before .before .before .before .before .before .before .before .before .before .before .before .before .before .before .before .before .before .before .before .before .before .before .before .args .to) (c .before .before .before .before .before .before .before .before .before .before .before .before .before .before .before .before .before .before .before .before .before .before .before .before .before .before .before .before .before .before .before .before .before .before .before .before .before .before .before .before .before .args .w .id) (g .tree) (a .tree) (g .ended) (c .before .before .put .ensures .0); told = refl;
+      wrote = change-bytes (c .before .before .before .before .before .before .before .before .before .before .before .before .before .before .before .before .before .before .before .before .before .before .before .before .before .before .before .before .before .before .before .before .before .before .before .before .before .before .before .before .before .args .out .now) (c .before .before .before .before .before .before .before .before .before .before .before .before .before .before .before .before .before .before .before .before .before .before .before .before .before .before .before .before .before .before .before .before .before .before .before .before .before .before .before .before .before .args .to) (c .before .before .before .before .before .before .before .before .before .before .before .before .before .before .before .before .before .before .before .before .before .before .before .before .before .before .before .before .before .before .before .before .before .before .before .before .before .before .before .before .before .args .w .id) (g .tree) (a .tree) (g .ended) (g .wrote) (c .before .before .put .ensures .1) })
 
 pub change-spec : {M : Type 1} → statement M
 change-spec =
