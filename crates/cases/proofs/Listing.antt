@@ -35,6 +35,10 @@ pub record Found (text : List ℕ) (at k s n : ℕ) : Type 0 where
 pub found-token : (text : List ℕ) (at : ℕ) {t : Token} {k s n : ℕ} → Answers text at t → t ≡ Is k s n → Found text at k s n
 found-token text at {t} {k} {s} {n} a e = let f = is-token text at t a k s n e in record { read = f .0; lies = f .1 }
 
+-- behind it there is as much room
+pub room-token : {text : List ℕ} {at t k s n : ℕ} → Room text at t → Found text at k s n → Room text n t
+room-token r f = record { short = r .short; within = f .lies .within (r .within); room = omega (arith, r .room, f .lies .after, f .lies .ordered) }
+
 -- ---- a list with `left` conditions left to read
 
 module _ (sc : Scope) (done : List Condition) (a : ℕ) where

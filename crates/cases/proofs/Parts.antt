@@ -101,3 +101,17 @@ module _ {A B : Type 0} (text : List ℕ) (f : A → ℕ → Parsed B) (g : (a :
       go (token w s m) i d = never d
       go (fault p) i d = g a n p i ∙ same-refusal d
   behind-refused (refused l r) e = same-refusal (e .looked)
+
+-- a part under another name
+pub reads-as : {A : Type 0} {bytes : A → List ℕ} {tells : A → ℕ} {p q : Parsed A} {to : ℕ} {before after : List ℕ} {r : Part} → q ≡ p → Writes bytes tells p to before after r → Writes bytes tells q to before after r
+reads-as {bytes = bytes} {tells = tells} {to = to} {before = before} {after = after} {r = r} e c = subst (λ (x : Parsed _). Writes bytes tells x to before after r) (sym e) c
+
+-- what was read, of which only the place is known
+pub record Placed {A : Type 0} (p : Parsed A) (n : ℕ) : Type 0 where
+  pub tree : A
+  pub is : p ≡ accepted tree n
+
+pub placed : {A : Type 0} (p : Parsed A) {n : ℕ} → placeOnly p ≡ accepted tt n → Placed p n
+unfolding placeOnly
+placed (accepted a m) e = record { tree = a; is = ap (accepted a) (same-end e) }
+placed (refused k q) e = never (sym e)
