@@ -11,7 +11,7 @@ use lib.ListN.{length, getD, drop}
 use lib.Seq.{drop-cons}
 use borrow.Author.Tests.{lt-ltb, le-ltb, ltb-true, ltb-false}
 use Rattle.lexer.specs.Bytes.{pick}
-use Rattle.lexer.specs.Token.{Kind, closeRound, bar, is, Read, token, fault}
+use Rattle.lexer.specs.Token.{Kind, closeRound, bar, is, token, fault}
 use Rattle.lexer.specs.Lexer.{tokenAt, sameToken}
 use Rattle.lexer.specs.Results.{kindOf}
 use Rattle.lexer.proofs.Laws.{pick-prop}

@@ -2,25 +2,25 @@
 use mathlib.Core.Path.{_≡_, refl, sym, ap, _∙_}
 use mathlib.Core.Bool.{Bool, true, false, _&&_, false≢true}
 use mathlib.Core.List.{List}
-use mathlib.Core.Option.{Option, none, some}
-use Prim.Native.Nat.{ℕ, zero, suc, _+_, _^_, _≤_, _<_, min}
+use mathlib.Core.Option.{none, some}
+use Prim.Native.Nat.{ℕ, zero, suc, _^_, _≤_, _<_, min}
 use native.Mathlib.Nat.{min-eq-left, min-eq-right}
 use native.Mathlib.Omega.{arith}
-use lib.Dec.{T, leb}
-use lib.IntN.{ℤ, pos, negsuc, negℤ}
+use lib.Dec.{leb}
+use lib.IntN.{ℤ, pos}
 use lib.Signed.{mag, leZ}
 use borrow.Author.Tests.{leb-true, leb-false}
 use mir.Syntax.{w32}
 use mir.Val.{SFits}
 use Rattle.limits.specs.Limits.{noToken, notAllowed, outOfLimit}
-use Rattle.arith.specs.Values.{isInt32, lowest, highest}
+use Rattle.arith.specs.Values.{isInt32}
 use Rattle.arith.proofs.Basics.{T-true}
 use Rattle.arith.proofs.Laws.{fits-int32}
 use Rattle.lexer.specs.Bytes.{pick, part}
-use Rattle.lexer.specs.Token.{Kind, digits, initWord, semicolon, minus, is, Read, token, fault}
+use Rattle.lexer.specs.Token.{Kind, digits, initWord, semicolon, minus, is, token, fault}
 use Rattle.lexer.specs.Lexer.{tokenAt, valueOf}
 use Rattle.lexer.proofs.Laws.{pick-prop}
-use Rattle.grammar.specs.Parsed.{Parsed, accepted, refused, onToken, sign, expected, phrase, followed}
+use Rattle.grammar.specs.Parsed.{Parsed, accepted, refused, sign, expected, phrase, followed}
 use Rattle.grammar.specs.Declarations.{inRange, signedAt, boundAt, startAt}
 use Rattle.lexer.specs.declared.Token.{Token}
 use Rattle.lexer.specs.declared.Token.the-variants.{Fault}

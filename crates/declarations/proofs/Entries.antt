@@ -3,10 +3,7 @@ use mathlib.Core.Path.{_≡_, refl, sym, ap, _∙_}
 use mathlib.Core.List.{List, [], _∷_, _++_}
 use Prim.Native.Nat.{ℕ, _+_, _≤_, _<_}
 use native.Mathlib.Omega.{arith}
-use lib.IntN.{ℤ}
 use lib.ListN.{length, length-append}
-use lib.Seq.{sets}
-use Rattle.lexer.specs.Names.{namesOf}
 use Rattle.semantics.specs.Program.{Name, Range}
 use Rattle.grammar.specs.Parsed.{Parsed, accepted, refused, andThen}
 use Rattle.grammar.specs.Declarations.{spellings, newName, declaration}
@@ -20,11 +17,7 @@ use Rattle.declarations.specs.Post.{Holds, Writes, Names, Declares}
 use Rattle.declarations.specs.declared.Step.{Step}
 use Rattle.declarations.specs.declared.Step.the-variants.{Done, Refused}
 use Rattle.declarations.proofs.Numbers.{range-bytes}
-use Rattle.declarations.proofs.Ranges.{refuses}
-
-then-then : {A B C : Type 0} (p : Parsed A) (f : A → ℕ → Parsed B) (g : B → ℕ → Parsed C) → andThen (andThen p f) g ≡ andThen p (λ a n. andThen (f a n) g)
-then-then (accepted a n) f g = refl
-then-then (refused k q) f g = refl
+use Rattle.declarations.proofs.Steps.{never, then-then, After, after, refused-then, refuses}
 
 -- the name with spelling w
 abbrev spelledAs : List ℕ → Range → Name
@@ -39,19 +32,6 @@ no-new-name text names at k p e = rw e
 named-range : (text : List ℕ) (names : List Name) (at : ℕ) (w : List ℕ) (n : ℕ) → newName text names at ≡ accepted w n → declaration text names at ≡ andThen (rangeAt text n) (λ r m. accepted (spelledAs w r) m)
 unfolding declaration rangeAt
 named-range text names at w n e = rw e (simp then-then)
-
--- ---- what a success tells
-
-abbrev pub After : {A B : Type 0} → (A → B) → Parsed A → B → ℕ → Type 0
-After {A} f p b n = (a : A) × (p ≡ accepted a n) × (b ≡ f a)
-
-pub after : {A B : Type 0} (f : A → B) (p : Parsed A) (b : B) (n : ℕ) → andThen p (λ a m. accepted (f a) m) ≡ accepted b n → After f p b n
-after f (accepted a m) b n e = let en : m ≡ n = cc in let eb : b ≡ f a = cc in (a, ap (λ (k : ℕ). accepted a k) en, eb)
-after f (refused k q) b n e = let z : _≡_ {A = ℕ} 0 1 = cc in absurd (omega arith)
-
-pub refused-then : {A B : Type 0} (f : A → B) (p : Parsed A) (k q : ℕ) → andThen p (λ a m. accepted (f a) m) ≡ refused k q → p ≡ refused k q
-refused-then f (accepted a m) k q e = let z : _≡_ {A = ℕ} 0 1 = cc in absurd (omega arith)
-refused-then f (refused r s) k q e = cc
 
 -- no more than fifteen bytes are written
 pub few-bytes : (p : Parsed Range) (to : ℕ) (before after' : List ℕ) (r : Step) (n t : ℕ) → Writes rangeBytes p to before after' r → r ≡ Done n t → t ≤ to + 15
@@ -68,9 +48,6 @@ spellings-more (y ∷ names) x = ap (λ (l : List (List ℕ)). y .spelling ∷ l
 step-refused : (k p n t : ℕ) {A : Type 0} → Refused k p ≡ Done n t → A
 step-refused k p n t h = let z : _≡_ {A = ℕ} 0 1 = cc in absurd (omega arith)
 
-never : {A B : Type 0} (k q n : ℕ) (a : A) → refused k q ≡ accepted a n → B
-never k q n a h = let z : _≡_ {A = ℕ} 0 1 = cc in absurd (omega arith)
-
 module _ (text starts ends : List ℕ) (at to count : ℕ) (before mid starts' ends' : List ℕ) where
   abbrev Answers : Step → Type 0
   Answers r = ((names : List Name) → Holds text starts ends count names → Declares text names at to count before mid starts' ends' r) × ((n t : ℕ) → r ≡ Done n t → (count < 64) × (t ≤ to + 15))
@@ -78,11 +55,12 @@ module _ (text starts ends : List ℕ) (at to count : ℕ) (before mid starts' e
   module _ {named : Expected} (h : (names : List Name) → Holds text starts ends count names → Names text names at count starts' ends' named) where
     pub unnamed : {k q : ℕ} {r : Step} → named ≡ E.Refused k q → r ≡ unexpectedStep named → Answers r
     unnamed {k} {q} g i =
-        let j = i ∙ ap unexpectedStep g in
-        (λ names held.
-        let e = no-new-name text names at k q (refused-then (λ (x : List ℕ). tt {0}) (newName text names at) k q (sym (h names held .answer) ∙ ap expectedOf g)) in
-        record { writes = refuses _ _ _ _ _ k q j e; named = λ x n f. never k q n x (sym e ∙ f) },
-        λ n t f. step-refused k q n t (sym j ∙ f))
+        let j = i ∙ ap unexpectedStep g in (
+          λ names held.
+              let e = no-new-name text names at k q (refused-then (λ (x : List ℕ). tt {0}) (newName text names at) k q (sym (h names held .answer) ∙ ap expectedOf g)) in
+              record { writes = refuses _ _ _ _ _ k q j e; named = λ x n f. never k q n x (sym e ∙ f) },
+          λ n t f. step-refused k q n t (sym j ∙ f),
+        )
 
     module _ {n : ℕ} (g : named ≡ E.After n) {r : Step} (w : Writes rangeBytes (rangeAt text n) to before mid r) where
       module _ (names : List Name) (held : Holds text starts ends count names) where
@@ -95,12 +73,17 @@ module _ (text starts ends : List ℕ) (at to count : ℕ) (before mid starts' e
         declared : Declares text names at to count before mid starts' ends' r
         unfolding header rangeBytes
         declared = record {
-            writes = record { answer = w .answer ∙ sym (ap (λ (p : Parsed Name). andThen p (λ x m. accepted (to + length (header (x ∷ []))) m)) is ∙ then-then (rangeAt text n) _ _);
-                wrote = λ x m f. let a = after (spelledAs (new .0)) (rangeAt text n) x m (sym is ∙ f) in rw (a .2) (w .wrote (a .0) m (a .1)) };
-            named = λ x m f.
-                let a = after (spelledAs (new .0)) (rangeAt text n) x m (sym is ∙ f) in
-                record { counted = simp length-append (omega (arith, held .counted));
-                    spelled = h names held .named (new .0) n (new .1) ∙ sym (spellings-more names x ∙ ap (λ (y : Name). spellings names ++ (y .spelling ∷ [])) (a .2)) } }
+          writes = record {
+            answer = w .answer ∙ sym (ap (λ (p : Parsed Name). andThen p (λ x m. accepted (to + length (header (x ∷ []))) m)) is ∙ then-then (rangeAt text n) _ _);
+            wrote = λ x m f. let a = after (spelledAs (new .0)) (rangeAt text n) x m (sym is ∙ f) in rw (a .2) (w .wrote (a .0) m (a .1));
+          };
+          named = λ x m f.
+              let a = after (spelledAs (new .0)) (rangeAt text n) x m (sym is ∙ f) in
+              record {
+                counted = simp length-append (omega (arith, held .counted));
+                spelled = h names held .named (new .0) n (new .1) ∙ sym (spellings-more names x ∙ ap (λ (y : Name). spellings names ++ (y .spelling ∷ [])) (a .2));
+              };
+        }
 
       pub entered : count < 64 → Answers r
       entered few = (declared, λ m t f. (few, few-bytes (rangeAt text n) to before mid r m t w f))

@@ -2,32 +2,31 @@
 use mathlib.Core.Path.{_≡_, refl, sym, ap, ap₂, subst, _∙_}
 use mathlib.Core.Bool.{true, false}
 use mathlib.Core.List.{List, [], _∷_, _++_, append-assoc, append-nil}
-use Prim.Native.Nat.{ℕ, zero, suc, _+_, _-_, _*_, _≤_, _<_}
+use Prim.Native.Nat.{ℕ, suc, _+_, _-_, _*_, _≤_, _<_}
 use native.Mathlib.Omega.{arith}
 use lib.ListN.{length, drop, length-append}
 use lib.Seq.{sets, drop-append-seam}
 use Rattle.limits.specs.Limits.{noToken}
-use Rattle.leb128.specs.Numbers.{number, zigzag}
-use Rattle.lexer.specs.Token.{Kind, is, Read, token, fault}
+use Rattle.lexer.specs.Token.{Kind, is, token, fault}
 use Rattle.lexer.specs.Lexer.{tokenAt}
 use Rattle.lexer.specs.declared.Token.{Token}
 use Rattle.lexer.specs.declared.Token.the-variants.{Fault}
 use Rattle.semantics.specs.Program.{Name}
-use Rattle.grammar.specs.Parsed.{Parsed, accepted, refused, andThen}
+use Rattle.grammar.specs.Parsed.{accepted, refused}
 use Rattle.grammar.specs.Declarations.{declaration, declarationsFrom, declarations}
 use Rattle.grammar.specs.Emitted.{header}
 use Rattle.phrases.specs.declared.Expected.{Expected}
 use Rattle.phrases.specs.Results.{faultOf}
-use Rattle.declarations.specs.Results.{stepOf, declaredOf, unexpectedStep, undeclared}
-use Rattle.declarations.specs.Post.{Room, Holds, Writes, Declares, headerAfter, DeclaresAll}
+use Rattle.declarations.specs.Results.{stepOf, unexpectedStep, undeclared}
+use Rattle.declarations.specs.Post.{Room, Holds, Declares, headerAfter, DeclaresAll, Few}
 use Rattle.declarations.specs.declared.Step.{Step}
 use Rattle.declarations.specs.declared.Step.the-variants as S
 use Rattle.declarations.specs.declared.Declared.{Declared}
 use Rattle.declarations.specs.declared.Declared.the-variants.{Until, Refused}
 use Rattle.declarations.proofs.Numbers.{sets-append}
-use Rattle.declarations.proofs.Entries.{after, refused-then}
+use Rattle.declarations.proofs.Steps.{never, same-value, after, refused-then}
 
-header-append : (l k : List Name) → header (l ++ k) ≡ header l ++ header k
+pub header-append : (l k : List Name) → header (l ++ k) ≡ header l ++ header k
 unfolding header
 header-append [] k = refl
 header-append (x ∷ l) k = simp append-assoc (rw (header-append l k))
@@ -63,30 +62,23 @@ pub record Going (word : Kind) (text : List ℕ) (names : List Name) (at to : �
   pub ended : t ≡ to + length (header new)
   pub wrote : after ≡ sets before to (header new)
 
-never : {A B : Type 0} (k q n : ℕ) (a : A) → refused k q ≡ accepted a n → B
-never k q n a h = let z : _≡_ {A = ℕ} 0 1 = cc in absurd (omega arith)
-
-same-names : (a b : List Name) (n m : ℕ) → accepted a n ≡ accepted b m → a ≡ b
-same-names a b n m e = cc
-
 module _ (word : Kind) (text : List ℕ) (names : List Name) (at to : ℕ) (before : List ℕ) where
   pub begins : (starts₀ ends₀ : List ℕ) (count : ℕ) → Holds text starts₀ ends₀ count names → Going word text names at to before starts₀ ends₀ before at count to
   unfolding declarations header
   begins starts₀ ends₀ count h = record {
-      fuel = 64;
-      enough = omega arith;
-      new = [];
-      held = rw append-nil h;
-      goes = rw append-nil;
-      ended = omega arith;
-      wrote = refl }
+    fuel = 64;
+    enough = omega arith;
+    new = [];
+    held = rw append-nil h;
+    goes = rw append-nil;
+    ended = omega arith;
+    wrote = refl;
+  }
 
   refuses : (after' starts ends : List ℕ) {r : Declared} (k p : ℕ) → r ≡ Refused k p → declarations word text names at ≡ refused k p → DeclaresAll word text names at to before after' starts ends r
   refuses after' starts ends k p h e = record { answer = rw (h, e); wrote = λ all n f. never k p n all (sym e ∙ f); named = λ all n f. never k p n all (sym e ∙ f) }
 
   module _ (starts ends after' : List ℕ) (a known t : ℕ) (g : Going word text names at to before starts ends after' a known t) where
-
-
     pub stops-fault : {read : Token} {x : Expected} {s : Step} {r : Declared} {p : ℕ} → read ≡ Fault p → x ≡ faultOf read → s ≡ unexpectedStep x → r ≡ undeclared s → tokenAt text a ≡ fault p → DeclaresAll word text names at to before after' starts ends r
     stops-fault {p = p} h i j l e = refuses after' starts ends noToken p (rw (l, j, i, h)) (g .goes ∙ turn-fault (g .fuel) word text (names ++ g .new) a p e)
 
@@ -97,9 +89,10 @@ module _ (word : Kind) (text : List ℕ) (names : List Name) (at to : ℕ) (befo
           let d = g .goes ∙ turn-end (g .fuel) word text (names ++ g .new) a k s n e f in
           let seam : drop (length names) (names ++ g .new) ≡ g .new = drop-append-seam names (g .new) in
           record {
-              answer = rw (d, seam, g .ended, g .held .counted);
-              wrote = λ all m i. rw (← same-names (names ++ g .new) all a m (sym d ∙ i), seam) (g .wrote);
-              named = λ all m i. subst (λ (l : List Name). Holds text starts ends (length l) l) (same-names (names ++ g .new) all a m (sym d ∙ i)) (rw (g .held .counted) at (g .held)) }
+            answer = rw (d, seam, g .ended, g .held .counted);
+            wrote = λ all m i. rw (← same-value (names ++ g .new) all a m (sym d ∙ i), seam) (g .wrote);
+            named = λ all m i. subst (λ (l : List Name). Holds text starts ends (length l) l) (same-value (names ++ g .new) all a m (sym d ∙ i)) (rw (g .held .counted) at (g .held));
+          }
 
       module _ (f : is k word ≡ true) (mid starts' ends' : List ℕ) where
         module _ {one : Step} (d : Declares text (names ++ g .new) n t known after' mid starts' ends' one) where
@@ -116,13 +109,19 @@ module _ (word : Kind) (text : List ℕ) (names : List Name) (at to : ℕ) (befo
               let left : declarationsFrom (g .fuel) word text ((names ++ g .new) ++ (x .0 ∷ [])) b ≡ declarationsFrom (suc (g .fuel - 1)) word text (names ++ (g .new ++ (x .0 ∷ []))) b = rw (append-assoc, ← fuel') in
               let placed : sets after' t (header (x .0 ∷ [])) ≡ sets (sets before to (header (g .new))) (to + length (header (g .new))) (header (x .0 ∷ [])) = ap₂ (λ (l : List ℕ) (i : ℕ). sets l i (header (x .0 ∷ []))) (g .wrote) (g .ended) in
               record {
-                  fuel = g .fuel - 1;
-                  enough = omega (arith, g .enough);
-                  new = g .new ++ (x .0 ∷ []);
-                  held = rw append-assoc at (d .named (x .0) b (x .1));
-                  goes = g .goes ∙ turn-more (g .fuel) word text (names ++ g .new) a k s n e (x .0) b f (x .1) ∙ left;
-                  ended = rw bytes (simp length-append (omega (arith, x .2, g .ended)));
-                  wrote = rw bytes (d .writes .wrote (x .0) b (x .1) ∙ placed ∙ sym (sets-append before to (header (g .new)) (header (x .0 ∷ [])))) }
+                fuel = g .fuel - 1;
+                enough = omega (arith, g .enough);
+                new = g .new ++ (x .0 ∷ []);
+                held = rw append-assoc at (d .named (x .0) b (x .1));
+                goes = g .goes ∙ turn-more (g .fuel) word text (names ++ g .new) a k s n e (x .0) b f (x .1) ∙ left;
+                ended = rw bytes (simp length-append (omega (arith, x .2, g .ended)));
+                wrote = rw bytes (d .writes .wrote (x .0) b (x .1) ∙ placed ∙ sym (sets-append before to (header (g .new)) (header (x .0 ∷ []))));
+              }
+
+-- a refusal passed on is one
+pub few-refused : (to : ℕ) (s : Step) {r : Declared} → r ≡ undeclared s → Few to r
+few-refused to (S.Done n t) e = rw e tt
+few-refused to (S.Refused k p) e = rw e tt
 
 -- ---- the invariant: as many names as there may be, no more than fifteen bytes for each, and the loop going on from any list of names
 -- that the table held first
@@ -138,34 +137,36 @@ pub record Turning (word : Kind) (text : List ℕ) (at to : ℕ) (before starts�
 module _ (word : Kind) (text : List ℕ) (at to : ℕ) (before starts₀ ends₀ : List ℕ) (count : ℕ) where
   pub turning : Room starts₀ ends₀ count → Turning word text at to before starts₀ ends₀ count starts₀ ends₀ before at count to
   turning r = record {
-      few = r .few;
-      bytes = omega arith;
-      starts-kept = refl;
-      ends-kept = refl;
-      after-kept = refl;
-      going = λ names h. begins word text names at to before starts₀ ends₀ count h }
+    few = r .few;
+    bytes = omega arith;
+    starts-kept = refl;
+    ends-kept = refl;
+    after-kept = refl;
+    going = λ names h. begins word text names at to before starts₀ ends₀ count h;
+  }
 
   module _ (starts ends after' : List ℕ) (a known t : ℕ) (g : Turning word text at to before starts₀ ends₀ count starts ends after' a known t) where
     pub room : Room starts₀ ends₀ count → Room starts ends known
     room r = record { few = g .few; in-starts = omega (arith, r .in-starts, g .starts-kept); in-ends = omega (arith, r .in-ends, g .ends-kept) }
 
     module _ (k : Kind) (s n : ℕ) (e : tokenAt text a ≡ token k s n) (f : is k word ≡ true) (mid starts' ends' : List ℕ) {one : Step}
-      (d : (names : List Name) → Holds text starts ends known names → Declares text names n t known after' mid starts' ends' one)
-      (l : (n u : ℕ) → one ≡ S.Done n u → (known < 64) × (u ≤ t + 15))
+        (d : (names : List Name) → Holds text starts ends known names → Declares text names n t known after' mid starts' ends' one)
+        (l : (n u : ℕ) → one ≡ S.Done n u → (known < 64) × (u ≤ t + 15))
       where
-      pub turns-out : {r : Declared} {q p : ℕ} → one ≡ S.Refused q p → r ≡ undeclared one → (names : List Name) → Holds text starts₀ ends₀ count names → DeclaresAll word text names at to before mid starts' ends' r
-      turns-out h i names held =
-          let go = g .going names held in
-          stops-at word text names at to before starts ends after' a known t go k s n e f mid starts' ends' (d (names ++ go .new) (go .held)) h i
+        pub turns-out : {r : Declared} {q p : ℕ} → one ≡ S.Refused q p → r ≡ undeclared one → (names : List Name) → Holds text starts₀ ends₀ count names → DeclaresAll word text names at to before mid starts' ends' r
+        turns-out h i names held =
+            let go = g .going names held in
+            stops-at word text names at to before starts ends after' a known t go k s n e f mid starts' ends' (d (names ++ go .new) (go .held)) h i
 
-      pub turns-on : {b u : ℕ} → one ≡ S.Done b u → length starts' ≡ length starts → length ends' ≡ length ends → length mid ≡ length after' → Turning word text at to before starts₀ ends₀ count starts' ends' mid b (known + 1) u
-      turns-on {b} {u} h x y z =
-          let m = l b u h in
-          record {
+        pub turns-on : {b u : ℕ} → one ≡ S.Done b u → length starts' ≡ length starts → length ends' ≡ length ends → length mid ≡ length after' → Turning word text at to before starts₀ ends₀ count starts' ends' mid b (known + 1) u
+        turns-on {b} {u} h x y z =
+            let m = l b u h in
+            record {
               few = omega (arith, m .0);
               bytes = omega (arith, m .1, g .bytes);
               starts-kept = x ∙ g .starts-kept;
               ends-kept = y ∙ g .ends-kept;
               after-kept = z ∙ g .after-kept;
               going = λ names held. let go = g .going names held in
-                  more word text names at to before starts ends after' a known t go k s n e f mid starts' ends' (d (names ++ go .new) (go .held)) (m .0) h }
+                  more word text names at to before starts ends after' a known t go k s n e f mid starts' ends' (d (names ++ go .new) (go .held)) (m .0) h;
+            }

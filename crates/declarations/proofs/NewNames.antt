@@ -1,24 +1,24 @@
 -- Laws of a new name: the ways through its tests, and the table with it. Assumes nothing.
 use mathlib.Core.Path.{_≡_, refl, sym, ap, _∙_}
-use mathlib.Core.Bool.{Bool, true, false}
+use mathlib.Core.Bool.{true, false}
 use mathlib.Core.List.{List, [], _∷_, _++_}
-use mathlib.Core.Option.{Option, none, some}
+use mathlib.Core.Option.{none, some}
 use Prim.Native.Nat.{ℕ, _+_, _≤_, _<_}
 use native.Mathlib.Omega.{arith}
-use lib.Dec.{ltb}
 use lib.ListN.{length}
 use borrow.Author.Tests.{lt-ltb, le-ltb}
 use Rattle.limits.specs.Limits.{nameLimit, noToken, notAllowed, wrongName, tooMany}
 use Rattle.lexer.specs.Bytes.{part}
-use Rattle.lexer.specs.Token.{Kind, name, is, Read, token, fault}
+use Rattle.lexer.specs.Token.{Kind, name, is, token, fault}
 use Rattle.lexer.specs.Lexer.{tokenAt, overLong}
 use Rattle.lexer.specs.Names.{idOf, namesOf}
 use Rattle.semantics.specs.Program.{Name}
-use Rattle.grammar.specs.Parsed.{Parsed, accepted, refused}
+use Rattle.grammar.specs.Parsed.{accepted, refused}
 use Rattle.grammar.specs.Declarations.{spellings, newName}
 use Rattle.phrases.specs.declared.Expected.{Expected}
 use Rattle.phrases.specs.declared.Expected.the-variants.{After, Refused}
 use Rattle.declarations.specs.Post.{Holds, Names}
+use Rattle.declarations.proofs.Steps.{never, same-value}
 
 -- ---- the definition, test by test
 
@@ -52,14 +52,8 @@ module _ (text : List ℕ) (names : List Name) (at : ℕ) where
 
 -- ---- the answer
 
-never : {A B : Type 0} (k q n : ℕ) (a : A) → refused k q ≡ accepted a n → B
-never k q n a h = let z : _≡_ {A = ℕ} 0 1 = cc in absurd (omega arith)
-
 not-after : {A : Type 0} (k p n : ℕ) → Refused k p ≡ After n → A
 not-after k p n h = let z : _≡_ {A = ℕ} 0 1 = cc in absurd (omega arith)
-
-same-word : (a b : List ℕ) (n m : ℕ) → accepted a n ≡ accepted b m → a ≡ b
-same-word a b n m e = cc
 
 module _ (text starts ends : List ℕ) (at count : ℕ) (starts' ends' : List ℕ) where
   abbrev Answers : Expected → Type 0
@@ -88,10 +82,12 @@ module _ (text starts ends : List ℕ) (at count : ℕ) (starts' ends' : List �
         refuses-last l m = refuses tooMany s refl (λ names h. last-name text names at k s n e f (rw (h .spelled) at g) l (omega (arith, h .counted)))
 
         pub takes-name : overLong s n ≡ false → count < nameLimit → {c : ℕ} → c ≡ count + 1 → namesOf text starts' ends' c ≡ namesOf text starts ends count ++ (part text s n ∷ []) → Answers (After n)
-        takes-name l m ec a =
-            (λ names h.
-            let fresh = fresh-name text names at k s n e f (rw (h .spelled) at g) l (omega (arith, h .counted)) in
-            record {
+        takes-name l m ec a = (
+          λ names h.
+              let fresh = fresh-name text names at k s n e f (rw (h .spelled) at g) l (omega (arith, h .counted)) in
+              record {
                 answer = rw fresh;
-                named = λ w q i. (rw ec at a) ∙ ap (λ (x : List (List ℕ)). x ++ (part text s n ∷ [])) (h .spelled) ∙ ap (λ (x : List ℕ). spellings names ++ (x ∷ [])) (same-word (part text s n) w n q (sym fresh ∙ i)) },
-            λ q i. m)
+                named = λ w q i. (rw ec at a) ∙ ap (λ (x : List (List ℕ)). x ++ (part text s n ∷ [])) (h .spelled) ∙ ap (λ (x : List ℕ). spellings names ++ (x ∷ [])) (same-value (part text s n) w n q (sym fresh ∙ i));
+              },
+          λ q i. m,
+        )

@@ -1,29 +1,17 @@
 -- Laws of a declaration's range: the three tests of bounds as one, and the ways through low, `..`, high and start. Assumes nothing.
-use mathlib.Core.Path.{_≡_, refl, sym, ap, ap₂, _∙_}
+use mathlib.Core.Path.{_≡_, refl, ap₂}
 use mathlib.Core.Bool.{Bool, true, false, _&&_}
-use mathlib.Core.List.{List, [], _∷_}
-use Prim.Native.Nat.{ℕ, _+_, _≤_}
-use native.Mathlib.Omega.{arith}
+use mathlib.Core.List.{List}
+use Prim.Native.Nat.{ℕ}
 use lib.IntN.{ℤ, pos, negℤ}
-use lib.ListN.{length}
-use lib.Seq.{sets}
 use lib.Signed.{leZ}
 use Rattle.arith.specs.Values.{isInt32, lowest, highest}
 use Rattle.lexer.specs.Bytes.{pick, part}
 use Rattle.lexer.specs.Token.{Kind, minus, dots, is, Read, token, fault}
 use Rattle.lexer.specs.Lexer.{tokenAt, valueOf}
-use Rattle.semantics.specs.Program.{Range}
-use Rattle.grammar.specs.Parsed.{Parsed, accepted, refused, andThen, onToken, sign, expected, phrase}
+use Rattle.grammar.specs.Parsed.{Parsed, accepted, refused, onToken, sign, expected, phrase}
 use Rattle.grammar.specs.Declarations.{inRange, signedAt, boundAt, startAt}
-use Rattle.phrases.specs.declared.Expected.{Expected}
-use Rattle.phrases.specs.declared.Expected.the-variants as E
 use Rattle.declarations.specs.Internal.{rangeAt}
-use Rattle.declarations.specs.Results.{stepOf, unexpectedStep, unbounded}
-use Rattle.declarations.specs.Post.{Writes}
-use Rattle.declarations.specs.declared.Bound.{Bound}
-use Rattle.declarations.specs.declared.Bound.the-variants as B
-use Rattle.declarations.specs.declared.Step.{Step}
-use Rattle.declarations.specs.declared.Step.the-variants.{Done, Refused}
 
 -- ---- a bound by one test or another
 
@@ -87,26 +75,3 @@ module _ (text : List ℕ) (at : ℕ) where
         pub whole-range : (start : ℤ) (n : ℕ) → startAt text low high c ≡ accepted start n → rangeAt text at ≡ accepted (record { low = low; high = high; start = start }) n
         unfolding rangeAt phrase
         whole-range start n e = rw (bound-any text at, el, ed, bound-above low text b, eh, e)
-
--- ---- what a step says
-
-never : {A B : Type 0} (k q n : ℕ) (a : A) → refused k q ≡ accepted a n → B
-never k q n a h = let z : _≡_ {A = ℕ} 0 1 = cc in absurd (omega arith)
-
-same-value : {A : Type 0} (a b : A) (n m : ℕ) → accepted a n ≡ accepted b m → a ≡ b
-same-value a b n m e = cc
-
-module _ {A : Type 0} (bytes : A → List ℕ) (p : Parsed A) (to : ℕ) (before after : List ℕ) where
-  pub refuses : {r : Step} (k q : ℕ) → r ≡ Refused k q → p ≡ refused k q → Writes bytes p to before after r
-  refuses k q g e = record { answer = rw (g, e); wrote = λ a n h. never k q n a (sym e ∙ h) }
-
-  pub refuses-bound : {b : Bound} {k q : ℕ} {r : Step} → b ≡ B.Refused k q → r ≡ unbounded b → p ≡ refused k q → Writes bytes p to before after r
-  refuses-bound {k = k} {q = q} g h e = refuses k q (h ∙ ap unbounded g) e
-
-  pub refuses-sign : {x : Expected} {k q : ℕ} {r : Step} → x ≡ E.Refused k q → r ≡ unexpectedStep x → p ≡ refused k q → Writes bytes p to before after r
-  refuses-sign {k = k} {q = q} g h e = refuses k q (h ∙ ap unexpectedStep g) e
-
-  pub writes : (a : A) (n u : ℕ) → p ≡ accepted a n → (u ≡ to + length (bytes a)) × (after ≡ sets before to (bytes a)) → Writes bytes p to before after (Done n u)
-  writes a n u e w = record {
-      answer = rw (e, w .0);
-      wrote = λ b m h. w .1 ∙ ap (λ (x : A). sets before to (bytes x)) (same-value a b n m (sym e ∙ h)) }

@@ -1,5 +1,5 @@
 -- What the contracts of this crate say of lent memory. Assumes nothing.
-use Prim.Native.Nat.{ℕ, _+_, _≤_, _<_}
+use Prim.Native.Nat.{ℕ, _+_, _*_, _≤_}
 use mathlib.Core.Path.{_≡_}
 use mathlib.Core.List.{List, [], _∷_, _++_}
 use lib.ListN.{length, drop}
@@ -15,6 +15,7 @@ use Rattle.phrases.specs.declared.Expected.{Expected}
 use Rattle.phrases.specs.Results.{expectedOf}
 use Rattle.declarations.specs.declared.Step.{Step}
 use Rattle.declarations.specs.declared.Declared.{Declared}
+use Rattle.declarations.specs.declared.Declared.the-variants.{Until, Refused}
 use Rattle.declarations.specs.Results.{stepOf, declaredOf}
 
 -- a table with room for all names that a text may declare, of which so many are declared
@@ -52,3 +53,8 @@ pub record DeclaresAll (word : Kind) (text : List ℕ) (names : List Name) (at t
   pub answer : declaredOf r ≡ andThen (declarations word text names at) (λ all n. accepted (to + length (headerAfter names all), length all) n)
   pub wrote : (all : List Name) (n : ℕ) → declarations word text names at ≡ accepted all n → after ≡ sets before to (headerAfter names all)
   pub named : (all : List Name) (n : ℕ) → declarations word text names at ≡ accepted all n → Holds text starts ends (length all) all
+
+-- no more names than a text may declare, and no more than fifteen bytes for each
+abbrev pub Few : ℕ → Declared → Type 0
+Few to (Until n t c) = (c ≤ nameLimit) × (t ≤ to + 15 * c)
+Few to (Refused k p) = Unit {0}

@@ -19,7 +19,7 @@ ghost use Rattle.grammar.specs.Parsed.{accepted, refused as refusedAt};
 ghost use Rattle.declarations.specs.declared.Step.the-variants.{Done};
 ghost use Rattle.declarations.specs.Internal.{signedBy, rangeAt, rangeBytes};
 ghost use Rattle.declarations.specs.Results.{numberOf, boundOf, unexpected, unexpectedStep, unbounded, undeclared};
-ghost use Rattle.declarations.specs.Post.{Room, Holds, Writes, Names, Declares, DeclaresAll};
+ghost use Rattle.declarations.specs.Post.{Room, Holds, Writes, Names, Declares, DeclaresAll, Few};
 
 const NAME_LIMIT: usize = 64;
 
@@ -28,19 +28,19 @@ const LOWEST: i32 = -2147483648;
 const HIGHEST: i32 = 2147483647;
 
 // A number between its bounds.
-pub enum Number {
+enum Number {
     Is(i32),
     Outside,
 }
 
 // A signed number and the place after it, or a refusal's number and place.
-pub enum Bound {
+enum Bound {
     Is(i32, usize),
     Refused(u8, usize),
 }
 
 // The place after what was read and the end of the bytes written, or a refusal's number and place.
-pub enum Step {
+enum Step {
     Done(usize, usize),
     Refused(u8, usize),
 }
@@ -112,7 +112,15 @@ fn signed(value: u64, negative: bool, low: i32, high: i32) -> Number
 }
 
 // The token of a kind from `start` to `end`, as the digits of a number between low and high.
-fn digits(text: &[u8], kind: u8, start: usize, end: usize, negative: bool, low: i32, high: i32) -> Bound
+fn digits(
+    text: &[u8],
+    kind: u8,
+    start: usize,
+    end: usize,
+    negative: bool,
+    low: i32,
+    high: i32,
+) -> Bound
     requires { ⌜ kind ≤ 30 ⌝ }
     ensures { λ r. ⌜ boundOf r ≡ signedAt (inRange low high) (signedBy negative) (now (text .entry)) (kindOf kind) start end ⌝ }
 {
@@ -127,7 +135,7 @@ fn digits(text: &[u8], kind: u8, start: usize, end: usize, negative: bool, low: 
 }
 
 // A signed number between low and high.
-pub fn bound_at(text: &[u8], at: usize, low: i32, high: i32) -> Bound
+fn bound_at(text: &[u8], at: usize, low: i32, high: i32) -> Bound
     ensures { λ r. ⌜ boundOf r ≡ boundAt (inRange low high) (now (text .entry)) at ⌝ }
 {
     let read = lexer::token_at(text, at);
@@ -155,7 +163,7 @@ fn absent(place: usize, next: usize, low: i32, high: i32) -> Bound
 }
 
 // The start and the `;`.
-pub fn start_at(text: &[u8], at: usize, low: i32, high: i32) -> Bound
+fn start_at(text: &[u8], at: usize, low: i32, high: i32) -> Bound
     ensures { λ r. ⌜ boundOf r ≡ startAt (now (text .entry)) low high at ⌝ }
 {
     let read = lexer::token_at(text, at);
@@ -214,7 +222,13 @@ fn range(text: &[u8], at: usize, out: &mut [u8], to: usize) -> Step
 }
 
 // A new name into the table.
-fn new_name(text: &[u8], at: usize, starts: &mut [usize], ends: &mut [usize], count: usize) -> Expected
+fn new_name(
+    text: &[u8],
+    at: usize,
+    starts: &mut [usize],
+    ends: &mut [usize],
+    count: usize,
+) -> Expected
     requires { ⌜ Room (now starts) (now ends) count ⌝ }
     ensures { λ r. ⌜ ((names : List Name) → Holds (now (text .entry)) (now (starts .entry)) (now (ends .entry)) count names → Names (now (text .entry)) names at count (now (starts .exit)) (now (ends .exit)) r) ⌝ }
     ensures { λ r. ⌜ ((n : ℕ) → r ≡ After n → count < 64) ⌝ }
@@ -241,7 +255,15 @@ fn new_name(text: &[u8], at: usize, starts: &mut [usize], ends: &mut [usize], co
 }
 
 // A declaration after its word.
-pub fn declaration(text: &[u8], at: usize, starts: &mut [usize], ends: &mut [usize], count: usize, out: &mut [u8], to: usize) -> Step
+fn declaration(
+    text: &[u8],
+    at: usize,
+    starts: &mut [usize],
+    ends: &mut [usize],
+    count: usize,
+    out: &mut [u8],
+    to: usize,
+) -> Step
     requires { ⌜ Room (now starts) (now ends) count ⌝ }
     requires { ⌜ to < 2 ^ 30 ⌝ }
     ensures { λ r. ⌜ ((names : List Name) → Holds (now (text .entry)) (now (starts .entry)) (now (ends .entry)) count names → Declares (now (text .entry)) names at to count (now (out .entry)) (now (out .exit)) (now (starts .exit)) (now (ends .exit)) r) ⌝ }
@@ -255,10 +277,20 @@ pub fn declaration(text: &[u8], at: usize, starts: &mut [usize], ends: &mut [usi
 }
 
 // Declarations that begin with the word, after `count` names.
-pub fn declarations(text: &[u8], at: usize, word: u8, starts: &mut [usize], ends: &mut [usize], count: usize, out: &mut [u8], to: usize) -> Declared
+pub fn declarations(
+    text: &[u8],
+    at: usize,
+    word: u8,
+    starts: &mut [usize],
+    ends: &mut [usize],
+    count: usize,
+    out: &mut [u8],
+    to: usize,
+) -> Declared
     requires { ⌜ (word ≤ 30) × (to < 2 ^ 20) ⌝ }
     requires { ⌜ Room (now starts) (now ends) count ⌝ }
     ensures { λ r. ⌜ ((names : List Name) → Holds (now (text .entry)) (now (starts .entry)) (now (ends .entry)) count names → DeclaresAll (kindOf word) (now (text .entry)) names at to (now (out .entry)) (now (out .exit)) (now (starts .exit)) (now (ends .exit)) r) ⌝ }
+    ensures { λ r. ⌜ Few to r ⌝ }
 {
     let mut a = at;
     let mut known = count;

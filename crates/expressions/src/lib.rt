@@ -3,16 +3,20 @@
 use lexer::Found;
 use lexer::Token;
 ghost use mathlib.Core.Path.{_≡_};
+ghost use mathlib.Core.Bool.{true, false};
 ghost use mathlib.Core.List.{[], _∷_};
 ghost use Prim.Native.Nat.{ℕ, _+_, _/_, _%_, _^_, _≤_, _<_};
+ghost use lib.ListN.{getD, set};
 ghost use lib.Dec.{eqb};
+ghost use Rattle.limits.specs.Limits.{nameLimit};
 ghost use Rattle.leb128.specs.Numbers.{number as numberBytes};
 ghost use Rattle.lexer.specs.Lexer.{tokenAt};
+ghost use Rattle.semantics.specs.Program.{knownFirst, allTrue};
 ghost use Rattle.bytecode.specs.Instructions.{operationCode};
 ghost use Rattle.grammar.specs.Parsed.{accepted};
 ghost use Rattle.grammar.specs.Expressions.{numberAt, currentAt, previousAt, productOf, sumOf, bracket, wholeExpression};
 ghost use Rattle.grammar.specs.Emitted.{codeE};
-ghost use Rattle.expressions.specs.Scopes.{scopeOf, Declared};
+ghost use Rattle.expressions.specs.Scopes.{knownOf, scopeOf, Declared};
 ghost use Rattle.expressions.specs.Steps.{stepAt, Parses, Room};
 ghost use Rattle.expressions.specs.Internal.{textOnly, primaryIn, factorIn, termIn, expressionIn, Codes, Stands, closedStep};
 
@@ -53,6 +57,65 @@ pub struct Lookahead {
 pub enum Step {
     Done(Lookahead, usize),
     Refused(u8, usize),
+}
+
+// The names before the first rule, the first `inputs` of them inputs: just their current values may be used.
+pub fn first_names(inputs: usize, count: usize) -> Names
+    requires { ⌜ inputs ≤ nameLimit ⌝ }
+    ensures { λ r. ⌜ (r .count ≡ count) × (knownOf (r .known) count ≡ knownFirst inputs count) ⌝ }
+{
+    if inputs == 64 {
+        return Names {
+            count,
+            known: 18446744073709551615,
+        };
+    }
+    Names {
+        count,
+        known: (1 << inputs as u64) - 1,
+    }
+}
+
+// The names after the rule of the variable `id`: its current value may be used.
+pub fn ruled(names: Names, id: usize) -> Names
+    requires { ⌜ id < nameLimit ⌝ }
+    ensures { λ r. ⌜ (r .count ≡ names .count) × (knownOf (r .known) (names .count) ≡ set (knownOf (names .known) (names .count)) id true) ⌝ }
+{
+    Names {
+        count: names.count,
+        known: names.known | 1 << id as u64,
+    }
+}
+
+fn bit(bits: u64, i: u64) -> bool
+    requires { ⌜ i < 64 ⌝ }
+    ensures { λ r. ⌜ r ≡ eqb (bits / 2 ^ i % 2) 1 ⌝ }
+{
+    (bits >> i) % 2 == 1
+}
+
+// Whether the current value of the name `id` may be used.
+pub fn is_known(names: Names, id: usize) -> bool
+    requires { ⌜ (id < names .count) × (names .count ≤ nameLimit) ⌝ }
+    ensures { λ r. ⌜ r ≡ getD (knownOf (names .known) (names .count)) id false ⌝ }
+{
+    bit(names.known, id as u64)
+}
+
+// Whether the current value of every name may be used.
+pub fn all_known(names: Names) -> bool
+    requires { ⌜ names .count ≤ nameLimit ⌝ }
+    ensures { λ r. ⌜ r ≡ allTrue (knownOf (names .known) (names .count)) ⌝ }
+{
+    let mut i = 0;
+    while i < names.count {
+        if is_known(names, i) {
+            i += 1;
+        } else {
+            return false;
+        }
+    }
+    true
 }
 
 // The first token at or after `at`, with the bytes written up to `to`.
@@ -135,13 +198,6 @@ fn number(text: &[u8], start: usize, end: usize, out: &mut [u8], to: usize) -> S
         return Step::Refused(3, start);
     }
     instruction(text, end, CONSTANT, leb128::zigzag(v as i32), out, to)
-}
-
-fn bit(bits: u64, i: u64) -> bool
-    requires { ⌜ i < 64 ⌝ }
-    ensures { λ r. ⌜ r ≡ eqb (bits / 2 ^ i % 2) 1 ⌝ }
-{
-    (bits >> i) % 2 == 1
 }
 
 // The current value of the name from `start` to `end`.

@@ -9,8 +9,8 @@ use native.Mathlib.Omega.{arith}
 use lib.ListN.{length, getD, set, getElem?, length-map}
 use lib.Dec.{T, ltb, lt→ltb}
 use lib.Signed.{leZ}
-use borrow.Author.Tests.{ltb-false}
-use Rattle.limits.specs.Limits.{textLimit, stackLimit, nameLimit, imageLimit}
+use borrow.Author.Tests.{ltb-false, lt-ltb}
+use Rattle.limits.specs.Limits.{textLimit, nameLimit, tooLong}
 use Rattle.limits.specs.Answer as A
 use Rattle.arith.specs.Values.{isInt32}
 use Rattle.arith.proofs.Basics.{true-T, and-left, and-right, and-T}
@@ -47,7 +47,7 @@ starts-within : (l : List Range) → RangesFit l → StartsWithin l
 starts-within [] h = tt
 starts-within (r ∷ l) h = (start-within r (h .0), starts-within l (h .1))
 
-each-name : (l : List Name) → NamesFit l → (i : ℕ) (w : List ℕ) → getElem? (map (λ x. x .spelling) l) i ≡ some w → IsName w
+pub each-name : (l : List Name) → NamesFit l → (i : ℕ) (w : List ℕ) → getElem? (map (λ x. x .spelling) l) i ≡ some w → IsName w
 each-name [] h i w e = let z : _≡_ {A = ℕ} 0 1 = cc in absurd (omega arith)
 each-name (x ∷ l) h zero w e = let q : x .spelling ≡ w = cc in subst IsName q (h .0 .is-name)
 each-name (x ∷ l) h (suc i) w e = each-name l (h .1) i w e
@@ -122,6 +122,11 @@ rules-shallow known [] h = tt
 rules-shallow known (r ∷ rs) h = (rule-shallow known r (h .0), rules-shallow (set known (target r) true) rs (h .3))
 
 -- ---- accepted texts
+
+-- a text over its limit is refused by 9 at place 0, before all else
+pub text-too-long : (text : List ℕ) → textLimit < length text → programOf text ≡ A.refused tooLong 0
+unfolding programOf parse
+text-too-long text h = rw (lt-ltb textLimit (length text) h)
 
 -- no accepted text is over its limit
 pub parse-short : (text : List ℕ) (p : Program) (n : ℕ) → parse text ≡ accepted p n → length text ≤ textLimit

@@ -111,10 +111,10 @@ module _ (sc : Scope) (good : Named (sc .names)) where
         to = q .place;
         opens = fixed-at text openSquare refl at n h (q .first .1);
         reads = case-goes w at n (q .place) (r .place) (p .place) m k
-        (spelled-listed sc good ts (k .condition) dc uc n (q .place) i0 (q .first .2))
-        (phrase-reads text (sign ampersand ∷ own w ∷ sign equals ∷ sign openRound ∷ []) refl (nm, tt) (q .place) (r .place) i1 (r .first))
-        (spelled-expression sc good us (k .value) de ue (r .place) (p .place) i2 (r .second) closeRound (p .second .1 .start) (p .second .0) close (refl, refl))
-        (followed-reads text (sign closeRound ∷ []) refl tt (spanned k at (q .place)) (p .place) m i3 (p .second));
+            (spelled-listed sc good ts (k .condition) dc uc n (q .place) i0 (q .first .2))
+            (phrase-reads text (sign ampersand ∷ own w ∷ sign equals ∷ sign openRound ∷ []) refl (nm, tt) (q .place) (r .place) i1 (r .first))
+            (spelled-expression sc good us (k .value) de ue (r .place) (p .place) i2 (r .second) closeRound (p .second .1 .start) (p .second .0) close (refl, refl))
+            (followed-reads text (sign closeRound ∷ []) refl tt (spanned k at (q .place)) (p .place) m i3 (p .second));
         lists = q .first;
       }
 

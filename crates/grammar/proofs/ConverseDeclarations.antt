@@ -81,12 +81,13 @@ module _ (text : List ℕ) where
   unfolding inRange
   range-tests r fits =
       let z = r .start in
-      let front = and-left (isInt32 z && leZ (r .low) z) (leZ z (r .high)) (fits .2) in
-      (T-true (isInt32 (r .low)) (fits .0),
-      T-true (isInt32 (r .high)) (and-left (isInt32 (r .high)) (leZ (r .low) (r .high)) (fits .1)),
-      T-true (leZ (r .low) (r .high)) (and-right (isInt32 (r .high)) (leZ (r .low) (r .high)) (fits .1)),
-      T-true (isInt32 z) (and-left (isInt32 z) (leZ (r .low) z) front),
-      T-true (leZ (r .low) z && leZ z (r .high)) (and-T (leZ (r .low) z) (leZ z (r .high)) (and-right (isInt32 z) (leZ (r .low) z) front) (and-right (isInt32 z && leZ (r .low) z) (leZ z (r .high)) (fits .2))))
+      let front = and-left (isInt32 z && leZ (r .low) z) (leZ z (r .high)) (fits .2) in (
+        T-true (isInt32 (r .low)) (fits .0),
+        T-true (isInt32 (r .high)) (and-left (isInt32 (r .high)) (leZ (r .low) (r .high)) (fits .1)),
+        T-true (leZ (r .low) (r .high)) (and-right (isInt32 (r .high)) (leZ (r .low) (r .high)) (fits .1)),
+        T-true (isInt32 z) (and-left (isInt32 z) (leZ (r .low) z) front),
+        T-true (leZ (r .low) z && leZ z (r .high)) (and-T (leZ (r .low) z) (leZ z (r .high)) (and-right (isInt32 z) (leZ (r .low) z) front) (and-right (isInt32 z && leZ (r .low) z) (leZ z (r .high)) (fits .2))),
+      )
 
   declaration-reads : (word : Kind) → isFixed word ≡ true → (names : List Name) (ts : List (List ℕ)) (x : Name) → Declares (spellingOf word) ts x → Apart (x .spelling) (spellings names) → length names < 64 → (a m : ℕ) → a ≤ length text → Spells text a m ts → DeclarationRead word names a m x
   unfolding signs isFixed kindNumber
@@ -112,11 +113,11 @@ module _ (text : List ℕ) where
         is-word = fixed-at text word f a n0 h (q .first .1);
         within = i0;
         reads = declaration-goes names w r n0 n1 n2 n3 n4 m
-        (name-reads names w nm apart room n0 n1 i0 (k .1))
-        (bound-reads (λ z. true) ls (r .low) dl (t .0) refl n1 n2 i1 (k .2))
-        (phrase-reads text (sign dots ∷ []) refl tt n2 n3 i2 (n3, q .second .1, refl))
-        (bound-reads (leZ (r .low)) hs (r .high) dh (t .1) (t .2) n3 n4 i3 (q .second .2))
-        (start-reads (r .low) (r .high) vs (r .start) ds (t .3) (t .4) n4 m i4 (p .second));
+            (name-reads names w nm apart room n0 n1 i0 (k .1))
+            (bound-reads (λ z. true) ls (r .low) dl (t .0) refl n1 n2 i1 (k .2))
+            (phrase-reads text (sign dots ∷ []) refl tt n2 n3 i2 (n3, q .second .1, refl))
+            (bound-reads (leZ (r .low)) hs (r .high) dh (t .1) (t .2) n3 n4 i3 (q .second .2))
+            (start-reads (r .low) (r .high) vs (r .start) ds (t .3) (t .4) n4 m i4 (p .second));
       }
 
   -- ---- all declarations that begin with a word

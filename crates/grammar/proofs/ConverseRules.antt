@@ -133,10 +133,10 @@ module _ (sc : Scope) (good : Named (sc .names)) where
         place = n;
         is-name = name-at text w nm a n h st;
         reads = rule-goes w v (st .start) n m (function v e) (mv .1) (mv .2) (st .spelled) ev new
-        (formulas-function sc good w nm v (function v e) n (p .place) (p .second .1 .start) (p .second .0) m
-        (phrase-reads text (sign colon ∷ sign nextWord ∷ sign openRound ∷ []) refl tt n (p .place) (mv .2) (p .first))
-        (name-at text w nm (p .place) (p .second .0) i (p .second .1))
-        (function-reads sc good w nm v us e d u (p .place) m i (p .second)));
+            (formulas-function sc good w nm v (function v e) n (p .place) (p .second .1 .start) (p .second .0) m
+            (phrase-reads text (sign colon ∷ sign nextWord ∷ sign openRound ∷ []) refl tt n (p .place) (mv .2) (p .first))
+            (name-at text w nm (p .place) (p .second .0) i (p .second .1))
+            (function-reads sc good w nm v us e d u (p .place) m i (p .second)));
       }
   rule-reads ts r (a-change w v us ls ks cs ev d room e) u new a m h g =
       let text = sc .text in
@@ -153,10 +153,10 @@ module _ (sc : Scope) (good : Named (sc .names)) where
         place = n;
         is-name = name-at text w nm a n h st;
         reads = rule-goes w v (st .start) n m (change v ks cs) (mv .1) (mv .2) (st .spelled) ev new
-        (formulas-change sc good w nm v (change v ks cs) n (p .place) (p .second .1 .start) (p .second .0) m
-        (phrase-reads text (sign colon ∷ sign nextWord ∷ sign openRound ∷ []) refl tt n (p .place) (mv .2) (p .first))
-        (fixed-at text tilde refl (p .place) (p .second .0) i (p .second .1))
-        (change-reads sc good w nm v us ls ks cs d room e u (p .second .0) m j (p .second .2)));
+            (formulas-change sc good w nm v (change v ks cs) n (p .place) (p .second .1 .start) (p .second .0) m
+            (phrase-reads text (sign colon ∷ sign nextWord ∷ sign openRound ∷ []) refl tt n (p .place) (mv .2) (p .first))
+            (fixed-at text tilde refl (p .place) (p .second .0) i (p .second .1))
+            (change-reads sc good w nm v us ls ks cs d room e u (p .second .0) m j (p .second .2)));
       }
 
 -- ---- all rules

@@ -233,8 +233,8 @@ module _ (sc : Scope) (few : length (sc .names) ≤ 64) where
           tokens = (headTokens ++ r .tokens) ++ (middleTokens ++ r .list) ++ bytes ")" ∷ bytes ")" ∷ bytes ";" ∷ [];
           spells = change-spells at n1 n2 n3 n4 n5 (r .tokens) (r .list) s1 (r .spells) s3 s4 s5;
           derives = change-is (r .tokens) (r .list) (casesOf cases) ds
-          (subst (λ (x : List Spanned). SpellsCases (sc .names) w (r .tokens) (r .list) (casesOf x)) same (r .derives))
-          (subst (λ (x : List Spanned). length (casesOf x) ≤ caseLimit) same (r .count)) (ag .0);
+              (subst (λ (x : List Spanned). SpellsCases (sc .names) w (r .tokens) (r .list) (casesOf x)) same (r .derives))
+              (subst (λ (x : List Spanned). length (casesOf x) ≤ caseLimit) same (r .count)) (ag .0);
         })))))
       where
         agreed : (cases : List Spanned) (ls : List (List ℕ)) → Listed (sc .text) cases ls → (n m : ℕ) (ds : List Condition) → L.Spans sc cases → n ≤ length (sc .text) → agreeingList sc cases n ≡ accepted ds m → (ds ≡ map (λ k. k .condition) (casesOf cases)) × Spells (sc .text) n m (ls ++ bytes ")" ∷ [])

@@ -287,12 +287,14 @@ module _ (text : List ℕ) where
       (λ z. pick-prop (Ends (length text) (Fresh names)) (ltb 16 (n - s)) _ _ (λ t. tt)
       (λ t. pick-prop (Ends (length text) (Fresh names)) (ltb (length names) nameLimit) _ _
       (λ t2.
-      let r = sign-stands text name refl at k s n h et e in
-      (record {
-        is-name = record { is-word = r .1 .0; short = omega (arith, ltb-false 16 (n - s) t); no-word = r .1 .1 };
-        apart = new-apart (spellings names) (part text s n) z;
-        room = ltb-true (length names) 64 t2;
-      }, mv .2))
+      let r = sign-stands text name refl at k s n h et e in (
+        record {
+          is-name = record { is-word = r .1 .0; short = omega (arith, ltb-false 16 (n - s) t); no-word = r .1 .1 };
+          apart = new-apart (spellings names) (part text s n) z;
+          room = ltb-true (length names) 64 t2;
+        },
+        mv .2,
+      ))
       (λ t2. tt)))
       (λ i ei. tt))
       (λ e. tt))
@@ -306,10 +308,11 @@ module _ (text : List ℕ) where
   range-fits : (low high start : ℤ) → Bound (λ z. true) low → Bound (leZ low) high → Bound (inRange low high) start → RangeFits (record { low = low; high = high; start = start })
   unfolding inRange
   range-fits low high start l h s =
-      let b = both-hold (leZ low start) (leZ start high) (s .1) in
-      (true-T (isInt32 low) (l .0),
-      both-T (isInt32 high) (leZ low high) (h .0) (h .1),
-      and-T (isInt32 start && leZ low start) (leZ start high) (both-T (isInt32 start) (leZ low start) (s .0) (b .0)) (true-T (leZ start high) (b .1)))
+      let b = both-hold (leZ low start) (leZ start high) (s .1) in (
+        true-T (isInt32 low) (l .0),
+        both-T (isInt32 high) (leZ low high) (h .0) (h .1),
+        and-T (isInt32 start && leZ low start) (leZ start high) (both-T (isInt32 start) (leZ low start) (s .0) (b .0)) (true-T (leZ start high) (b .1)),
+      )
     where
       both-T : (x y : Bool) → x ≡ true → y ≡ true → T (x && y)
       both-T x y e f = and-T x y (true-T x e) (true-T y f)
@@ -331,12 +334,14 @@ module _ (text : List ℕ) where
       let g4 = subst (Ends (length text) (Bound (leZ low))) e4 (bound-fits (leZ low) n3 (g3 .1)) in
       then-prop (Ends (length text) (Declared names)) (startAt text low high n4) _ (λ k q. tt)
       (λ start n5 e5.
-      let g5 = subst (Ends (length text) (Bound (inRange low high))) e5 (start-fits low high n4 (g4 .1)) in
-      (record {
-        fits = record { is-name = g1 .0 .is-name; range-fits = range-fits low high start (g2 .0) (g4 .0) (g5 .0) };
-        apart = g1 .0 .apart;
-        room = g1 .0 .room;
-      }, g5 .1))))))
+      let g5 = subst (Ends (length text) (Bound (inRange low high))) e5 (start-fits low high n4 (g4 .1)) in (
+        record {
+          fits = record { is-name = g1 .0 .is-name; range-fits = range-fits low high start (g2 .0) (g4 .0) (g5 .0) };
+          apart = g1 .0 .apart;
+          room = g1 .0 .room;
+        },
+        g5 .1,
+      ))))))
 
   names-append : (names : List Name) (x : Name) → NamesFit names → NameFits x → NamesFit (names ++ (x ∷ []))
   names-append [] x h g = (g, tt)

@@ -6,4 +6,5 @@ pub mod Rules
 pub mod Parse
 pub mod Derivation
 pub mod Spelled
+pub mod Accepts
 pub mod Emitted

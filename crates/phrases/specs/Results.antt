@@ -1,5 +1,4 @@
 -- What the answer of a function that expects tokens stands for. Document 01, "Who can cause which refusal". Assumes nothing.
-use Prim.Native.Nat.{ℕ}
 use Rattle.limits.specs.Limits.{noToken}
 use Rattle.lexer.specs.declared.Token.{Token}
 use Rattle.lexer.specs.declared.Token.the-variants as T

@@ -64,7 +64,10 @@ pub fn expect_previous(text: &[u8], at: usize, start: usize, end: usize) -> Expe
         return fault(read);
     };
     if kind == lexer::PREVIOUS {
-        if lexer::same_name(lexer::name(text, start, end), lexer::name(text, from + 1, to)) {
+        if lexer::same_name(
+            lexer::name(text, start, end),
+            lexer::name(text, from + 1, to),
+        ) {
             return Expected::After(to);
         }
     }
@@ -135,7 +138,7 @@ pub fn case_value_opening(text: &[u8], at: usize, start: usize, end: usize) -> E
 }
 
 // `w = _w`.
-pub fn unchanged_value(text: &[u8], at: usize, start: usize, end: usize) -> Expected
+fn unchanged_value(text: &[u8], at: usize, start: usize, end: usize) -> Expected
     ensures { λ r. ⌜ expectedOf r ≡ phrase (now (text .entry)) (unchangedValue (part (now (text .entry)) start end)) at ⌝ }
 {
     let first = expect_name(text, at, start, end);

@@ -1,3 +1,1 @@
 pub mod Services
-pub mod Results
-pub mod Internal

@@ -1,4 +1,6 @@
-use mathlib.Core.Path.{_≡_, sym, ap, _∙_}
+-- `agreement::compare_part` meets its contract. The loop's invariant: what is left of the tokens makes the whole. The measure is
+-- what is left of the part; every token takes it on. Assumes nothing.
+use mathlib.Core.Path.{sym, ap, _∙_}
 use Prim.Native.Nat.{_-_}
 use native.Mathlib.Omega.{arith}
 use borrow.Author.Needs.{needs}
@@ -8,11 +10,6 @@ use Rattle.agreement.proofs.Progress.{progress}
 use Rattle.agreement.proofs.Parts.{Matching, matching, matched, unmatched-fault, found-fault, unmatched, next-tokens}
 use Rattle.agreement.proofs.compare_part.Statement.{statement}
 use Rattle.agreement.proofs.compare_part.Tie as tie
-use Rattle.agreement.proofs.compare_part.Reads as reads
-use Rattle.agreement.proofs.compare_part.Lts as lts
-use Rattle.agreement.proofs.fault.Reads as fault-reads
-use Rattle.lexer.proofs.same_token.Reads as same-token-reads
-use Rattle.lexer.proofs.token_at.Reads as token-at-reads
 
 abbrev Inv-loop : tie.InvT-loop
 Inv-loop text from to at a₀ b₀ a b = Matching text from to at a b
@@ -20,75 +17,59 @@ Inv-loop text from to at a₀ b₀ a b = Matching text from to at a b
 abbrev μ-loop : tie.MeasureT-loop
 μ-loop text from to at a₀ b₀ a b = to - a
 
--- src/lib.rt:37:5
 loop-holds : tie.Need-loop-holds Inv-loop μ-loop
 loop-holds c = matching _ _ _ _ (c .before .pre)
 
--- src/lib.rt:38:13
 token-at-requires : tie.Need-token-at-requires Inv-loop μ-loop
 token-at-requires c κs = search needs
 
--- src/lib.rt:39:23
 enum-known-wanted : tie.Need-enum-known-wanted Inv-loop μ-loop
 enum-known-wanted c = search needs
 
--- src/lib.rt:40:13
 enum-told : tie.Need-enum-told Inv-loop μ-loop
 enum-told c = search needs
 
--- src/lib.rt:40:13
 fault-requires : tie.Need-fault-requires Inv-loop μ-loop
 fault-requires c κs = search needs
 
--- src/lib.rt:40:13
 returns : tie.Need-returns Inv-loop μ-loop
 returns c = ap comparedOf (c .fault .ensures ∙ ap faultAt (c .before .enum-told .given .1)) ∙ unmatched-fault _ _ _ _ _ _ (c .before .before .before .before .before .loop .inv) (c .before .before .before .before .loop-test .taken) _ (is-fault _ _ _ (c .before .before .before .token-at .ensures) _ (c .before .enum-told .given .1))
 
--- src/lib.rt:42:13
 token-at-requires-2 : tie.Need-token-at-requires-2 Inv-loop μ-loop
 token-at-requires-2 c κs = search needs
 
--- src/lib.rt:43:23
 enum-known-found : tie.Need-enum-known-found Inv-loop μ-loop
 enum-known-found c = search needs
 
--- src/lib.rt:44:13
 enum-told-2 : tie.Need-enum-told-2 Inv-loop μ-loop
 enum-told-2 c = search needs
 
--- src/lib.rt:44:13
 fault-requires-2 : tie.Need-fault-requires-2 Inv-loop μ-loop
 fault-requires-2 c κs = search needs
 
--- src/lib.rt:44:13
 returns-2 : tie.Need-returns-2 Inv-loop μ-loop
-returns-2 c = 
+returns-2 c =
     ap comparedOf (c .fault2 .ensures ∙ ap faultAt (c .before .enum-told2 .given .1))
     ∙ found-fault _ _ _ _ _ _ (c .before .before .before .before .before .before .before .before .before .loop .inv) (c .before .before .before .before .before .before .before .before .loop-test .taken) _ _ _ (is-token _ _ _ (c .before .before .before .before .before .before .before .token-at .ensures) _ _ _ (c .before .before .before .before .before .wanted .given .1) .0) _ (is-fault _ _ _ (c .before .before .before .token-at2 .ensures) _ (c .before .enum-told2 .given .1))
 
--- src/lib.rt:46:12
 same-token-requires : tie.Need-same-token-requires Inv-loop μ-loop
 same-token-requires c κs = ((is-token _ _ _ (c .before .before .before .before .before .before .before .token-at .ensures) _ _ _ (c .before .before .before .before .before .wanted .given .1)) .1 .known-kind, (is-token _ _ _ (c .before .before .before .token-at2 .ensures) _ _ _ (c .before .found .given .1)) .1 .known-kind)
 
--- src/lib.rt:37:5
 loop-less : tie.Need-loop-less Inv-loop μ-loop
 loop-less c = let l = progress _ _ _ _ _ (omega (arith, c .before .before .before .before .before .before .before .before .before .before .loop-test .taken, c .before .before .before .before .before .before .before .before .before .before .before .before .before .pre)) (is-token _ _ _ (c .before .before .before .before .before .before .before .before .before .token-at .ensures) _ _ _ (c .before .before .before .before .before .before .before .wanted .given .1) .0) in omega (arith, l, c .before .before .before .before .before .before .before .before .before .before .loop-test .taken)
 
--- src/lib.rt:37:5
 loop-again : tie.Need-loop-again Inv-loop μ-loop
-loop-again c = 
+loop-again c =
     let w = is-token _ _ _ (c .before .before .before .before .before .before .before .before .before .token-at .ensures) _ _ _ (c .before .before .before .before .before .before .before .wanted .given .1) in
     let f = is-token _ _ _ (c .before .before .before .before .before .token-at2 .ensures) _ _ _ (c .before .before .before .found .given .1) in
     next-tokens _ _ _ _ _ _ (c .before .before .before .before .before .before .before .before .before .before .before .loop .inv) (c .before .before .before .before .before .before .before .before .before .before .loop-test .taken) _ _ _ (w .0) _ _ _ (f .0) (sym (c .before .same-token .ensures) ∙ c .if1 .taken) (progress _ _ _ _ _ (omega (arith, c .before .before .before .before .before .before .before .before .before .before .loop-test .taken, c .before .before .before .before .before .before .before .before .before .before .before .before .before .pre)) (w .0))
 
--- src/lib.rt:50:13
 returns-3 : tie.Need-returns-3 Inv-loop μ-loop
-returns-3 c = 
+returns-3 c =
     let w = is-token _ _ _ (c .before .before .before .before .before .before .before .before .before .token-at .ensures) _ _ _ (c .before .before .before .before .before .before .before .wanted .given .1) in
     let f = is-token _ _ _ (c .before .before .before .before .before .token-at2 .ensures) _ _ _ (c .before .before .before .found .given .1) in
     unmatched _ _ _ _ _ _ (c .before .before .before .before .before .before .before .before .before .before .before .loop .inv) (c .before .before .before .before .before .before .before .before .before .before .loop-test .taken) _ _ _ (w .0) _ _ _ (f .0) (sym (c .before .same-token .ensures) ∙ c .if1 .left)
 
--- src/lib.rt:31:1
 returns-4 : tie.Need-returns-4 Inv-loop μ-loop
 returns-4 c = matched _ _ _ _ _ _ (c .before .loop .inv) (c .loop-test .left)
 

@@ -1,4 +1,5 @@
-use mathlib.Core.Path.{_≡_, ap, _∙_}
+-- `agreement::compare_sign` meets its contract. Assumes nothing.
+use mathlib.Core.Path.{ap, _∙_}
 use Rattle.lexer.proofs.Tokens.{is-token, is-fault}
 use Rattle.phrases.proofs.Laws.{same-kinds, other-kinds}
 use Rattle.agreement.specs.Results.{comparedOf, faultAt}
@@ -6,36 +7,25 @@ use Rattle.agreement.proofs.Parts.{sign-fault, sign-wanted, sign-other}
 use borrow.Author.Needs.{needs}
 use Rattle.agreement.proofs.compare_sign.Statement.{statement}
 use Rattle.agreement.proofs.compare_sign.Tie as tie
-use Rattle.agreement.proofs.compare_sign.Reads as reads
-use Rattle.agreement.proofs.compare_sign.Lts as lts
-use Rattle.agreement.proofs.fault.Reads as fault-reads
-use Rattle.lexer.proofs.token_at.Reads as token-at-reads
 
--- src/lib.rt:61:9
 token-at-requires : tie.Need-token-at-requires
 token-at-requires c κs = search needs
 
--- src/lib.rt:62:19
 enum-known-found : tie.Need-enum-known-found
 enum-known-found c = search needs
 
--- src/lib.rt:63:9
 enum-told : tie.Need-enum-told
 enum-told c = search needs
 
--- src/lib.rt:63:9
 fault-requires : tie.Need-fault-requires
 fault-requires c κs = search needs
 
--- src/lib.rt:63:9
 returns : tie.Need-returns
 returns c = ap comparedOf (c .fault .ensures ∙ ap faultAt (c .before .enum-told .given .1)) ∙ sign-fault _ _ _ _ (is-fault _ _ _ (c .before .before .before .token-at .ensures) _ (c .before .enum-told .given .1))
 
--- src/lib.rt:66:9
 returns-2 : tie.Need-returns-2
 returns-2 c = sign-wanted _ _ _ _ _ _ (is-token _ _ _ (c .before .before .before .before .token-at .ensures) _ _ _ (c .before .before .found .given .1) .0) (same-kinds _ _ (c .if1 .taken))
 
--- src/lib.rt:57:1
 returns-3 : tie.Need-returns-3
 returns-3 c = let t = is-token _ _ _ (c .before .before .before .before .token-at .ensures) _ _ _ (c .before .before .found .given .1) in sign-other _ _ _ _ _ _ (t .0) (other-kinds _ _ (t .1 .known-kind) (c .before .before .before .before .before .before .pre) (c .if1 .left))
 

@@ -1,4 +1,4 @@
-use mathlib.Core.Path.{_≡_}
+-- `declarations::absent` meets its contract. Assumes nothing.
 use mir.Syntax.{w32}
 use mir.Val.{SFits}
 use Rattle.arith.proofs.Laws.{same32}
@@ -6,29 +6,21 @@ use Rattle.declarations.proofs.Bounds.{absent-out, absent-in}
 use borrow.Author.Needs.{needs}
 use Rattle.declarations.proofs.absent.Statement.{statement}
 use Rattle.declarations.proofs.absent.Tie as tie
-use Rattle.declarations.proofs.absent.Reads as reads
-use Rattle.declarations.proofs.absent.Lts as lts
-use Rattle.declarations.proofs.within.Reads as within-reads
 
--- src/lib.rt:151:25
 within-requires : tie.Need-within-requires
 within-requires c κs = search needs
 
--- src/lib.rt:151:20
 enum-known-z : tie.Need-enum-known-z
 enum-known-z c = search needs
 
--- src/lib.rt:152:9
 enum-told : tie.Need-enum-told
 enum-told c = search needs
 
--- src/lib.rt:152:9
 returns : tie.Need-returns
 returns c = absent-out _ _ _ (rw (same32 (c .before .before .before .fits .low), same32 (c .before .before .before .fits .high)) at (c .before .before .within .ensures)) _ (c .enum-told .given .1)
 
--- src/lib.rt:148:1
 returns-2 : tie.Need-returns-2
-returns-2 c = 
+returns-2 c =
     let f : SFits w32 (c .before .z .given .0 .0) = search needs in
     rw (same32 f) (absent-in _ _ _ (rw (same32 (c .before .before .before .before .fits .low), same32 (c .before .before .before .before .fits .high)) at (c .before .before .before .within .ensures)) _ (c .before .z .given .1))
 

@@ -1,19 +1,14 @@
-use mathlib.Core.Path.{_≡_, sym, _∙_}
-use Prim.Native.Nat.{_+_, _-_, _*_, _≤_}
+-- `declarations::declarations` meets its contract. The loop's invariant: with the names declared so far, what is left makes the whole.
+-- The measure is the number of names that may still follow. Assumes nothing.
+use Prim.Native.Nat.{_-_}
 use native.Mathlib.Omega.{arith}
 use borrow.Author.Needs.{needs}
 use Rattle.lexer.specs.Results.{kindOf}
-use Rattle.phrases.proofs.Laws.{lies, token-is, token-fault, same-kinds, other-kinds}
-use Rattle.declarations.proofs.Loop.{Turning, turning, room, stops-fault, ends-all, turns-out, turns-on}
+use Rattle.lexer.proofs.Tokens.{is-token, is-fault}
+use Rattle.phrases.proofs.Laws.{same-kinds, other-kinds}
+use Rattle.declarations.proofs.Loop.{Turning, turning, room, stops-fault, ends-all, turns-out, turns-on, few-refused}
 use Rattle.declarations.proofs.declarations.Statement.{statement}
 use Rattle.declarations.proofs.declarations.Tie as tie
-use Rattle.declarations.proofs.declarations.Reads as reads
-use Rattle.declarations.proofs.declarations.Lts as lts
-use Rattle.declarations.proofs.declaration.Reads as declaration-reads
-use Rattle.declarations.proofs.refused.Reads as refused-reads
-use Rattle.declarations.proofs.stopped.Reads as stopped-reads
-use Rattle.lexer.proofs.token_at.Reads as token-at-reads
-use Rattle.phrases.proofs.fault.Reads as fault-reads
 
 abbrev Inv-loop : tie.InvT-loop
 Inv-loop text at word starts₀ ends₀ count out₀ to a₀ known₀ t₀ starts ends out a known t = Turning (kindOf word) text at to out₀ starts₀ ends₀ count starts ends out a known t
@@ -21,111 +16,88 @@ Inv-loop text at word starts₀ ends₀ count out₀ to a₀ known₀ t₀ start
 abbrev μ-loop : tie.MeasureT-loop
 μ-loop text at word starts₀ ends₀ count out₀ to a₀ known₀ t₀ starts ends out a known t = 65 - known
 
--- src/lib.rt:266:5
 loop-holds : tie.Need-loop-holds Inv-loop μ-loop
 loop-holds c = turning _ _ _ _ _ _ _ _ (c .before .before .before .before .pre .1)
 
--- src/lib.rt:267:13
 token-at-requires : tie.Need-token-at-requires Inv-loop μ-loop
 token-at-requires c κs = search needs
 
--- src/lib.rt:268:23
 enum-known-read : tie.Need-enum-known-read Inv-loop μ-loop
 enum-known-read c = search needs
 
--- src/lib.rt:269:36
 enum-told : tie.Need-enum-told Inv-loop μ-loop
 enum-told c = search needs
 
--- src/lib.rt:269:36
 fault-requires : tie.Need-fault-requires Inv-loop μ-loop
 fault-requires c κs = search needs
 
--- src/lib.rt:269:28
 refused-requires : tie.Need-refused-requires Inv-loop μ-loop
 refused-requires c κs = search needs
 
--- src/lib.rt:269:13
 stopped-requires : tie.Need-stopped-requires Inv-loop μ-loop
 stopped-requires c κs = search needs
 
--- src/lib.rt:269:13
 same-length : tie.Need-same-length Inv-loop μ-loop
 same-length c = search needs
 
--- src/lib.rt:269:13
 same-length-2 : tie.Need-same-length-2 Inv-loop μ-loop
 same-length-2 c = search needs
 
--- src/lib.rt:269:13
 same-length-3 : tie.Need-same-length-3 Inv-loop μ-loop
 same-length-3 c = search needs
 
--- src/lib.rt:269:13
 returns : tie.Need-returns Inv-loop μ-loop
-returns c = λ names held. stops-fault _ _ _ _ _ _ _ _ _ _ _ _ (c .before .before .before .before .before .before .loop .inv .going names held) (c .before .before .before .enum-told .given .1) (c .before .before .fault .ensures) (c .before .refused .ensures) (c .stopped .ensures) (token-fault _ _ (c .before .before .before .before .before .token-at .ensures .0) (c .before .before .before .enum-told .given .1))
+returns c = (λ names held. stops-fault _ _ _ _ _ _ _ _ _ _ _ _ (c .before .before .before .before .before .before .loop .inv .going names held) (c .before .before .before .enum-told .given .1) (c .before .before .fault .ensures) (c .before .refused .ensures) (c .stopped .ensures) (is-fault _ _ _ (c .before .before .before .before .before .token-at .ensures) _ (c .before .before .before .enum-told .given .1)), few-refused _ (c .before .refused .result) (c .stopped .ensures))
 
--- src/lib.rt:272:13
 same-length-4 : tie.Need-same-length-4 Inv-loop μ-loop
 same-length-4 c = search needs
 
--- src/lib.rt:272:13
 same-length-5 : tie.Need-same-length-5 Inv-loop μ-loop
 same-length-5 c = search needs
 
--- src/lib.rt:272:13
 same-length-6 : tie.Need-same-length-6 Inv-loop μ-loop
 same-length-6 c = search needs
 
--- src/lib.rt:272:13
 returns-2 : tie.Need-returns-2 Inv-loop μ-loop
-returns-2 c = λ names held.
-    let l = lies _ _ (c .before .before .before .before .token-at .ensures .0) (c .before .before .read .given .1) (c .before .before .before .before .token-at .ensures .1) in
-    ends-all _ _ _ _ _ _ _ _ _ _ _ _ (c .before .before .before .before .before .loop .inv .going names held) _ _ _ (token-is _ _ (c .before .before .before .before .token-at .ensures .0) (c .before .before .read .given .1)) (other-kinds _ _ (l .known-kind) (c .before .before .before .before .before .before .before .before .before .before .pre .0 .0) (c .if1 .taken))
+returns-2 c = (
+  λ names held.
+      let l = is-token _ _ _ (c .before .before .before .before .token-at .ensures) _ _ _ (c .before .before .read .given .1) .1 in
+      ends-all _ _ _ _ _ _ _ _ _ _ _ _ (c .before .before .before .before .before .loop .inv .going names held) _ _ _ (is-token _ _ _ (c .before .before .before .before .token-at .ensures) _ _ _ (c .before .before .read .given .1) .0) (other-kinds _ _ (l .known-kind) (c .before .before .before .before .before .before .before .before .before .before .pre .0 .0) (c .if1 .taken)),
+  (c .before .before .before .before .before .loop .inv .few, c .before .before .before .before .before .loop .inv .bytes),
+)
 
--- src/lib.rt:274:13
 declaration-requires : tie.Need-declaration-requires Inv-loop μ-loop
 declaration-requires c κs = (room _ _ _ _ _ _ _ _ _ _ _ _ _ _ (c .before .before .before .before .before .before .before .before .loop .inv) (c .before .before .before .before .before .before .before .before .before .before .before .before .before .pre .1), omega (arith, c .before .before .before .before .before .before .before .before .loop .inv .bytes, c .before .before .before .before .before .before .before .before .loop .inv .few, c .before .before .before .before .before .before .before .before .before .before .before .before .before .pre .0 .1))
 
--- src/lib.rt:275:24
 enum-known-one : tie.Need-enum-known-one Inv-loop μ-loop
 enum-known-one c = search needs
 
--- src/lib.rt:276:13
 enum-told-2 : tie.Need-enum-told-2 Inv-loop μ-loop
 enum-told-2 c = search needs
 
--- src/lib.rt:276:13
 stopped-requires-2 : tie.Need-stopped-requires-2 Inv-loop μ-loop
 stopped-requires-2 c κs = search needs
 
--- src/lib.rt:276:13
 same-length-7 : tie.Need-same-length-7 Inv-loop μ-loop
 same-length-7 c = search needs
 
--- src/lib.rt:276:13
 same-length-8 : tie.Need-same-length-8 Inv-loop μ-loop
 same-length-8 c = search needs
 
--- src/lib.rt:276:13
 same-length-9 : tie.Need-same-length-9 Inv-loop μ-loop
 same-length-9 c = search needs
 
--- src/lib.rt:276:13
 returns-3 : tie.Need-returns-3 Inv-loop μ-loop
-returns-3 c = turns-out _ _ _ _ _ _ _ _ _ _ _ _ _ _ (c .before .before .before .before .before .before .before .before .before .before .before .before .before .before .before .before .before .before .loop .inv) _ _ _ (token-is _ _ (c .before .before .before .before .before .before .before .before .before .before .before .before .before .before .before .before .before .token-at .ensures .0) (c .before .before .before .before .before .before .before .before .before .before .before .before .before .before .before .read .given .1)) (same-kinds _ _ (c .before .before .before .before .before .before .before .before .before .before .before .before .before .if1 .left)) _ _ _ (c .before .before .before .before .before .before .before .before .before .declaration .ensures .0) (c .before .before .before .before .before .before .before .before .before .declaration .ensures .1) (c .before .enum-told2 .given .1) (c .stopped2 .ensures)
+returns-3 c = (turns-out _ _ _ _ _ _ _ _ _ _ _ _ _ _ (c .before .before .before .before .before .before .before .before .before .before .before .before .before .before .before .before .before .before .loop .inv) _ _ _ (is-token _ _ _ (c .before .before .before .before .before .before .before .before .before .before .before .before .before .before .before .before .before .token-at .ensures) _ _ _ (c .before .before .before .before .before .before .before .before .before .before .before .before .before .before .before .read .given .1) .0) (same-kinds _ _ (c .before .before .before .before .before .before .before .before .before .before .before .before .before .if1 .left)) _ _ _ (c .before .before .before .before .before .before .before .before .before .declaration .ensures .0) (c .before .before .before .before .before .before .before .before .before .declaration .ensures .1) (c .before .enum-told2 .given .1) (c .stopped2 .ensures), few-refused _ (c .before .before .before .before .before .before .before .before .before .declaration .result) (c .stopped2 .ensures))
 
--- src/lib.rt:280:9
 add-known : tie.Need-add-known Inv-loop μ-loop
 add-known c = record { fits = omega (arith, c .before .before .before .before .before .before .before .before .before .before .before .before .before .before .before .before .before .before .loop .inv .few) }
 
--- src/lib.rt:266:5
 loop-less : tie.Need-loop-less Inv-loop μ-loop
 loop-less c = let m = c .before .before .before .before .before .before .before .before .before .declaration .ensures .1 _ _ (c .before .one .given .1) in omega (arith, m .0)
 
--- src/lib.rt:266:5
 loop-again : tie.Need-loop-again Inv-loop μ-loop
-loop-again c = turns-on _ _ _ _ _ _ _ _ _ _ _ _ _ _ (c .before .before .before .before .before .before .before .before .before .before .before .before .before .before .before .before .before .before .loop .inv) _ _ _ (token-is _ _ (c .before .before .before .before .before .before .before .before .before .before .before .before .before .before .before .before .before .token-at .ensures .0) (c .before .before .before .before .before .before .before .before .before .before .before .before .before .before .before .read .given .1)) (same-kinds _ _ (c .before .before .before .before .before .before .before .before .before .before .before .before .before .if1 .left)) _ _ _ (c .before .before .before .before .before .before .before .before .before .declaration .ensures .0) (c .before .before .before .before .before .before .before .before .before .declaration .ensures .1) (c .before .one .given .1) (search needs) (search needs) (search needs)
+loop-again c = turns-on _ _ _ _ _ _ _ _ _ _ _ _ _ _ (c .before .before .before .before .before .before .before .before .before .before .before .before .before .before .before .before .before .before .loop .inv) _ _ _ (is-token _ _ _ (c .before .before .before .before .before .before .before .before .before .before .before .before .before .before .before .before .before .token-at .ensures) _ _ _ (c .before .before .before .before .before .before .before .before .before .before .before .before .before .before .before .read .given .1) .0) (same-kinds _ _ (c .before .before .before .before .before .before .before .before .before .before .before .before .before .if1 .left)) _ _ _ (c .before .before .before .before .before .before .before .before .before .declaration .ensures .0) (c .before .before .before .before .before .before .before .before .before .declaration .ensures .1) (c .before .one .given .1) (search needs) (search needs) (search needs)
 
 pub declarations-spec : {M : Type 1} → statement M
 declarations-spec =

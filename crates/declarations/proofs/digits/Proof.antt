@@ -1,5 +1,4 @@
-use mathlib.Core.Path.{_≡_}
-use lib.IntN.{ℤ}
+-- `declarations::digits` meets its contract. Assumes nothing.
 use mir.Syntax.{w32}
 use mir.Val.{SFits}
 use Rattle.arith.proofs.Laws.{same32}
@@ -9,47 +8,34 @@ use Rattle.declarations.proofs.Bounds.{no-digits, digits-in, digits-out
 use borrow.Author.Needs.{needs}
 use Rattle.declarations.proofs.digits.Statement.{statement}
 use Rattle.declarations.proofs.digits.Tie as tie
-use Rattle.declarations.proofs.digits.Reads as reads
-use Rattle.declarations.proofs.digits.Lts as lts
-use Rattle.declarations.proofs.signed.Reads as signed-reads
-use Rattle.lexer.proofs.name.Reads as name-reads
-use Rattle.lexer.proofs.value.Reads as value-reads
 
--- src/lib.rt:120:9
 returns : tie.Need-returns
 unfolding kindNumber
 returns c = no-digits _ _ (c .before .before .fits .low) (c .before .before .fits .high) (c .before .before .args .text .now) (c .before .before .args .negative) _ _ (c .before .before .args .end) (kind-is-not _ digits-kind (c .before .before .pre) (c .if1 .taken))
 
--- src/lib.rt:122:30
 name-requires : tie.Need-name-requires
 name-requires c κs = search needs
 
--- src/lib.rt:122:9
 value-requires : tie.Need-value-requires
 value-requires c κs = search needs
 
--- src/lib.rt:123:25
 signed-requires : tie.Need-signed-requires
 signed-requires c κs = search needs
 
--- src/lib.rt:123:20
 enum-known-z : tie.Need-enum-known-z
 enum-known-z c = search needs
 
--- src/lib.rt:124:9
 enum-told : tie.Need-enum-told
 enum-told c = search needs
 
--- src/lib.rt:124:9
 returns-2 : tie.Need-returns-2
 unfolding kindNumber
 returns-2 c = digits-out _ _ (c .before .before .before .before .before .before .before .fits .low) (c .before .before .before .before .before .before .before .fits .high) _ (c .before .before .before .before .before .before .before .args .negative) _ _ _ _ (kind-is _ digits-kind (c .before .before .before .before .before .if1 .left)) (rw (c .before .before .before .before .name .ensures) at (c .before .before .before .value .ensures))
     (rw (same32 (c .before .before .before .before .before .before .before .fits .low), same32 (c .before .before .before .before .before .before .before .fits .high)) at (c .before .before .signed .ensures)) (c .enum-told .given .1)
 
--- src/lib.rt:115:1
 returns-3 : tie.Need-returns-3
 unfolding kindNumber
-returns-3 c = 
+returns-3 c =
     let f : SFits w32 (c .before .z .given .0 .0) = search needs in
     rw (same32 f)
     (digits-in _ _ (c .before .before .before .before .before .before .before .before .fits .low) (c .before .before .before .before .before .before .before .before .fits .high) _ (c .before .before .before .before .before .before .before .before .args .negative) _ _ _ _ (kind-is _ digits-kind (c .before .before .before .before .before .before .if1 .left)) (rw (c .before .before .before .before .before .name .ensures) at (c .before .before .before .before .value .ensures))

@@ -1,116 +1,88 @@
-use mathlib.Core.Path.{_≡_, sym, ap, _∙_}
+-- `declarations::new_name` meets its contract. Assumes nothing.
+use mathlib.Core.Path.{sym, ap, _∙_}
 use Rattle.lexer.specs.Token.{kindNumber, name}
 use Rattle.lexer.specs.Results.{foundId}
 use Rattle.lexer.proofs.KindNumbers.{kind-is, kind-is-not}
 use Rattle.phrases.specs.Results.{faultOf}
-use Rattle.phrases.proofs.Laws.{lies, token-is, token-fault}
+use Rattle.lexer.proofs.Tokens.{is-token, is-fault}
 use Rattle.declarations.proofs.NewNames.{faulty-name, refuses-other, refuses-known, refuses-long, refuses-last, takes-name}
 use borrow.Author.Needs.{needs}
 use Rattle.declarations.proofs.new_name.Statement.{statement}
 use Rattle.declarations.proofs.new_name.Tie as tie
-use Rattle.declarations.proofs.new_name.Reads as reads
-use Rattle.declarations.proofs.new_name.Lts as lts
-use Rattle.lexer.proofs.add.Reads as add-reads
-use Rattle.lexer.proofs.find.Reads as find-reads
-use Rattle.lexer.proofs.is_over_long.Reads as is-over-long-reads
-use Rattle.lexer.proofs.token_at.Reads as token-at-reads
-use Rattle.phrases.proofs.fault.Reads as fault-reads
 
--- src/lib.rt:222:9
 token-at-requires : tie.Need-token-at-requires
 token-at-requires c κs = search needs
 
--- src/lib.rt:223:19
 enum-known-read : tie.Need-enum-known-read
 enum-known-read c = search needs
 
--- src/lib.rt:224:9
 enum-told : tie.Need-enum-told
 enum-told c = search needs
 
--- src/lib.rt:224:9
 fault-requires : tie.Need-fault-requires
 fault-requires c κs = search needs
 
--- src/lib.rt:224:9
 returns : tie.Need-returns
-returns c = faulty-name _ _ _ _ _ _ _ _ (c .fault .ensures ∙ ap faultOf (c .before .enum-told .given .1)) (token-fault _ _ (c .before .before .before .token-at .ensures .0) (c .before .enum-told .given .1))
+returns c = faulty-name _ _ _ _ _ _ _ _ (c .fault .ensures ∙ ap faultOf (c .before .enum-told .given .1)) (is-fault _ _ _ (c .before .before .before .token-at .ensures) _ (c .before .enum-told .given .1))
 
--- src/lib.rt:227:9
 returns-2 : tie.Need-returns-2
 unfolding kindNumber
-returns-2 c = let l = lies _ _ (c .before .before .before .before .token-at .ensures .0) (c .before .before .read .given .1) (c .before .before .before .before .token-at .ensures .1) in refuses-other _ _ _ _ _ _ _ _ _ _ (token-is _ _ (c .before .before .before .before .token-at .ensures .0) (c .before .before .read .given .1)) (kind-is-not _ name (l .known-kind) (c .if1 .taken))
+returns-2 c = let l = is-token _ _ _ (c .before .before .before .before .token-at .ensures) _ _ _ (c .before .before .read .given .1) .1 in refuses-other _ _ _ _ _ _ _ _ _ _ (is-token _ _ _ (c .before .before .before .before .token-at .ensures) _ _ _ (c .before .before .read .given .1) .0) (kind-is-not _ name (l .known-kind) (c .if1 .taken))
 
--- src/lib.rt:229:9
 find-requires : tie.Need-find-requires
 find-requires c κs = search needs
 
--- src/lib.rt:231:9
 enum-told-2 : tie.Need-enum-told-2
 enum-told-2 c = search needs
 
--- src/lib.rt:231:9
 same-length : tie.Need-same-length
 same-length c = search needs
 
--- src/lib.rt:231:9
 same-length-2 : tie.Need-same-length-2
 same-length-2 c = search needs
 
--- src/lib.rt:231:9
 returns-3 : tie.Need-returns-3
 unfolding kindNumber
-returns-3 c = refuses-known _ _ _ _ _ _ _ _ _ _ (token-is _ _ (c .before .before .before .before .before .before .before .before .before .token-at .ensures .0) (c .before .before .before .before .before .before .before .read .given .1)) (kind-is _ name (c .before .before .before .before .before .if1 .left)) _ (sym (c .before .before .find .ensures) ∙ ap foundId (c .enum-told2 .given .1))
+returns-3 c = refuses-known _ _ _ _ _ _ _ _ _ _ (is-token _ _ _ (c .before .before .before .before .before .before .before .before .before .token-at .ensures) _ _ _ (c .before .before .before .before .before .before .before .read .given .1) .0) (kind-is _ name (c .before .before .before .before .before .if1 .left)) _ (sym (c .before .before .find .ensures) ∙ ap foundId (c .enum-told2 .given .1))
 
 enum-told-3 : tie.Need-enum-told-3
 enum-told-3 c = search needs
 
--- src/lib.rt:233:8
 is-over-long-requires : tie.Need-is-over-long-requires
 is-over-long-requires c κs = search needs
 
--- src/lib.rt:234:9
 same-length-3 : tie.Need-same-length-3
 same-length-3 c = search needs
 
--- src/lib.rt:234:9
 same-length-4 : tie.Need-same-length-4
 same-length-4 c = search needs
 
--- src/lib.rt:234:9
 returns-4 : tie.Need-returns-4
 unfolding kindNumber
-returns-4 c = refuses-long _ _ _ _ _ _ _ _ _ _ (token-is _ _ (c .before .before .before .before .before .before .before .before .before .before .before .token-at .ensures .0) (c .before .before .before .before .before .before .before .before .before .read .given .1)) (kind-is _ name (c .before .before .before .before .before .before .before .if1 .left)) (sym (c .before .before .before .before .find .ensures) ∙ ap foundId (c .before .before .enum-told3 .given .1)) (sym (c .before .is-over-long .ensures) ∙ c .if2 .taken)
+returns-4 c = refuses-long _ _ _ _ _ _ _ _ _ _ (is-token _ _ _ (c .before .before .before .before .before .before .before .before .before .before .before .token-at .ensures) _ _ _ (c .before .before .before .before .before .before .before .before .before .read .given .1) .0) (kind-is _ name (c .before .before .before .before .before .before .before .if1 .left)) (sym (c .before .before .before .before .find .ensures) ∙ ap foundId (c .before .before .enum-told3 .given .1)) (sym (c .before .is-over-long .ensures) ∙ c .if2 .taken)
 
--- src/lib.rt:237:9
 add-requires : tie.Need-add-requires
 add-requires c κs = search needs
 
--- src/lib.rt:238:9
 same-length-5 : tie.Need-same-length-5
 same-length-5 c = search needs
 
--- src/lib.rt:238:9
 same-length-6 : tie.Need-same-length-6
 same-length-6 c = search needs
 
--- src/lib.rt:238:9
 returns-5 : tie.Need-returns-5
 unfolding kindNumber
-returns-5 c = takes-name _ _ _ _ _ _ _ _ _ _ (token-is _ _ (c .before .before .before .before .before .before .before .before .before .before .before .before .before .before .before .before .before .before .before .token-at .ensures .0) (c .before .before .before .before .before .before .before .before .before .before .before .before .before .before .before .before .before .read .given .1)) (kind-is _ name (c .before .before .before .before .before .before .before .before .before .before .before .before .before .before .before .if1 .left)) (sym (c .before .before .before .before .before .before .before .before .before .before .before .before .find .ensures) ∙ ap foundId (c .before .before .before .before .before .before .before .before .before .before .enum-told3 .given .1)) (sym (c .before .before .before .before .before .before .before .before .before .is-over-long .ensures) ∙ c .before .before .before .before .before .before .before .before .if2 .left) (c .before .before .before .before .before .before .before .if3 .taken) (c .before .before .before .before .add .ensures .0 .0) (c .before .before .before .before .add .ensures .1 .0)
+returns-5 c = takes-name _ _ _ _ _ _ _ _ _ _ (is-token _ _ _ (c .before .before .before .before .before .before .before .before .before .before .before .before .before .before .before .before .before .before .before .token-at .ensures) _ _ _ (c .before .before .before .before .before .before .before .before .before .before .before .before .before .before .before .before .before .read .given .1) .0) (kind-is _ name (c .before .before .before .before .before .before .before .before .before .before .before .before .before .before .before .if1 .left)) (sym (c .before .before .before .before .before .before .before .before .before .before .before .before .find .ensures) ∙ ap foundId (c .before .before .before .before .before .before .before .before .before .before .enum-told3 .given .1)) (sym (c .before .before .before .before .before .before .before .before .before .is-over-long .ensures) ∙ c .before .before .before .before .before .before .before .before .if2 .left) (c .before .before .before .before .before .before .before .if3 .taken) (c .before .before .before .before .add .ensures .0 .0) (c .before .before .before .before .add .ensures .1 .0)
 
--- src/lib.rt:217:1
 same-length-7 : tie.Need-same-length-7
 same-length-7 c = search needs
 
--- src/lib.rt:217:1
 same-length-8 : tie.Need-same-length-8
 same-length-8 c = search needs
 
--- src/lib.rt:217:1
 returns-6 : tie.Need-returns-6
 unfolding kindNumber
-returns-6 c = refuses-last _ _ _ _ _ _ _ _ _ _ (token-is _ _ (c .before .before .before .before .before .before .before .before .before .before .before .before .token-at .ensures .0) (c .before .before .before .before .before .before .before .before .before .before .read .given .1)) (kind-is _ name (c .before .before .before .before .before .before .before .before .if1 .left)) (sym (c .before .before .before .before .before .find .ensures) ∙ ap foundId (c .before .before .before .enum-told3 .given .1)) (sym (c .before .before .is-over-long .ensures) ∙ c .before .if2 .left) (c .if3 .left)
+returns-6 c = refuses-last _ _ _ _ _ _ _ _ _ _ (is-token _ _ _ (c .before .before .before .before .before .before .before .before .before .before .before .before .token-at .ensures) _ _ _ (c .before .before .before .before .before .before .before .before .before .before .read .given .1) .0) (kind-is _ name (c .before .before .before .before .before .before .before .before .if1 .left)) (sym (c .before .before .before .before .before .find .ensures) ∙ ap foundId (c .before .before .before .enum-told3 .given .1)) (sym (c .before .before .is-over-long .ensures) ∙ c .before .if2 .left) (c .if3 .left)
 
 pub new-name-spec : {M : Type 1} → statement M
 new-name-spec =

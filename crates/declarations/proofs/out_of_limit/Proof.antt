@@ -1,22 +1,17 @@
+-- `declarations::out_of_limit` meets its contract. Assumes nothing.
 use borrow.Author.Needs.{needs}
 use Rattle.declarations.proofs.out_of_limit.Statement.{statement}
 use Rattle.declarations.proofs.out_of_limit.Tie as tie
-use Rattle.declarations.proofs.out_of_limit.Reads as reads
-use Rattle.declarations.proofs.out_of_limit.Lts as lts
 
--- src/lib.rt:77:28
 enum-told : tie.Need-enum-told
 enum-told c = search needs
 
--- src/lib.rt:78:24
 enum-known-b : tie.Need-enum-known-b
 enum-known-b c = search needs
 
--- src/lib.rt:73:1
 returns : tie.Need-returns
 returns c = search needs
 
--- src/lib.rt:73:1
 returns-2 : tie.Need-returns-2
 returns-2 c = rw (c .before .b .given .1)
 

@@ -1,30 +1,23 @@
+-- `declarations::put_range` meets its contract. Assumes nothing.
 use native.Mathlib.Omega.{arith}
 use Rattle.arith.proofs.Laws.{same32}
 use Rattle.declarations.proofs.Numbers.{near, three-written}
 use borrow.Author.Needs.{needs}
 use Rattle.declarations.proofs.put_range.Statement.{statement}
 use Rattle.declarations.proofs.put_range.Tie as tie
-use Rattle.declarations.proofs.put_range.Reads as reads
-use Rattle.declarations.proofs.put_range.Lts as lts
-use Rattle.leb128.proofs.put_signed.Reads as put-signed-reads
 
--- src/lib.rt:50:9
 put-signed-requires : tie.Need-put-signed-requires
 put-signed-requires c κs = search needs
 
--- src/lib.rt:51:9
 put-signed-requires-2 : tie.Need-put-signed-requires-2
 put-signed-requires-2 c κs = omega (arith, near _ _ _ (c .before .before .before .put-signed .ensures .0))
 
--- src/lib.rt:52:5
 put-signed-requires-3 : tie.Need-put-signed-requires-3
 put-signed-requires-3 c κs = omega (arith, near _ _ _ (c .before .before .before .before .before .before .before .put-signed .ensures .0), near _ _ _ (c .before .before .before .put-signed2 .ensures .0))
 
--- src/lib.rt:46:1
 same-length : tie.Need-same-length
 same-length c = search needs
 
--- src/lib.rt:46:1
 returns : tie.Need-returns
 returns c = rw (same32 (c .before .before .before .before .before .before .before .before .before .before .before .before .before .fits .low), same32 (c .before .before .before .before .before .before .before .before .before .before .before .before .before .fits .high), same32 (c .before .before .before .before .before .before .before .before .before .before .before .before .before .fits .start)) at (three-written _ _ _ _ _ _ _ _ (record { low = _; high = _; start = _ }) (c .before .before .before .before .before .before .before .before .before .before .put-signed .ensures) (c .before .before .before .before .before .before .put-signed2 .ensures) (c .before .before .put-signed3 .ensures))
 

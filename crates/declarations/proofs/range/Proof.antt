@@ -1,5 +1,5 @@
+-- `declarations::range` meets its contract: each part that was read takes the definition one step on. Assumes nothing.
 use mathlib.Core.Path.{_≡_, sym, ap, _∙_}
-use lib.IntN.{ℤ}
 use mir.Syntax.{w32}
 use mir.Val.{SFits}
 use Rattle.arith.specs.Values.{lowest, highest}
@@ -10,18 +10,11 @@ use Rattle.grammar.specs.Parsed.{accepted, sign, expected}
 use Rattle.grammar.specs.Declarations.{inRange, boundAt, startAt}
 use Rattle.phrases.specs.Results.{expectedOf}
 use Rattle.declarations.specs.Results.{boundOf}
-use Rattle.declarations.proofs.Ranges.{no-low, no-dots, no-high, no-start, whole-range, refuses-bound, refuses-sign, writes}
+use Rattle.declarations.proofs.Ranges.{no-low, no-dots, no-high, no-start, whole-range}
+use Rattle.declarations.proofs.Steps.{refuses-bound, refuses-sign, writes}
 use borrow.Author.Needs.{needs}
 use Rattle.declarations.proofs.range.Statement.{statement}
 use Rattle.declarations.proofs.range.Tie as tie
-use Rattle.declarations.proofs.range.Reads as reads
-use Rattle.declarations.proofs.range.Lts as lts
-use Rattle.declarations.proofs.bound_at.Reads as bound-at-reads
-use Rattle.declarations.proofs.out_of_limit.Reads as out-of-limit-reads
-use Rattle.declarations.proofs.put_range.Reads as put-range-reads
-use Rattle.declarations.proofs.refused.Reads as refused-reads
-use Rattle.declarations.proofs.start_at.Reads as start-at-reads
-use Rattle.phrases.proofs.expect.Reads as expect-reads
 
 -- what each call found, as an equation of the definition
 low-fits : (c : tie.After-known-told) → SFits w32 (c .before .first .given .0 .0)
@@ -46,104 +39,81 @@ start-fits c = search needs
 start-is : (c : tie.After-known-told4) → startAt (c .before .before .before .before .before .before .before .before .before .before .before .before .before .before .before .before .before .before .args .text .now) (c .before .before .before .before .before .before .before .before .before .before .before .before .before .first .given .0 .0) (c .before .before .before .before .before .second .given .0 .0) (c .before .before .before .before .before .second .given .0 .1 .0) ≡ accepted (c .before .third .given .0 .0) (c .before .third .given .0 .1 .0)
 start-is c = sym (rw (same32 (low-fits (c .before .before .before .before .before .before .before .before .before .before .before .before)), same32 (high-fits (c .before .before .before .before))) at (c .before .before .before .start-at .ensures)) ∙ ap boundOf (c .before .third .given .1)
 
--- src/lib.rt:197:9
 bound-at-requires : tie.Need-bound-at-requires
 bound-at-requires c κs = search needs
 
--- src/lib.rt:198:19
 enum-known-first : tie.Need-enum-known-first
 enum-known-first c = search needs
 
--- src/lib.rt:199:9
 enum-told : tie.Need-enum-told
 enum-told c = search needs
 
--- src/lib.rt:199:9
 out-of-limit-requires : tie.Need-out-of-limit-requires
 out-of-limit-requires c κs = search needs
 
--- src/lib.rt:199:9
 returns : tie.Need-returns
 returns c = refuses-bound _ _ _ _ _ (c .before .enum-told .given .1) (c .out-of-limit .ensures) (no-low _ _ _ _ (sym (c .before .before .before .bound-at .ensures) ∙ ap boundOf (c .before .enum-told .given .1)))
 
--- src/lib.rt:201:9
 expect-requires : tie.Need-expect-requires
 expect-requires c κs = search needs
 
--- src/lib.rt:202:25
 enum-known-between : tie.Need-enum-known-between
 enum-known-between c = search needs
 
--- src/lib.rt:203:9
 enum-told-2 : tie.Need-enum-told-2
 enum-told-2 c = search needs
 
--- src/lib.rt:203:9
 refused-requires : tie.Need-refused-requires
 refused-requires c κs = search needs
 
--- src/lib.rt:203:9
 returns-2 : tie.Need-returns-2
 unfolding kindOf
-returns-2 c = 
+returns-2 c =
     refuses-sign _ _ _ _ _ (c .before .enum-told2 .given .1) (c .refused .ensures)
     (no-dots _ _ _ _ (low-is (c .before .before .before .before)) _ _ (sym (c .before .before .before .expect .ensures) ∙ ap expectedOf (c .before .enum-told2 .given .1)))
 
--- src/lib.rt:205:9
 bound-at-requires-2 : tie.Need-bound-at-requires-2
 bound-at-requires-2 c κs = search needs
 
--- src/lib.rt:206:19
 enum-known-second : tie.Need-enum-known-second
 enum-known-second c = search needs
 
--- src/lib.rt:207:9
 enum-told-3 : tie.Need-enum-told-3
 enum-told-3 c = search needs
 
--- src/lib.rt:207:9
 out-of-limit-requires-2 : tie.Need-out-of-limit-requires-2
 out-of-limit-requires-2 c κs = search needs
 
--- src/lib.rt:207:9
 returns-3 : tie.Need-returns-3
-returns-3 c = 
+returns-3 c =
     refuses-bound _ _ _ _ _ (c .before .enum-told3 .given .1) (c .out-of-limit2 .ensures)
     (no-high _ _ _ _ (low-is (c .before .before .before .before .before .before .before .before)) _ (dots-is (c .before .before .before .before)) _ _ (sym (rw (same32 (low-fits (c .before .before .before .before .before .before .before .before))) at (c .before .before .before .bound-at2 .ensures)) ∙ ap boundOf (c .before .enum-told3 .given .1)))
 
--- src/lib.rt:209:9
 start-at-requires : tie.Need-start-at-requires
 start-at-requires c κs = search needs
 
--- src/lib.rt:210:19
 enum-known-third : tie.Need-enum-known-third
 enum-known-third c = search needs
 
--- src/lib.rt:211:9
 enum-told-4 : tie.Need-enum-told-4
 enum-told-4 c = search needs
 
--- src/lib.rt:211:9
 out-of-limit-requires-3 : tie.Need-out-of-limit-requires-3
 out-of-limit-requires-3 c κs = search needs
 
--- src/lib.rt:211:9
 returns-4 : tie.Need-returns-4
-returns-4 c = 
+returns-4 c =
     refuses-bound _ _ _ _ _ (c .before .enum-told4 .given .1) (c .out-of-limit3 .ensures)
     (no-start _ _ _ _ (low-is (c .before .before .before .before .before .before .before .before .before .before .before .before)) _ (dots-is (c .before .before .before .before .before .before .before .before)) _ _ (high-is (c .before .before .before .before)) _ _ (sym (rw (same32 (low-fits (c .before .before .before .before .before .before .before .before .before .before .before .before)), same32 (high-fits (c .before .before .before .before))) at (c .before .before .before .start-at .ensures)) ∙ ap boundOf (c .before .enum-told4 .given .1)))
 
--- src/lib.rt:213:21
 put-range-requires : tie.Need-put-range-requires
 put-range-requires c κs = search needs
 
--- src/lib.rt:193:1
 same-length : tie.Need-same-length
 same-length c = search needs
 
--- src/lib.rt:193:1
 returns-5 : tie.Need-returns-5
-returns-5 c = 
+returns-5 c =
     writes _ _ _ _ _ _ _ _ (whole-range _ _ _ _ (low-is (c .before .before .before .before .before .before .before .before .before .before .before .before .before .before .before .before)) _ (dots-is (c .before .before .before .before .before .before .before .before .before .before .before .before)) _ _ (high-is (c .before .before .before .before .before .before .before .before)) _ _ (start-is (c .before .before .before .before)))
     (rw (same32 (low-fits (c .before .before .before .before .before .before .before .before .before .before .before .before .before .before .before .before)), same32 (high-fits (c .before .before .before .before .before .before .before .before)), same32 (start-fits (c .before .before .before .before))) at (c .before .before .put-range .ensures))
 

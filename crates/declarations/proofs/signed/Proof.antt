@@ -1,3 +1,4 @@
+-- `declarations::signed` meets its contract. Assumes nothing.
 use mir.Syntax.{w64}
 use mir.Facts.{toZ-ofZ}
 use Rattle.arith.proofs.Laws.{same32}
@@ -5,31 +6,22 @@ use Rattle.declarations.proofs.Numbers.{held, negated, negated-fits}
 use borrow.Author.Needs.{needs}
 use Rattle.declarations.proofs.signed.Statement.{statement}
 use Rattle.declarations.proofs.signed.Tie as tie
-use Rattle.declarations.proofs.signed.Reads as reads
-use Rattle.declarations.proofs.signed.Lts as lts
-use Rattle.declarations.proofs.within.Reads as within-reads
 
--- src/lib.rt:38:13
 cast-z : tie.Need-cast-z
 cast-z c = search needs
 
--- src/lib.rt:40:23
 sub-within : tie.Need-sub-within
 sub-within c = rw (negated _ (c .before .pre)) (negated-fits _ (c .before .pre))
 
--- src/lib.rt:40:9
 within-requires : tie.Need-within-requires
 within-requires c κs = search needs
 
--- src/lib.rt:40:9
 returns : tie.Need-returns
 returns c = rw (c .within .ensures, same32 (c .before .before .fits .low), same32 (c .before .before .fits .high), negated _ (c .before .before .pre), toZ-ofZ {w = w64} (negated-fits _ (c .before .before .pre)), c .before .if1 .taken)
 
--- src/lib.rt:42:5
 within-requires-2 : tie.Need-within-requires-2
 within-requires-2 c κs = search needs
 
--- src/lib.rt:34:1
 returns-2 : tie.Need-returns-2
 returns-2 c = rw (c .within2 .ensures, same32 (c .before .before .fits .low), same32 (c .before .before .fits .high), held _ (c .before .before .pre), c .before .if1 .left)
 

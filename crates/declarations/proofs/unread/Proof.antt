@@ -1,22 +1,17 @@
+-- `declarations::unread` meets its contract. Assumes nothing.
 use borrow.Author.Needs.{needs}
 use Rattle.declarations.proofs.unread.Statement.{statement}
 use Rattle.declarations.proofs.unread.Tie as tie
-use Rattle.declarations.proofs.unread.Reads as reads
-use Rattle.declarations.proofs.unread.Lts as lts
 
--- src/lib.rt:59:31
 enum-told : tie.Need-enum-told
 enum-told c = search needs
 
--- src/lib.rt:60:27
 enum-known-e : tie.Need-enum-known-e
 enum-known-e c = search needs
 
--- src/lib.rt:55:1
 returns : tie.Need-returns
 returns c = search needs
 
--- src/lib.rt:55:1
 returns-2 : tie.Need-returns-2
 returns-2 c = rw (c .before .e .given .1)
 

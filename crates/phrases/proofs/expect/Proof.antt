@@ -24,7 +24,7 @@ returns-2 : tie.Need-returns-2
 returns-2 c = wanted _ _ _ (c .before .before .before .before .token-at .ensures) (c .before .before .read .given .1) (same-kinds _ _ (c .if1 .taken))
 
 returns-3 : tie.Need-returns-3
-returns-3 c = 
+returns-3 c =
     let t = is-token _ _ _ (c .before .before .before .before .token-at .ensures) _ _ _ (c .before .before .read .given .1) in
     unwanted _ _ _ (c .before .before .before .before .token-at .ensures) (c .before .before .read .given .1) (other-kinds _ _ (t .1 .known-kind) (c .before .before .before .before .before .before .pre) (c .if1 .left))
 

@@ -1,0 +1,123 @@
+-- The ways through a case and through the lists of conditions: what each comes to. Assumes nothing.
+use mathlib.Core.Path.{_≡_, refl, ap, sym, _∙_, subst}
+use mathlib.Core.List.{List, [], _∷_, _++_, append-assoc, append-nil}
+use Prim.Native.Nat.{ℕ, suc, _+_, _*_, _≤_, _<_, _^_}
+use native.Mathlib.Numerals.{add-one}
+use native.Mathlib.Omega.{arith}
+use lib.ListN.{length, set, length-append}
+use lib.Seq.{sets}
+use borrow.Author.Tests.{lt-ltb, le-ltb, le-leb, lt-leb, eq-eqb, ne-eqb}
+use Rattle.limits.specs.Limits.{noToken, notAllowed, listsDiffer, tooMany}
+use Rattle.leb128.specs.Numbers.{number}
+use Rattle.lexer.specs.Token.{Kind, kindNumber, closeRound, is, Read, token, fault}
+use Rattle.lexer.specs.Lexer.{tokenAt}
+use Rattle.semantics.specs.Program.{Expression, Condition, Case}
+use Rattle.grammar.specs.Parsed.{Parsed, accepted, refused, andThen, onToken, Wanted, sign, expected, phrase, followed}
+use Rattle.grammar.specs.Expressions.{Scope, wholeExpression}
+use Rattle.grammar.specs.Conditions.{listed}
+use Rattle.grammar.specs.Rules.{Span, Spanned, caseAt, Compared, differs, settled}
+use Rattle.grammar.specs.Emitted.{codeE, codeC, codeK}
+use Rattle.grammar.proofs.Growth.{Grown, Kept, listed-grown, whole-expression-grown}
+use Rattle.grammar.proofs.Size.{Solid, Long, phrase-long}
+use Rattle.expressions.specs.Steps.{Room}
+use Rattle.expressions.proofs.Steps.{sets-append, Refuses}
+use Rattle.phrases.specs.Forms.{caseValueOpening}
+use Rattle.cases.specs.Results.{placeOnly}
+use Rattle.cases.specs.Post.{codeOfCase, endOfCondition}
+use Rattle.cases.proofs.Parts.{never, same-refusal, Got, phrase-fault, behind-refused}
+
+-- ---- bytes of an instruction with an id
+
+pub put-bytes : (before : List ℕ) {mid after : List ℕ} (to c id : ℕ) {t u : ℕ} → t ≡ to + 1 → mid ≡ set before to c → u ≡ t + length (number id) → after ≡ sets mid t (number id) → (u ≡ to + length (c ∷ number id)) × (after ≡ sets before to (c ∷ number id))
+put-bytes before to c id ht hm hu ha = (omega arith, rw (ha, hm, ht, add-one to))
+
+-- ---- a case
+
+module _ (sc : Scope) (w : List ℕ) (from n : ℕ) where
+  pub condition-refused : {k q : ℕ} → Refuses (sc .text) (listed sc n) k q → caseAt sc w from n ≡ refused k q
+  unfolding caseAt
+  condition-refused r = behind-refused (sc .text) _ (λ c m q e. rw (phrase-fault (sc .text) _ _ m q e)) (listed sc n) r
+
+  module _ {c : Condition} {n1 : ℕ} (e1 : listed sc n ≡ accepted c n1) where
+    pub opening-refused : {k q : ℕ} → phrase (sc .text) (caseValueOpening w) n1 ≡ refused k q → caseAt sc w from n ≡ refused k q
+    unfolding caseAt
+    opening-refused e2 = rw (e1, e2)
+
+    module _ {n2 : ℕ} (e2 : phrase (sc .text) (caseValueOpening w) n1 ≡ accepted tt n2) where
+      pub value-refused : {k q : ℕ} → Refuses (sc .text) (wholeExpression sc n2) k q → caseAt sc w from n ≡ refused k q
+      unfolding caseAt followed
+      value-refused r = rw (e1, e2) (behind-refused (sc .text) _ (λ e m q f. rw (phrase-fault (sc .text) _ _ m q f)) (wholeExpression sc n2) r)
+
+      module _ {e : Expression} {n3 : ℕ} (e3 : wholeExpression sc n2 ≡ accepted e n3) where
+        pub closing-refused : {k q : ℕ} → expected (sc .text) (sign closeRound) n3 ≡ refused k q → caseAt sc w from n ≡ refused k q
+        unfolding caseAt followed phrase
+        closing-refused e4 = rw (e1, e2, e3, e4)
+
+        pub case-accepted : {n4 : ℕ} → expected (sc .text) (sign closeRound) n3 ≡ accepted tt n4 → caseAt sc w from n ≡ accepted (record { case = record { condition = c; value = e }; span = record { from = from; to = n1 } }) n4
+        unfolding caseAt followed phrase
+        case-accepted e4 = rw (e1, e2, e3, e4)
+
+-- bytes written after others
+pub then-bytes : (before : List ℕ) {mid after : List ℕ} (to : ℕ) {t : ℕ} (xs ys : List ℕ) → t ≡ to + length xs → mid ≡ sets before to xs → after ≡ sets mid t ys → after ≡ sets before to (xs ++ ys)
+then-bytes before to xs ys ht hm ha = ha ∙ rw (hm, ht) (sym (sets-append before to xs ys))
+
+-- the bytes of a case, written one after another
+pub case-bytes : (before : List ℕ) {mid1 mid2 mid3 after : List ℕ} (to : ℕ) {t u x : ℕ} (v : ℕ) (k : Case) → t ≡ to + length (codeC (k .condition)) → mid1 ≡ sets before to (codeC (k .condition)) → u ≡ t + 1 → mid2 ≡ set mid1 t 19 → x ≡ u + length (codeE (k .value)) → mid3 ≡ sets mid2 u (codeE (k .value)) → after ≡ sets mid3 x (20 ∷ number v) → after ≡ sets before to (codeK v (k ∷ []))
+unfolding codeK
+case-bytes before {mid1} {mid2} to {t} {u} v k ht h1 hu h2 hx h3 h4 =
+    rw (append-nil (number v))
+    (then-bytes before to (codeC (k .condition)) (19 ∷ (codeE (k .value) ++ (20 ∷ number v))) ht h1
+    (then-bytes mid1 t (19 ∷ []) (codeE (k .value) ++ (20 ∷ number v)) hu h2
+    (then-bytes mid2 u (codeE (k .value)) (20 ∷ number v) hx h3 h4)))
+
+pub case-length : (to : ℕ) {t u x y : ℕ} (v : ℕ) (k : Case) → t ≡ to + length (codeC (k .condition)) → u ≡ t + 1 → x ≡ u + length (codeE (k .value)) → y ≡ x + length (20 ∷ number v) → y ≡ to + length (codeK v (k ∷ []))
+unfolding codeK
+case-length to v k ht hu hx hy = simp length-append (omega arith)
+
+-- ---- room
+
+-- behind fixed tokens, each of which has a byte, with no more bytes written than twice as many
+pub room-phrase : {text : List ℕ} {n t m u : ℕ} (ws : List Wanted) → Solid ws → Room text n t → phrase text ws n ≡ accepted tt m → u ≤ t + 2 * length ws → Room text m u
+room-phrase {text} {n} ws s r e h =
+    let l = subst (Long (length ws) (length text) n) e (phrase-long text ws s n (r .within)) in
+    record { short = r .short; within = l .1; room = omega arith }
+
+-- ---- of what a list reads as and where it differs
+
+module _ {A : Type 0} (r : Parsed A) where
+  pub place-accepted : {n : ℕ} → placeOnly r ≡ accepted tt n → (m : ℕ) → settled r (differs m) ≡ refused listsDiffer m
+  unfolding settled placeOnly
+  place-accepted {n} e m = go r e
+    where
+      go : (p : Parsed A) → placeOnly p ≡ accepted tt n → settled p (differs m) ≡ refused listsDiffer m
+      go (accepted a n) e = refl
+      go (refused k q) e = never (sym e)
+
+  pub settled-as : {q : Parsed (Unit {0})} {m n : Compared} → q ≡ placeOnly (settled r m) → m ≡ n → q ≡ placeOnly (settled r n)
+  settled-as e f = e ∙ ap (λ (x : Compared). placeOnly (settled r x)) f
+
+  pub place-refused : {k q : ℕ} → placeOnly r ≡ refused k q → r ≡ refused k q
+  unfolding placeOnly
+  place-refused {k} {q} e = go r e
+    where
+      go : (p : Parsed A) → placeOnly p ≡ refused k q → p ≡ refused k q
+      go (accepted a n) e = never e
+      go (refused l m) e = same-refusal e
+
+module _ {A : Type 0} {r : Parsed A} {k q : ℕ} (e : r ≡ refused k q) (m : ℕ) where
+  pub settled-before : q < m → settled r (differs m) ≡ refused k q
+  unfolding settled
+  settled-before h = rw (e, lt-ltb _ _ h)
+
+  module _ (h : m ≤ q) where
+    pub settled-here : q ≡ m → k ≤ 5 → settled r (differs m) ≡ refused k q
+    unfolding settled
+    settled-here i l = rw (e, le-ltb _ _ h, eq-eqb _ _ i, le-leb _ _ l)
+
+    pub settled-late : q ≡ m → 5 < k → settled r (differs m) ≡ refused listsDiffer m
+    unfolding settled
+    settled-late i l = rw (e, le-ltb _ _ h, eq-eqb _ _ i, lt-leb _ _ l)
+
+    pub settled-after : (q ≡ m → ⊥) → settled r (differs m) ≡ refused listsDiffer m
+    unfolding settled
+    settled-after i = rw (e, le-ltb _ _ h, ne-eqb _ _ i)

@@ -1,0 +1,31 @@
+use Rattle.grammar.specs.Rules.{agreeingList}
+use Rattle.cases.proofs.Ways.{settled-as}
+use borrow.Author.Needs.{needs}
+use Rattle.cases.proofs.agreeing_list.Statement.{statement}
+use Rattle.cases.proofs.agreeing_list.Tie as tie
+use Rattle.cases.proofs.agreeing_list.Reads as reads
+use Rattle.cases.proofs.agreeing_list.Lts as lts
+use Rattle.agreement.proofs.compare_lists.Reads as compare-lists-reads
+use Rattle.cases.proofs.plain_list.Reads as plain-list-reads
+use Rattle.cases.proofs.settled.Reads as settled-reads
+
+-- src/lib.rt:210:9
+plain-list-requires : tie.Need-plain-list-requires
+plain-list-requires c κs = search needs
+
+-- src/lib.rt:211:9
+compare-lists-requires : tie.Need-compare-lists-requires
+compare-lists-requires c κs = c .before .before .before .before .before .before .pre .1 .1
+
+-- src/lib.rt:212:5
+settled-requires : tie.Need-settled-requires
+settled-requires c κs = search needs
+
+-- src/lib.rt:204:1
+returns : tie.Need-returns
+unfolding agreeingList
+returns c = λ cases e. settled-as _ (c .settled .ensures _ (c .before .before .plain-list .ensures)) (c .before .compare-lists .ensures cases e)
+
+pub agreeing-list-spec : {M : Type 1} → statement M
+agreeing-list-spec =
+    tie.close (tie.spec plain-list-requires compare-lists-requires settled-requires returns)

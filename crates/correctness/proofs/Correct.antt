@@ -1,0 +1,179 @@
+-- Demand 3, for every accepted text, buffer, lent state and list of rows. Assumes nothing.
+use Prim.Native.Nat.{ℕ, zero, suc, _+_, _≤_}
+use native.Mathlib.Omega.{arith}
+use mathlib.Core.Path.{_≡_, refl, sym, ap, ap₂, _∙_, subst}
+use mathlib.Core.Bool.{Bool, true, false, _&&_, cond}
+use mathlib.Core.List.{List, [], _∷_, _++_, map}
+use lib.Dec.{T, eqb, leb, eqb-refl}
+use lib.IntN.{ℤ}
+use lib.ListN.{length, take, drop, length-map}
+use lib.Seq.{take-append-seam}
+use borrow.Author.Tests.{eq-eqb}
+use Rattle.limits.specs.Answer.{Answer, accepted, refused}
+use Rattle.arith.specs.Values.{Outcome, ok, refusal, _>>=_, check}
+use Rattle.semantics.specs.Program.{Program, Range, rangesOf, knownFirst}
+use Rattle.semantics.specs.Formula.{State, Satisfies}
+use Rattle.semantics.specs.ReferenceScan.{allWithin, scanRules, withInputs, referenceScan}
+use Rattle.semantics.specs.Rows.{Reply, reply, referenceReplies, startsOf, InRanges, OnlyTrace}
+use Rattle.arith.proofs.Basics.{T-true, bind-assoc}
+use Rattle.semantics.proofs.Reference.{Next, length-known, reference-next, reference-trace, starts-in-range}
+use Rattle.bytecode.specs.Instructions.{encodeAll}
+use Rattle.bytecode.specs.Translation.{codeRules, encodeHeader, imageOf, Translatable}
+use Rattle.bytecode.specs.Check.{Header, checkOf}
+use Rattle.bytecode.specs.Counting.{headerOf, codeOf, countFrom, instructionsIn}
+use Rattle.bytecode.proofs.Soundness.{programHeader, header-of, code-of, translated-small, check-translated}
+use Rattle.machine.specs.Step.{Machine, machine}
+use Rattle.machine.specs.Runs.{Ran, run}
+use Rattle.machine.specs.Names.{stateLength, rowLength, startingState, stateInRange, rowInRange}
+use Rattle.machine.proofs.Laws.{run-steps}
+use Rattle.machine.proofs.Translated.{exec, exec-rules, run-exec}
+use Rattle.translate.specs.Services.{Translated, stored, translated, programOf, translationOf}
+use Rattle.scan.specs.Services.{Started, startOf, started, Scanned, refusedScan, finished, runOf, scanCode, testedScan, scanned, scanOf}
+use Rattle.correctness.specs.TraceCorrect.{scansOf, verdictOf, replyOf, repliesOf, StepsIf, StepsAre, begun, found, TraceCorrect, Demand3}
+
+-- ---- one scan
+
+abbrev currentOf : Machine → State
+currentOf (machine b c vs t) = t
+
+reply-tested : (b : Bool) (k : ℕ) (s : State) (r : Scanned) (o : Outcome State) → replyOf r ≡ reply s o → replyOf (testedScan b k s r) ≡ reply s (check b k o)
+reply-tested true k s r o e = e
+reply-tested false k s r o e = refl
+
+reply-finished : (s : State) (n : ℕ) (o : Outcome Machine) → replyOf (finished s n o) ≡ reply s (o >>= λ m. ok (currentOf m))
+reply-finished s n (ok (machine b c vs t)) = refl
+reply-finished s n (refusal k) = refl
+
+bind-ok : {A : Type 0} (o : Outcome A) → (o >>= λ a. ok a) ≡ o
+bind-ok (ok a) = refl
+bind-ok (refusal k) = refl
+
+module _ (p : Program) (t : Translatable p) where
+  run-reference : (s : State) (row : List ℤ) → runOf (imageOf p) s row .last ≡ (scanRules (rangesOf p) s (withInputs s row) (p .rules) >>= λ u. ok (machine false false [] u))
+  run-reference s row =
+      let code = encodeAll (codeRules (p .rules)) in
+      rw (header-of p t, code-of p t)
+      (run-exec (rangesOf p) s code (codeRules (p .rules)) (length code) 0 0 (machine false false [] (withInputs s row)) refl (translated-small p t) (omega arith)
+      ∙ exec-rules (rangesOf p) s (p .rules) (knownFirst (p .inputs) (length (rangesOf p))) (withInputs s row) (length-known (p .inputs) (length (rangesOf p))) (t .well-formed .ordered) (t .shallow))
+
+  code-reply : (s : State) (row : List ℤ) → replyOf (scanCode (imageOf p) s row) ≡ reply s (scanRules (rangesOf p) s (withInputs s row) (p .rules))
+  unfolding scanCode
+  code-reply s row =
+      let e : (runOf (imageOf p) s row .last >>= λ m. ok (currentOf m)) ≡ scanRules (rangesOf p) s (withInputs s row) (p .rules)
+      = rw (run-reference s row) (bind-assoc (scanRules (rangesOf p) s (withInputs s row) (p .rules)) _ _ ∙ bind-ok (scanRules (rangesOf p) s (withInputs s row) (p .rules))) in
+      reply-finished s _ (runOf (imageOf p) s row .last) ∙ ap (reply s) e
+
+  -- the scan of the image answers and leaves what the reference scan does
+  pub scan-reply : (s : State) → InRanges p s → (row : List ℤ) → replyOf (scanOf (imageOf p) s row) ≡ reply s (referenceScan p s row)
+  unfolding scanOf referenceScan
+  scan-reply s g row =
+      let l : eqb (length s) (length (rangesOf p)) ≡ true = eq-eqb (length s) (length (rangesOf p)) (g .size) in
+      let r : allWithin (rangesOf p) s ≡ true = T-true _ (g .ranges) in
+      let inner : replyOf (testedScan (allWithin (rangesOf p) row) 13 s (scanCode (imageOf p) s row)) ≡ reply s (check (allWithin (rangesOf p) row) 13 (scanRules (rangesOf p) s (withInputs s row) (p .rules)))
+      = reply-tested (allWithin (rangesOf p) row) 13 s _ _ (code-reply s row) in
+      let outer : replyOf (testedScan (eqb (length row) (p .inputs)) 12 s (testedScan (allWithin (rangesOf p) row) 13 s (scanCode (imageOf p) s row)))
+      ≡ reply s (check (eqb (length row) (p .inputs)) 12 (check (allWithin (rangesOf p) row) 13 (scanRules (rangesOf p) s (withInputs s row) (p .rules))))
+      = reply-tested (eqb (length row) (p .inputs)) 12 s _ _ inner in
+      rw (check-translated p t, header-of p t, l, r) outer
+
+  kept : (s : State) → InRanges p s → (row : List ℤ) (o : Outcome State) → referenceScan p s row ≡ o → InRanges p (reply s o .state)
+  kept s g row (ok u) e = reference-next p (t .well-formed) s g row u e .kept
+  kept s g row (refusal k) e = g
+
+  pub scans-agree : (rows : List (List ℤ)) (s : State) → InRanges p s → repliesOf (imageOf p) s rows ≡ referenceReplies p s rows
+  scans-agree [] s g = refl
+  scans-agree (r ∷ rs) s g =
+      let e = scan-reply s g r in
+      let q : scanOf (imageOf p) s r .state ≡ reply s (referenceScan p s r) .state = ap {A = Reply} (λ a. a .state) e in
+      ap₂ _∷_ e (ap (λ x. repliesOf (imageOf p) x rs) q ∙ scans-agree rs (reply s (referenceScan p s r) .state) (kept s g r (referenceScan p s r) refl))
+
+-- ---- steps, of any image
+
+steps-tested : (n : ℕ) (b : Bool) (k : ℕ) (s : State) (r : Scanned) → StepsIf n (r .steps) (r .answer) → StepsIf n (testedScan b k s r .steps) (testedScan b k s r .answer)
+steps-tested n true k s r h = h
+steps-tested n false k s r h = tt
+
+steps-finished : (n : ℕ) (s : State) (k : ℕ) (o : Outcome Machine) → ((m : Machine) → o ≡ ok m → k ≡ n) → StepsIf n (finished s k o .steps) (finished s k o .answer)
+steps-finished n s k (ok (machine b c vs t)) h = h (machine b c vs t) refl
+steps-finished n s k (refusal j) h = tt
+
+code-steps : (image : List ℕ) (s : State) (row : List ℤ) → StepsIf (instructionsIn image) (scanCode image s row .steps) (scanCode image s row .answer)
+unfolding instructionsIn scanCode
+code-steps image s row = steps-finished _ s _ (runOf image s row .last) λ m e.
+    run-steps (headerOf image .ranges) s (codeOf image) (length (codeOf image)) 0 0 (machine false false [] (withInputs s row)) m (omega arith) e
+    ∙ omega arith
+
+-- the steps of an accepted scan are as many as the instructions in the code
+pub scan-steps : (image : List ℕ) (s : State) (row : List ℤ) → StepsIf (instructionsIn image) (scanOf image s row .steps) (scanOf image s row .answer)
+unfolding scanOf
+scan-steps image s row = go (checkOf image)
+  where
+    go : (a : Answer (Unit {0})) → StepsIf (instructionsIn image) (scanned a (headerOf image) image s row .steps) (scanned a (headerOf image) image s row .answer)
+    go (refused number place) = tt
+    go (accepted u) =
+        steps-tested _ (eqb (length s) (stateLength (headerOf image)) && eqb (length row) (rowLength (headerOf image))) 12 s _
+        (steps-tested _ (stateInRange (headerOf image) s) 18 s _
+        (steps-tested _ (rowInRange (headerOf image) row) 13 s _ (code-steps image s row)))
+
+pub all-steps : (image : List ℕ) (rows : List (List ℤ)) (s : State) → StepsAre (instructionsIn image) (scansOf image s rows)
+all-steps image [] s = tt
+all-steps image (r ∷ rs) s = (scan-steps image s r, all-steps image rs (scanOf image s r .state))
+
+-- ---- the claim
+
+module _ (p : Program) (t : Translatable p) where
+  pub start-translated : (lent : State) → length lent ≡ length (rangesOf p) → startOf (imageOf p) lent ≡ record { answer = accepted tt; state = startsOf p }
+  unfolding startOf
+  start-translated lent l = rw (check-translated p t, header-of p t, eq-eqb (length lent) (length (rangesOf p)) l)
+
+  pub image-correct : (lent : State) → length lent ≡ length (rangesOf p) → (rows : List (List ℤ)) → TraceCorrect p (imageOf p) lent rows
+  image-correct lent l rows =
+      let e = start-translated lent l in
+      let g = starts-in-range p (t .well-formed) in
+      let a = scans-agree p t rows (startsOf p) g in
+      let x₀ : OnlyTrace p (startsOf p) rows (repliesOf (imageOf p) (startsOf p) rows) = rw a (reference-trace p (t .well-formed) rows (startsOf p) g) in
+      let q : startsOf p ≡ begun (imageOf p) lent = sym (ap {A = Started} (λ r. r .state) e) in
+      let x = subst (λ (s : State). OnlyTrace p s rows (repliesOf (imageOf p) s rows)) q x₀ in
+      record {
+        started = e;
+        satisfies = x .satisfies;
+        fits = x .fits;
+        unique = x .unique;
+        agrees = subst (λ (s : State). repliesOf (imageOf p) s rows ≡ referenceReplies p (startsOf p) rows) q a;
+        last = x .last;
+        steps = all-steps (imageOf p) rows (begun (imageOf p) lent);
+      }
+
+-- ---- texts
+
+record Stored (text buffer : List ℕ) (n : ℕ) : Type 0 where
+  program : Program
+  parsed : programOf text ≡ accepted program
+  image : take n (translationOf text buffer .buffer) ≡ imageOf program
+
+stored-image : (text image buffer : List ℕ) (n : ℕ) → stored text image buffer .answer ≡ accepted n → take n (stored text image buffer .buffer) ≡ image
+stored-image text image buffer n = go (leb (length image) (length buffer))
+  where
+    go : (b : Bool) → cond {A = Translated} b (record { answer = accepted (length image); buffer = image ++ drop (length image) buffer }) (record { answer = refused 10 (length text); buffer = buffer }) .answer ≡ accepted n
+        → take n (cond {A = Translated} b (record { answer = accepted (length image); buffer = image ++ drop (length image) buffer }) (record { answer = refused 10 (length text); buffer = buffer }) .buffer) ≡ image
+    go true e = let q : length image ≡ n = cc in rw (← q) (take-append-seam image (drop (length image) buffer))
+    go false e = let z : _≡_ {A = ℕ} 0 1 = cc in let f : ⊥ = omega arith in absurd f
+
+image-stored : (text buffer : List ℕ) (n : ℕ) → translationOf text buffer .answer ≡ accepted n → Stored text buffer n
+unfolding translationOf
+image-stored text buffer n e = go (programOf text) refl e
+  where
+    go : (a : Answer Program) → programOf text ≡ a → translated a text buffer .answer ≡ accepted n → Stored text buffer n
+    go (accepted p) h q = record { program = p; parsed = h; image = rw h (stored-image text (imageOf p) buffer n q) }
+    go (refused number place) h q = let z : _≡_ {A = ℕ} 0 1 = cc in let f : ⊥ = omega arith in absurd f
+
+-- Demand 3, for every text that translation accepts, every buffer, every state lent to start and every list of rows.
+module _ (translatable : (text : List ℕ) (p : Program) → programOf text ≡ accepted p → Translatable p) where
+  pub trace-correct : (text buffer : List ℕ) (n : ℕ) → translationOf text buffer .answer ≡ accepted n → (lent : State) (rows : List (List ℤ)) → Demand3 text buffer n lent rows
+  trace-correct text buffer n e lent rows =
+      let x = image-stored text buffer n e in
+      record {
+        program = x .program;
+        parsed = x .parsed;
+        correct = λ l. rw (x .image) (image-correct (x .program) (translatable text (x .program) (x .parsed)) lent (l ∙ sym (length-map (x .program .names) (λ n. n .range))) rows);
+      }

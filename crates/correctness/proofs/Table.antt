@@ -1,0 +1,145 @@
+-- The worked examples hold, by one computed test over the table. Assumes nothing.
+use Prim.Native.Nat.{ℕ, zero, suc}
+use mathlib.Core.Path.{_≡_, refl, ap, ap₂}
+use mathlib.Core.Bool.{Bool, true, false, _&&_}
+use mathlib.Core.List.{List, [], _∷_}
+use mathlib.Core.Option.{Option, none, some}
+use lib.Dec.{T, eqb, eqb→eq}
+use lib.IntN.{ℤ}
+use Rattle.limits.specs.Answer.{Answer, accepted, refused}
+use Rattle.arith.specs.Values.{eqZ, arithmetic, negation, compares}
+use Rattle.semantics.specs.Program.{within}
+use Rattle.semantics.specs.ReferenceScan.{picked}
+use Rattle.arith.proofs.Basics.{and-left, and-right, eqZ→≡}
+use Rattle.leb128.specs.Numbers.{number, zigzag, unzigzag, numberAt, signedAt, groups, grouped, numberIn, below32}
+use Rattle.bytecode.specs.Instructions.{instructionOf, fetch}
+use Rattle.bytecode.specs.Translation.{imageOf}
+use Rattle.bytecode.specs.Check.{checkHeader, checkBody, checkOf}
+use Rattle.bytecode.specs.Counting.{headerOf, codeOf}
+use Rattle.machine.specs.Step.{bit, yes}
+use Rattle.machine.specs.Names.{startingState}
+use Rattle.scan.specs.Services.{Scanned, scanCode, scanOf}
+use Rattle.correctness.specs.TraceCorrect.{scansOf}
+use Rattle.translate.specs.Services.{programOf, translationOf}
+use Rattle.grammar.specs.Parse.{program, parse}
+use Rattle.grammar.specs.Rules.{caseAt, casesFrom, listFrom, plainList, partFrom, kindAt, partsFrom, settled, agreeingList, functionAt, changeAt, formulas, ruleAt, rulesFrom}
+use Rattle.grammar.specs.Declarations.{inRange, signedAt as signedLiteralAt, boundAt, newName, startAt, declaration, declarationsFrom, declarations}
+use Rattle.grammar.specs.Conditions.{comparisonOf, compared, comparisonAt, opposite, inverted, atom, connect, andOf, orOf, conjunction, condition, square, wholeCondition, listed}
+use Rattle.grammar.specs.Expressions.{idFrom, idOf, withId, currentAt, previousAt as previousValueAt, numberAt as literalAt, primary, negative, factor, productOf, sumOf, term, expression, bracket, wholeExpression}
+use Rattle.grammar.specs.Parsed.{expected, phrase, followed, rest, chain}
+use Rattle.lexer.specs.Lexer.{isSpace, isDigit, isLetter, isAlphanumeric, runOn, runEnd, sameName, wordOf, overLong, pairOf, signOf, readOf, signAt, wordAt, digitsAt, previousAt, tokenOf, tokenPast, tokenAt, sameToken, valueOn, valueOf}
+use Rattle.lexer.specs.Token.{kindNumber, is}
+use Rattle.lexer.specs.Bytes.{sameBytes as sameBytesOf}
+use Rattle.correctness.specs.Examples.{Example, imageGiven, HoldsOn, HoldsOf, AllHold, examples}
+
+-- ---- equality of answers, computed
+
+abbrev sameBytes : List ℕ → List ℕ → Bool
+sameBytes [] [] = true
+sameBytes [] (y ∷ ys) = false
+sameBytes (x ∷ xs) [] = false
+sameBytes (x ∷ xs) (y ∷ ys) = eqb x y && sameBytes xs ys
+
+bytes-same : (xs ys : List ℕ) → T (sameBytes xs ys) → xs ≡ ys
+bytes-same [] [] h = refl
+bytes-same [] (y ∷ ys) h = absurd h
+bytes-same (x ∷ xs) [] h = absurd h
+bytes-same (x ∷ xs) (y ∷ ys) h = ap₂ _∷_ (eqb→eq x y (and-left (eqb x y) _ h)) (bytes-same xs ys (and-right (eqb x y) _ h))
+
+abbrev sameState : List ℤ → List ℤ → Bool
+sameState [] [] = true
+sameState [] (y ∷ ys) = false
+sameState (x ∷ xs) [] = false
+sameState (x ∷ xs) (y ∷ ys) = eqZ x y && sameState xs ys
+
+state-same : (xs ys : List ℤ) → T (sameState xs ys) → xs ≡ ys
+state-same [] [] h = refl
+state-same [] (y ∷ ys) h = absurd h
+state-same (x ∷ xs) [] h = absurd h
+state-same (x ∷ xs) (y ∷ ys) h = ap₂ _∷_ (eqZ→≡ x y (and-left (eqZ x y) _ h)) (state-same xs ys (and-right (eqZ x y) _ h))
+
+abbrev sameAnswer : Answer (Unit {0}) → Answer (Unit {0}) → Bool
+sameAnswer (accepted u) (accepted w) = true
+sameAnswer (accepted u) (refused m q) = false
+sameAnswer (refused n p) (accepted w) = false
+sameAnswer (refused n p) (refused m q) = eqb n m && eqb p q
+
+answer-same : (a b : Answer (Unit {0})) → T (sameAnswer a b) → a ≡ b
+answer-same (accepted u) (accepted w) h = refl
+answer-same (accepted u) (refused m q) h = absurd h
+answer-same (refused n p) (accepted w) h = absurd h
+answer-same (refused n p) (refused m q) h = ap₂ refused (eqb→eq n m (and-left (eqb n m) _ h)) (eqb→eq p q (and-right (eqb n m) _ h))
+
+abbrev sameScan : Scanned → Scanned → Bool
+sameScan a b = sameAnswer (a .answer) (b .answer) && (eqb (a .steps) (b .steps) && sameState (a .state) (b .state))
+
+scan-made : (x y : Answer (Unit {0})) (n m : ℕ) (s t : List ℤ) → x ≡ y → n ≡ m → s ≡ t → _≡_ {A = Scanned} (record { answer = x; steps = n; state = s }) (record { answer = y; steps = m; state = t })
+scan-made x y n m s t e f g = rw (e, f, g)
+
+scan-same : (a b : Scanned) → T (sameScan a b) → a ≡ b
+scan-same a b h =
+    let k = and-right (sameAnswer (a .answer) (b .answer)) _ h in
+    scan-made (a .answer) (b .answer) (a .steps) (b .steps) (a .state) (b .state) (answer-same (a .answer) (b .answer) (and-left (sameAnswer (a .answer) (b .answer)) _ h))
+    (eqb→eq (a .steps) (b .steps) (and-left (eqb (a .steps) (b .steps)) _ k)) (state-same (a .state) (b .state) (and-right (eqb (a .steps) (b .steps)) _ k))
+
+abbrev sameScans : List Scanned → List Scanned → Bool
+sameScans [] [] = true
+sameScans [] (b ∷ bs) = false
+sameScans (a ∷ more) [] = false
+sameScans (a ∷ more) (b ∷ bs) = sameScan a b && sameScans more bs
+
+scans-same : (a b : List Scanned) → T (sameScans a b) → a ≡ b
+scans-same [] [] h = refl
+scans-same [] (b ∷ bs) h = absurd h
+scans-same (a ∷ more) [] h = absurd h
+scans-same (a ∷ more) (b ∷ bs) h = ap₂ _∷_ (scan-same a b (and-left (sameScan a b) _ h)) (scans-same more bs (and-right (sameScan a b) _ h))
+
+-- ---- the test
+
+-- an image written, or the refusal
+abbrev sameImage : Answer (List ℕ) → Answer (List ℕ) → Bool
+sameImage (accepted u) (accepted w) = sameBytes u w
+sameImage (accepted u) (refused m q) = false
+sameImage (refused n p) (accepted w) = false
+sameImage (refused n p) (refused m q) = eqb n m && eqb p q
+
+image-same : (a b : Answer (List ℕ)) → T (sameImage a b) → a ≡ b
+image-same (accepted u) (accepted w) h = ap accepted (bytes-same u w h)
+image-same (accepted u) (refused m q) h = absurd h
+image-same (refused n p) (accepted w) h = absurd h
+image-same (refused n p) (refused m q) h = ap₂ refused (eqb→eq n m (and-left (eqb n m) _ h)) (eqb→eq p q (and-right (eqb n m) _ h))
+
+abbrev testOn : Answer (List ℕ) → Example → Bool
+testOn (accepted b) e = sameAnswer (checkOf b) (e .verdict) && sameScans (scansOf b (startingState (headerOf b)) (e .rows)) (e .results)
+testOn (refused number place) e = true
+
+on-holds : (a : Answer (List ℕ)) (e : Example) → T (testOn a e) → HoldsOn a e
+on-holds (accepted b) e h = (
+  answer-same (checkOf b) (e .verdict) (and-left (sameAnswer (checkOf b) (e .verdict)) _ h),
+  scans-same _ (e .results) (and-right (sameAnswer (checkOf b) (e .verdict)) _ h),
+)
+on-holds (refused number place) e h = tt
+
+abbrev test : Example → Bool
+test e = sameImage (imageGiven (e .given)) (e .translation) && testOn (e .translation) e
+
+test-holds : (e : Example) → T (test e) → HoldsOf e
+test-holds e h = (
+  image-same (imageGiven (e .given)) (e .translation) (and-left (sameImage (imageGiven (e .given)) (e .translation)) _ h),
+  on-holds (e .translation) e (and-right (sameImage (imageGiven (e .given)) (e .translation)) _ h),
+)
+
+abbrev testAll : List Example → Bool
+testAll [] = true
+testAll (e ∷ es) = test e && testAll es
+
+all-hold : (es : List Example) → T (testAll es) → AllHold es
+all-hold [] h = tt
+all-hold (e ∷ es) h = (test-holds e (and-left (test e) _ h), all-hold es (and-right (test e) _ h))
+
+computed : T (testAll examples)
+unfolding sameBytesOf kindNumber is isSpace isDigit isLetter isAlphanumeric runOn runEnd sameName wordOf overLong pairOf signOf readOf signAt wordAt digitsAt previousAt tokenOf tokenPast tokenAt sameToken valueOn valueOf expected phrase followed rest chain idFrom idOf withId currentAt previousValueAt literalAt primary negative factor productOf sumOf term expression bracket wholeExpression comparisonOf compared comparisonAt opposite inverted atom connect andOf orOf conjunction condition square wholeCondition listed inRange signedLiteralAt boundAt newName startAt declaration declarationsFrom declarations caseAt casesFrom listFrom plainList partFrom kindAt partsFrom settled agreeingList functionAt changeAt formulas ruleAt rulesFrom program parse groups number zigzag unzigzag grouped numberIn below32 numberAt signedAt instructionOf fetch imageOf checkHeader checkBody checkOf headerOf codeOf bit yes within picked arithmetic negation compares programOf translationOf scanCode scanOf
+computed = tt
+
+pub examples-hold : AllHold examples
+examples-hold = all-hold examples computed

@@ -1,0 +1,175 @@
+-- The worked examples as one table under one statement. Document 01, "Latches to try". Assumes nothing.
+use Prim.Native.Nat.{ℕ}
+use mathlib.Core.Path.{_≡_}
+use mathlib.Core.List.{List, [], _∷_}
+use lib.IntN.{ℤ, pos, negsuc}
+use lib.ListN.{take, replicate}
+use Rattle.limits.specs.Answer.{Answer, accepted, refused}
+use Rattle.semantics.specs.Formula.{State}
+use Rattle.lexer.specs.Bytes.{bytes}
+use Rattle.bytecode.specs.Check.{checkOf}
+use Rattle.bytecode.specs.Counting.{headerOf}
+use Rattle.machine.specs.Names.{startingState}
+use Rattle.translate.specs.Services.{Translated, translationOf}
+use Rattle.scan.specs.Services.{Scanned}
+use Rattle.correctness.specs.TraceCorrect.{scansOf}
+
+-- an example gives a text, or the bytes of an image
+pub data Given : Type 0 where
+  text : List ℕ → Given
+  image : List ℕ → Given
+
+-- the image written, the first bytes of the buffer left; or the refusal
+abbrev pub written : Answer ℕ → List ℕ → Answer (List ℕ)
+written (accepted n) buffer = accepted (take n buffer)
+written (refused number place) buffer = refused number place
+
+-- texts are translated into a buffer of 128 bytes
+abbrev pub translated : Translated → Answer (List ℕ)
+translated r = written (r .answer) (r .buffer)
+
+abbrev pub imageGiven : Given → Answer (List ℕ)
+imageGiven (text t) = translated (translationOf t (replicate 128 255))
+imageGiven (image b) = accepted b
+
+-- the image, or the refusal of the text; what check answers of it; the rows, and what each scan answers and leaves
+pub record Example : Type 0 where
+  pub given : Given
+  pub translation : Answer (List ℕ)
+  pub verdict : Answer (Unit {0})
+  pub rows : List (List ℤ)
+  pub results : List Scanned
+
+-- of an image: check's answer, and the scans from the declared starts
+abbrev pub HoldsOn : Answer (List ℕ) → Example → Type 0
+HoldsOn (accepted b) e = (checkOf b ≡ e .verdict) × (scansOf b (startingState (headerOf b)) (e .rows) ≡ e .results)
+HoldsOn (refused number place) e = Unit {0}
+
+-- the definitions of the services give what the table says
+abbrev pub HoldsOf : Example → Type 0
+HoldsOf e = (imageGiven (e .given) ≡ e .translation) × HoldsOn (e .translation) e
+
+abbrev pub AllHold : List Example → Type 0
+AllHold [] = Unit {0}
+AllHold (e ∷ es) = HoldsOf e × AllHold es
+
+-- ---- the table
+
+abbrev pub done : ℕ → State → Scanned
+done n s = record { answer = accepted tt; steps = n; state = s }
+
+abbrev pub stopped : ℕ → ℕ → State → Scanned
+stopped k n s = record { answer = refused k 0; steps = n; state = s }
+
+-- a text whose image is sound
+abbrev pub sound : List ℕ → List ℕ → List (List ℤ) → List Scanned → Example
+sound t b rows results = record { given = text t; translation = accepted b; verdict = accepted tt; rows = rows; results = results }
+
+-- L1 the empty text: image 00 00
+abbrev pub L1 : Example
+L1 = sound (bytes "") (0x00 ∷ 0x00 ∷ []) ([] ∷ (pos 1 ∷ []) ∷ []) (done 0 [] ∷ stopped 12 0 [] ∷ [])
+
+-- L2 17 bytes, 7 instructions; v runs 0, 1, 1
+abbrev pub L2 : Example
+L2 = sound
+    (bytes "var v 0..1; v: GX(~(v = _v) -> [_v = 0] & v = (1)); v: GX(v = _v -> ~([_v = 0]));")
+    (0x00 ∷ 0x01 ∷ 0x00 ∷ 0x02 ∷ 0x00 ∷ 0x03 ∷ 0x00 ∷ 0x01 ∷ 0x00 ∷ 0x0A ∷ 0x13 ∷ 0x01 ∷ 0x02 ∷ 0x14 ∷ 0x00 ∷ 0x16 ∷ 0x00 ∷ [])
+    ([] ∷ [] ∷ [])
+    (done 7 (pos 1 ∷ []) ∷ done 7 (pos 1 ∷ []) ∷ [])
+
+-- L3 −7 / 2 = −3, −7 mod 2 = −1, 7 mod −2 = 1
+abbrev pub L3 : Example
+L3 = sound
+    (bytes "var a -9..9; var b -9..9; var c -9..9; a: GX(a = (-7 / 2)); b: GX(b = (-7 mod 2)); c: GX(c = (7 mod -2));")
+    (0x00 ∷ 0x03 ∷ 0x11 ∷ 0x12 ∷ 0x00 ∷ 0x11 ∷ 0x12 ∷ 0x00 ∷ 0x11 ∷ 0x12 ∷ 0x00
+    ∷ 0x01 ∷ 0x0E ∷ 0x09 ∷ 0x01 ∷ 0x04 ∷ 0x07 ∷ 0x15 ∷ 0x00
+    ∷ 0x01 ∷ 0x0E ∷ 0x09 ∷ 0x01 ∷ 0x04 ∷ 0x08 ∷ 0x15 ∷ 0x01
+    ∷ 0x01 ∷ 0x0E ∷ 0x01 ∷ 0x04 ∷ 0x09 ∷ 0x08 ∷ 0x15 ∷ 0x02 ∷ [])
+    ([] ∷ [])
+    (done 15 (negsuc 2 ∷ negsuc 0 ∷ pos 1 ∷ []) ∷ [])
+
+-- L4 −2,147,483,648 / −1 is 14, mod −1 is 0
+abbrev pub L4 : Example
+L4 = sound
+    (bytes "input i 0..1; var a -9..9 init 5; a: GX(~(a = _a) -> [i = 0] & a = ((-2147483647 - 1) mod -1) | [i = 1] & a = ((-2147483647 - 1) / -1)); a: GX(a = _a -> ~([i = 0] | [i = 1]));")
+    (0x01 ∷ 0x01 ∷ 0x00 ∷ 0x02 ∷ 0x00 ∷ 0x11 ∷ 0x12 ∷ 0x0A
+    ∷ 0x02 ∷ 0x00 ∷ 0x01 ∷ 0x00 ∷ 0x0A ∷ 0x13
+    ∷ 0x01 ∷ 0xFE ∷ 0xFF ∷ 0xFF ∷ 0xFF ∷ 0x0F ∷ 0x09 ∷ 0x01 ∷ 0x02 ∷ 0x05 ∷ 0x01 ∷ 0x02 ∷ 0x09 ∷ 0x08 ∷ 0x14 ∷ 0x01
+    ∷ 0x02 ∷ 0x00 ∷ 0x01 ∷ 0x02 ∷ 0x0A ∷ 0x13
+    ∷ 0x01 ∷ 0xFE ∷ 0xFF ∷ 0xFF ∷ 0xFF ∷ 0x0F ∷ 0x09 ∷ 0x01 ∷ 0x02 ∷ 0x05 ∷ 0x01 ∷ 0x02 ∷ 0x09 ∷ 0x07 ∷ 0x14 ∷ 0x01
+    ∷ 0x16 ∷ 0x01 ∷ [])
+    ((pos 1 ∷ []) ∷ (pos 0 ∷ []) ∷ [])
+    (stopped 14 23 (pos 0 ∷ pos 5 ∷ []) ∷ done 25 (pos 0 ∷ pos 0 ∷ []) ∷ [])
+
+-- L5 16 brackets pass (those of the function itself aren't counted)
+abbrev pub L5 : Example
+L5 = sound
+    (bytes "var v 0..1; v: GX(v = (((((((((((((((((0))))))))))))))))));")
+    (0x00 ∷ 0x01 ∷ 0x00 ∷ 0x02 ∷ 0x00 ∷ 0x01 ∷ 0x00 ∷ 0x15 ∷ 0x00 ∷ [])
+    ([] ∷ [])
+    (done 2 (pos 0 ∷ []) ∷ [])
+
+-- 17 give 8, at the 17th
+abbrev pub L5-deeper : Example
+L5-deeper = record {
+  given = text (bytes "var v 0..1; v: GX(v = ((((((((((((((((((0)))))))))))))))))));");
+  translation = refused 8 39;
+  verdict = accepted tt;
+  rows = [];
+  results = [];
+}
+
+-- L6 two true cases with one value: 15
+abbrev pub L6 : Example
+L6 = sound
+    (bytes "var v 0..1; v: GX(~(v = _v) -> [_v = 0] & v = (1) | [_v = 0] & v = (1)); v: GX(v = _v -> ~([_v = 0] | [_v = 0]));")
+    (0x00 ∷ 0x01 ∷ 0x00 ∷ 0x02 ∷ 0x00
+    ∷ 0x03 ∷ 0x00 ∷ 0x01 ∷ 0x00 ∷ 0x0A ∷ 0x13 ∷ 0x01 ∷ 0x02 ∷ 0x14 ∷ 0x00
+    ∷ 0x03 ∷ 0x00 ∷ 0x01 ∷ 0x00 ∷ 0x0A ∷ 0x13 ∷ 0x01 ∷ 0x02 ∷ 0x14 ∷ 0x00
+    ∷ 0x16 ∷ 0x00 ∷ [])
+    ([] ∷ [])
+    (stopped 15 10 (pos 0 ∷ []) ∷ [])
+
+-- L7 `(_v)` as a case's value: 16 when its condition holds
+abbrev pub L7 : Example
+L7 = sound
+    (bytes "input i 0..1; var v 0..1; v: GX(~(v = _v) -> [i = 1] & v = (_v)); v: GX(v = _v -> ~([i = 1]));")
+    (0x01 ∷ 0x01 ∷ 0x00 ∷ 0x02 ∷ 0x00 ∷ 0x00 ∷ 0x02 ∷ 0x00
+    ∷ 0x02 ∷ 0x00 ∷ 0x01 ∷ 0x02 ∷ 0x0A ∷ 0x13 ∷ 0x03 ∷ 0x01 ∷ 0x14 ∷ 0x01 ∷ 0x16 ∷ 0x01 ∷ [])
+    ((pos 0 ∷ []) ∷ (pos 1 ∷ []) ∷ (pos 2 ∷ []) ∷ [])
+    (done 7 (pos 0 ∷ pos 0 ∷ []) ∷ stopped 16 6 (pos 0 ∷ pos 0 ∷ []) ∷ stopped 13 0 (pos 0 ∷ pos 0 ∷ []) ∷ [])
+
+-- L8 number 128 as groups: 80 01 (a name whose low, high and start are 64)
+abbrev pub L8 : Example
+L8 = sound
+    (bytes "var v 64..64 init 64; v: GX(v = (_v));")
+    (0x00 ∷ 0x01 ∷ 0x80 ∷ 0x01 ∷ 0x80 ∷ 0x01 ∷ 0x80 ∷ 0x01 ∷ 0x03 ∷ 0x00 ∷ 0x15 ∷ 0x00 ∷ [])
+    ([] ∷ [])
+    (done 2 (pos 64 ∷ []) ∷ [])
+
+abbrev pub longer : List ℕ
+longer = 0x00 ∷ 0x01 ∷ 0x80 ∷ 0x00 ∷ 0x80 ∷ 0x01 ∷ 0x80 ∷ 0x01 ∷ 0x03 ∷ 0x00 ∷ 0x15 ∷ 0x00 ∷ []
+
+-- 80 00 is unsound
+abbrev pub L8-unsound : Example
+L8-unsound = record {
+  given = image longer;
+  translation = accepted longer;
+  verdict = refused 11 2;
+  rows = [] ∷ [];
+  results = record { answer = refused 11 2; steps = 0; state = [] } ∷ [];
+}
+
+-- the rows 1, 1, 2, 0 of the trace program's example
+abbrev pub launch : Example
+launch = sound
+    (bytes "input go 0..1; var run 0..1; run: GX(~(run = _run) -> [_run = 0 & go = 1] & run = (1) | [_run = 1 & go = 0] & run = (0)); run: GX(run = _run -> ~([_run = 0 & go = 1] | [_run = 1 & go = 0]));")
+    (0x01 ∷ 0x01 ∷ 0x00 ∷ 0x02 ∷ 0x00 ∷ 0x00 ∷ 0x02 ∷ 0x00
+    ∷ 0x03 ∷ 0x01 ∷ 0x01 ∷ 0x00 ∷ 0x0A ∷ 0x02 ∷ 0x00 ∷ 0x01 ∷ 0x02 ∷ 0x0A ∷ 0x11 ∷ 0x13 ∷ 0x01 ∷ 0x02 ∷ 0x14 ∷ 0x01
+    ∷ 0x03 ∷ 0x01 ∷ 0x01 ∷ 0x02 ∷ 0x0A ∷ 0x02 ∷ 0x00 ∷ 0x01 ∷ 0x00 ∷ 0x0A ∷ 0x11 ∷ 0x13 ∷ 0x01 ∷ 0x00 ∷ 0x14 ∷ 0x01
+    ∷ 0x16 ∷ 0x01 ∷ [])
+    ((pos 1 ∷ []) ∷ (pos 1 ∷ []) ∷ (pos 2 ∷ []) ∷ (pos 0 ∷ []) ∷ [])
+    (done 21 (pos 1 ∷ pos 1 ∷ []) ∷ done 21 (pos 1 ∷ pos 1 ∷ []) ∷ stopped 13 0 (pos 1 ∷ pos 1 ∷ []) ∷ done 21 (pos 0 ∷ pos 0 ∷ []) ∷ [])
+
+abbrev pub examples : List Example
+examples = L1 ∷ L2 ∷ L3 ∷ L4 ∷ L5 ∷ L5-deeper ∷ L6 ∷ L7 ∷ L8 ∷ L8-unsound ∷ launch ∷ []

@@ -1,0 +1,2 @@
+pub mod TraceCorrect
+pub mod Examples

@@ -1,0 +1,1 @@
+// Demand 3 and the worked examples. Definitions and laws only.

@@ -1,0 +1,93 @@
+-- For callers: what the answer to declarations says once it is taken apart, and the header of inputs and variables together.
+-- Assumes nothing.
+use mathlib.Core.Path.{_≡_, refl, sym, ap, subst, _∙_}
+use mathlib.Core.List.{List, [], _∷_, _++_, append-assoc, append-nil}
+use Prim.Native.Nat.{ℕ, zero, suc, _+_, _*_, _≤_}
+use native.Mathlib.Omega.{arith}
+use lib.ListN.{length}
+use lib.Seq.{sets, drop-append-seam}
+use Rattle.lexer.specs.Token.{Kind, is}
+use Rattle.lexer.specs.Lexer.{tokenAt}
+use Rattle.lexer.specs.Names.{namesOf}
+use Rattle.lexer.proofs.Laws.{pick-prop}
+use Rattle.semantics.specs.Program.{Name}
+use Rattle.grammar.specs.Parsed.{Parsed, accepted, refused}
+use Rattle.grammar.specs.Declarations.{declaration, declarationsFrom, declarations}
+use Rattle.grammar.specs.Emitted.{header}
+use Rattle.grammar.proofs.Combine.{token-prop, then-prop}
+use Rattle.grammar.proofs.Size.{Pays, declarations-pay}
+use Rattle.declarations.specs.Results.{declaredOf}
+use Rattle.declarations.specs.Post.{Holds, headerAfter, DeclaresAll}
+use Rattle.declarations.specs.declared.Declared.{Declared}
+use Rattle.declarations.specs.declared.Declared.the-variants.{Until, Refused}
+use Rattle.declarations.proofs.Steps.{after, refused-then}
+use Rattle.declarations.proofs.Loop.{header-append}
+
+-- an empty table holds no names
+pub holds-none : (text starts ends : List ℕ) → Holds text starts ends 0 []
+unfolding namesOf
+holds-none text [] ends = record { counted = refl; spelled = refl }
+holds-none text (s ∷ starts) [] = record { counted = refl; spelled = refl }
+holds-none text (s ∷ starts) (e ∷ ends) = record { counted = refl; spelled = refl }
+
+-- ---- the answer
+
+-- all names up to n, c of them, with their bytes from `to` up to t
+pub record AllDeclared (word : Kind) (text : List ℕ) (names : List Name) (at to : ℕ) (before after starts ends : List ℕ) (n t c : ℕ) : Type 0 where
+  pub all : List Name
+  pub read : declarations word text names at ≡ accepted all n
+  pub counted : c ≡ length all
+  pub ended : t ≡ to + length (headerAfter names all)
+  pub wrote : after ≡ sets before to (headerAfter names all)
+  pub held : Holds text starts ends c all
+
+module _ (word : Kind) (text : List ℕ) (names : List Name) (at to : ℕ) (before after' starts ends : List ℕ) {r : Declared} (d : DeclaresAll word text names at to before after' starts ends r) where
+  pub all-declared : {n t c : ℕ} → r ≡ Until n t c → AllDeclared word text names at to before after' starts ends n t c
+  all-declared {n} {t} {c} g =
+      let a = after (λ (all : List Name). (to + length (headerAfter names all), length all)) (declarations word text names at) (t, c) n (sym (d .answer) ∙ ap declaredOf g) in
+      let ec : c ≡ length (a .0) = ap (λ (p : ℕ × ℕ). p .1) (a .2) in
+      record {
+        all = a .0;
+        read = a .1;
+        counted = ec;
+        ended = ap (λ (p : ℕ × ℕ). p .0) (a .2);
+        wrote = d .wrote (a .0) n (a .1);
+        held = subst (λ (m : ℕ). Holds text starts ends m (a .0)) (sym ec) (d .named (a .0) n (a .1));
+      }
+
+  pub not-declared : {k p : ℕ} → r ≡ Refused k p → declarations word text names at ≡ refused k p
+  not-declared {k} {p} g =
+      refused-then (λ (all : List Name). (to + length (headerAfter names all), length all)) (declarations word text names at) k p (sym (d .answer) ∙ ap declaredOf g)
+
+-- ---- names are added behind those declared before
+
+abbrev Extends : List Name → Parsed (List Name) → Type 0
+Extends names (accepted all n) = (new : List Name) × (all ≡ names ++ new)
+Extends names (refused k p) = Unit {0}
+
+one-more : (names : List Name) (x : Name) (p : Parsed (List Name)) → Extends (names ++ (x ∷ [])) p → Extends names p
+one-more names x (accepted all n) h = (x ∷ h .0, h .1 ∙ append-assoc names (x ∷ []) (h .0))
+one-more names x (refused k p) h = tt
+
+extends : (f : ℕ) (word : Kind) (text : List ℕ) (names : List Name) (at : ℕ) → Extends names (declarationsFrom f word text names at)
+unfolding declarationsFrom
+extends zero word text names at = ([], sym (append-nil names))
+extends (suc f) word text names at =
+    token-prop (Extends names) (tokenAt text at) _ (λ k q. tt)
+    (λ k s n e.
+    pick-prop (Extends names) (is k word) _ _
+    (λ t. then-prop (Extends names) (declaration text names n) _ (λ k q. tt) (λ x m d. one-more names x (declarationsFrom f word text (names ++ (x ∷ [])) m) (extends f word text (names ++ (x ∷ [])) m)))
+    (λ t. ([], sym (append-nil names))))
+
+module _ (word : Kind) (text : List ℕ) (names : List Name) (at : ℕ) {all : List Name} {n : ℕ} (e : declarations word text names at ≡ accepted all n) where
+  -- the header of all names is that of the names before, and then that of the names declared here
+  pub header-joined : header all ≡ header names ++ headerAfter names all
+  unfolding headerAfter declarations
+  header-joined =
+      let x : (new : List Name) × (all ≡ names ++ new) = subst (Extends names) e (extends 65 word text names at) in
+      rw (x .1, drop-append-seam names (x .0)) (header-append names (x .0))
+
+  -- it takes no more than three bytes for two of the text
+  pub header-room : at ≤ length text → 2 * length (header names) ≤ 3 * at → (2 * length (header all) ≤ 3 * n) × (n ≤ length text)
+  unfolding declarations
+  header-room h i = let p = subst (Pays (λ (l : List Name). length (header l)) (length text) 0) e (declarations-pay text 65 word names at h i) in (omega (arith, p .0), p .1)

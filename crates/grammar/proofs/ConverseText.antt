@@ -1,0 +1,138 @@
+-- A text that spells a program is read as it. So the texts accepted are exactly those that spell a program. Assumes nothing.
+use mathlib.Core.Path.{_≡_, refl, ap, ap₂, sym, _∙_, subst}
+use mathlib.Core.List.{List, [], _∷_, _++_}
+use mathlib.Core.Bool.{Bool, true, false}
+use mathlib.Core.Option.{some}
+use Prim.Native.Nat.{ℕ, zero, suc, _+_, _≤_, _<_}
+use native.Mathlib.Omega.{arith}
+use lib.ListN.{length, getElem?, length-append, length-map}
+use lib.Dec.{ltb}
+use borrow.Author.Tests.{le-ltb}
+use Rattle.limits.specs.Limits.{textLimit}
+use Rattle.limits.specs.Answer as A
+use Rattle.lexer.specs.Bytes.{bytes, pick}
+use Rattle.lexer.specs.Token.{Kind, kindNumber, ending, name, inputWord, varWord, is, token}
+use Rattle.lexer.specs.Lexer.{tokenAt}
+use Rattle.semantics.specs.Program.{Name, Rule, Program, knownFirst, rangesOf, OrderedRules, Ordered}
+use Rattle.semantics.proofs.Reference.{length-known}
+use Rattle.grammar.specs.Parsed.{Parsed, accepted, refused, andThen}
+use Rattle.grammar.specs.Expressions.{Scope}
+use Rattle.grammar.specs.Declarations.{spellings, declarations}
+use Rattle.grammar.specs.Rules.{rulesFrom}
+use Rattle.grammar.specs.Parse.{program, parse, answerOf, programOf}
+use Rattle.grammar.specs.Derivation.{Spells, TokensOf, IsName}
+use Rattle.grammar.specs.Spelled.{Declares, declares, DeclareAll, Distinct, Apart, SpellsR, a-change, a-function, SpellsRules, namesOf, Spelled}
+use Rattle.grammar.specs.Spelled as S
+use Rattle.grammar.specs.Accepts.{Accepts}
+use Rattle.grammar.proofs.Shape.{NameFits, NamesFit}
+use Rattle.grammar.proofs.Spellings.{spellingOf, isFixed}
+use Rattle.grammar.proofs.Standing.{split, spells-in}
+use Rattle.grammar.proofs.Phrases.{fixed-at, name-at}
+use Rattle.grammar.proofs.Converse.{Named}
+use Rattle.grammar.proofs.Accepted.{each-name, program-parsed}
+use Rattle.grammar.proofs.ConverseDeclarations.{declarations-read}
+use Rattle.grammar.proofs.ConverseRules.{rules-read, few-unruled}
+use Rattle.grammar.proofs.DerivedText.{parse-spelled}
+
+-- ---- names
+
+declared-fit : (word : List ℕ) (ts : List (List ℕ)) (l : List Name) → DeclareAll word ts l → NamesFit l
+declared-fit word ts l S.DeclareAll.none = tt
+declared-fit word ts l (S.DeclareAll.more us vs x k (declares w ls hs ws r nm dl dh ds fits) e) = (record { is-name = nm; range-fits = fits }, declared-fit word vs k e)
+
+fit-append : (k l : List Name) → NamesFit k → NamesFit l → NamesFit (k ++ l)
+fit-append [] l h g = g
+fit-append (x ∷ k) l h g = (h .0, fit-append k l (h .1) g)
+
+apart-front : (w : List ℕ) (k l : List Name) → Apart w (spellings (k ++ l)) → Apart w (spellings k)
+apart-front w [] l a = tt
+apart-front w (x ∷ k) l a = (a .0, apart-front w k l (a .1))
+
+distinct-front : (k l : List Name) → Distinct (spellings (k ++ l)) → Distinct (spellings k)
+distinct-front [] l d = tt
+distinct-front (x ∷ k) l d = (apart-front (x .spelling) k l (d .0), distinct-front k l (d .1))
+
+module _ (text : List ℕ) where
+  -- ---- the token that ends a list of declarations
+
+  record Next (a : ℕ) (word : Kind) : Type 0 where
+    kind : Kind
+    start : ℕ
+    end : ℕ
+    is-token : tokenAt text a ≡ token kind start end
+    other : is kind word ≡ false
+
+  -- the rules begin with a name, or the text ends
+  rules-next : (word : Kind) → is name word ≡ false → is ending word ≡ false → (names : List (List ℕ)) → Named names → (ts : List (List ℕ)) (rs : List Rule) → SpellsRules names ts rs → (a n : ℕ) → a ≤ length text → Spells text a n ts → (s m : ℕ) → tokenAt text n ≡ token ending s m → Next a word
+  rules-next word e1 e2 names good ts rs S.SpellsRules.none a n h g s m et = record { kind = ending; start = s; end = m; is-token = subst (λ (y : ℕ). tokenAt text y ≡ token ending s m) (sym g) et; other = e2 }
+  rules-next word e1 e2 names good ts rs (S.SpellsRules.more us vs r qs (a-change w v xs ls ks cs ev d room e) q) a n h g s m et =
+      record { kind = name; start = g .1 .start; end = g .0; is-token = name-at text w (good .each v w ev) a (g .0) h (g .1); other = e1 }
+  rules-next word e1 e2 names good ts rs (S.SpellsRules.more us vs r qs (a-function w v xs e ev d) q) a n h g s m et =
+      record { kind = name; start = g .1 .start; end = g .0; is-token = name-at text w (good .each v w ev) a (g .0) h (g .1); other = e1 }
+
+  -- the variables begin with `var`
+  variables-next : (ts : List (List ℕ)) (l : List Name) → DeclareAll (bytes "var") ts l → (a n : ℕ) → a ≤ length text → Spells text a n ts → Next n inputWord → Next a inputWord
+  unfolding isFixed is kindNumber
+  variables-next ts l S.DeclareAll.none a n h g x = subst (λ (y : ℕ). Next y inputWord) (sym g) x
+  variables-next ts l (S.DeclareAll.more us vs y k (declares w ls hs ws r nm dl dh ds fits) e) a n h g x =
+      record { kind = varWord; start = g .1 .start; end = g .0; is-token = fixed-at text varWord refl a (g .0) h (g .1); other = refl }
+
+  -- ---- the whole
+
+  program-goes : (inputs names : List Name) (rules : List Rule) (a b n : ℕ) → declarations inputWord text [] 0 ≡ accepted inputs a → declarations varWord text inputs a ≡ accepted names b → rulesFrom 65 (record { text = text; names = spellings names; known = knownFirst (length inputs) (length names) }) [] b ≡ accepted rules n → program text ≡ accepted (record { inputs = length inputs; names = names; rules = rules }) n
+  unfolding program
+  program-goes inputs names rules a b n e1 e2 e3 = rw (e1, e2, e3)
+
+  spelled-program : (inputs variables : List Name) (rules : List Rule) (its vts rts : List (List ℕ)) → TokensOf text (its ++ vts ++ rts) → DeclareAll (bytes "input") its inputs → DeclareAll (bytes "var") vts variables → Distinct (spellings (inputs ++ variables)) → length (inputs ++ variables) ≤ 64 → SpellsRules (spellings (inputs ++ variables)) rts rules → OrderedRules (knownFirst (length inputs) (length (inputs ++ variables))) rules → program text ≡ accepted (record { inputs = length inputs; names = inputs ++ variables; rules = rules }) (length text)
+  unfolding declarations isFixed is kindNumber
+  spelled-program inputs variables rules its vts rts t di dv apart few dr ordered =
+      let names = inputs ++ variables in
+      let good : Named (spellings names) = record { distinct = apart; each = each-name names (fit-append inputs variables (declared-fit (bytes "input") its inputs di) (declared-fit (bytes "var") vts variables dv)) } in
+      let p = split text 0 (t .end) (its ++ vts) rts (t .spells) in
+      let q = split text 0 (p .place) its vts (p .first) in
+      let i1 = spells-in text 0 (q .place) its (omega arith) (q .first) .1 in
+      let i2 = spells-in text (q .place) (p .place) vts i1 (q .second) .1 in
+      let both : length (inputs ++ variables) ≡ length inputs + length variables = length-append inputs variables in
+      let end = rules-next varWord refl refl (spellings names) good rts rules dr (p .place) (t .end) i2 (p .second) (length text) (length text) (t .ends) in
+      let none = rules-next inputWord refl refl (spellings names) good rts rules dr (p .place) (t .end) i2 (p .second) (length text) (length text) (t .ends) in
+      let more = variables-next vts variables dv (q .place) (p .place) i1 (q .second) none in
+      let count : length (knownFirst (length inputs) (length names)) ≡ length names = length-known (length inputs) (length names) in
+      program-goes inputs names rules (q .place) (p .place) (length text)
+      (declarations-read text inputWord refl 65 [] its inputs di (distinct-front inputs variables apart) (omega arith) (omega arith) 0 (q .place) (omega arith) (q .first) (more .kind) (more .start) (more .end) (more .is-token) (more .other))
+      (declarations-read text varWord refl 65 inputs vts variables dv apart (omega arith) (omega arith) (q .place) (p .place) i1 (q .second) (end .kind) (end .start) (end .end) (end .is-token) (end .other))
+      (rules-read 65 (record { text = text; names = spellings names; known = knownFirst (length inputs) (length names) }) good [] rts rules dr ordered (few-unruled (knownFirst (length inputs) (length names)) (omega arith)) (p .place) (t .end) i2 (p .second) (length text) (length text) (t .ends))
+
+made : (p : Program) (i : ℕ) (l : List Name) → p .inputs ≡ i → p .names ≡ l → p ≡ record { inputs = i; names = l; rules = p .rules }
+made p i l e f = ap₂ (λ (x : ℕ) (y : List Name). record { inputs = x; names = y; rules = p .rules }) e f
+
+short-parse : (text : List ℕ) → length text ≤ textLimit → parse text ≡ program text
+unfolding parse
+short-parse text h = rw (le-ltb textLimit (length text) h)
+
+-- what has document 01's grammar, limits, order and agreement is accepted, and read to the end of the text
+pub spelled-parse : (text : List ℕ) (p : Program) → Spelled text p → parse text ≡ accepted p (length text)
+spelled-parse text p s =
+    let q : Program = record { inputs = length (s .inputs); names = s .inputs ++ s .variables; rules = p .rules } in
+    let same : p ≡ q = made p (length (s .inputs)) (s .inputs ++ s .variables) (s .input-count) (s .names) in
+    let count : length (rangesOf q) ≡ length (q .names) = length-map (q .names) (λ n. n .range) in
+    let ordered : Ordered q = subst Ordered same (s .ordered) in
+    short-parse text (s .short)
+    ∙ (spelled-program text (s .inputs) (s .variables) (p .rules) (s .input-tokens) (s .variable-tokens) (s .rule-tokens) (s .tokens) (s .declares-inputs) (s .declares-variables)
+    (subst (λ (x : Program). Distinct (namesOf x)) same (s .distinct)) (subst (λ (x : Program). length (x .names) ≤ 64) same (s .few)) (subst (λ (x : Program). SpellsRules (namesOf x) (s .rule-tokens) (x .rules)) same (s .spells-rules))
+    (subst (λ (n : ℕ). OrderedRules (knownFirst (length (s .inputs)) n) (p .rules)) count ordered)
+    ∙ ap (λ (x : Program). accepted x (length text)) (sym same))
+
+spelled-accepted : (text : List ℕ) (p : Program) → Spelled text p → programOf text ≡ A.accepted p
+unfolding programOf
+spelled-accepted text p s = ap answerOf (spelled-parse text p s)
+
+-- the texts accepted are exactly those that spell a program
+pub accepted-exactly : Accepts
+accepted-exactly = record { accepted-spelled = λ text p e. let r = program-parsed text p e in parse-spelled text p (r .0) (r .1); spelled-accepted = spelled-accepted }
+
+-- so a text means one program at most
+pub one-meaning : (text : List ℕ) (p q : Program) → Spelled text p → Spelled text q → p ≡ q
+one-meaning text p q s t = same (sym (spelled-accepted text p s) ∙ spelled-accepted text q t)
+  where
+    same : {x y : Program} → A.accepted x ≡ A.accepted y → x ≡ y
+    same e = cc

@@ -1,0 +1,204 @@
+-- The ways through the loop of rules. Assumes nothing.
+use mathlib.Core.Path.{_≡_, refl, ap, sym, _∙_, subst}
+use mathlib.Core.List.{List, [], _∷_, _++_, append-assoc}
+use mathlib.Core.Bool.{Bool, true, false}
+use Prim.Native.Nat.{ℕ, zero, suc, _+_, _-_, _*_, _/_, _%_, _^_, _≤_, _<_}
+use native.Mathlib.Omega.{arith}
+use lib.Dec.{eqb}
+use lib.ListN.{length, getD, set, length-append}
+use lib.Seq.{sets}
+use borrow.Author.Tests.{eqb-true, eqb-false}
+use Rattle.limits.specs.Limits.{noToken, notAllowed, wrongRule}
+use Rattle.lexer.specs.Token.{Kind, name, ending, is, Read, token, fault}
+use Rattle.lexer.specs.Lexer.{tokenAt}
+use Rattle.lexer.specs.Names.{namesOf, Table}
+use Rattle.lexer.specs.Results.{kindOf}
+use Rattle.lexer.proofs.Laws.{pick-prop}
+use Rattle.semantics.specs.Program.{Rule, function, change, target, allTrue}
+use Rattle.grammar.specs.Parsed.{Parsed, accepted, refused, andThen, onToken}
+use Rattle.grammar.specs.Expressions.{Scope}
+use Rattle.grammar.specs.Rules.{ruleAt, ruled, rulesFrom}
+use Rattle.grammar.specs.Emitted.{codeR}
+use Rattle.grammar.proofs.Size.{Pays, ruleBytes, rule-pays}
+use Rattle.expressions.specs.declared.Names.{Names}
+use Rattle.expressions.specs.Scopes.{knownOf, scopeOf, Declared}
+use Rattle.expressions.specs.Steps.{Room}
+use Rattle.expressions.proofs.Scopes.{known-bit, few-names}
+use Rattle.phrases.proofs.Laws.{same-kinds, other-kinds}
+use Rattle.cases.specs.declared.Part.{Part}
+use Rattle.cases.specs.declared.Part.the-variants.{Done, Refused}
+use Rattle.cases.specs.Post.{Writes}
+use Rattle.cases.proofs.Parts.{Got, writes, refuses}
+use Rattle.cases.proofs.Ways.{then-bytes}
+use Rattle.cases.proofs.Listing.{Found}
+use Rattle.rules.specs.Post.{codeOfRule, endOf}
+use Rattle.rules.proofs.Bits.{known-length, known-set, set-below, clear-bit, known-all}
+use Rattle.rules.proofs.Ways.{Fresh, rule-fresh}
+
+-- ---- variables without a rule
+
+pub missing : List Bool → ℕ
+missing [] = 0
+missing (true ∷ l) = missing l
+missing (false ∷ l) = suc (missing l)
+
+missing-few : (l : List Bool) → missing l ≤ length l
+unfolding missing
+missing-few [] = omega arith
+missing-few (true ∷ l) = omega (arith, missing-few l)
+missing-few (false ∷ l) = omega (arith, missing-few l)
+
+missing-set : (l : List Bool) (i : ℕ) → i < length l → getD l i false ≡ false → missing l ≡ suc (missing (set l i true))
+unfolding missing
+missing-set [] i h e = absurd (omega arith)
+missing-set (true ∷ l) zero h e = let z : _≡_ {A = ℕ} 0 1 = cc in absurd (omega arith)
+missing-set (false ∷ l) zero h e = refl
+missing-set (true ∷ l) (suc i) h e = missing-set l i (omega arith) e
+missing-set (false ∷ l) (suc i) h e = ap suc (missing-set l i (omega arith) e)
+
+-- ---- as many names as are counted
+
+counted-from : (text starts ends : List ℕ) (n : ℕ) → n ≤ length starts → n ≤ length ends → length (namesOf text starts ends n) ≡ n
+unfolding namesOf
+counted-from text [] ends n hs he = omega arith
+counted-from text (s ∷ starts) [] n hs he = omega arith
+counted-from text (s ∷ starts) (e ∷ ends) zero hs he = refl
+counted-from text (s ∷ starts) (e ∷ ends) (suc n) hs he = ap suc (counted-from text starts ends n (omega arith) (omega arith))
+
+pub names-counted : (text starts ends : List ℕ) (n : ℕ) → Table starts ends n → length (namesOf text starts ends n) ≡ n
+names-counted text starts ends n t = counted-from text starts ends n (t .in-starts) (t .in-ends)
+
+-- ---- rules
+
+module _ (f : ℕ) (sc : Scope) (done : List Rule) (a : ℕ) where
+  rules-fault : {q : ℕ} → tokenAt (sc .text) a ≡ fault q → rulesFrom (suc f) sc done a ≡ refused noToken q
+  unfolding rulesFrom
+  rules-fault e = rw e
+
+  module _ {k : Kind} {s n : ℕ} (e : tokenAt (sc .text) a ≡ token k s n) where
+    module _ (i : is k name ≡ false) where
+      rules-other : is k ending ≡ false → rulesFrom (suc f) sc done a ≡ refused notAllowed s
+      unfolding rulesFrom
+      rules-other j = rw (e, i, j)
+
+      module _ (j : is k ending ≡ true) where
+        rules-end : allTrue (sc .known) ≡ true → rulesFrom (suc f) sc done a ≡ accepted done n
+        unfolding rulesFrom
+        rules-end g = rw (e, i, j, g)
+
+        rules-missing : allTrue (sc .known) ≡ false → rulesFrom (suc f) sc done a ≡ refused wrongRule s
+        unfolding rulesFrom
+        rules-missing g = rw (e, i, j, g)
+
+    module _ (i : is k name ≡ true) where
+      rules-refused : {l q : ℕ} → ruleAt sc s n ≡ refused l q → rulesFrom (suc f) sc done a ≡ refused l q
+      unfolding rulesFrom
+      rules-refused g = rw (e, i, g)
+
+      rules-more : {r : Rule} {m : ℕ} → ruleAt sc s n ≡ accepted r m → rulesFrom (suc f) sc done a ≡ rulesFrom f (ruled sc (target r)) (done ++ (r ∷ [])) m
+      unfolding rulesFrom
+      rules-more g = rw (e, i, g)
+
+code-append : (rs : List Rule) (r : Rule) → codeR (rs ++ (r ∷ [])) ≡ codeR rs ++ codeOfRule r
+unfolding codeR
+code-append [] r = refl
+code-append (function v e ∷ rs) r = rw (code-append rs r) (simp append-assoc)
+code-append (change v ks cs ∷ rs) r = rw (code-append rs r) (simp append-assoc)
+
+-- ---- the loop
+
+abbrev pub naming : ℕ → ℕ → Names
+naming count known = record { count = count; known = known }
+
+pub declared-as : {starts ends : List ℕ} {names : Names} → Declared starts ends names → (known : ℕ) → Declared starts ends (naming (names .count) known)
+declared-as d known = record { table = d .table; few = d .few }
+
+-- what was read and written so far, with the names then known
+pub record Ruling (text starts ends : List ℕ) (count known₀ at to : ℕ) (out₀ out : List ℕ) (known a t done : ℕ) : Type 0 where
+  pub rules : List Rule
+  pub counted : length rules ≡ done
+  pub same : rulesFrom 65 (scopeOf text starts ends (naming count known₀)) [] at ≡ rulesFrom (65 - done) (scopeOf text starts ends (naming count known)) rules a
+  pub fuel : missing (knownOf known count) + done ≤ count
+  pub below : known < 2 ^ count
+  pub room : Room text a t
+  pub ended : t ≡ to + length (codeR rules)
+  pub wrote : out ≡ sets out₀ to (codeR rules)
+
+pub ruling-first : (text starts ends : List ℕ) (count known at to : ℕ) (out : List ℕ) → known < 2 ^ count → Room text at to → Ruling text starts ends count known at to out out known at to 0
+unfolding codeR
+ruling-first text starts ends count known at to out h r = record {
+    rules = []; counted = refl; same = refl; fuel = omega (arith, missing-few (knownOf known count), known-length known count); below = h; room = r;
+    ended = omega arith; wrote = refl }
+
+module _ {text starts ends : List ℕ} {count known₀ at to : ℕ} {out₀ out : List ℕ} {known a t done : ℕ} (x : Ruling text starts ends count known₀ at to out₀ out known a t done) (d : Declared starts ends (naming count known)) where
+  abbrev sc : Scope
+  sc = scopeOf text starts ends (naming count known)
+
+  abbrev Answer : List ℕ → Part → Type 0
+  Answer out′ r = Writes codeR length (rulesFrom 65 (scopeOf text starts ends (naming count known₀)) [] at) to out₀ out′ r
+
+  pub ruling-fuel : done < 65
+  ruling-fuel = omega (arith, x .fuel, d .few)
+
+  come : rulesFrom 65 (scopeOf text starts ends (naming count known₀)) [] at ≡ rulesFrom (suc (64 - done)) sc (x .rules) a
+  come = let e : 65 - done ≡ suc (64 - done) = omega (arith, ruling-fuel) in x .same ∙ ap (λ (f : ℕ). rulesFrom f sc (x .rules) a) e
+
+  pub ruling-fault : {out′ : List ℕ} {r : Part} {q : ℕ} → r ≡ Refused noToken q → tokenAt text a ≡ fault q → Answer out′ r
+  ruling-fault g e = refuses g (come ∙ rules-fault (64 - done) sc (x .rules) a e)
+
+  module _ {k s n : ℕ} (f : Found text a k s n) where
+    -- no rule follows
+    pub ruling-end : {r : Part} → is (kindOf k) name ≡ false → r ≡ endOf k s n (naming count known) t done → Answer out r
+    unfolding endOf kindOf
+    ruling-end i e = subst (Answer out) (sym e)
+        (pick-prop (Answer out) (eqb k 1) _ _
+        (λ y.
+        let j = same-kinds k 1 (eqb-true k 1 y) in
+        pick-prop (Answer out) (eqb known (2 ^ count - 1)) _ _
+        (λ z. writes (record {
+          tree = x .rules; is = come ∙ rules-end (64 - done) sc (x .rules) a (f .read) i j (known-all count known (x .below) ∙ z);
+          ended = x .ended; told = sym (x .counted); wrote = x .wrote }))
+        (λ z. refuses refl (come ∙ rules-missing (64 - done) sc (x .rules) a (f .read) i j (known-all count known (x .below) ∙ z))))
+        (λ y. refuses refl (come ∙ rules-other (64 - done) sc (x .rules) a (f .read) i (other-kinds k 1 (f .lies .known-kind) (omega arith) (eqb-false k 1 y)))))
+
+    pub ruling-room : Room text n t
+    ruling-room = record { short = x .room .short; within = f .lies .within (x .room .within); room = omega (arith, x .room .room, f .lies .after, f .lies .ordered) }
+
+    module _ (i : is (kindOf k) name ≡ true) where
+      pub ruling-refused : {out′ : List ℕ} {r : Part} {l q : ℕ} → r ≡ Refused l q → ruleAt sc s n ≡ refused l q → Answer out′ r
+      ruling-refused g e = refuses g (come ∙ rules-refused (64 - done) sc (x .rules) a (f .read) i e)
+
+      module _ {out′ : List ℕ} {m u id : ℕ} (g : Got codeOfRule target (ruleAt sc s n) t out out′ m u id) where
+        fresh : (id < count) × (getD (knownOf known count) id false ≡ false)
+        fresh =
+            let y : Fresh sc (accepted (g .tree) m) = subst (Fresh sc) (g .is) (rule-fresh sc s n) in
+            (omega (arith, y .0, g .told, names-counted text starts ends count (d .table)), ap (λ (v : ℕ). getD (knownOf known count) v false) (g .told) ∙ y .1)
+
+        -- the variable is declared, and was not known
+        pub ruling-clear : (id < count) × (eqb (known / 2 ^ id % 2) 1 ≡ false)
+        ruling-clear = (fresh .0, sym (known-bit known count id (fresh .0)) ∙ fresh .1)
+
+        clear : known / 2 ^ id % 2 ≡ 0
+        clear = clear-bit (known / 2 ^ id) (ruling-clear .1)
+
+        ruled-scope : ruled sc (target (g .tree)) ≡ scopeOf text starts ends (naming count (known + 2 ^ id))
+        ruled-scope =
+            rw (← g .told) (ap (λ (l : List Bool). record { text = text; names = namesOf text starts ends count; known = l }) (sym (known-set count known id (fresh .0) clear)))
+
+        paid : (2 * length (codeOfRule (g .tree)) + 3 * n ≤ 3 * m) × (m ≤ length text)
+        paid = subst (Pays ruleBytes (length text) n) (g .is)
+            (rule-pays sc (few-names text d) (names-counted text starts ends count (d .table) ∙ sym (known-length known count)) s n (ruling-room .within))
+
+        pub ruling-more : {known′ : ℕ} → known′ ≡ known + 2 ^ id → Ruling text starts ends count known₀ at to out₀ out′ known′ m u (done + 1)
+        ruling-more e = rw e (record {
+            rules = x .rules ++ (g .tree ∷ []);
+            counted = length-append (x .rules) (g .tree ∷ []) ∙ ap (λ (y : ℕ). y + 1) (x .counted);
+            same = come ∙ (rules-more (64 - done) sc (x .rules) a (f .read) i (g .is) ∙ turned);
+            fuel = omega (arith, x .fuel, missing-set (knownOf known count) id (omega (arith, fresh .0, known-length known count)) (fresh .1), ap missing (known-set count known id (fresh .0) clear));
+            below = set-below count known id (fresh .0) (x .below) clear;
+            room = record { short = x .room .short; within = paid .1; room = omega (arith, g .ended, paid .0, ruling-room .room) };
+            ended = rw (code-append (x .rules) (g .tree)) (simp length-append (omega (arith, g .ended, x .ended)));
+            wrote = rw (code-append (x .rules) (g .tree)) (then-bytes out₀ to (codeR (x .rules)) (codeOfRule (g .tree)) (x .ended) (x .wrote) (g .wrote)) })
+          where
+            turned : rulesFrom (64 - done) (ruled sc (target (g .tree))) (x .rules ++ (g .tree ∷ [])) m ≡ rulesFrom (65 - (done + 1)) (scopeOf text starts ends (naming count (known + 2 ^ id))) (x .rules ++ (g .tree ∷ [])) m
+            turned = let q : 64 - done ≡ 65 - (done + 1) = omega arith in rw (ruled-scope, q)

@@ -1,0 +1,202 @@
+-- The ways through a function, a change formula with its no-change formula, and a rule: what each comes to. Assumes nothing.
+use mathlib.Core.Path.{_≡_, refl, ap, sym, _∙_, subst}
+use mathlib.Core.List.{List, [], _∷_, _++_, append-nil}
+use mathlib.Core.Bool.{Bool, true, false}
+use mathlib.Core.Option.{Option, none, some}
+use Prim.Native.Nat.{ℕ, _+_, _*_, _≤_, _<_}
+use native.Mathlib.Omega.{arith}
+use lib.ListN.{length, getD, length-append}
+use lib.Seq.{sets}
+use Rattle.limits.specs.Limits.{caseLimit, noToken, wrongName, wrongRule, tooMany}
+use Rattle.leb128.specs.Numbers.{number}
+use Rattle.lexer.specs.Bytes.{pick, part}
+use Rattle.lexer.specs.Token.{Kind, tilde, is, Read, token, fault}
+use Rattle.lexer.specs.Lexer.{tokenAt, overLong}
+use Rattle.lexer.specs.Names.{idOf}
+use Rattle.lexer.proofs.Laws.{pick-prop}
+use Rattle.semantics.specs.Program.{Expression, Condition, Rule, function, change, target}
+use Rattle.grammar.specs.Parsed.{Parsed, accepted, refused, andThen, onToken, Wanted, phrase, followed}
+use Rattle.grammar.specs.Expressions.{Scope, withId, wholeExpression}
+use Rattle.grammar.specs.Rules.{Spanned, casesFrom, agreeingList, casesOf, functionAt, changeAt, formulas, ruleAt}
+use Rattle.grammar.specs.Emitted.{codeE, codeK, codeR}
+use Rattle.grammar.proofs.Bytes.{id-of}
+use Rattle.grammar.proofs.Combine.{token-prop, then-prop, option-prop}
+use Rattle.grammar.proofs.Growth.{Kept, phrase-kept}
+use Rattle.grammar.proofs.Size.{Pays, cases-pay}
+use Rattle.expressions.specs.Steps.{Room}
+use Rattle.expressions.proofs.Steps.{Refuses}
+use Rattle.agreement.specs.Spans.{spansIn, spansOf, Spans}
+use Rattle.phrases.specs.Forms.{ruleOpening, formulaClosing, functionClosing, valueOpening, changeOpening, noChangeOpening}
+use Rattle.cases.specs.Post.{codeOfCases, Lists}
+use Rattle.cases.proofs.Parts.{Got, never, same-value, phrase-fault, behind-refused}
+use Rattle.cases.proofs.Ways.{then-bytes}
+use Rattle.rules.specs.Post.{codeOfRule}
+
+-- ---- a function
+
+module _ (sc : Scope) (w : List ℕ) (v at : ℕ) where
+  pub value-unopened : {k q : ℕ} → phrase (sc .text) (valueOpening w) at ≡ refused k q → functionAt sc w v at ≡ refused k q
+  unfolding functionAt
+  value-unopened e = rw e
+
+  module _ {n1 : ℕ} (e1 : phrase (sc .text) (valueOpening w) at ≡ accepted tt n1) where
+    pub value-refused : {k q : ℕ} → Refuses (sc .text) (wholeExpression sc n1) k q → functionAt sc w v at ≡ refused k q
+    unfolding functionAt followed
+    value-refused r = rw e1 (behind-refused (sc .text) _ (λ e m q f. rw (phrase-fault (sc .text) _ _ m q f)) (wholeExpression sc n1) r)
+
+    module _ {e : Expression} {n2 : ℕ} (e2 : wholeExpression sc n1 ≡ accepted e n2) where
+      pub value-unclosed : {k q : ℕ} → phrase (sc .text) functionClosing n2 ≡ refused k q → functionAt sc w v at ≡ refused k q
+      unfolding functionAt followed
+      value-unclosed e3 = rw (e1, e2, e3)
+
+      pub function-accepted : {n3 : ℕ} → phrase (sc .text) functionClosing n2 ≡ accepted tt n3 → functionAt sc w v at ≡ accepted (function v e) n3
+      unfolding functionAt followed
+      function-accepted e3 = rw (e1, e2, e3)
+
+-- its bytes
+pub function-bytes : (before : List ℕ) {mid after : List ℕ} (to : ℕ) {t : ℕ} (v : ℕ) (e : Expression) → t ≡ to + length (codeE e) → mid ≡ sets before to (codeE e) → after ≡ sets mid t (21 ∷ number v) → after ≡ sets before to (codeOfRule (function v e))
+unfolding codeR
+function-bytes before to v e ht hm ha = rw (append-nil (number v)) (then-bytes before to (codeE e) (21 ∷ number v) ht hm ha)
+
+pub function-length : (to : ℕ) {t u : ℕ} (v : ℕ) (e : Expression) → t ≡ to + length (codeE e) → u ≡ t + length (21 ∷ number v) → u ≡ to + length (codeOfRule (function v e))
+unfolding codeR
+function-length to v e ht hu = simp length-append (omega arith)
+
+-- ---- a change formula and its no-change formula
+
+module _ (sc : Scope) (w : List ℕ) (v at : ℕ) where
+  pub change-unopened : {k q : ℕ} → phrase (sc .text) (changeOpening w) at ≡ refused k q → changeAt sc w v at ≡ refused k q
+  unfolding changeAt
+  change-unopened e = rw e
+
+  module _ {n1 : ℕ} (e1 : phrase (sc .text) (changeOpening w) at ≡ accepted tt n1) where
+    pub cases-refused : {k q : ℕ} → casesFrom caseLimit sc w [] n1 ≡ refused k q → changeAt sc w v at ≡ refused k q
+    unfolding changeAt
+    cases-refused e2 = rw (e1, e2)
+
+    module _ {cs : List Spanned} {n2 : ℕ} (e2 : casesFrom caseLimit sc w [] n1 ≡ accepted cs n2) where
+      pub no-change-unopened : {k q : ℕ} → phrase (sc .text) (noChangeOpening w) n2 ≡ refused k q → changeAt sc w v at ≡ refused k q
+      unfolding changeAt
+      no-change-unopened e3 = rw (e1, e2, e3)
+
+      module _ {n3 : ℕ} (e3 : phrase (sc .text) (noChangeOpening w) n2 ≡ accepted tt n3) where
+        pub list-refused : {k q : ℕ} → agreeingList sc cs n3 ≡ refused k q → changeAt sc w v at ≡ refused k q
+        unfolding changeAt
+        list-refused e4 = rw (e1, e2, e3, e4)
+
+        module _ {ds : List Condition} {n4 : ℕ} (e4 : agreeingList sc cs n3 ≡ accepted ds n4) where
+          pub change-unclosed : {k q : ℕ} → phrase (sc .text) formulaClosing n4 ≡ refused k q → changeAt sc w v at ≡ refused k q
+          unfolding changeAt followed
+          change-unclosed e5 = rw (e1, e2, e3, e4, e5)
+
+          pub change-accepted : {n5 : ℕ} → phrase (sc .text) formulaClosing n4 ≡ accepted tt n5 → changeAt sc w v at ≡ accepted (change v (casesOf cs) ds) n5
+          unfolding changeAt followed
+          change-accepted e5 = rw (e1, e2, e3, e4, e5)
+
+pub change-bytes : (before : List ℕ) {mid after : List ℕ} (to : ℕ) {t : ℕ} (v : ℕ) (cs : List Spanned) (ds : List Condition) → t ≡ to + length (codeK v (casesOf cs)) → mid ≡ sets before to (codeK v (casesOf cs)) → after ≡ sets mid t (22 ∷ number v) → after ≡ sets before to (codeOfRule (change v (casesOf cs) ds))
+unfolding codeR
+change-bytes before to v cs ds ht hm ha = rw (append-nil (number v)) (then-bytes before to (codeK v (casesOf cs)) (22 ∷ number v) ht hm ha)
+
+pub change-length : (to : ℕ) {t u : ℕ} (v : ℕ) (cs : List Spanned) (ds : List Condition) → t ≡ to + length (codeK v (casesOf cs)) → u ≡ t + length (22 ∷ number v) → u ≡ to + length (codeOfRule (change v (casesOf cs) ds))
+unfolding codeR
+change-length to v cs ds ht hu = simp length-append (omega arith)
+
+module _ (sc : Scope) (w : List ℕ) (v n1 to : ℕ) {before after : List ℕ} {n2 t x : ℕ} where
+  -- room behind the cases, and behind the tokens that follow them
+  pub room-cases : (few : length (sc .names) ≤ 64) → v < 64 → Room (sc .text) n1 to → Got (codeOfCases v) length (casesFrom caseLimit sc w [] n1) to before after n2 t x → Room (sc .text) n2 t
+  unfolding codeK
+  room-cases few hv r g =
+      let p = subst (Pays (λ (cs : List Spanned). length (codeOfCases v cs)) (length (sc .text)) n1) (g .is) (cases-pay sc few v hv w caseLimit [] n1 n1 (r .within) (omega arith)) in
+      record { short = r .short; within = p .1; room = omega (arith, g .ended, p .0, r .room) }
+
+  -- the spans that are told
+  pub told-spans : {from upto : List ℕ} → Lists (casesFrom caseLimit sc w [] n1) (sc .text) from upto → Got (codeOfCases v) length (casesFrom caseLimit sc w [] n1) to before after n2 t x → Spans (sc .text) from upto x
+  told-spans l g = rw (g .told) (l .held (g .tree) n2 (g .is))
+
+  pub told-listed : {from upto : List ℕ} → Lists (casesFrom caseLimit sc w [] n1) (sc .text) from upto → (g : Got (codeOfCases v) length (casesFrom caseLimit sc w [] n1) to before after n2 t x) → spansOf (g .tree) ≡ spansIn from upto x
+  told-listed l g = rw (g .told) (l .listed (g .tree) n2 (g .is))
+
+pub room-list : {text : List ℕ} (ws : List Wanted) {n m t : ℕ} → Room text n t → phrase text ws n ≡ accepted tt m → Room text m 0
+room-list {text} ws {n} r e =
+    let k = subst (Kept (length text) n) e (phrase-kept text ws n (r .within)) in
+    record { short = r .short; within = k .1; room = omega arith }
+
+-- ---- one or the other, after the variable's name
+
+module _ (sc : Scope) (w : List ℕ) (v at : ℕ) where
+  pub formulas-unopened : {k q : ℕ} → phrase (sc .text) ruleOpening at ≡ refused k q → formulas sc w v at ≡ refused k q
+  unfolding formulas
+  formulas-unopened e = rw e
+
+  module _ {n : ℕ} (e : phrase (sc .text) ruleOpening at ≡ accepted tt n) where
+    pub formulas-fault : {q : ℕ} → tokenAt (sc .text) n ≡ fault q → formulas sc w v at ≡ refused noToken q
+    unfolding formulas
+    formulas-fault f = rw (e, f)
+
+    module _ {k : Kind} {s m : ℕ} (f : tokenAt (sc .text) n ≡ token k s m) where
+      pub formulas-change : is k tilde ≡ true → formulas sc w v at ≡ changeAt sc w v m
+      unfolding formulas
+      formulas-change i = rw (e, f, i)
+
+      pub formulas-function : is k tilde ≡ false → formulas sc w v at ≡ functionAt sc w v n
+      unfolding formulas
+      formulas-function i = rw (e, f, i)
+
+-- ---- a rule, from its name
+
+module _ (sc : Scope) (s n : ℕ) where
+  pub rule-long : overLong s n ≡ true → ruleAt sc s n ≡ refused tooMany s
+  unfolding ruleAt withId
+  rule-long e = rw e
+
+  module _ (short : overLong s n ≡ false) where
+    pub rule-unknown : idOf (sc .names) (part (sc .text) s n) ≡ none → ruleAt sc s n ≡ refused wrongName s
+    unfolding ruleAt withId
+    rule-unknown e = rw (short, e)
+
+    module _ {v : ℕ} (e : idOf (sc .names) (part (sc .text) s n) ≡ some v) where
+      pub rule-second : getD (sc .known) v false ≡ true → ruleAt sc s n ≡ refused wrongRule s
+      unfolding ruleAt withId
+      rule-second k = rw (short, e, k)
+
+      pub rule-formulas : getD (sc .known) v false ≡ false → ruleAt sc s n ≡ formulas sc (part (sc .text) s n) v n
+      unfolding ruleAt withId
+      rule-formulas k = rw (short, e, k)
+
+-- ---- the variable of a rule has none before
+
+abbrev Targets : ℕ → Parsed Rule → Type 0
+Targets v (accepted r n) = target r ≡ v
+Targets v (refused k q) = Unit {0}
+
+formulas-target : (sc : Scope) (w : List ℕ) (v at : ℕ) → Targets v (formulas sc w v at)
+unfolding formulas functionAt changeAt followed
+formulas-target sc w v at =
+    then-prop (Targets v) (phrase (sc .text) _ at) _ (λ k q. tt)
+    (λ u n e. token-prop (Targets v) (tokenAt (sc .text) n) _ (λ k q. tt)
+    (λ k s m f. pick-prop (Targets v) (is k tilde) _ _
+    (λ i. then-prop (Targets v) (phrase (sc .text) _ m) _ (λ k q. tt)
+    (λ u n1 e1. then-prop (Targets v) (casesFrom caseLimit sc w [] n1) _ (λ k q. tt)
+    (λ cs n2 e2. then-prop (Targets v) (phrase (sc .text) _ n2) _ (λ k q. tt)
+    (λ u n3 e3. then-prop (Targets v) (agreeingList sc cs n3) _ (λ k q. tt)
+    (λ ds n4 e4. then-prop (Targets v) (phrase (sc .text) _ n4) _ (λ k q. tt) (λ u n5 e5. refl))))))
+    (λ i. then-prop (Targets v) (phrase (sc .text) _ n) _ (λ k q. tt)
+    (λ u n1 e1. then-prop (Targets v) (wholeExpression sc n1) _ (λ k q. tt)
+    (λ e n2 e2. then-prop (Targets v) (phrase (sc .text) _ n2) _ (λ k q. tt) (λ u n3 e3. refl))))))
+
+-- a declared name that is not known
+abbrev pub Fresh : Scope → Parsed Rule → Type 0
+Fresh sc (accepted r n) = (target r < length (sc .names)) × (getD (sc .known) (target r) false ≡ false)
+Fresh sc (refused k q) = Unit {0}
+
+pub rule-fresh : (sc : Scope) (s n : ℕ) → Fresh sc (ruleAt sc s n)
+unfolding ruleAt withId
+rule-fresh sc s n =
+    pick-prop (Fresh sc) (overLong s n) _ _ (λ e. tt)
+    (λ e. option-prop (Fresh sc) (idOf (sc .names) (part (sc .text) s n)) _ _ (λ z. tt)
+    (λ v ev. pick-prop (Fresh sc) (getD (sc .known) v false) _ _ (λ t. tt)
+    (λ t. fresh v (id-of (sc .names) (part (sc .text) s n) v ev) t (formulas sc (part (sc .text) s n) v n) (formulas-target sc (part (sc .text) s n) v n))))
+  where
+    fresh : (v : ℕ) → v < length (sc .names) → getD (sc .known) v false ≡ false → (p : Parsed Rule) → Targets v p → Fresh sc p
+    fresh v l t (accepted r m) g = (subst (λ (x : ℕ). x < length (sc .names)) (sym g) l, subst (λ (x : ℕ). getD (sc .known) x false ≡ false) (sym g) t)
+    fresh v l t (refused k q) g = tt

@@ -1,0 +1,169 @@
+-- The ways through a whole text, once its declarations are read: the rules, then the two counts. Assumes nothing.
+use mathlib.Core.Path.{_≡_, refl, sym, ap, subst, _∙_}
+use mathlib.Core.List.{List, [], _∷_, _++_, append-assoc}
+use Prim.Native.Nat.{ℕ, suc, _+_, _-_, _*_, _^_, _≤_, _<_}
+use native.Mathlib.Omega.{arith}
+use lib.ListN.{length, set, length-append}
+use lib.Seq.{sets}
+use Rattle.limits.specs.Limits.{textLimit, nameLimit}
+use Rattle.lexer.specs.Token.{inputWord, varWord}
+use Rattle.lexer.specs.Names.{namesOf, Table}
+use Rattle.semantics.specs.Program.{Name, Rule, Program, knownFirst}
+use Rattle.leb128.specs.Numbers.{number}
+use Rattle.leb128.proofs.Laws.{groups-one}
+use Rattle.leb128.proofs.RoundTrip.{sets-join}
+use Rattle.grammar.specs.Parsed.{Parsed, accepted, refused, andThen}
+use Rattle.grammar.specs.Expressions.{Scope}
+use Rattle.grammar.specs.Declarations.{declarations}
+use Rattle.grammar.specs.Rules.{rulesFrom}
+use Rattle.grammar.specs.Emitted.{header, codeR, image}
+use Rattle.grammar.specs.Parse.{program}
+use Rattle.declarations.specs.Post.{Holds}
+use Rattle.declarations.proofs.Steps.{after, refused-then}
+use Rattle.expressions.specs.declared.Names.{Names}
+use Rattle.expressions.specs.Scopes.{knownOf, scopeOf}
+use Rattle.expressions.proofs.Scopes.{known-first}
+use Rattle.cases.specs.declared.Part.{Part}
+use Rattle.cases.specs.declared.Part.the-variants as P
+use Rattle.cases.specs.Results.{partOf}
+use Rattle.cases.specs.Post.{Writes}
+use Rattle.translate.specs.declared.Heading.{Heading}
+use Rattle.translate.specs.declared.Heading.the-variants as H
+use Rattle.translate.specs.declared.Analysis.the-variants as N
+use Rattle.translate.specs.Internal.{Declarations, headingOf, scopeAfter, Counts, headed, countsOf, Heads, Descends}
+use Rattle.translate.proofs.Stores.{counts-last}
+use Rattle.translate.proofs.Ways.{never, program-heading, names-few}
+
+-- ---- the declarations that were read
+
+pub record HeadingRead (text before mid starts ends : List ℕ) (a t c m : ℕ) : Type 0 where
+  pub read : Declarations
+  pub is-read : headingOf text ≡ accepted read a
+  pub ended : t ≡ 2 + length (header (read .names))
+  pub counted : c ≡ read .inputs
+  pub named : m ≡ length (read .names)
+  pub wrote : mid ≡ sets before 2 (header (read .names))
+  pub held : Holds text starts ends m (read .names)
+
+module _ (text before mid starts ends : List ℕ) {r : Heading} (h : Heads text before mid starts ends r) where
+  pub heading-refused : {k p : ℕ} → r ≡ H.Refused k p → headingOf text ≡ refused k p
+  heading-refused {k} {p} e = refused-then countsOf (headingOf text) k p (sym (h .answer) ∙ ap headed e)
+
+  pub heading-read : {a t c m : ℕ} → r ≡ H.Until a t c m → HeadingRead text before mid starts ends a t c m
+  heading-read {a} {t} {c} {m} e =
+      let x = after countsOf (headingOf text) (record { end = t; inputs = c; names = m }) a (sym (h .answer) ∙ ap headed e) in
+      let q : m ≡ length (x .0 .names) = ap {A = Counts} (λ y. y .names) (x .2) in
+      record {
+        read = x .0;
+        is-read = x .1;
+        ended = ap {A = Counts} (λ y. y .end) (x .2);
+        counted = ap {A = Counts} (λ y. y .inputs) (x .2);
+        named = q;
+        wrote = h .wrote (x .0) a (x .1);
+        held = subst (λ (k : ℕ). Holds text starts ends k (x .0 .names)) (sym q) (h .named (x .0) a (x .1));
+      }
+
+-- few names, few bytes, within the text
+pub record Few (text : List ℕ) (d : Declarations) (n : ℕ) : Type 0 where
+  pub names : length (d .names) ≤ nameLimit
+  pub inputs : d .inputs ≤ length (d .names)
+  pub within : n ≤ length text
+  pub room : 2 * length (header (d .names)) ≤ 3 * n
+
+pub heading-few : (text : List ℕ) → length text ≤ textLimit → (d : Declarations) (n : ℕ) → headingOf text ≡ accepted d n → Few text d n
+unfolding headingOf
+heading-few text short d n e = first (declarations inputWord text [] 0) refl e
+  where
+    second : (inputs : List Name) (n1 : ℕ) → declarations inputWord text [] 0 ≡ accepted inputs n1 → (p : Parsed (List Name)) → declarations varWord text inputs n1 ≡ p
+        → _≡_ {A = Parsed Declarations} (andThen p (λ names n2. accepted (record { inputs = length inputs; names = names }) n2)) (accepted d n) → Few text d n
+    second inputs n1 f (accepted names n2) g i =
+        let x = names-few text short inputs names n1 n2 f g in
+        let y : Few text (record { inputs = length inputs; names = names }) n2 = record { names = x .0; inputs = x .1; within = x .2; room = x .3 } in
+        let ed : record { inputs = length inputs; names = names } ≡ d = cc in
+        let en : n2 ≡ n = cc in
+        subst (λ (k : ℕ). Few text d k) en (subst (λ (z : Declarations). Few text z n2) ed y)
+    second inputs n1 f (refused k q) g i = never d n k q (sym i)
+
+    first : (p : Parsed (List Name)) → declarations inputWord text [] 0 ≡ p
+        → _≡_ {A = Parsed Declarations} (andThen p (λ inputs n1. andThen (declarations varWord text inputs n1) (λ names n2. accepted (record { inputs = length inputs; names = names }) n2))) (accepted d n) → Few text d n
+    first (accepted inputs n1) f i = second inputs n1 f (declarations varWord text inputs n1) refl i
+    first (refused k q) f i = never d n k q (sym i)
+
+-- ---- the rules
+
+-- the scope of the rules at their start
+pub scope-is : (text starts ends : List ℕ) (d : Declarations) (c m known : ℕ) → Holds text starts ends m (d .names) → c ≡ d .inputs → m ≡ length (d .names) → known ≡ 2 ^ c - 1
+    → scopeOf text starts ends (record { count = m; known = known }) ≡ scopeAfter text d
+scope-is text starts ends d c m known h ec em ek = rw (h .spelled, ek, known-first, ec, em)
+
+module _ (p : Parsed (List Rule)) (t : ℕ) (mid last : List ℕ) {q : Part} (w : Writes codeR length p t mid last q) where
+  pub rules-refused : {k x : ℕ} → q ≡ P.Refused k x → p ≡ refused k x
+  rules-refused {k} {x} e = refused-then (λ (rs : List Rule). (t + length (codeR rs), length rs)) p k x (sym (w .answer) ∙ ap partOf e)
+
+  pub rules-read : {b u x : ℕ} → q ≡ P.Done b u x → (rules : List Rule) × (p ≡ accepted rules b) × (u ≡ t + length (codeR rules)) × (last ≡ sets mid t (codeR rules))
+  rules-read {b} {u} {x} e =
+      let y = after (λ (rs : List Rule). (t + length (codeR rs), length rs)) p (u, x) b (sym (w .answer) ∙ ap partOf e) in
+      (y .0, y .1, ap (λ (z : ℕ × ℕ). z .0) (y .2), w .wrote (y .0) b (y .1))
+
+-- ---- the answer and the bytes of the whole
+
+module _ (text before last starts ends : List ℕ) where
+  pub descends-refused : (k p : ℕ) → program text ≡ refused k p → Descends text (program text) before last starts ends (N.Refused k p)
+  descends-refused k p e = record {
+    answer = rw e;
+    wrote = λ q n h. never q n k p (sym h ∙ e);
+    named = λ q n h. never q n k p (sym h ∙ e);
+  }
+
+  pub descends-accepted : (q : Program) (n : ℕ) → program text ≡ accepted q n → last ≡ sets before 0 (image q) → Holds text starts ends (length (q .names)) (q .names)
+      → Descends text (program text) before last starts ends (N.Accepted (length (image q)) (q .inputs) (length (q .names)))
+  descends-accepted q n e w h = record {
+    answer = rw e;
+    wrote = λ q' n' g. let i : accepted q n ≡ accepted q' n' = sym e ∙ g in let j : q ≡ q' = cc in subst (λ (x : Program). last ≡ sets before 0 (image x)) j w;
+    named = λ q' n' g. let i : accepted q n ≡ accepted q' n' = sym e ∙ g in let j : q ≡ q' = cc in subst (λ (x : Program). Holds text starts ends (length (x .names)) (x .names)) j h;
+  }
+
+  pub no-heading : (k p : ℕ) → headingOf text ≡ refused k p → Descends text (program text) before last starts ends (N.Refused k p)
+  no-heading k p e = descends-refused k p (program-heading text ∙ rw e)
+
+  pub no-rules : (d : Declarations) (a k p : ℕ) → headingOf text ≡ accepted d a → rulesFrom 65 (scopeAfter text d) [] a ≡ refused k p → Descends text (program text) before last starts ends (N.Refused k p)
+  no-rules d a k p e f = descends-refused k p (program-heading text ∙ rw (e, f))
+
+-- the bytes of an image whose counts have one byte each
+image-bytes : (q : Program) → q .inputs < 128 → length (q .names) < 128 → image q ≡ q .inputs ∷ (length (q .names) - q .inputs) ∷ (header (q .names) ++ codeR (q .rules))
+unfolding image
+image-bytes q h i = rw (groups-one (q .inputs) h, groups-one (length (q .names) - q .inputs) (omega arith))
+
+-- all is read: the counts are stored last
+module _ (text before mid last : List ℕ) (starts ends : List ℕ) (a t c m b u : ℕ) (x : HeadingRead text before mid starts ends a t c m) (few : Few text (x .read) a) (rules : List Rule) (e : rulesFrom 65 (scopeAfter text (x .read)) [] a ≡ accepted rules b) (eu : u ≡ t + length (codeR rules)) (w : last ≡ sets mid t (codeR rules)) where
+  abbrev whole : Program
+  whole = record { inputs = x .read .inputs; names = x .read .names; rules = rules }
+
+  is-whole : program text ≡ accepted whole b
+  is-whole = program-heading text ∙ rw (x .is-read, e)
+
+  bytes : image whole ≡ x .read .inputs ∷ (length (x .read .names) - x .read .inputs) ∷ (header (x .read .names) ++ codeR rules)
+  bytes = image-bytes whole (omega (arith, few .inputs, few .names)) (omega (arith, few .names))
+
+  body : last ≡ sets before 2 (header (x .read .names) ++ codeR rules)
+  body =
+      w ∙ ap (λ (l : List ℕ). sets l t (codeR rules)) (x .wrote)
+      ∙ ap (λ (k : ℕ). sets (sets before 2 (header (x .read .names))) k (codeR rules)) (x .ended)
+      ∙ sets-join before 2 (header (x .read .names)) (codeR rules)
+
+  all-stored : set (set last 0 c) 1 (m - c) ≡ sets before 0 (image whole)
+  all-stored =
+      rw (body, x .counted, x .named) (counts-last before (x .read .inputs) (length (x .read .names) - x .read .inputs) (header (x .read .names) ++ codeR rules)) ∙ ap (sets before 0) (sym bytes)
+
+  size : length (image whole) ≡ u
+  size =
+      let l : length (image whole) ≡ 2 + (length (header (x .read .names)) + length (codeR rules)) = ap length bytes ∙ simp length-append (omega arith) in
+      omega (arith, eu, x .ended)
+
+  pub descends-whole : Descends text (program text) before (set (set last 0 c) 1 (m - c)) starts ends (N.Accepted u c m)
+  descends-whole =
+      let h : Holds text starts ends (length (x .read .names)) (x .read .names) = subst (λ (k : ℕ). Holds text starts ends k (x .read .names)) (x .named) (x .held) in
+      let r = descends-accepted text before (set (set last 0 c) 1 (m - c)) starts ends whole b is-whole all-stored h in
+      subst (λ (k : ℕ). Descends text (program text) before (set (set last 0 c) 1 (m - c)) starts ends (N.Accepted u c k)) (sym (x .named))
+      (subst (λ (k : ℕ). Descends text (program text) before (set (set last 0 c) 1 (m - c)) starts ends (N.Accepted u k (length (x .read .names)))) (sym (x .counted))
+      (subst (λ (k : ℕ). Descends text (program text) before (set (set last 0 c) 1 (m - c)) starts ends (N.Accepted k (x .read .inputs) (length (x .read .names)))) size r))

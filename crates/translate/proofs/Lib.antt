@@ -1,0 +1,4 @@
+pub mod Stores
+pub mod Ways
+pub mod Descent
+pub mod Service

@@ -1,0 +1,134 @@
+-- The ways through a whole text: its declarations, then its rules. Assumes nothing.
+use mathlib.Core.Path.{_≡_, refl, sym, ap, subst, fun-ext, _∙_}
+use mathlib.Core.Bool.{Bool, true, false}
+use mathlib.Core.List.{List, [], _∷_, _++_}
+use Prim.Native.Nat.{ℕ, zero, suc, _+_, _-_, _*_, _/_, _%_, _^_, _≤_, _<_}
+use native.Mathlib.Nat.{le-refl, pow-suc}
+use native.Mathlib.Omega.{arith}
+use lib.Dec.{eqb}
+use lib.ListN.{length, drop, length-append}
+use lib.Seq.{sets}
+use Rattle.limits.specs.Limits.{textLimit, nameLimit}
+use Rattle.lexer.specs.Token.{inputWord, varWord}
+use Rattle.semantics.specs.Program.{Name, Rule, Program, knownFirst}
+use Rattle.leb128.specs.Numbers.{number}
+use Rattle.leb128.proofs.Laws.{groups-one}
+use Rattle.leb128.proofs.RoundTrip.{sets-join}
+use Rattle.grammar.specs.Parsed.{Parsed, accepted, refused, andThen}
+use Rattle.grammar.specs.Expressions.{Scope}
+use Rattle.grammar.specs.Declarations.{declarations, declarationsFrom, spellings}
+use Rattle.grammar.specs.Rules.{rulesFrom}
+use Rattle.grammar.specs.Emitted.{header, codeR, image}
+use Rattle.grammar.specs.Parse.{program}
+use Rattle.grammar.proofs.Whole.{Ends, Names, declarations-fit}
+use Rattle.grammar.proofs.Size.{Pays, declarations-pay}
+use Rattle.expressions.specs.Scopes.{knownOf}
+use Rattle.declarations.specs.Post.{Holds, headerAfter}
+use Rattle.declarations.proofs.Known.{AllDeclared, header-joined}
+use Rattle.translate.specs.declared.Heading.the-variants as H
+use Rattle.translate.specs.Internal.{Declarations, headingOf, scopeAfter, Heads}
+use Rattle.translate.proofs.Stores.{counts-last}
+
+-- ---- what follows what
+
+then-then : {A B C : Type 0} (p : Parsed A) (f : A → ℕ → Parsed B) (g : B → ℕ → Parsed C) → andThen (andThen p f) g ≡ andThen p (λ a n. andThen (f a n) g)
+then-then (accepted a n) f g = refl
+then-then (refused k q) f g = refl
+
+-- the rules after the declarations
+abbrev pub ruled : List ℕ → Declarations → ℕ → Parsed Program
+ruled text d n = andThen (rulesFrom 65 (scopeAfter text d) [] n) (λ rules m. accepted (record { inputs = d .inputs; names = d .names; rules = rules }) m)
+
+pub program-heading : (text : List ℕ) → program text ≡ andThen (headingOf text) (λ d n. ruled text d n)
+unfolding program headingOf
+program-heading text =
+    sym (then-then (declarations inputWord text [] 0) _ _
+    ∙ ap (λ (f : List Name → ℕ → Parsed Program). andThen (declarations inputWord text [] 0) f)
+    (fun-ext λ inputs. fun-ext λ n1. then-then (declarations varWord text inputs n1) _ _))
+
+-- ---- the ways through the declarations
+
+module _ (text : List ℕ) where
+  pub inputs-refused : (k p : ℕ) → declarations inputWord text [] 0 ≡ refused k p → headingOf text ≡ refused k p
+  unfolding headingOf
+  inputs-refused k p e = rw e
+
+  module _ (inputs : List Name) (n1 : ℕ) (e : declarations inputWord text [] 0 ≡ accepted inputs n1) where
+    pub variables-refused : (k p : ℕ) → declarations varWord text inputs n1 ≡ refused k p → headingOf text ≡ refused k p
+    unfolding headingOf
+    variables-refused k p f = rw (e, f)
+
+    pub both-accepted : (names : List Name) (n2 : ℕ) → declarations varWord text inputs n1 ≡ accepted names n2 → headingOf text ≡ accepted (record { inputs = length inputs; names = names }) n2
+    unfolding headingOf
+    both-accepted names n2 f = rw (e, f)
+
+  module _ (short : length text ≤ textLimit) where
+    -- the inputs that are accepted: few names, few bytes, within the text
+    pub inputs-few : (inputs : List Name) (n1 : ℕ) → declarations inputWord text [] 0 ≡ accepted inputs n1 → (length inputs ≤ nameLimit) × (n1 ≤ length text) × (2 * length (header inputs) ≤ 3 * n1)
+    unfolding declarations header
+    inputs-few inputs n1 e =
+        let g = subst (Ends (length text) (Names text 0)) e (declarations-fit text 65 inputWord [] 0 0 (omega arith) (tt, omega arith, omega arith, tt)) in
+        let p = subst (Pays (λ (l : List Name). length (header l)) (length text) 0) e (declarations-pay text 65 inputWord [] 0 (omega arith) (omega arith)) in
+        (g .0 .1, g .1, omega (arith, p .0))
+
+    pub names-few : (inputs names : List Name) (n1 n2 : ℕ) → declarations inputWord text [] 0 ≡ accepted inputs n1 → declarations varWord text inputs n1 ≡ accepted names n2
+        → (length names ≤ nameLimit) × (length inputs ≤ length names) × (n2 ≤ length text) × (2 * length (header names) ≤ 3 * n2)
+    unfolding declarations header
+    names-few inputs names n1 n2 e f =
+        let g1 = subst (Ends (length text) (Names text 0)) e (declarations-fit text 65 inputWord [] 0 0 (omega arith) (tt, omega arith, omega arith, tt)) in
+        let p1 = subst (Pays (λ (l : List Name). length (header l)) (length text) 0) e (declarations-pay text 65 inputWord [] 0 (omega arith) (omega arith)) in
+        let g2 = subst (Ends (length text) (Names text (length inputs))) f (declarations-fit text 65 varWord inputs n1 (length inputs) (g1 .1) (g1 .0 .0, g1 .0 .1, le-refl (length inputs), g1 .0 .3)) in
+        let p2 = subst (Pays (λ (l : List Name). length (header l)) (length text) 0) f (declarations-pay text 65 varWord inputs n1 (g1 .1) (omega (arith, p1 .0))) in
+        (g2 .0 .1, g2 .0 .2, g2 .1, omega (arith, p2 .0))
+
+-- ---- what reading the declarations answers and leaves
+
+pub never : {A X : Type 0} (a : A) (n k p : ℕ) → _≡_ {A = Parsed A} (accepted a n) (refused k p) → X
+never a n k p e = let z : _≡_ {A = ℕ} 0 1 = cc in let f : ⊥ = omega arith in absurd f
+
+module _ (text before after starts ends : List ℕ) where
+  pub heads-refused : (k p : ℕ) → headingOf text ≡ refused k p → Heads text before after starts ends (H.Refused k p)
+  heads-refused k p e = record {
+    answer = rw e;
+    wrote = λ d n h. never d n k p (sym h ∙ e);
+    named = λ d n h. never d n k p (sym h ∙ e);
+  }
+
+  pub heads-accepted : (d : Declarations) (at : ℕ) → headingOf text ≡ accepted d at → after ≡ sets before 2 (header (d .names)) → Holds text starts ends (length (d .names)) (d .names)
+      → Heads text before after starts ends (H.Until at (2 + length (header (d .names))) (d .inputs) (length (d .names)))
+  heads-accepted d at e w h = record {
+    answer = rw e;
+    wrote = λ d' n g. let q : d ≡ d' = cc in subst (λ (x : Declarations). after ≡ sets before 2 (header (x .names))) q w;
+    named = λ d' n g. let q : d ≡ d' = cc in subst (λ (x : Declarations). Holds text starts ends (length (x .names)) (x .names)) q h;
+  }
+
+-- the declarations of inputs, then those of variables
+module _ (text before mid after s1 e1 s2 e2 : List ℕ) (a t c b u m : ℕ) (x : AllDeclared inputWord text [] 0 2 before mid s1 e1 a t c) (y : AllDeclared varWord text (x .all) a t mid after s2 e2 b u m) where
+  first-end : t ≡ 2 + length (header (x .all))
+  unfolding headerAfter
+  first-end = x .ended
+
+  joined : header (y .all) ≡ header (x .all) ++ headerAfter (x .all) (y .all)
+  joined = header-joined varWord text (x .all) a (y .read)
+
+  end-is : 2 + length (header (y .all)) ≡ u
+  end-is =
+      let l : length (header (y .all)) ≡ length (header (x .all)) + length (headerAfter (x .all) (y .all)) = ap length joined ∙ simp length-append in
+      omega (arith, first-end, y .ended)
+
+  stored : after ≡ sets before 2 (header (y .all))
+  unfolding headerAfter
+  stored =
+      y .wrote
+      ∙ ap (λ (l : List ℕ). sets l t (headerAfter (x .all) (y .all))) (x .wrote)
+      ∙ ap (λ (k : ℕ). sets (sets before 2 (header (x .all))) k (headerAfter (x .all) (y .all))) first-end
+      ∙ sets-join before 2 (header (x .all)) (headerAfter (x .all) (y .all))
+      ∙ ap (sets before 2) (sym joined)
+
+  pub heads-both : Heads text before after s2 e2 (H.Until b u c m)
+  heads-both =
+      let h : Holds text s2 e2 (length (y .all)) (y .all) = subst (λ (k : ℕ). Holds text s2 e2 k (y .all)) (y .counted) (y .held) in
+      let r = heads-accepted text before after s2 e2 (record { inputs = length (x .all); names = y .all }) b (both-accepted text (x .all) a (x .read) (y .all) b (y .read)) stored h in
+      subst (λ (k : ℕ). Heads text before after s2 e2 (H.Until b u c k)) (sym (y .counted))
+      (subst (λ (k : ℕ). Heads text before after s2 e2 (H.Until b u k (length (y .all)))) (sym (x .counted))
+      (subst (λ (k : ℕ). Heads text before after s2 e2 (H.Until b k (length (x .all)) (length (y .all)))) end-is r))

@@ -1,0 +1,142 @@
+// The translate service: the same descent twice, over an empty buffer to check and measure, then over the lent one.
+use cases::Part;
+use declarations::Declared;
+use expressions::Names;
+ghost use mathlib.Core.Path.{_≡_};
+ghost use Prim.Native.Nat.{_≤_};
+ghost use lib.ListN.{length};
+ghost use Rattle.limits.specs.Limits.{textLimit};
+ghost use Rattle.grammar.specs.Parse.{program, parse};
+ghost use Rattle.declarations.specs.Post.{Room};
+ghost use Rattle.translate.specs.Services.{translationOf};
+ghost use Rattle.translate.specs.Results.{afterTranslation};
+ghost use Rattle.translate.specs.Internal.{undeclaredOf, unheadedOf, unruledOf, untranslatedOf, Heads, Descends, Analyses};
+
+const TEXT_LIMIT: usize = 32768;
+
+// The place after the declarations, the end of the bytes written, the counts of inputs and of names; or a refusal.
+pub enum Heading {
+    Until(usize, usize, usize, usize),
+    Refused(u8, usize),
+}
+
+// The image's length and the counts of inputs and of names; or a refusal's number and place.
+pub enum Analysis {
+    Accepted(usize, usize, usize),
+    Refused(u8, usize),
+}
+
+// The image's length, or a refusal's number and place.
+pub enum Translated {
+    Image(usize),
+    Refused(u8, usize),
+}
+
+// A refusal passed on.
+fn undeclared(d: Declared) -> Heading
+    ensures { λ r. ⌜ r ≡ undeclaredOf d ⌝ }
+{
+    match d {
+        Declared::Until(_, _, _) => Heading::Refused(0, 0),
+        Declared::Refused(k, p) => Heading::Refused(k, p),
+    }
+}
+
+fn unheaded(h: Heading) -> Analysis
+    ensures { λ r. ⌜ r ≡ unheadedOf h ⌝ }
+{
+    match h {
+        Heading::Until(_, _, _, _) => Analysis::Refused(0, 0),
+        Heading::Refused(k, p) => Analysis::Refused(k, p),
+    }
+}
+
+fn unruled(part: Part) -> Analysis
+    ensures { λ r. ⌜ r ≡ unruledOf part ⌝ }
+{
+    match part {
+        Part::Done(_, _, _) => Analysis::Refused(0, 0),
+        Part::Refused(k, p) => Analysis::Refused(k, p),
+    }
+}
+
+fn untranslated(a: Analysis) -> Translated
+    ensures { λ r. ⌜ r ≡ untranslatedOf a ⌝ }
+{
+    match a {
+        Analysis::Accepted(_, _, _) => Translated::Refused(0, 0),
+        Analysis::Refused(k, p) => Translated::Refused(k, p),
+    }
+}
+
+// All inputs, then all variables, into the table; the header's bytes behind the two counts.
+fn read_heading(text: &[u8], starts: &mut [usize], ends: &mut [usize], out: &mut [u8]) -> Heading
+    requires { ⌜ length (now text) ≤ textLimit ⌝ }
+    requires { ⌜ Room (now starts) (now ends) 0 ⌝ }
+    ensures { λ r. ⌜ Heads (now (text .entry)) (now (out .entry)) (now (out .exit)) (now (starts .exit)) (now (ends .exit)) r ⌝ }
+{
+    let first = declarations::declarations(text, 0, lexer::INPUT, starts, ends, 0, out, 2);
+    let Declared::Until(a, t, inputs) = first else {
+        return undeclared(first);
+    };
+    let second = declarations::declarations(text, a, lexer::VAR, starts, ends, inputs, out, t);
+    let Declared::Until(b, u, count) = second else {
+        return undeclared(second);
+    };
+    Heading::Until(b, u, inputs, count)
+}
+
+// The whole text, into lent memory as far as there is room.
+fn descend(text: &[u8], starts: &mut [usize], ends: &mut [usize], out: &mut [u8]) -> Analysis
+    requires { ⌜ length (now text) ≤ textLimit ⌝ }
+    requires { ⌜ Room (now starts) (now ends) 0 ⌝ }
+    ensures { λ r. ⌜ Descends (now (text .entry)) (program (now (text .entry))) (now (out .entry)) (now (out .exit)) (now (starts .exit)) (now (ends .exit)) r ⌝ }
+{
+    let head = read_heading(text, starts, ends, out);
+    let Heading::Until(a, t, inputs, count) = head else {
+        return unheaded(head);
+    };
+    let known = rules::first(inputs);
+    let read = rules::rules(text, starts, ends, Names { count, known }, a, out, t);
+    let Part::Done(_, size, _) = read else {
+        return unruled(read);
+    };
+    leb128::put_byte(out, 0, inputs as u8);
+    leb128::put_byte(out, 1, (count - inputs) as u8);
+    Analysis::Accepted(size, inputs, count)
+}
+
+// Checks a text and measures its image; leaves the names in the table, which has room for 64.
+pub fn analyse(text: &[u8], starts: &mut [usize], ends: &mut [usize]) -> Analysis
+    requires { ⌜ Room (now starts) (now ends) 0 ⌝ }
+    ensures { λ r. ⌜ Analyses (now (text .entry)) (parse (now (text .entry))) (now (starts .exit)) (now (ends .exit)) r ⌝ }
+{
+    if TEXT_LIMIT < text.len() {
+        return Analysis::Refused(9, 0);
+    }
+    let mut none = [0u8; 0];
+    descend(text, starts, ends, &mut none)
+}
+
+fn translate_in(text: &[u8], image: &mut [u8], starts: &mut [usize], ends: &mut [usize]) -> Translated
+    requires { ⌜ Room (now starts) (now ends) 0 ⌝ }
+    ensures { λ r. ⌜ afterTranslation r (now (image .exit)) ≡ translationOf (now (text .entry)) (now (image .entry)) ⌝ }
+{
+    let analysis = analyse(text, starts, ends);
+    let Analysis::Accepted(size, _, _) = analysis else {
+        return untranslated(analysis);
+    };
+    if image.len() < size {
+        return Translated::Refused(10, text.len());
+    }
+    descend(text, starts, ends, image);
+    Translated::Image(size)
+}
+
+pub fn translate(text: &[u8], image: &mut [u8]) -> Translated
+    ensures { λ r. ⌜ afterTranslation r (now (image .exit)) ≡ translationOf (now (text .entry)) (now (image .entry)) ⌝ }
+{
+    let mut starts = [0usize; 64];
+    let mut ends = [0usize; 64];
+    translate_in(text, image, &mut starts, &mut ends)
+}
