@@ -77,7 +77,7 @@ fn check_code(code: &[u8], base: usize, inputs: usize, names: usize) -> Checked
     if complete(w) {
         return Checked::Sound;
     }
-    Checked::Refused(11, base + at)
+    Checked::Refused(11, base + code.len())
 }
 
 pub fn check(image: &[u8]) -> Checked
