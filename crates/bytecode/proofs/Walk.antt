@@ -5,12 +5,11 @@ use mathlib.Core.Path.{_≡_, refl, sym, ap, _∙_, subst}
 use mathlib.Core.Bool.{Bool, true, false, _&&_, cond}
 use mathlib.Core.List.{List, [], _∷_}
 use mathlib.Core.Option.{Option, none, some}
-use lib.Dec.{T, ltb, leb, leb→le}
+use lib.Dec.{T, leb, leb→le}
 use lib.IntN.{ℤ}
-use lib.ListN.{length, drop}
+use lib.ListN.{length}
 use lib.Signed.{leZ}
 use borrow.Author.Tests.{lt-ltb, le-ltb}
-use Rattle.limits.specs.Limits.{brokenImage}
 use Rattle.limits.specs.Answer.{Answer, accepted, refused, _andThen_}
 use Rattle.arith.specs.Values.{isInt32}
 use Rattle.semantics.specs.Program.{Range}
@@ -18,9 +17,8 @@ use Rattle.arith.proofs.Basics.{true-T}
 use Rattle.leb128.specs.Numbers.{Read, got, nothing, numberAt, signedAt}
 use Rattle.bytecode.specs.Instructions.{Instruction, fetch}
 use Rattle.bytecode.specs.Translation.{RangeFits, RangesFit}
-use Rattle.bytecode.specs.Check.{Known, known, advance, complete, tested, item, Placed, checkRange, checkRanges, Counts, checkCounts, Header, checkHeader, ends, ifSome, checkCode, atStart, checkBody, checkOf}
+use Rattle.bytecode.specs.Check.{Known, advance, complete, tested, item, Placed, checkRange, checkRanges, Counts, checkCounts, Header, checkHeader, ends, ifSome, checkCode, checkBody, checkOf}
 use Rattle.bytecode.specs.Internal.{RangesAt}
-use Rattle.bytecode.specs.Counting.{orNone, headerOf, codeOf}
 
 pub refused≢accepted : {A X : Type 0} (a : A) (n k : ℕ) → refused n k ≡ accepted a → X
 refused≢accepted a n k e = let z : _≡_ {A = ℕ} 0 1 = cc in let f : ⊥ = omega arith in absurd f
@@ -65,8 +63,8 @@ check-stepped base code f at c l e = go (item-accepted (fetch code at) (base + a
         record { instruction = i; next = next; after = a .0; fetched = h; advanced = a .1; goes = a .2 }
 
 pub check-ended : (base : ℕ) (code : List ℕ) (f at : ℕ) (c : Known) → length code ≤ at → checkCode base code f at c ≡ accepted tt → complete c ≡ true
-check-ended base code zero at c l e = ends-accepted (complete c) (base + at) e
-check-ended base code (suc f) at c l e = ends-accepted (complete c) (base + at) (rw (le-ltb at (length code) l) at e)
+check-ended base code zero at c l e = ends-accepted (complete c) (base + length code) e
+check-ended base code (suc f) at c l e = ends-accepted (complete c) (base + length code) (rw (le-ltb at (length code) l) at e)
 
 -- ---- the header
 
