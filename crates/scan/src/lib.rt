@@ -202,13 +202,13 @@ fn start_in(image: &[u8], state: &mut [i32], low: &mut [i32], high: &mut [i32]) 
         Checked::Refused(number, place) => Started::Refused(number, place),
         Checked::Sound => {
             let counted = bytecode::counts(image);
-            let Counted::Counts(_, names, first) = counted else {
+            let Counted::Counts(_, count, first) = counted else {
                 return Started::Refused(BROKEN_IMAGE, 0);
             };
-            if state.len() != names {
+            if state.len() != count {
                 return Started::Refused(WRONG_LENGTH, 0);
             }
-            bytecode::ranges(image, first, names, low, high, state);
+            bytecode::ranges(image, first, count, low, high, state);
             Started::Done
         }
     }
