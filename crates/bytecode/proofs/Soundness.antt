@@ -225,11 +225,14 @@ all-small (i ∷ is) c d few e =
 
 -- ---- the walk
 
-past : (code : List ℕ) (at : ℕ) → drop at code ≡ [] → ltb at (length code) ≡ false
-past code at h =
+pub past-end : (code : List ℕ) (at : ℕ) → drop at code ≡ [] → length code ≤ at
+past-end code at h =
     let l : length (drop at code) ≡ 0 = ap length h in
     let k : length code - at ≡ 0 = rw length-drop at l in
-    le-ltb at (length code) (omega arith)
+    omega arith
+
+past : (code : List ℕ) (at : ℕ) → drop at code ≡ [] → ltb at (length code) ≡ false
+past code at h = le-ltb at (length code) (past-end code at h)
 
 item-got : {A B : Type 0} (a : A) (next at : ℕ) (test : A → Bool) (k : A → ℕ → Answer B) → test a ≡ true → item (got a next) at test k ≡ k a next
 item-got a next at test k e = rw (e, item)

@@ -65,8 +65,8 @@ check-stepped base code f at c l e = go (item-accepted (fetch code at) (base + a
         record { instruction = i; next = next; after = a .0; fetched = h; advanced = a .1; goes = a .2 }
 
 pub check-ended : (base : ℕ) (code : List ℕ) (f at : ℕ) (c : Known) → length code ≤ at → checkCode base code f at c ≡ accepted tt → complete c ≡ true
-check-ended base code zero at c l e = ends-accepted (complete c) (base + at) e
-check-ended base code (suc f) at c l e = ends-accepted (complete c) (base + at) (rw (le-ltb at (length code) l) at e)
+check-ended base code zero at c l e = ends-accepted (complete c) (base + length code) e
+check-ended base code (suc f) at c l e = ends-accepted (complete c) (base + length code) (rw (le-ltb at (length code) l) at e)
 
 -- ---- the header
 

@@ -14,6 +14,63 @@ use Rattle.semantics.specs.Program.{Range, allTrue, knownFirst}
 use Rattle.leb128.specs.Numbers.{Read, got, nothing, numberAt, signedAt}
 use Rattle.bytecode.specs.Instructions.{Instruction, constant, current, previous, operation, negate, comparison, negated, both, either, gate, pick, assign, settle, fetch}
 
+-- ---- the header
+
+abbrev pub tested : {B : Type 0} → Bool → ℕ → Answer B → Answer B
+tested true at a = a
+tested false at a = refused brokenImage at
+
+-- Something that stands at a place and passes its test; else 11 with that place. What is cut short breaks at its own first byte;
+-- where nothing of it is there, that place is the image length.
+abbrev pub item : {A B : Type 0} → Read A → ℕ → (A → Bool) → (A → ℕ → Answer B) → Answer B
+item nothing at test k = refused brokenImage at
+item (got a next) at test k = tested (test a) at (k a next)
+
+-- a range, and the place behind it
+pub record Placed : Type 0 where
+  pub range : Range
+  pub next : ℕ
+
+-- low ≤ start ≤ high, all in signed 32-bit range. Low over high breaks at high, a start outside at start.
+unfoldable pub checkRange : List ℕ → ℕ → Answer Placed
+checkRange bytes at =
+    item (signedAt bytes at) at isInt32 λ l at₁.
+    item (signedAt bytes at₁) at₁ (λ h. isInt32 h && leZ l h) λ h at₂.
+    item (signedAt bytes at₂) at₂ (λ z. isInt32 z && leZ l z && leZ z h) λ z at₃.
+    accepted (record { range = record { low = l; high = h; start = z }; next = at₃ })
+
+-- the range of each name in declared order, and what follows them
+abbrev pub checkRanges : {B : Type 0} → List ℕ → ℕ → ℕ → (List Range → ℕ → Answer B) → Answer B
+checkRanges bytes zero at k = k [] at
+checkRanges bytes (suc m) at k = checkRange bytes at andThen λ r. checkRanges bytes m (r .next) λ ns next. k (r .range ∷ ns) next
+
+-- the count of inputs, the count of names, and the place behind the two counts
+pub record Counts : Type 0 where
+  pub inputs : ℕ
+  pub names : ℕ
+  pub place : ℕ
+
+-- Header: count of inputs, count of variables. At most 64 names: a count of inputs over 64 breaks at place 0, a sum over 64 at the
+-- second number.
+unfoldable pub checkCounts : List ℕ → Answer Counts
+checkCounts bytes =
+    item (numberAt bytes 0) 0 (λ k. leb k nameLimit) λ k at₁.
+    item (numberAt bytes at₁) at₁ (λ m. leb (k + m) nameLimit) λ m at₂.
+    accepted (record { inputs = k; names = k + m; place = at₂ })
+
+-- what a header says, and the place where the code begins
+pub record Header : Type 0 where
+  pub inputs : ℕ
+  pub ranges : List Range
+  pub place : ℕ
+
+abbrev pub withInputs : ℕ → List Range → ℕ → Answer Header
+withInputs k = λ ns next. accepted (record { inputs = k; ranges = ns; place = next })
+
+-- Header: the counts, then low, high, start of each name in declared order.
+unfoldable pub checkHeader : List ℕ → Answer Header
+checkHeader bytes = checkCounts bytes andThen λ c. checkRanges bytes (c .names) (c .place) (withInputs (c .inputs))
+
 -- ---- one instruction
 
 -- operands of the right sort, numbers or yes-no
@@ -65,81 +122,34 @@ abbrev pub opened : Option ℕ → ℕ → Bool
 opened none v = false
 opened (some u) v = eqb u v
 
--- One instruction keeps soundness, or breaks it. Gate finds just one yes-no; pick and let just one number, settle none. Between a
--- gate and its pick stand only codes 1 to 9. Picks are followed by the settle of the same id.
+-- One instruction keeps soundness, or breaks it.
 abbrev pub advance : Instruction → Known → Option Known
+-- constants in signed 32-bit range; never over 40 values held
 advance (constant z) (known vs g o ids) = held number vs g o ids (isInt32 z)
+-- ids of names declared; current values by the rule above: of inputs, and of variables settled or let before
 advance (current i) (known vs g o ids) = held number vs g o ids (getD ids i false)
+-- ids of names declared: a previous value of any name
 advance (previous i) (known vs g o ids) = held number vs g o ids (ltb i (length ids))
+-- operands of the right sort, numbers or yes-no
 advance (operation x) (known vs g o ids) = one number vs λ vs₁. one number vs₁ λ vs₂. some (known (number ∷ vs₂) g o ids)
 advance negate (known vs g o ids) = one number vs λ vs₁. some (known (number ∷ vs₁) g o ids)
+-- the same; not between a gate and its pick, where only codes 1 to 9 stand
 advance (comparison x) (known vs g o ids) = one number vs λ vs₁. one number vs₁ λ vs₂. guard (not g) (known (truth ∷ vs₂) g o ids)
 advance negated (known vs g o ids) = one truth vs λ vs₁. guard (not g) (known (truth ∷ vs₁) g o ids)
 advance both (known vs g o ids) = one truth vs λ vs₁. one truth vs₁ λ vs₂. guard (not g) (known (truth ∷ vs₂) g o ids)
 advance either (known vs g o ids) = one truth vs λ vs₁. one truth vs₁ λ vs₂. guard (not g) (known (truth ∷ vs₂) g o ids)
+-- gate finds just one yes-no; each gate has its pick
 advance gate (known vs g o ids) = one truth vs λ vs₁. guard (not g && empty vs₁) (known [] true o ids)
+-- pick just one number; each pick its gate; not picked after it is settled or let, no input ever; no pick of another id before the settle
 advance (pick v) (known vs g o ids) = one number vs λ vs₁. guard (g && empty vs₁ && unset ids v && fresh o v) (known [] false (some v) ids)
+-- let just one number; each variable settled or let once, no input ever; no let between picks and their settle
 advance (assign v) (known vs g o ids) = one number vs λ vs₁. guard (not g && empty vs₁ && unset ids v && closed o) (known [] false none (set ids v true))
+-- settle none; each variable settled or let once, no input ever; picks of the same id before it, at least one
 advance (settle v) (known vs g o ids) = guard (not g && empty vs && unset ids v && opened o v) (known [] false none (set ids v true))
 
--- nothing missing at the end
+-- nothing missing at the end: no value held, no gate without its pick, no picks without their settle, no variable without its rule
 abbrev pub complete : Known → Bool
 complete (known vs g o ids) = empty vs && not g && closed o && allTrue ids
-
--- ---- the header
-
-abbrev pub tested : {B : Type 0} → Bool → ℕ → Answer B → Answer B
-tested true at a = a
-tested false at a = refused brokenImage at
-
--- Something that stands at a place and passes its test; else 11 with that place. What is cut short breaks at its own first byte.
-abbrev pub item : {A B : Type 0} → Read A → ℕ → (A → Bool) → (A → ℕ → Answer B) → Answer B
-item nothing at test k = refused brokenImage at
-item (got a next) at test k = tested (test a) at (k a next)
-
--- a range, and the place behind it
-pub record Placed : Type 0 where
-  pub range : Range
-  pub next : ℕ
-
--- low ≤ start ≤ high, all in signed 32-bit range
-unfoldable pub checkRange : List ℕ → ℕ → Answer Placed
-checkRange bytes at =
-    item (signedAt bytes at) at isInt32 λ l at₁.
-    item (signedAt bytes at₁) at₁ (λ h. isInt32 h && leZ l h) λ h at₂.
-    item (signedAt bytes at₂) at₂ (λ z. isInt32 z && leZ l z && leZ z h) λ z at₃.
-    accepted (record { range = record { low = l; high = h; start = z }; next = at₃ })
-
--- the range of each name in declared order, and what follows them
-abbrev pub checkRanges : {B : Type 0} → List ℕ → ℕ → ℕ → (List Range → ℕ → Answer B) → Answer B
-checkRanges bytes zero at k = k [] at
-checkRanges bytes (suc m) at k = checkRange bytes at andThen λ r. checkRanges bytes m (r .next) λ ns next. k (r .range ∷ ns) next
-
--- the count of inputs, the count of names, and the place behind the two counts
-pub record Counts : Type 0 where
-  pub inputs : ℕ
-  pub names : ℕ
-  pub place : ℕ
-
--- Header: count of inputs, count of variables. At most 64 names.
-unfoldable pub checkCounts : List ℕ → Answer Counts
-checkCounts bytes =
-    item (numberAt bytes 0) 0 (λ k. leb k nameLimit) λ k at₁.
-    item (numberAt bytes at₁) at₁ (λ m. leb (k + m) nameLimit) λ m at₂.
-    accepted (record { inputs = k; names = k + m; place = at₂ })
-
--- what a header says, and the place where the code begins
-pub record Header : Type 0 where
-  pub inputs : ℕ
-  pub ranges : List Range
-  pub place : ℕ
-
-abbrev pub withInputs : ℕ → List Range → ℕ → Answer Header
-withInputs k = λ ns next. accepted (record { inputs = k; ranges = ns; place = next })
-
--- Header: the counts, then low, high, start of each name in declared order.
-unfoldable pub checkHeader : List ℕ → Answer Header
-checkHeader bytes = checkCounts bytes andThen λ c. checkRanges bytes (c .names) (c .place) (withInputs (c .inputs))
 
 -- ---- the code
 
@@ -152,13 +162,14 @@ abbrev pub ifSome : Option Known → ℕ → (Known → Answer (Unit {0})) → A
 ifSome none at k = refused brokenImage at
 ifSome (some c) at k = k c
 
--- the walk over at most f instructions of the code, from a place on; the code begins at `base` of the image
+-- The walk over at most f instructions of the code, from a place on; the code begins at `base` of the image. Only the codes listed:
+-- `fetch` finds no others. A fault of an operand (cut short, not the shortest form, over 32 bits) is at the instruction's code byte.
 abbrev pub checkCode : ℕ → List ℕ → ℕ → ℕ → Known → Answer (Unit {0})
-checkCode base code zero at c = ends (complete c) (base + at)
+checkCode base code zero at c = ends (complete c) (base + length code)
 checkCode base code (suc f) at c =
     cond (ltb at (length code))
     (item (fetch code at) (base + at) (λ i. true) λ i next. ifSome (advance i c) (base + at) λ c₁. checkCode base code f next c₁)
-    (ends (complete c) (base + at))
+    (ends (complete c) (base + length code))
 
 -- nothing held, no gate, no picks; the inputs known
 abbrev pub atStart : Header → Known

@@ -1,4 +1,5 @@
--- Sound images: the properties of document 01's paragraph, over the whole code. Document 01, "The image" (Sound). Assumes nothing.
+-- Sound images: the properties of document 01's paragraph, over the whole code. Document 01, "The image" (Sound). What instructions
+-- leave (heldBy, idsBy) and how bytes spell ranges and instructions (RangesAt, Spells) stands in Internal. Assumes nothing.
 use Prim.Native.Nat.{ℕ, zero, suc, _+_, _≤_, _<_}
 use mathlib.Core.Path.{_≡_}
 use mathlib.Core.Bool.{Bool, true, false}
@@ -94,9 +95,9 @@ pub record HasPicks (v : ℕ) (before : List Instruction) : Type 0 where
 abbrev pub Fitting : Instruction → List Sort → List Bool → Type 0
 -- constants in signed 32-bit range; never over 40 values held
 Fitting (constant z) vs ids = T (isInt32 z) × (length vs < stackLimit)
--- current values by the rule above
+-- ids of names declared; current values by the rule above: of inputs, and of variables settled or let before
 Fitting (current i) vs ids = (getD ids i false ≡ true) × (length vs < stackLimit)
--- ids of names declared
+-- ids of names declared: a previous value of any name
 Fitting (previous i) vs ids = (i < length ids) × (length vs < stackLimit)
 -- operands of the right sort, numbers or yes-no
 Fitting (operation x) vs ids = (rest : List Sort) × (vs ≡ number ∷ number ∷ rest)
@@ -113,6 +114,7 @@ Fitting (assign v) vs ids = (vs ≡ number ∷ []) × T (unset ids v)
 Fitting (settle v) vs ids = (vs ≡ []) × T (unset ids v)
 
 pub record SoundCode (first : List Bool) (code : List Instruction) : Type 0 where
+  -- what must hold at each instruction, after those before it
   pub fitting : (before : List Instruction) (i : Instruction) (after : List Instruction) → code ≡ before ++ i ∷ after → Fitting i (heldAfter before []) (idsAfter before first)
   -- each gate has its pick and each pick its gate, with only codes 1 to 9 between
   pub gates : (before after : List Instruction) → code ≡ before ++ gate ∷ after → HasPick after
@@ -120,7 +122,7 @@ pub record SoundCode (first : List Bool) (code : List Instruction) : Type 0 wher
   -- picks followed by the settle of the same id, at least one, with no let, and no pick or settle of another id, in between
   pub settled : (before : List Instruction) (v : ℕ) (after : List Instruction) → code ≡ before ++ pick v ∷ after → HasSettle v after
   pub picked : (before : List Instruction) (v : ℕ) (after : List Instruction) → code ≡ before ++ settle v ∷ after → HasPicks v before
-  -- nothing missing at the end
+  -- nothing missing at the end: no value held, each variable settled or let
   pub none-held : heldAfter code [] ≡ []
   pub all-set : T (allTrue (idsAfter code first))
 

@@ -16,7 +16,7 @@ use Rattle.bytecode.specs.Instructions.{constant, operation, negate, comparison
 use Rattle.bytecode.specs.Check.{Sort, number, truth, Known, known, guard, one, empty, unset, closed, fresh, opened, advance}
 use Rattle.bytecode.proofs.Heading.{unzigzag-int32}
 use Rattle.checker.specs.declared.advance.Walk.{Walk}
-use Rattle.checker.specs.Represented.{sortOf, sortsOf, flagsOf, picksOf, knownOf, pushed, kept, joined, only, outside}
+use Rattle.checker.specs.Represented.{sortOf, sortsOf, openOf, flagsOf, picksOf, knownOf, pushed, kept, joined, only, outside}
 use Rattle.checker.proofs.Bits.{sorts-none, sorts-one, sorts-cons, sorts-two}
 
 -- ---- the value on top
@@ -96,11 +96,11 @@ module _ (w : Walk) (b : ℕ) where
     unfolding joined sortsOf
     joined-few h = go (w .held) h
       where
-        go : (n : ℕ) → n < 2 → joined (sortOf b) t (known (sortsOf n (w .sorts)) (w .gate) (picksOf (w .picking)) (flagsOf (w .names) (w .known))) ≡ none
+        go : (n : ℕ) → n < 2 → joined (sortOf b) t (known (sortsOf n (w .sorts)) (openOf (w .gate)) (picksOf (w .picking)) (flagsOf (w .names) (w .known))) ≡ none
         go zero l = one-nothing (sortOf b) _
         go (suc zero) l = top (sortOf b) (sortOf (w .sorts % 2))
           where
-            top : (s x : Sort) → (one s (x ∷ []) λ vs₁. one s vs₁ λ vs₂. some (known (t ∷ vs₂) (w .gate) (picksOf (w .picking)) (flagsOf (w .names) (w .known)))) ≡ none
+            top : (s x : Sort) → (one s (x ∷ []) λ vs₁. one s vs₁ λ vs₂. some (known (t ∷ vs₂) (openOf (w .gate)) (picksOf (w .picking)) (flagsOf (w .names) (w .known)))) ≡ none
             top number number = refl
             top number truth = refl
             top truth number = refl
@@ -117,9 +117,15 @@ module _ (w : Walk) (b : ℕ) where
       joined-second e f = rw (sorts-two (w .held) (w .sorts) h, e) (one-same b _ _ ∙ one-other (w .sorts / 2 % 2) b (omega arith) l f _ _)
 
       pub joined-both : w .sorts % 2 ≡ b → w .sorts / 2 % 2 ≡ b
-          → joined (sortOf b) t (knownOf w) ≡ some (known (t ∷ sortsOf (w .held - 2) (w .sorts / 2 / 2)) (w .gate) (picksOf (w .picking)) (flagsOf (w .names) (w .known)))
+          → joined (sortOf b) t (knownOf w) ≡ some (known (t ∷ sortsOf (w .held - 2) (w .sorts / 2 / 2)) (openOf (w .gate)) (picksOf (w .picking)) (flagsOf (w .names) (w .known)))
       unfolding joined
       joined-both e f = rw (sorts-two (w .held) (w .sorts) h, e, f) (one-same b _ _ ∙ one-same b _ _)
+
+-- ---- the gate
+
+pub open-yes : (n : ℕ) → (n ≡ 0 → ⊥) → openOf n ≡ true
+open-yes zero h = absurd (h refl)
+open-yes (suc n) h = refl
 
 -- ---- the id whose picks await their settle
 

@@ -29,7 +29,7 @@ pub record Walking (code : List ℕ) (base inputs names at : ℕ) (w : Walk) : T
   pub goes : Whole code base inputs names ≡ checkCode base code fuel at (knownOf w)
 
 abbrev first : ℕ → ℕ → Walk
-first inputs names = record { held = 0; sorts = 0; gate = false; picking = 0; known = 2 ^ inputs - 1; names = names }
+first inputs names = record { held = 0; sorts = 0; gate = 0; picking = 0; known = 2 ^ inputs - 1; names = names }
 
 pub walking-begins : (code : List ℕ) (base inputs names : ℕ) → inputs ≤ names → names ≤ 64 → Walking code base inputs names 0 (first inputs names)
 walking-begins code base inputs names l m =
@@ -75,9 +75,9 @@ module _ {code : List ℕ} {base inputs names at : ℕ} {w : Walk} (v : Walking 
             record { small = s; inside = i; fuel = f; enough = omega arith; goes = g ∙ step-is base code f at next o (knownOf w) l e ∙ rw q }
 
   -- nothing is left
-  pub walking-ends : length code ≤ at → Whole code base inputs names ≡ ends (complete (knownOf w)) (base + at)
+  pub walking-ends : length code ≤ at → Whole code base inputs names ≡ ends (complete (knownOf w)) (base + length code)
   walking-ends l = v .goes ∙ go (v .fuel)
     where
-      go : (f : ℕ) → checkCode base code f at (knownOf w) ≡ ends (complete (knownOf w)) (base + at)
+      go : (f : ℕ) → checkCode base code f at (knownOf w) ≡ ends (complete (knownOf w)) (base + length code)
       go zero = refl
       go (suc f) = rw (le-ltb at (length code) l)

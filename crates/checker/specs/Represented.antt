@@ -28,13 +28,18 @@ unfoldable pub flagsOf : ℕ → ℕ → List Bool
 flagsOf zero bits = []
 flagsOf (suc n) bits = eqb (bits % 2) 1 ∷ flagsOf n (bits / 2)
 
+-- `gate` is 1 if a gate awaits its pick, else 0
+abbrev pub openOf : ℕ → Bool
+openOf zero = false
+openOf (suc n) = true
+
 -- `picking` is the id whose picks await their settle plus 1, or 0
 abbrev pub picksOf : ℕ → Option ℕ
 picksOf zero = none
 picksOf (suc v) = some v
 
 abbrev pub knownOf : Walk → Known
-knownOf w = known (sortsOf (w .held) (w .sorts)) (w .gate) (picksOf (w .picking)) (flagsOf (w .names) (w .known))
+knownOf w = known (sortsOf (w .held) (w .sorts)) (openOf (w .gate)) (picksOf (w .picking)) (flagsOf (w .names) (w .known))
 
 abbrev pub advancedKnown : Advanced → Option Known
 advancedKnown (Kept w) = some (knownOf w)

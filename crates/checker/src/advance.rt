@@ -10,6 +10,7 @@ ghost use Rattle.bytecode.specs.Instructions.{current as currentOf, previous as
 ghost use Rattle.bytecode.specs.Check.{truth, known as knownAs, advance as advanceOf, unset as unsetOf, fresh};
 ghost use Rattle.checker.specs.Represented.{
   sortOf,
+  openOf,
   sortsOf,
   flagsOf,
   picksOf,
@@ -30,13 +31,13 @@ const NUMBER: u64 = 0;
 
 const TRUTH: u64 = 1;
 
-// What is known before an instruction: how many values are held, and their sorts as bits (the lowest that of the last held);
-// whether a gate awaits its pick; the id whose picks await their settle plus 1, or 0; which ids' current values may be used, as
+// What is known before an instruction: how many values are held, and their sorts as bits (the lowest that of the last held); 1 if a
+// gate awaits its pick, else 0 (a number, so that the struct has no padding to copy); the id whose picks await their settle plus 1, or 0; which ids' current values may be used, as
 // bits (the lowest that of id 0), and how many ids there are.
 pub struct Walk {
     pub held: u64,
     pub sorts: u64,
-    pub gate: bool,
+    pub gate: u64,
     pub picking: u64,
     pub known: u64,
     pub names: u64,
@@ -134,10 +135,10 @@ fn join(w: Walk, sort: u64, result: u64) -> Advanced
 // Codes 10 to 18 do not stand between a gate and its pick.
 fn test(w: Walk, sort: u64) -> Advanced
     requires { ⌜ (Small w) × (sort < 2) ⌝ }
-    ensures { λ r. ⌜ advancedKnown r ≡ outside (w .gate) (joined (sortOf sort) truth (knownOf w)) ⌝ }
+    ensures { λ r. ⌜ advancedKnown r ≡ outside (openOf (w .gate)) (joined (sortOf sort) truth (knownOf w)) ⌝ }
     ensures { λ r. ⌜ SmallAfter r ⌝ }
 {
-    if w.gate {
+    if w.gate != 0 {
         return Advanced::Broken;
     }
     join(w, sort, TRUTH)
@@ -145,10 +146,10 @@ fn test(w: Walk, sort: u64) -> Advanced
 
 fn negate_test(w: Walk) -> Advanced
     requires { ⌜ Small w ⌝ }
-    ensures { λ r. ⌜ advancedKnown r ≡ outside (w .gate) (kept truth (knownOf w)) ⌝ }
+    ensures { λ r. ⌜ advancedKnown r ≡ outside (openOf (w .gate)) (kept truth (knownOf w)) ⌝ }
     ensures { λ r. ⌜ SmallAfter r ⌝ }
 {
-    if w.gate {
+    if w.gate != 0 {
         return Advanced::Broken;
     }
     keep(w, TRUTH)
@@ -170,14 +171,14 @@ fn gate(w: Walk) -> Advanced
     ensures { λ r. ⌜ advancedKnown r ≡ advanceOf gateOf (knownOf w) ⌝ }
     ensures { λ r. ⌜ SmallAfter r ⌝ }
 {
-    if w.gate {
+    if w.gate != 0 {
         return Advanced::Broken;
     }
     if holds_only(w, TRUTH) {
         return Advanced::Kept(Walk {
             held: 0,
             sorts: 0,
-            gate: true,
+            gate: 1,
             picking: w.picking,
             known: w.known,
             names: w.names,
@@ -213,7 +214,7 @@ fn pick(w: Walk, id: u64) -> Advanced
     ensures { λ r. ⌜ advancedKnown r ≡ advanceOf (pickOf id) (knownOf w) ⌝ }
     ensures { λ r. ⌜ SmallAfter r ⌝ }
 {
-    if !w.gate {
+    if w.gate == 0 {
         return Advanced::Broken;
     }
     if !holds_only(w, NUMBER) {
@@ -228,7 +229,7 @@ fn pick(w: Walk, id: u64) -> Advanced
     Advanced::Kept(Walk {
         held: 0,
         sorts: 0,
-        gate: false,
+        gate: 0,
         picking: id + 1,
         known: w.known,
         names: w.names,
@@ -244,7 +245,7 @@ fn ruled(w: Walk, id: u64) -> Walk
     Walk {
         held: 0,
         sorts: 0,
-        gate: false,
+        gate: 0,
         picking: 0,
         known: w.known + (1 << id),
         names: w.names,
@@ -256,7 +257,7 @@ fn assign(w: Walk, id: u64) -> Advanced
     ensures { λ r. ⌜ advancedKnown r ≡ advanceOf (assignOf id) (knownOf w) ⌝ }
     ensures { λ r. ⌜ SmallAfter r ⌝ }
 {
-    if w.gate {
+    if w.gate != 0 {
         return Advanced::Broken;
     }
     if !holds_only(w, NUMBER) {
@@ -276,7 +277,7 @@ fn settle(w: Walk, id: u64) -> Advanced
     ensures { λ r. ⌜ advancedKnown r ≡ advanceOf (settleOf id) (knownOf w) ⌝ }
     ensures { λ r. ⌜ SmallAfter r ⌝ }
 {
-    if w.gate {
+    if w.gate != 0 {
         return Advanced::Broken;
     }
     if w.held != 0 {

@@ -40,7 +40,7 @@ fn complete(w: Walk) -> bool
     if w.held != 0 {
         return false;
     }
-    if w.gate {
+    if w.gate != 0 {
         return false;
     }
     if w.picking != 0 {
@@ -59,7 +59,7 @@ fn check_code(code: &[u8], base: usize, inputs: usize, names: usize) -> Checked
     let mut w = Walk {
         held: 0,
         sorts: 0,
-        gate: false,
+        gate: 0,
         picking: 0,
         known: ones(inputs as u64),
         names: names as u64,
@@ -77,7 +77,7 @@ fn check_code(code: &[u8], base: usize, inputs: usize, names: usize) -> Checked
     if complete(w) {
         return Checked::Sound;
     }
-    Checked::Refused(11, base + at)
+    Checked::Refused(11, base + code.len())
 }
 
 pub fn check(image: &[u8]) -> Checked

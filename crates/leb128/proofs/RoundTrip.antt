@@ -1,20 +1,21 @@
 -- What is written is read back, and what is read is what would be written: the shortest form is one. Assumes nothing.
 use mathlib.Core.Path.{_≡_, refl, sym, ap, subst, _∙_}
 use mathlib.Core.Bool.{Bool, true, false, cond}
+use mathlib.Core.Logic.{⊎-elim}
 use mathlib.Core.List.{List, [], _∷_, _++_, append-assoc}
 use Prim.Native.Nat.{ℕ, zero, suc, _+_, _*_, _-_, _/_, _%_, _^_, _≤_, _<_}
-use native.Mathlib.Nat.{pow-suc, le-trans}
+use native.Mathlib.Nat.{pow-suc, pow-le-pow-right, le-trans}
 use native.Mathlib.Numerals.{add-one}
 use native.Mathlib.Omega.{arith}
 use lib.Dec.{T, leb, ltb, lit<, lit≤}
 use lib.IntN.{ℤ}
-use lib.ListN.{length, getD, take, drop, set}
-use lib.Seq.{sets, sets-eq, drop-at, drop-drop, drop-append-seam, length-take-le}
-use borrow.Author.Tests.{lt-ltb, le-ltb, ltb-true, ltb-false}
+use lib.ListN.{length, getD, take, drop, set, take-append-drop}
+use lib.Seq.{sets, sets-eq, drop-at, drop-drop, drop-append-seam, length-take-le, getD-drop}
+use borrow.Author.Tests.{lt-ltb, le-ltb, leb-true, leb-false, ltb-true, ltb-false}
 use Rattle.leb128.specs.Numbers.{groups, number, Found, found, none, grouped, numberIn, Read, got, nothing, _then_, below32, numberAt, zigzag, unzigzag, signedAt}
 use Rattle.arith.specs.Values.{isInt32}
 use Rattle.arith.proofs.Laws.{int32-fits}
-use Rattle.leb128.proofs.Laws.{Bytes, Sized, sized, lower}
+use Rattle.leb128.proofs.Laws.{Bytes, Sized, sized, sized-at, lower}
 use Rattle.leb128.proofs.Signs.{unzigzag-zigzag, zigzag-below}
 
 after-nonzero : (low v k : ℕ) → 1 ≤ v → grouped low (found v k) ≡ found (low + v * 128) (k + 1)
@@ -122,3 +123,33 @@ number-next bytes at n next e = go (numberIn (drop at bytes)) e
     go : (f : Found) → below32 at f ≡ got n next → at ≤ next
     go none q = let z : _≡_ {A = ℕ} 0 1 = cc in omega arith
     go (found v k) q = go₁ v k (ltb v (2 ^ 32)) q
+
+-- what is read at a place is the one spelling of its value, followed by the rest
+module _ (bytes : List ℕ) (at : ℕ) (h : Bytes bytes) where
+  few-groups : (v k : ℕ) → Sized (found v k) → v < 2 ^ 32 → k ≤ 5
+  few-groups v k z l = by (leb k 5) (leb-true k 5) (leb-false k 5) where
+    by : (t : Bool) → (t ≡ true → k ≤ 5) → (t ≡ false → 5 < k) → k ≤ 5
+    by true y n = y refl
+    by false y n =
+        let p : 128 ^ 6 ≤ 128 ^ k = pow-le-pow-right (lit< tt) (n refl) in
+        ⊎-elim (λ (q : k < 2). omega arith) (λ (q : 128 ^ k ≤ v * 128). omega arith) (z .2)
+
+  spelling : (v k : ℕ) → numberIn (drop at bytes) ≡ found v k → v < 2 ^ 32 → drop at bytes ≡ number v ++ drop (at + k) bytes
+  spelling v k e l =
+      let few : k ≤ 5 = few-groups v k (subst Sized e (sized-at bytes at h)) l in
+      rw (shortest (drop at bytes) v k (λ i. rw getD-drop (h (at + i))) e few, ← drop-drop k at bytes) (sym (take-append-drop k (drop at bytes)))
+
+  pub one-spelling : (v next : ℕ) → numberAt bytes at ≡ got v next → drop at bytes ≡ number v ++ drop next bytes
+  unfolding numberAt below32
+  one-spelling v next e = by (numberIn (drop at bytes)) refl e
+    where
+      tested : (w k : ℕ) (t : Bool) → (t ≡ true → w < 2 ^ 32) → numberIn (drop at bytes) ≡ found w k → cond t (got w (at + k)) nothing ≡ got v next → drop at bytes ≡ number v ++ drop next bytes
+      tested w k true y f q =
+          let a : w ≡ v = cc in
+          let b : at + k ≡ next = cc in
+          rw (← a, ← b) (spelling w k f (y refl))
+      tested w k false y f q = let z : _≡_ {A = ℕ} 0 1 = cc in let b : ⊥ = omega arith in absurd b
+
+      by : (f : Found) → numberIn (drop at bytes) ≡ f → below32 at f ≡ got v next → drop at bytes ≡ number v ++ drop next bytes
+      by none g q = let z : _≡_ {A = ℕ} 0 1 = cc in let b : ⊥ = omega arith in absurd b
+      by (found w k) g q = tested w k (ltb w (2 ^ 32)) (ltb-true w (2 ^ 32)) g q

@@ -13,7 +13,7 @@ use Rattle.arith.specs.Values.{Outcome, ok, refusal, _>>=_, check}
 use Rattle.semantics.specs.Program.{Program, Range, Rule, rangesOf, WellFormed, StartsWithin, knownFirst, OrderedRules, within}
 use Rattle.semantics.specs.Formula.{State, at, Formula, formulasOfRule, formulasOfRules, formulasOf, Holds, HoldsAfter, GX, All, Satisfies}
 use Rattle.semantics.specs.ReferenceScan.{allWithin, scanRules, withInputs, referenceScan}
-use Rattle.semantics.specs.Rows.{Reply, reply, referenceReplies, startsOf, acceptedStates, acceptedRows, traceOf, finalState, lastPlace, Fits, OnlyTrace}
+use Rattle.semantics.specs.Rows.{Reply, reply, referenceReplies, startsOf, acceptedStates, acceptedRows, traceOf, finalState, lastPlace, Fits, InRanges, AllInRanges, OnlyTrace}
 use Rattle.arith.proofs.Basics.{T-true, true-T, and-T, ok≢refusal, ok-inj}
 use Rattle.semantics.proofs.Unique.{Agree, HoldsRule, HoldsAll, scan-holds, scan-value, scan-within, allWithin-inputs}
 
@@ -59,11 +59,6 @@ all-tail s t ts [] a = tt
 all-tail s t ts (f ∷ fs) a = (a .0 .1, all-tail s t ts fs (a .1))
 
 -- ---- one place
-
--- a state of the program, all values in range
-pub record InRanges (p : Program) (s : State) : Type 0 where
-  pub size : length s ≡ length (rangesOf p)
-  pub ranges : T (allWithin (rangesOf p) s)
 
 -- What an accepted scan of a row on s leaves.
 pub record Next (p : Program) (s : State) (row : List ℤ) (u : State) : Type 0 where
@@ -191,3 +186,13 @@ starts-within (n ∷ ns) h = and-T (within n (n .start)) (allWithin ns (map (λ 
 -- the declared starts are in range
 pub starts-in-range : (p : Program) → WellFormed p → InRanges p (startsOf p)
 starts-in-range p wf = record { size = length-map (rangesOf p) (λ n. n .start); ranges = starts-within (rangesOf p) (wf .starts) }
+
+-- the states of the trace stay in range
+pub trace-in-range : (p : Program) → WellFormed p → (rows : List (List ℤ)) (s : State) → InRanges p s → AllInRanges p (traceOf s (referenceReplies p s rows))
+trace-in-range p wf [] s g = (g, tt)
+trace-in-range p wf (r ∷ rs) s g = go (referenceScan p s r) refl (λ t h. trace-in-range p wf rs t h) (trace-in-range p wf rs s g)
+  where
+    go : (o : Outcome State) → referenceScan p s r ≡ o → ((t : State) → InRanges p t → AllInRanges p (traceOf t (referenceReplies p t rs))) → AllInRanges p (traceOf s (referenceReplies p s rs))
+        → AllInRanges p (traceOf s (reply s o ∷ referenceReplies p (reply s o .state) rs))
+    go (ok t) e ih c = (g, ih t (reference-next p wf s g r t e .kept))
+    go (refusal k) e ih c = c

@@ -3,12 +3,13 @@
 use Prim.Native.Nat.{ℕ, zero, suc}
 use mathlib.Core.Path.{_≡_}
 use mathlib.Core.List.{List, [], _∷_, map}
+use lib.Dec.{T}
 use lib.IntN.{ℤ}
 use lib.ListN.{length, take}
 use Rattle.arith.specs.Values.{Outcome, ok, refusal}
 use Rattle.semantics.specs.Program.{Program, rangesOf}
 use Rattle.semantics.specs.Formula.{State, Trace, Satisfies}
-use Rattle.semantics.specs.ReferenceScan.{referenceScan}
+use Rattle.semantics.specs.ReferenceScan.{allWithin, referenceScan}
 
 -- what a scan of a row shows: acceptance or a refusal's number, and the state it leaves
 pub record Reply : Type 0 where
@@ -65,6 +66,15 @@ Fits p [] [] = Unit {0}
 Fits p [] (t ∷ ts) = ⊥
 Fits p (r ∷ rs) [] = ⊥
 Fits p (r ∷ rs) (t ∷ ts) = (length t ≡ length (rangesOf p)) × (take (p .inputs) t ≡ r) × Fits p rs ts
+
+-- a state of the program, all values in range
+pub record InRanges (p : Program) (s : State) : Type 0 where
+  pub size : length s ≡ length (rangesOf p)
+  pub ranges : T (allWithin (rangesOf p) s)
+
+abbrev pub AllInRanges : Program → List State → Type 0
+AllInRanges p [] = Unit {0}
+AllInRanges p (s ∷ ss) = InRanges p s × AllInRanges p ss
 
 -- The trace found from s on satisfies every formula, and no other does. Another trace is any different list of as many states
 -- with the same first one and, at each later place, the inputs of the accepted row that belongs there.

@@ -76,8 +76,8 @@ complete-requires c κs = c .before .loop .inv .small
 returns-3 : tie.Need-returns-3 Inv-loop μ-loop
 returns-3 c = (sym (walking-ends (c .before .before .before .loop .inv) (c .before .before .loop-test .left) ∙ rw (sym (c .before .complete .ensures) ∙ c .if1 .taken)), tt)
 
-add-t21 : tie.Need-add-t21 Inv-loop μ-loop
-add-t21 c = omega (arith, c .before .before .before .loop .inv .inside, c .before .before .before .before .before .before .pre .2)
+add-t22 : tie.Need-add-t22 Inv-loop μ-loop
+add-t22 c = omega (arith, c .before .before .before .loop .inv .inside, c .before .before .before .before .before .before .pre .2)
 
 returns-4 : tie.Need-returns-4 Inv-loop μ-loop
 returns-4 c = (
@@ -107,5 +107,5 @@ check-code-spec =
     loop-again
     complete-requires
     returns-3
-    add-t21
+    add-t22
     returns-4)

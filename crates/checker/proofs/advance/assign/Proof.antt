@@ -2,13 +2,13 @@
 use mathlib.Core.Path.{_≡_, refl, sym, ap, _∙_}
 use borrow.Author.Tests.{not-true, not-false}
 use mathlib.Core.Option.{some}
-use Rattle.checker.proofs.Steps.{assign-is, closed-not}
+use Rattle.checker.proofs.Steps.{assign-is, closed-not, open-yes}
 use borrow.Author.Needs.{needs}
 use Rattle.checker.proofs.advance.assign.Statement.{statement}
 use Rattle.checker.proofs.advance.assign.Tie as tie
 
 returns : tie.Need-returns
-returns c = (rw (assign-is, c .if1 .taken), tt)
+returns c = (rw (assign-is, open-yes (c .before .before .args .w .gate) (c .if1 .taken)), tt)
 
 holds-only-requires : tie.Need-holds-only-requires
 holds-only-requires c κs = search needs
@@ -26,7 +26,7 @@ returns-4 : tie.Need-returns-4
 returns-4 c = (rw (assign-is, c .before .before .before .before .before .before .if1 .left, sym (c .before .before .before .before .before .holds-only .ensures) ∙ not-false _ (c .before .before .before .before .if2 .left), sym (c .before .before .before .is-unset .ensures) ∙ not-false _ (c .before .before .if3 .left), closed-not _ (c .if4 .taken)), tt)
 
 ruled-requires : tie.Need-ruled-requires
-ruled-requires c κs = (c .before .before .before .before .before .before .before .pre, sym (c .before .before .before .is-unset .ensures) ∙ not-false _ (c .before .before .if3 .left))
+ruled-requires c κs = (c .before .before .before .before .before .before .before .before .pre, sym (c .before .before .before .is-unset .ensures) ∙ not-false _ (c .before .before .if3 .left))
 
 returns-5 : tie.Need-returns-5
 returns-5 c = (rw (assign-is, c .before .before .before .before .before .before .before .if1 .left, sym (c .before .before .before .before .before .before .holds-only .ensures) ∙ not-false _ (c .before .before .before .before .before .if2 .left), sym (c .before .before .before .before .is-unset .ensures) ∙ not-false _ (c .before .before .before .if3 .left), c .before .if4 .left) (ap some (c .ruled .ensures .0)), c .ruled .ensures .1)

@@ -1,6 +1,6 @@
 -- `checker::advance::gate` meets its contract. Assumes nothing.
 use mathlib.Core.Path.{_≡_, refl, sym, ap, _∙_}
-use Rattle.checker.proofs.Steps.{gate-is}
+use Rattle.checker.proofs.Steps.{gate-is, open-yes}
 use Rattle.checker.proofs.Bits.{sorts-none}
 use borrow.Author.Needs.{needs}
 use native.Mathlib.Omega.{arith}
@@ -8,14 +8,14 @@ use Rattle.checker.proofs.advance.gate.Statement.{statement}
 use Rattle.checker.proofs.advance.gate.Tie as tie
 
 returns : tie.Need-returns
-returns c = (rw (gate-is, c .if1 .taken), tt)
+returns c = (rw (gate-is, open-yes (c .before .before .args .w .gate) (c .if1 .taken)), tt)
 
 holds-only-requires : tie.Need-holds-only-requires
 holds-only-requires c κs = search needs
 
 returns-2 : tie.Need-returns-2
 returns-2 c =
-    let p = c .before .before .before .pre in
+    let p = c .before .before .before .before .pre in
     (rw (gate-is, c .before .before .if1 .left, sym (c .before .holds-only .ensures) ∙ c .if2 .taken, sorts-none), record { few-held = omega arith; sorts-low = omega arith; few-names = p .few-names; known-low = p .known-low })
 
 returns-3 : tie.Need-returns-3

@@ -2,32 +2,32 @@
 use mathlib.Core.Path.{_≡_, refl, sym, ap, _∙_}
 use borrow.Author.Tests.{not-true, not-false}
 use Rattle.checker.proofs.Bits.{sorts-none}
-use Rattle.checker.proofs.Steps.{pick-is, suc-picks}
+use Rattle.checker.proofs.Steps.{pick-is, suc-picks, open-yes}
 use borrow.Author.Needs.{needs}
 use native.Mathlib.Omega.{arith}
 use Rattle.checker.proofs.advance.pick.Statement.{statement}
 use Rattle.checker.proofs.advance.pick.Tie as tie
 
 returns : tie.Need-returns
-returns c = (rw (pick-is, not-true (c .before .before .args .w .gate) (c .if1 .taken)), tt)
+returns c = (rw (pick-is, c .if1 .taken), tt)
 
 holds-only-requires : tie.Need-holds-only-requires
 holds-only-requires c κs = search needs
 
 returns-2 : tie.Need-returns-2
-returns-2 c = (rw (pick-is, not-false (c .before .before .before .before .args .w .gate) (c .before .before .if1 .left), sym (c .before .holds-only .ensures) ∙ not-true _ (c .if2 .taken)), tt)
+returns-2 c = (rw (pick-is, open-yes (c .before .before .before .before .args .w .gate) (c .before .before .if1 .left), sym (c .before .holds-only .ensures) ∙ not-true _ (c .if2 .taken)), tt)
 
 is-unset-requires : tie.Need-is-unset-requires
 is-unset-requires c κs = search needs
 
 returns-3 : tie.Need-returns-3
-returns-3 c = (rw (pick-is, not-false (c .before .before .before .before .before .before .args .w .gate) (c .before .before .before .before .if1 .left), sym (c .before .before .before .holds-only .ensures) ∙ not-false _ (c .before .before .if2 .left), sym (c .before .is-unset .ensures) ∙ not-true _ (c .if3 .taken)), tt)
+returns-3 c = (rw (pick-is, open-yes (c .before .before .before .before .before .before .args .w .gate) (c .before .before .before .before .if1 .left), sym (c .before .before .before .holds-only .ensures) ∙ not-false _ (c .before .before .if2 .left), sym (c .before .is-unset .ensures) ∙ not-true _ (c .if3 .taken)), tt)
 
 may-pick-requires : tie.Need-may-pick-requires
 may-pick-requires c κs = search needs
 
 returns-4 : tie.Need-returns-4
-returns-4 c = (rw (pick-is, not-false (c .before .before .before .before .before .before .before .before .args .w .gate) (c .before .before .before .before .before .before .if1 .left), sym (c .before .before .before .before .before .holds-only .ensures) ∙ not-false _ (c .before .before .before .before .if2 .left), sym (c .before .before .before .is-unset .ensures) ∙ not-false _ (c .before .before .if3 .left), sym (c .before .may-pick .ensures) ∙ not-true _ (c .if4 .taken)), tt)
+returns-4 c = (rw (pick-is, open-yes (c .before .before .before .before .before .before .before .before .args .w .gate) (c .before .before .before .before .before .before .if1 .left), sym (c .before .before .before .before .before .holds-only .ensures) ∙ not-false _ (c .before .before .before .before .if2 .left), sym (c .before .before .before .is-unset .ensures) ∙ not-false _ (c .before .before .if3 .left), sym (c .before .may-pick .ensures) ∙ not-true _ (c .if4 .taken)), tt)
 
 add-t5 : tie.Need-add-t5
 add-t5 c = search needs
@@ -35,7 +35,7 @@ add-t5 c = search needs
 returns-5 : tie.Need-returns-5
 returns-5 c =
     let p = c .before .before .before .before .before .before .before .before .pre .0 in (
-      rw (pick-is, not-false (c .before .before .before .before .before .before .before .before .args .w .gate) (c .before .before .before .before .before .before .if1 .left), sym (c .before .before .before .before .before .holds-only .ensures) ∙ not-false _ (c .before .before .before .before .if2 .left), sym (c .before .before .before .is-unset .ensures) ∙ not-false _ (c .before .before .if3 .left), sym (c .before .may-pick .ensures) ∙ not-false _ (c .if4 .left), sorts-none, suc-picks),
+      rw (pick-is, open-yes (c .before .before .before .before .before .before .before .before .args .w .gate) (c .before .before .before .before .before .before .if1 .left), sym (c .before .before .before .before .before .holds-only .ensures) ∙ not-false _ (c .before .before .before .before .if2 .left), sym (c .before .before .before .is-unset .ensures) ∙ not-false _ (c .before .before .if3 .left), sym (c .before .may-pick .ensures) ∙ not-false _ (c .if4 .left), sorts-none, suc-picks),
       record { few-held = omega arith; sorts-low = omega arith; few-names = p .few-names; known-low = p .known-low },
     )
 

@@ -3,13 +3,13 @@ use mathlib.Core.Path.{_≡_, refl, sym, ap, _∙_}
 use borrow.Author.Tests.{not-true, not-false}
 use mathlib.Core.Option.{some}
 use Rattle.checker.proofs.Bits.{sorts-none}
-use Rattle.checker.proofs.Steps.{empty-not, opened-not, opened-yes}
+use Rattle.checker.proofs.Steps.{empty-not, opened-not, opened-yes, open-yes}
 use borrow.Author.Needs.{needs}
 use Rattle.checker.proofs.advance.settle.Statement.{statement}
 use Rattle.checker.proofs.advance.settle.Tie as tie
 
 returns : tie.Need-returns
-returns c = search needs
+returns c = (rw (open-yes (c .before .before .args .w .gate) (c .if1 .taken)), tt)
 
 returns-2 : tie.Need-returns-2
 returns-2 c = (rw (c .before .before .if1 .left, empty-not _ _ (c .if2 .taken)), tt)
@@ -27,7 +27,7 @@ returns-4 : tie.Need-returns-4
 returns-4 c = (rw (c .before .before .before .before .before .before .if1 .left, c .before .before .before .before .if2 .left, sorts-none, sym (c .before .before .before .is-unset .ensures) ∙ not-false _ (c .before .before .if3 .left), opened-not _ _ (c .if4 .taken)), tt)
 
 ruled-requires : tie.Need-ruled-requires
-ruled-requires c κs = (c .before .before .before .before .before .before .before .pre .0, sym (c .before .before .before .is-unset .ensures) ∙ not-false _ (c .before .before .if3 .left))
+ruled-requires c κs = (c .before .before .before .before .before .before .before .before .pre .0, sym (c .before .before .before .is-unset .ensures) ∙ not-false _ (c .before .before .if3 .left))
 
 returns-5 : tie.Need-returns-5
 returns-5 c = (rw (c .before .before .before .before .before .before .before .if1 .left, c .before .before .before .before .before .if2 .left, sorts-none, sym (c .before .before .before .before .is-unset .ensures) ∙ not-false _ (c .before .before .before .if3 .left), opened-yes _ _ (c .before .if4 .left)) (ap some (c .ruled .ensures .0)), c .ruled .ensures .1)

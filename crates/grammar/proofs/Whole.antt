@@ -1,0 +1,356 @@
+-- The program of an accepted text is well formed. Assumes nothing.
+use mathlib.Core.Path.{_≡_, refl, ap, sym, _∙_, subst}
+use mathlib.Core.List.{List, [], _∷_, _++_, append-assoc, append-nil}
+use mathlib.Core.Bool.{Bool, true, false, _&&_}
+use mathlib.Core.Option.{Option, none, some}
+use Prim.Native.Nat.{ℕ, zero, suc, _+_, _-_, _*_, _≤_, _<_}
+use native.Mathlib.Nat.{le-refl}
+use native.Mathlib.Omega.{arith}
+use lib.ListN.{length, getD, set, length-append, length-set}
+use lib.Dec.{ltb, leb, eqb}
+use lib.IntN.{ℤ, pos, negℤ}
+use lib.Signed.{leZ}
+use borrow.Author.Tests.{lt-ltb, ltb-true, ltb-false}
+use Rattle.lexer.specs.Bytes.{pick, part}
+use Rattle.lexer.specs.Token.{Kind, name, digits, ending, openSquare, tilde, bar, minus, initWord, semicolon, dots, inputWord, varWord, is, Read, token, fault}
+use Rattle.lexer.specs.Lexer.{tokenAt, overLong, valueOf}
+use Rattle.lexer.specs.Names.{idOf}
+use Rattle.lexer.proofs.Laws.{pick-prop, token-at-moved}
+use Rattle.semantics.specs.Program.{Name, Expression, Condition, Case, Rule, function, change, Program, target, allTrue, knownFirst, UsableE, UsableC}
+use Rattle.arith.proofs.Basics.{true-T}
+use Rattle.semantics.proofs.Reference.{length-known}
+use Rattle.grammar.specs.Parsed.{Parsed, accepted, refused, andThen, onToken, onOption, Wanted, sign, own, phrase, followed}
+use Rattle.grammar.specs.Expressions.{Scope, withId, wholeExpression}
+use Rattle.grammar.specs.Conditions.{listed}
+use Rattle.grammar.specs.Declarations.{inRange, signedAt, boundAt, spellings, newName, startAt, declaration, declarationsFrom, declarations}
+use Rattle.grammar.specs.Rules.{Span, Spanned, caseAt, casesFrom, listFrom, plainList, Compared, agrees, differs, partsFrom, settled, agreeingList, casesOf, functionAt, changeAt, formulas, ruleAt, ruled, rulesFrom}
+use Rattle.grammar.specs.Parse.{program, parse}
+use Rattle.grammar.specs.Emitted.{codeE, codeC}
+use Rattle.grammar.specs.WellFormed.{CaseFits, CasesFit, conditionsOf, RuleFits, OrderedRules, NameFits, NamesFit, WellFormed}
+use Rattle.grammar.proofs.Combine.{token-prop, then-prop, option-prop}
+use Rattle.grammar.proofs.Bytes.{part-length, id-of}
+use Rattle.grammar.proofs.Growth.{Grown, Kept, phrase-kept, whole-expression-grown, listed-grown}
+use Rattle.grammar.proofs.Agree.{never}
+use Rattle.grammar.proofs.Lists.{Spans, cases-spans, agreeing-same}
+use Rattle.grammar.proofs.Fits.{Holds, followed-holds, FitE, FitC, whole-expression-fits, listed-fits}
+use Rattle.bytecode.specs.Translation.{depthE, depthC}
+use Rattle.limits.specs.Limits.{nameLimit, caseLimit, textLimit}
+use Rattle.arith.specs.Values.{isInt32}
+
+-- what is accepted has the property and ends within the text
+abbrev pub Ends : {A : Type 0} → ℕ → (A → Type 0) → Parsed A → Type 0
+Ends len P (accepted a n) = P a × (n ≤ len)
+Ends len P (refused k q) = Unit {0}
+
+followed-ends : {A : Type 0} (P : A → Type 0) (text : List ℕ) (ws : List Wanted) (x : A) (at : ℕ) → at ≤ length text → P x → Ends (length text) P (followed text ws x at)
+unfolding followed
+followed-ends P text ws x at h p = then-prop (Ends (length text) P) (phrase text ws at) _ (λ k q. tt) (λ u n e. let k = subst (Kept (length text) at) e (phrase-kept text ws at h) in (p, k .1))
+
+-- ---- rules
+
+cases-append : (known : List Bool) (cs : List Spanned) (c : Spanned) → CasesFit known (casesOf cs) → CaseFits known (c .case) → CasesFit known (casesOf (cs ++ (c ∷ [])))
+cases-append known [] c h x = (x, tt)
+cases-append known (d ∷ cs) c h x = (h .0, cases-append known cs c (h .1) x)
+
+cases-length : (cs : List Spanned) → length (casesOf cs) ≡ length cs
+cases-length [] = refl
+cases-length (c ∷ cs) = ap suc (cases-length cs)
+
+module _ (sc : Scope) (few : length (sc .names) ≤ 64) (lengths : length (sc .names) ≡ length (sc .known)) where
+  case-fits : (w : List ℕ) (at n : ℕ) → Holds (λ c. CaseFits (sc .known) (c .case)) (caseAt sc w at n)
+  unfolding caseAt
+  case-fits w at n =
+      then-prop (Holds (λ (c : Spanned). CaseFits (sc .known) (c .case))) (listed sc n) _ (λ k q. tt)
+      (λ c n1 e1. then-prop (Holds (λ (c : Spanned). CaseFits (sc .known) (c .case))) (phrase (sc .text) _ n1) _ (λ k q. tt)
+      (λ u n2 e2. then-prop (Holds (λ (c : Spanned). CaseFits (sc .known) (c .case))) (wholeExpression sc n2) _ (λ k q. tt)
+      (λ v n3 e3.
+      let fc = subst (Holds (FitC (sc .known) 38)) e1 (listed-fits sc lengths n) in
+      let fe = subst (Holds (FitE (sc .known) 35)) e3 (whole-expression-fits sc lengths n2) in
+      followed-holds (λ (c : Spanned). CaseFits (sc .known) (c .case)) (sc .text) _ _ n3 (record { usable-condition = fc .0; shallow-condition = fc .1; usable-value = fe .0; shallow-value = fe .1 }))))
+
+  abbrev Fine : List Spanned → Type 0
+  Fine cs = (1 ≤ length cs) × (length cs ≤ 32) × CasesFit (sc .known) (casesOf cs)
+
+  cases-fit : (w : List ℕ) (left : ℕ) (done : List Spanned) (at : ℕ) → length done + left ≡ 32 → CasesFit (sc .known) (casesOf done) → Holds Fine (casesFrom left sc w done at)
+  unfolding casesFrom
+  cases-fit w zero done at h hd =
+      token-prop (Holds Fine) (tokenAt (sc .text) at) _ (λ k q. tt) (λ k s n et. pick-prop (Holds Fine) (is k openSquare) _ _ (λ e. tt) (λ e. tt))
+  cases-fit w (suc left) done at h hd =
+      token-prop (Holds Fine) (tokenAt (sc .text) at) _ (λ k q. tt)
+      (λ k s n et. pick-prop (Holds Fine) (is k openSquare) _ _
+      (λ eo. then-prop (Holds Fine) (caseAt sc w at n) _ (λ k q. tt)
+      (λ c n1 e1.
+      let fc : CaseFits (sc .known) (c .case) = subst (Holds (λ (c : Spanned). CaseFits (sc .known) (c .case))) e1 (case-fits w at n) in
+      let fits : CasesFit (sc .known) (casesOf (done ++ (c ∷ []))) = cases-append (sc .known) done c hd fc in
+      let count : length (done ++ (c ∷ [])) ≡ length done + 1 = length-append done (c ∷ []) in
+      token-prop (Holds Fine) (tokenAt (sc .text) n1) _ (λ k q. tt)
+      (λ k2 s2 n2 et2. pick-prop (Holds Fine) (is k2 bar) _ _
+      (λ e. cases-fit w left (done ++ (c ∷ [])) n2 (omega arith) fits)
+      (λ e. (omega arith, omega arith, fits)))))
+      (λ e. tt))
+
+  -- the rule of v
+  abbrev Ruled : ℕ → Rule → Type 0
+  Ruled v r = RuleFits (sc .known) r × (target r ≡ v)
+
+  function-fits : (w : List ℕ) (v at : ℕ) → at ≤ length (sc .text) → Ends (length (sc .text)) (Ruled v) (functionAt sc w v at)
+  unfolding functionAt
+  function-fits w v at h =
+      then-prop (Ends (length (sc .text)) (Ruled v)) (phrase (sc .text) _ at) _ (λ k q. tt)
+      (λ u n1 e1.
+      let k1 = subst (Kept (length (sc .text)) at) e1 (phrase-kept (sc .text) _ at h) in
+      then-prop (Ends (length (sc .text)) (Ruled v)) (wholeExpression sc n1) _ (λ k q. tt)
+      (λ e n2 e2.
+      let g = subst (Grown codeE (length (sc .text)) n1) e2 (whole-expression-grown sc few n1 (k1 .1)) in
+      let f = subst (Holds (FitE (sc .known) 35)) e2 (whole-expression-fits sc lengths n1) in
+      followed-ends (Ruled v) (sc .text) _ (function v e) n2 (g .1) (f, refl)))
+
+  later : {A : Type 0} (at n : ℕ) (p : Parsed A) → at ≤ n → Kept (length (sc .text)) n p → Kept (length (sc .text)) at p
+  later at n (accepted a m) h g = (omega arith, g .1)
+  later at n (refused k q) h g = tt
+
+  list-kept : (left : ℕ) (done : List Condition) (at : ℕ) → at ≤ length (sc .text) → Kept (length (sc .text)) at (listFrom left sc done at)
+  unfolding listFrom
+  list-kept zero done at h = token-prop (Kept (length (sc .text)) at) (tokenAt (sc .text) at) _ (λ k q. tt) (λ k s n et. tt)
+  list-kept (suc left) done at h =
+      token-prop (Kept (length (sc .text)) at) (tokenAt (sc .text) at) _ (λ k q. tt)
+      (λ k s n et.
+      let mv = token-at-moved (sc .text) at k s n h et in
+      pick-prop (Kept (length (sc .text)) at) (is k openSquare) _ _
+      (λ e. then-prop (Kept (length (sc .text)) at) (listed sc n) _ (λ k q. tt)
+      (λ c n1 e1.
+      let g = subst (Grown codeC (length (sc .text)) n) e1 (listed-grown sc few n (mv .2)) in
+      token-prop (Kept (length (sc .text)) at) (tokenAt (sc .text) n1) _ (λ k q. tt)
+      (λ k2 s2 n2 et2.
+      let mw = token-at-moved (sc .text) n1 k2 s2 n2 (g .1) et2 in
+      pick-prop (Kept (length (sc .text)) at) (is k2 bar) _ _
+      (λ e. later at n2 (listFrom left sc (done ++ (c ∷ [])) n2) (omega arith) (list-kept left (done ++ (c ∷ [])) n2 (mw .2)))
+      (λ e. (omega arith, g .1)))))
+      (λ e. tt))
+
+  settled-kept : (at : ℕ) (r : Parsed (List Condition)) (d : Compared) → Kept (length (sc .text)) at r → Kept (length (sc .text)) at (settled r d)
+  unfolding settled
+  settled-kept at r (agrees n) h = h
+  settled-kept at (accepted a n) (differs p) h = tt
+  settled-kept at (refused k q) (differs p) h =
+      pick-prop (Kept (length (sc .text)) at) (ltb q p) _ _ (λ e. tt)
+      (λ e. pick-prop (Kept (length (sc .text)) at) (eqb q p) _ _ (λ e. pick-prop (Kept (length (sc .text)) at) (leb k 5) _ _ (λ e. tt) (λ e. tt)) (λ e. tt))
+
+  pub agree-kept : (cases : List Spanned) (at : ℕ) → at ≤ length (sc .text) → Kept (length (sc .text)) at (agreeingList sc cases at)
+  unfolding agreeingList plainList followed
+  agree-kept cases at h =
+      settled-kept at (plainList sc at) (partsFrom (sc .text) cases at)
+      (then-prop (Kept (length (sc .text)) at) (listFrom caseLimit sc [] at) _ (λ k q. tt)
+      (λ cs n e.
+      let g = subst (Kept (length (sc .text)) at) e (list-kept caseLimit [] at h) in
+      then-prop (Kept (length (sc .text)) at) (phrase (sc .text) _ n) _ (λ k q. tt)
+      (λ u m e2. let k = subst (Kept (length (sc .text)) n) e2 (phrase-kept (sc .text) _ n (g .1)) in (omega arith, k .1))))
+
+  change-fits : (w : List ℕ) (v at : ℕ) → at ≤ length (sc .text) → Ends (length (sc .text)) (Ruled v) (changeAt sc w v at)
+  unfolding changeAt
+  change-fits w v at h =
+      then-prop (Ends (length (sc .text)) (Ruled v)) (phrase (sc .text) _ at) _ (λ k q. tt)
+      (λ u n1 e1.
+      let k1 = subst (Kept (length (sc .text)) at) e1 (phrase-kept (sc .text) _ at h) in
+      then-prop (Ends (length (sc .text)) (Ruled v)) (casesFrom caseLimit sc w [] n1) _ (λ k q. tt)
+      (λ cases n2 e2.
+      let spans = cases-spans sc few w caseLimit [] n1 (k1 .1) tt cases n2 e2 in
+      let fits : Fine cases = subst (Holds Fine) e2 (cases-fit w caseLimit [] n1 refl tt) in
+      then-prop (Ends (length (sc .text)) (Ruled v)) (phrase (sc .text) _ n2) _ (λ k q. tt)
+      (λ u2 n3 e3.
+      let k3 = subst (Kept (length (sc .text)) n2) e3 (phrase-kept (sc .text) _ n2 (spans .1)) in
+      then-prop (Ends (length (sc .text)) (Ruled v)) (agreeingList sc cases n3) _ (λ k q. tt)
+      (λ ds n4 e4.
+      let k4 = subst (Kept (length (sc .text)) n3) e4 (agree-kept cases n3 (k3 .1)) in
+      followed-ends (Ruled v) (sc .text) _ (change v (casesOf cases) ds) n4 (k4 .1)
+      ((omega (arith, cases-length cases, fits .0), omega (arith, cases-length cases, fits .1), fits .2, agreed cases n3 n4 ds (fits .0) (spans .0) (k3 .1) e4), refl)))))
+    where
+      agreed : (cases : List Spanned) (n m : ℕ) (ds : List Condition) → 1 ≤ length cases → Spans sc cases → n ≤ length (sc .text) → agreeingList sc cases n ≡ accepted ds m → ds ≡ conditionsOf (casesOf cases)
+      agreed [] n m ds i xs l e = absurd (omega arith)
+      agreed (c ∷ cs) n m ds i xs l e = agreeing-same sc few c cs xs n m ds l e
+
+  formulas-fit : (w : List ℕ) (v at : ℕ) → at ≤ length (sc .text) → Ends (length (sc .text)) (Ruled v) (formulas sc w v at)
+  unfolding formulas
+  formulas-fit w v at h =
+      then-prop (Ends (length (sc .text)) (Ruled v)) (phrase (sc .text) _ at) _ (λ k q. tt)
+      (λ u n e.
+      let k1 = subst (Kept (length (sc .text)) at) e (phrase-kept (sc .text) _ at h) in
+      token-prop (Ends (length (sc .text)) (Ruled v)) (tokenAt (sc .text) n) _ (λ k q. tt)
+      (λ k s m et.
+      let mv = token-at-moved (sc .text) n k s m (k1 .1) et in
+      pick-prop (Ends (length (sc .text)) (Ruled v)) (is k tilde) _ _ (λ e. change-fits w v m (mv .2)) (λ e. function-fits w v n (k1 .1))))
+
+  -- a rule that is the first of its variable
+  abbrev First : Rule → Type 0
+  First r = RuleFits (sc .known) r × (target r < length (sc .known)) × (getD (sc .known) (target r) false ≡ false)
+
+  rule-fits : (s n : ℕ) → n ≤ length (sc .text) → Ends (length (sc .text)) First (ruleAt sc s n)
+  unfolding ruleAt withId
+  rule-fits s n h =
+      pick-prop (Ends (length (sc .text)) First) (overLong s n) _ _ (λ e. tt)
+      (λ e. option-prop (Ends (length (sc .text)) First) (idOf (sc .names) (part (sc .text) s n)) _ _ (λ z. tt)
+      (λ v ev. pick-prop (Ends (length (sc .text)) First) (getD (sc .known) v false) _ _ (λ t. tt)
+      (λ t. first v (omega (arith, lengths, id-of (sc .names) (part (sc .text) s n) v ev)) t (formulas sc (part (sc .text) s n) v n) (formulas-fit (part (sc .text) s n) v n h))))
+    where
+      first : (v : ℕ) → v < length (sc .known) → getD (sc .known) v false ≡ false → (p : Parsed Rule) → Ends (length (sc .text)) (Ruled v) p → Ends (length (sc .text)) First p
+      first v l t (accepted r m) g = ((g .0 .0, subst (λ (x : ℕ). x < length (sc .known)) (sym (g .0 .1)) l, subst (λ (x : ℕ). getD (sc .known) x false ≡ false) (sym (g .0 .1)) t), g .1)
+      first v l t (refused k q) g = tt
+
+record Continued (known : List Bool) (done rs : List Rule) : Type 0 where
+  more : List Rule
+  is-more : rs ≡ done ++ more
+  ordered : OrderedRules known more
+
+rules-fit : (f : ℕ) (sc : Scope) → length (sc .names) ≤ 64 → length (sc .names) ≡ length (sc .known) → (done : List Rule) (at : ℕ) → at ≤ length (sc .text) → Holds (Continued (sc .known) done) (rulesFrom f sc done at)
+unfolding rulesFrom
+rules-fit zero sc few lengths done at h = tt
+rules-fit (suc f) sc few lengths done at h =
+    token-prop (Holds (Continued (sc .known) done)) (tokenAt (sc .text) at) _ (λ k q. tt)
+    (λ k s n et.
+    let mv = token-at-moved (sc .text) at k s n h et in
+    pick-prop (Holds (Continued (sc .known) done)) (is k name) _ _
+    (λ e. then-prop (Holds (Continued (sc .known) done)) (ruleAt sc s n) _ (λ k q. tt)
+    (λ r m er.
+    let g = subst (Ends (length (sc .text)) (First sc few lengths)) er (rule-fits sc few lengths s n (mv .2)) in
+    let l : length (sc .names) ≡ length (set (sc .known) (target r) true) = lengths ∙ sym (length-set (sc .known) (target r) true) in
+    before r (g .0) (rulesFrom f (ruled sc (target r)) (done ++ (r ∷ [])) m) (rules-fit f (ruled sc (target r)) few l (done ++ (r ∷ [])) m (g .1))))
+    (λ e. pick-prop (Holds (Continued (sc .known) done)) (is k ending) _ _
+    (λ e. pick-prop (Holds (Continued (sc .known) done)) (allTrue (sc .known)) _ _ (λ a. record { more = []; is-more = sym (append-nil done); ordered = a }) (λ a. tt))
+    (λ e. tt)))
+  where
+    before : (r : Rule) → First sc few lengths r → (p : Parsed (List Rule)) → Holds (Continued (set (sc .known) (target r) true) (done ++ (r ∷ []))) p → Holds (Continued (sc .known) done) p
+    before r g (accepted rs m) c = record { more = r ∷ c .more; is-more = c .is-more ∙ append-assoc done (r ∷ []) (c .more); ordered = (g .0, g .1, g .2, c .ordered) }
+    before r g (refused k q) c = tt
+
+-- ---- declarations
+
+both-hold : (a b : Bool) → a && b ≡ true → (a ≡ true) × (b ≡ true)
+both-hold true b e = (refl, e)
+both-hold false b e = let z : _≡_ {A = ℕ} 0 1 = cc in let f : ⊥ = omega arith in absurd f
+
+module _ (text : List ℕ) where
+  abbrev Bound : (ℤ → Bool) → ℤ → Type 0
+  Bound test z = (isInt32 z ≡ true) × (test z ≡ true)
+
+  signed-fits : (test : ℤ → Bool) (signed : ℤ → ℤ) (k : Kind) (s n : ℕ) → n ≤ length text → Ends (length text) (Bound test) (signedAt test signed text k s n)
+  unfolding signedAt
+  signed-fits test signed k s n h =
+      let z = signed (pos (valueOf (part text s n))) in
+      pick-prop (Ends (length text) (Bound test)) (is k digits) _ _
+      (λ e. pick-prop (Ends (length text) (Bound test)) (isInt32 z && test z) _ _ (λ t. (both-hold (isInt32 z) (test z) t, h)) (λ t. tt))
+      (λ e. tt)
+
+  bound-fits : (test : ℤ → Bool) (at : ℕ) → at ≤ length text → Ends (length text) (Bound test) (boundAt test text at)
+  unfolding boundAt
+  bound-fits test at h =
+      token-prop (Ends (length text) (Bound test)) (tokenAt text at) _ (λ k q. tt)
+      (λ k s n et.
+      let mv = token-at-moved text at k s n h et in
+      pick-prop (Ends (length text) (Bound test)) (is k minus) _ _
+      (λ e. token-prop (Ends (length text) (Bound test)) (tokenAt text n) _ (λ k q. tt)
+      (λ k2 s2 n2 et2. let mw = token-at-moved text n k2 s2 n2 (mv .2) et2 in signed-fits test negℤ k2 s2 n2 (mw .2)))
+      (λ e. signed-fits test (λ z. z) k s n (mv .2)))
+
+  start-fits : (low high : ℤ) (at : ℕ) → at ≤ length text → Ends (length text) (λ z. inRange low high z ≡ true) (startAt text low high at)
+  unfolding startAt
+  start-fits low high at h =
+      token-prop (Ends (length text) (λ (z : ℤ). inRange low high z ≡ true)) (tokenAt text at) _ (λ k q. tt)
+      (λ k s n et.
+      let mv = token-at-moved text at k s n h et in
+      pick-prop (Ends (length text) (λ (z : ℤ). inRange low high z ≡ true)) (is k initWord) _ _
+      (λ e. then-prop (Ends (length text) (λ (z : ℤ). inRange low high z ≡ true)) (boundAt (inRange low high) text n) _ (λ k q. tt)
+      (λ z m es. let g = subst (Ends (length text) (Bound (inRange low high))) es (bound-fits (inRange low high) n (mv .2)) in
+      followed-ends (λ (z : ℤ). inRange low high z ≡ true) text _ z m (g .1) (g .0 .1)))
+      (λ e. pick-prop (Ends (length text) (λ (z : ℤ). inRange low high z ≡ true)) (is k semicolon) _ _
+      (λ e. pick-prop (Ends (length text) (λ (z : ℤ). inRange low high z ≡ true)) (inRange low high (pos 0)) _ _ (λ t. (t, mv .2)) (λ t. tt))
+      (λ e. tt)))
+
+  abbrev Fresh : List Name → List ℕ → Type 0
+  Fresh names w = (length w ≤ 16) × (length names < 64)
+
+  name-fits : (names : List Name) (at : ℕ) → at ≤ length text → Ends (length text) (Fresh names) (newName text names at)
+  unfolding newName overLong
+  name-fits names at h =
+      token-prop (Ends (length text) (Fresh names)) (tokenAt text at) _ (λ k q. tt)
+      (λ k s n et.
+      let mv = token-at-moved text at k s n h et in
+      let lw : length (part text s n) ≡ n - s = part-length text s n (mv .1) (mv .2) in
+      pick-prop (Ends (length text) (Fresh names)) (is k name) _ _
+      (λ e. option-prop (Ends (length text) (Fresh names)) (idOf (spellings names) (part text s n)) _ _
+      (λ z. pick-prop (Ends (length text) (Fresh names)) (ltb 16 (n - s)) _ _ (λ t. tt)
+      (λ t. pick-prop (Ends (length text) (Fresh names)) (ltb (length names) nameLimit) _ _
+      (λ t2. ((omega (arith, ltb-false 16 (n - s) t), ltb-true (length names) 64 t2), mv .2)) (λ t2. tt)))
+      (λ i ei. tt))
+      (λ e. tt))
+
+  abbrev Declared : List Name → Name → Type 0
+  Declared names x = NameFits x × (length names < 64)
+
+  declaration-fits : (names : List Name) (at : ℕ) → at ≤ length text → Ends (length text) (Declared names) (declaration text names at)
+  unfolding declaration
+  declaration-fits names at h =
+      then-prop (Ends (length text) (Declared names)) (newName text names at) _ (λ k q. tt)
+      (λ w n1 e1.
+      let g1 = subst (Ends (length text) (Fresh names)) e1 (name-fits names at h) in
+      then-prop (Ends (length text) (Declared names)) (boundAt (λ z. true) text n1) _ (λ k q. tt)
+      (λ low n2 e2.
+      let g2 = subst (Ends (length text) (Bound (λ z. true))) e2 (bound-fits (λ z. true) n1 (g1 .1)) in
+      then-prop (Ends (length text) (Declared names)) (phrase text (sign dots ∷ []) n2) _ (λ k q. tt)
+      (λ u n3 e3.
+      let g3 = subst (Kept (length text) n2) e3 (phrase-kept text (sign dots ∷ []) n2 (g2 .1)) in
+      then-prop (Ends (length text) (Declared names)) (boundAt (leZ low) text n3) _ (λ k q. tt)
+      (λ high n4 e4.
+      let g4 = subst (Ends (length text) (Bound (leZ low))) e4 (bound-fits (leZ low) n3 (g3 .1)) in
+      then-prop (Ends (length text) (Declared names)) (startAt text low high n4) _ (λ k q. tt)
+      (λ start n5 e5.
+      let g5 = subst (Ends (length text) (λ (z : ℤ). inRange low high z ≡ true)) e5 (start-fits low high n4 (g4 .1)) in
+      ((record { low-fits = true-T _ (g2 .0 .0); high-fits = true-T _ (g4 .0 .0); starts = g5 .0; short = g1 .0 .0 }, g1 .0 .1), g5 .1))))))
+
+  names-append : (names : List Name) (x : Name) → NamesFit names → NameFits x → NamesFit (names ++ (x ∷ []))
+  names-append [] x h g = (g, tt)
+  names-append (y ∷ names) x h g = (h .0, names-append names x (h .1) g)
+
+  abbrev pub Names : ℕ → List Name → Type 0
+  Names count l = NamesFit l × (length l ≤ 64) × (count ≤ length l)
+
+  pub declarations-fit : (f : ℕ) (word : Kind) (names : List Name) (at count : ℕ) → at ≤ length text → Names count names → Ends (length text) (Names count) (declarationsFrom f word text names at)
+  unfolding declarationsFrom
+  declarations-fit zero word names at count h g = (g, h)
+  declarations-fit (suc f) word names at count h g =
+      token-prop (Ends (length text) (Names count)) (tokenAt text at) _ (λ k q. tt)
+      (λ k s n et.
+      let mv = token-at-moved text at k s n h et in
+      pick-prop (Ends (length text) (Names count)) (is k word) _ _
+      (λ e. then-prop (Ends (length text) (Names count)) (declaration text names n) _ (λ k q. tt)
+      (λ x m es.
+      let d = subst (Ends (length text) (Declared names)) es (declaration-fits names n (mv .2)) in
+      let l : length (names ++ (x ∷ [])) ≡ length names + 1 = length-append names (x ∷ []) in
+      declarations-fit f word (names ++ (x ∷ [])) m count (d .1) (names-append names x (g .0) (d .0 .0), omega (arith, d .0 .1), omega (arith, g .2))))
+      (λ e. (g, h)))
+
+-- ---- the whole text
+
+pub spellings-length : (names : List Name) → length (spellings names) ≡ length names
+spellings-length [] = refl
+spellings-length (x ∷ l) = ap suc (spellings-length l)
+
+pub program-fits : (text : List ℕ) → Holds WellFormed (program text)
+unfolding program declarations
+program-fits text =
+    then-prop (Holds WellFormed) (declarations inputWord text [] 0) _ (λ k q. tt)
+    (λ inputs n1 e1.
+    let g1 = subst (Ends (length text) (Names text 0)) e1 (declarations-fit text 65 inputWord [] 0 0 (omega arith) (tt, omega arith, omega arith)) in
+    then-prop (Holds WellFormed) (declarations varWord text inputs n1) _ (λ k q. tt)
+    (λ names n2 e2.
+    let g2 = subst (Ends (length text) (Names text (length inputs))) e2 (declarations-fit text 65 varWord inputs n1 (length inputs) (g1 .1) (g1 .0 .0, g1 .0 .1, le-refl (length inputs))) in
+    let sc : Scope = record { text = text; names = spellings names; known = knownFirst (length inputs) (length names) } in
+    then-prop (Holds WellFormed) (rulesFrom 65 sc [] n2) _ (λ k q. tt)
+    (λ rules n3 e3.
+    let c = subst (Holds (Continued (knownFirst (length inputs) (length names)) [])) e3
+    (rules-fit 65 sc (omega (arith, spellings-length names, g2 .0 .1)) (spellings-length names ∙ sym (length-known (length inputs) (length names))) [] n2 (g2 .1)) in
+    record { few = g2 .0 .1; inputs-fit = g2 .0 .2; names-fit = g2 .0 .0; ordered = subst (OrderedRules (knownFirst (length inputs) (length names))) (sym (c .is-more)) (c .ordered) })))
+
+-- the program of an accepted text is well formed
+pub parse-fits : (text : List ℕ) → Holds WellFormed (parse text)
+unfolding parse
+parse-fits text = pick-prop (Holds WellFormed) (ltb textLimit (length text)) _ _ (λ e. tt) (λ e. program-fits text)

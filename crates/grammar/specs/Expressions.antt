@@ -1,0 +1,91 @@
+-- Names in use and expressions. Document 01, "The text". Assumes nothing.
+use Prim.Native.Nat.{ℕ, zero, suc, _+_}
+use mathlib.Core.Bool.{Bool, true, false}
+use mathlib.Core.List.{List, [], _∷_}
+use mathlib.Core.Option.{Option, none, some}
+use lib.ListN.{getD}
+use lib.Dec.{ltb}
+use lib.IntN.{ℤ, pos}
+use Rattle.limits.specs.Limits.{bracketLimit, notAllowed, outOfLimit, wrongName, tooEarly, tooMany}
+use Rattle.lexer.specs.Bytes.{pick, part}
+use Rattle.lexer.specs.Token.{Kind, name, digits, modWord, openRound, closeRound, plus, minus, star, slash, is, Read, token, fault}
+use Rattle.lexer.specs.Token as T
+use Rattle.lexer.specs.Lexer.{tokenAt, overLong, valueOf}
+use Rattle.lexer.specs.Names.{idOf}
+use Rattle.arith.specs.Values.{Operation, add, subtract, multiply, divide, modulo}
+use Rattle.semantics.specs.Program.{Expression, constant, current, previous, operation, negate}
+use Rattle.grammar.specs.Parsed.{Parsed, accepted, refused, andThen, onToken, onOption, sign, followed, chain}
+
+-- the text, the names declared, and which of them may be used with their current value: the inputs, and the variables whose rule
+-- stands earlier
+pub record Scope : Type 0 where
+  pub text : List ℕ
+  pub names : List (List ℕ)
+  pub known : List Bool
+
+-- a name from s to n, found or not, whose token is at p: 4 if it is unknown, 8 if over-long (and so in no list of names)
+unfoldable pub withId : {A : Type 0} → Scope → ℕ → ℕ → ℕ → (ℕ → Parsed A) → Parsed A
+withId sc p s n then =
+    let found = onOption (idOf (sc .names) (part (sc .text) s n)) (refused wrongName p) then in
+    pick (overLong s n) (refused tooMany p) found
+
+-- a current value
+unfoldable pub currentAt : Scope → ℕ → ℕ → Parsed Expression
+currentAt sc s n = withId sc s s n (λ i. pick (getD (sc .known) i false) (accepted (current i) n) (refused tooEarly s))
+
+-- a previous value; its name stands after the `_`
+unfoldable pub previousAt : Scope → ℕ → ℕ → Parsed Expression
+previousAt sc s n = withId sc s (s + 1) n (λ i. accepted (previous i) n)
+
+-- the greatest number
+abbrev pub numberLimit : ℕ
+numberLimit = 2147483647
+
+unfoldable pub numberAt : Scope → ℕ → ℕ → Parsed Expression
+numberAt sc s n =
+    let v = valueOf (part (sc .text) s n) in
+    pick (ltb numberLimit v) (refused outOfLimit s) (accepted (constant (pos v)) n)
+
+-- a number, a name, a previous value, or an expression in brackets, which `inner` reads from the bracket at s, that ends at n
+unfoldable pub primary : (ℕ → ℕ → Parsed Expression) → Scope → ℕ → Parsed Expression
+primary inner sc at =
+    onToken (tokenAt (sc .text) at)
+    (λ k s n.
+    let number = numberAt sc s n in
+    let now = currentAt sc s n in
+    let before = previousAt sc s n in
+    let brackets = inner s n in
+    pick (is k digits) number (pick (is k name) now (pick (is k T.previous) before (pick (is k openRound) brackets (refused notAllowed s)))))
+
+unfoldable pub negative : Parsed Expression → Parsed Expression
+negative p = andThen p (λ e n. accepted (negate e) n)
+
+-- at most one `-` before
+unfoldable pub factor : (ℕ → ℕ → Parsed Expression) → Scope → ℕ → Parsed Expression
+factor inner sc at =
+    onToken (tokenAt (sc .text) at)
+    (λ k s n.
+    let opposite = negative (primary inner sc n) in
+    let plain = primary inner sc at in
+    pick (is k minus) opposite plain)
+
+unfoldable pub productOf : Kind → Option Operation
+productOf k = pick (is k star) (some multiply) (pick (is k slash) (some divide) (pick (is k modWord) (some modulo) none))
+
+unfoldable pub sumOf : Kind → Option Operation
+sumOf k = pick (is k plus) (some add) (pick (is k minus) (some subtract) none)
+
+unfoldable pub term : (ℕ → ℕ → Parsed Expression) → Scope → ℕ → Parsed Expression
+term inner sc at = chain operation productOf (factor inner sc) (sc .text) at
+
+unfoldable pub expression : (ℕ → ℕ → Parsed Expression) → Scope → ℕ → Parsed Expression
+expression inner sc at = chain operation sumOf (term inner sc) (sc .text) at
+
+-- the expression in the bracket at s, which ends at n, with `left` brackets left to open
+unfoldable pub bracket : ℕ → Scope → ℕ → ℕ → Parsed Expression
+bracket zero sc s n = refused tooMany s
+bracket (suc left) sc s n = andThen (expression (λ s n. bracket left sc s n) sc n) (λ e m. followed (sc .text) (sign closeRound ∷ []) e m)
+
+-- a whole expression: no bracket is open before it
+unfoldable pub wholeExpression : Scope → ℕ → Parsed Expression
+wholeExpression sc at = expression (λ s n. bracket bracketLimit sc s n) sc at

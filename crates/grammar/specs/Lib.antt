@@ -1,0 +1,9 @@
+pub mod Parsed
+pub mod Expressions
+pub mod Conditions
+pub mod Declarations
+pub mod Rules
+pub mod Parse
+pub mod Derivation
+pub mod Emitted
+pub mod WellFormed

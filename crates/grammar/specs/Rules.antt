@@ -1,0 +1,170 @@
+-- Rules: functions, change formulas and their no-change formulas. Document 01, "The text". Assumes nothing.
+use Prim.Native.Nat.{ℕ, zero, suc, _+_}
+use mathlib.Core.Bool.{Bool, true, false}
+use mathlib.Core.List.{List, [], _∷_, _++_}
+use mathlib.Core.Option.{Option, none, some}
+use lib.ListN.{length, getD, set}
+use lib.Dec.{ltb, leb, eqb}
+use Rattle.limits.specs.Limits.{caseLimit, notAllowed, wrongRule, listsDiffer, tooMany}
+use Rattle.lexer.specs.Bytes.{pick, part}
+use Rattle.lexer.specs.Token.{Kind, name, ending, nextWord, arrow, semicolon, colon, openRound, closeRound, openSquare, tilde, ampersand, bar, equals, is, Read, token, fault}
+use Rattle.lexer.specs.Lexer.{tokenAt, sameToken}
+use Rattle.semantics.specs.Program.{Expression, Condition, Case, Rule, function, change, target, allTrue}
+use Rattle.grammar.specs.Parsed.{Parsed, accepted, refused, andThen, onToken, onOption, Wanted, sign, own, ownPrevious, phrase, followed}
+use Rattle.grammar.specs.Expressions.{Scope, withId, wholeExpression}
+use Rattle.grammar.specs.Conditions.{listed}
+
+-- ---- the cases of a change formula
+
+-- where a condition of a list stands, its square brackets and the space before it included
+pub record Span : Type 0 where
+  pub from : ℕ
+  pub to : ℕ
+
+-- a case, and where its condition stands
+pub record Spanned : Type 0 where
+  pub case : Case
+  pub span : Span
+
+-- `[c] & w = (e)` at `at`, after its first bracket, which ends at n
+unfoldable pub caseAt : Scope → List ℕ → ℕ → ℕ → Parsed Spanned
+caseAt sc w at n =
+    andThen (listed sc n) (λ c n1.
+    andThen (phrase (sc .text) (sign ampersand ∷ own w ∷ sign equals ∷ sign openRound ∷ []) n1) (λ u n2.
+    andThen (wholeExpression sc n2) (λ e n3.
+    followed (sc .text) (sign closeRound ∷ []) (record { case = record { condition = c; value = e }; span = record { from = at; to = n1 } }) n3)))
+
+-- cases with `|` between them, after those done, with `left` cases left to read: the next is refused by 8 at its bracket
+unfoldable pub casesFrom : ℕ → Scope → List ℕ → List Spanned → ℕ → Parsed (List Spanned)
+casesFrom zero sc w done at = onToken (tokenAt (sc .text) at) (λ k s n. pick (is k openSquare) (refused tooMany s) (refused notAllowed s))
+casesFrom (suc left) sc w done at =
+    onToken (tokenAt (sc .text) at)
+    (λ k s n.
+    let more = andThen (caseAt sc w at n) (λ c n1.
+    onToken (tokenAt (sc .text) n1)
+    (λ k2 s2 n2.
+    let again = casesFrom left sc w (done ++ (c ∷ [])) n2 in
+    pick (is k2 bar) again (accepted (done ++ (c ∷ [])) n1))) in
+    pick (is k openSquare) more (refused notAllowed s))
+
+-- ---- the conditions of a no-change formula
+
+-- `[c] | [c]`, after those done, with `left` conditions left to read. (A list longer than the other differs from it before that.)
+unfoldable pub listFrom : ℕ → Scope → List Condition → ℕ → Parsed (List Condition)
+listFrom zero sc done at = onToken (tokenAt (sc .text) at) (λ k s n. refused tooMany s)
+listFrom (suc left) sc done at =
+    onToken (tokenAt (sc .text) at)
+    (λ k s n.
+    let more = andThen (listed sc n) (λ c n1.
+    onToken (tokenAt (sc .text) n1)
+    (λ k2 s2 n2.
+    let again = listFrom left sc (done ++ (c ∷ [])) n2 in
+    pick (is k2 bar) again (accepted (done ++ (c ∷ [])) n1))) in
+    pick (is k openSquare) more (refused notAllowed s))
+
+-- what the second list reads as, its closing bracket included, whatever the first is
+unfoldable pub plainList : Scope → ℕ → Parsed (List Condition)
+plainList sc at = andThen (listFrom caseLimit sc [] at) (λ cs n. followed (sc .text) (sign closeRound ∷ []) cs n)
+
+-- ---- agreement of the two lists, token by token
+
+-- the place after what agrees, or the place of the first token that is not the one wanted
+pub data Compared : Type 0 where
+  agrees : ℕ → Compared
+  differs : ℕ → Compared
+
+abbrev pub onCompared : Compared → (ℕ → Compared) → Compared
+onCompared (agrees n) f = f n
+onCompared (differs p) f = differs p
+
+-- the token t at hand, where a token of kind k is wanted, and if the test holds of the one found then `next` from after it
+abbrev pub onFound : Read → (Kind → ℕ → ℕ → Bool) → (ℕ → Compared) → Compared
+onFound (token k s n) test next = let more = next n in pick (test k s n) more (differs s)
+onFound (fault p) test next = differs p
+
+abbrev pub onWanted : Read → (Kind → ℕ → ℕ → Compared) → Compared
+onWanted (token k s n) f = f k s n
+onWanted (fault p) f = differs p
+
+-- the tokens from `from` up to `to` are wanted at `at`; f is no smaller than their number
+unfoldable pub partFrom : ℕ → List ℕ → ℕ → ℕ → ℕ → Compared
+partFrom zero text from to at = agrees at
+partFrom (suc f) text from to at =
+    let more = onWanted (tokenAt text from) (λ k s n. onFound (tokenAt text at) (sameToken text k s n) (λ m. partFrom f text n to m)) in
+    pick (ltb from to) more (agrees at)
+
+unfoldable pub kindAt : List ℕ → Kind → ℕ → Compared
+kindAt text w at = onFound (tokenAt text at) (λ k s n. is k w) (λ m. agrees m)
+
+-- the parts with `|` between them and `)` after the last
+unfoldable pub partsFrom : List ℕ → List Spanned → ℕ → Compared
+partsFrom text [] at = agrees at
+partsFrom text (c ∷ []) at = onCompared (partFrom (length text) text (c .span .from) (c .span .to) at) (λ n. kindAt text closeRound n)
+partsFrom text (c ∷ d ∷ cs) at =
+    onCompared (partFrom (length text) text (c .span .from) (c .span .to) at) (λ n.
+    onCompared (kindAt text bar n) (λ m. partsFrom text (d ∷ cs) m))
+
+-- The checks go token by token and in number order at each, so of a list that reads as r and differs first at m, a refusal before m
+-- is answered, and one of 1 to 5 at m; else 7 at m.
+unfoldable pub settled : {A : Type 0} → Parsed A → Compared → Parsed A
+settled r (agrees n) = r
+settled (accepted a n) (differs m) = refused listsDiffer m
+settled (refused k p) (differs m) = pick (ltb p m) (refused k p) (pick (eqb p m) (pick (leb k 5) (refused k p) (refused listsDiffer m)) (refused listsDiffer m))
+
+unfoldable pub agreeingList : Scope → List Spanned → ℕ → Parsed (List Condition)
+agreeingList sc cases at = settled (plainList sc at) (partsFrom (sc .text) cases at)
+
+-- ---- rules
+
+abbrev pub casesOf : List Spanned → List Case
+casesOf [] = []
+casesOf (c ∷ cs) = c .case ∷ casesOf cs
+
+-- `w = (e));` after `w: GX(`
+unfoldable pub functionAt : Scope → List ℕ → ℕ → ℕ → Parsed Rule
+functionAt sc w v at =
+    andThen (phrase (sc .text) (own w ∷ sign equals ∷ sign openRound ∷ []) at) (λ u n1.
+    andThen (wholeExpression sc n1) (λ e n2.
+    followed (sc .text) (sign closeRound ∷ sign closeRound ∷ sign semicolon ∷ []) (function v e) n2))
+
+-- `(w = _w) -> [c] & w = (e) | ..);` after `w: GX(~`, then `w: GX(w = _w -> ~([c] | ..));`
+unfoldable pub changeAt : Scope → List ℕ → ℕ → ℕ → Parsed Rule
+changeAt sc w v at =
+    andThen (phrase (sc .text) (sign openRound ∷ own w ∷ sign equals ∷ ownPrevious w ∷ sign closeRound ∷ sign arrow ∷ []) at) (λ u n1.
+    andThen (casesFrom caseLimit sc w [] n1) (λ cases n2.
+    andThen (phrase (sc .text)
+    (sign closeRound ∷ sign semicolon
+    ∷ own w ∷ sign colon ∷ sign nextWord ∷ sign openRound ∷ own w ∷ sign equals ∷ ownPrevious w ∷ sign arrow ∷ sign tilde ∷ sign openRound ∷ []) n2) (λ u n3.
+    andThen (agreeingList sc cases n3) (λ conditions n4.
+    followed (sc .text) (sign closeRound ∷ sign semicolon ∷ []) (change v (casesOf cases) conditions) n4))))
+
+-- the rule of the variable v, spelled w, after that name
+unfoldable pub formulas : Scope → List ℕ → ℕ → ℕ → Parsed Rule
+formulas sc w v at =
+    andThen (phrase (sc .text) (sign colon ∷ sign nextWord ∷ sign openRound ∷ []) at) (λ u n.
+    onToken (tokenAt (sc .text) n)
+    (λ k s m.
+    let changes = changeAt sc w v m in
+    let computes = functionAt sc w v n in
+    pick (is k tilde) changes computes))
+
+-- the rule whose name stands from s to n: 6 for an input or a variable that has its rule, whose current values are just those known
+unfoldable pub ruleAt : Scope → ℕ → ℕ → Parsed Rule
+ruleAt sc s n =
+    withId sc s s n (λ v.
+    let rule = formulas sc (part (sc .text) s n) v n in
+    pick (getD (sc .known) v false) (refused wrongRule s) rule)
+
+-- after a rule its variable's current value may be used
+abbrev pub ruled : Scope → ℕ → Scope
+ruled sc v = record { text = sc .text; names = sc .names; known = set (sc .known) v true }
+
+-- rules up to the end of the text, after those done: 6 at the end if a variable has none. No variable has two rules, so 65 are enough
+unfoldable pub rulesFrom : ℕ → Scope → List Rule → ℕ → Parsed (List Rule)
+rulesFrom zero sc done at = refused wrongRule at
+rulesFrom (suc f) sc done at =
+    onToken (tokenAt (sc .text) at)
+    (λ k s n.
+    let more = andThen (ruleAt sc s n) (λ r m. rulesFrom f (ruled sc (target r)) (done ++ (r ∷ [])) m) in
+    let end = pick (allTrue (sc .known)) (accepted done n) (refused wrongRule s) in
+    pick (is k name) more (pick (is k ending) end (refused notAllowed s)))

@@ -1,0 +1,166 @@
+//! The formulas of a program, satisfied by a trace or not.
+//!
+//! This evaluator shares no arithmetic with the scans. Values of a trace may be any
+//! whole numbers; results of operations outside 32 bits are refused by 14 (here None).
+
+use std::cmp::Ordering;
+
+use crate::program::{
+    Atom, Body, Case, Condition, Expression, Factor, Operand, Product, Program, Relation, Rule,
+    Sum, Term,
+};
+
+/// Whether a list of states is a trace that satisfies every formula of the program:
+/// "A trace satisfies `GX(f)` exactly if f holds at each of its places after the start,
+/// with the values of the place before as previous values". Every state has one value
+/// for each name.
+pub fn satisfies<S: AsRef<[i64]>>(program: &Program, trace: &[S]) -> bool {
+    let length = program.names.len();
+    trace.iter().all(|state| state.as_ref().len() == length)
+        && trace
+            .windows(2)
+            .all(|pair| step_satisfies(program, pair[0].as_ref(), pair[1].as_ref()))
+}
+
+/// Whether every formula holds at a place with the values `current`, after a place with
+/// the values `previous`.
+pub fn step_satisfies(program: &Program, previous: &[i64], current: &[i64]) -> bool {
+    let place = Place { previous, current };
+    program.rules.iter().all(|rule| place.rule_holds(rule))
+}
+
+/// One place of a trace after the start.
+struct Place<'a> {
+    previous: &'a [i64],
+    current: &'a [i64],
+}
+
+impl Place<'_> {
+    /// "A formula that needs a value refused by 14 isn't satisfied."
+    fn rule_holds(&self, rule: &Rule) -> bool {
+        let v = rule.variable;
+        match &rule.body {
+            Body::Function(expression) => self.function_holds(v, expression),
+            Body::Change { cases, unchanged } => {
+                self.change_holds(v, cases) == Some(true)
+                    && self.no_change_holds(v, unchanged) == Some(true)
+            }
+        }
+    }
+
+    /// `v = (e)`
+    fn function_holds(&self, v: usize, expression: &Expression) -> bool {
+        self.expression(expression) == Some(i128::from(self.current[v]))
+    }
+
+    /// `~(v = _v) -> [c] & v = (e) | [c] & v = (e)`: all conditions are worked out, "a
+    /// case's expression only if its condition holds".
+    fn change_holds(&self, v: usize, cases: &[Case]) -> Option<bool> {
+        let mut some_case = false;
+        for case in cases {
+            if self.condition(&case.condition)? {
+                let value = self.expression(&case.expression)?;
+                some_case |= value == i128::from(self.current[v]);
+            }
+        }
+        let changed = self.current[v] != self.previous[v];
+        Some(!changed || some_case)
+    }
+
+    /// `v = _v -> ~([c] | [c])`
+    fn no_change_holds(&self, v: usize, conditions: &[Condition]) -> Option<bool> {
+        let mut some = false;
+        for condition in conditions {
+            some |= self.condition(condition)?;
+        }
+        let unchanged = self.current[v] == self.previous[v];
+        Some(!unchanged || !some)
+    }
+
+    /// "Both operands of `&` and `|` are worked out."
+    fn condition(&self, condition: &Condition) -> Option<bool> {
+        let parts: Option<Vec<bool>> = condition.any.iter().map(|all| self.all(all)).collect();
+        Some(parts?.contains(&true))
+    }
+
+    fn all(&self, atoms: &[Atom]) -> Option<bool> {
+        let parts: Option<Vec<bool>> = atoms.iter().map(|atom| self.atom(atom)).collect();
+        Some(!parts?.contains(&false))
+    }
+
+    fn atom(&self, atom: &Atom) -> Option<bool> {
+        match atom {
+            Atom::Compare {
+                relation,
+                left,
+                right,
+            } => {
+                let order = self.expression(left)?.cmp(&self.expression(right)?);
+                Some(holds(*relation, order))
+            }
+            Atom::Bracket { negated, condition } => {
+                let inner = self.condition(condition)?;
+                Some(if *negated { !inner } else { inner })
+            }
+        }
+    }
+
+    fn expression(&self, expression: &Expression) -> Option<i128> {
+        let first = self.term(&expression.first)?;
+        expression.rest.iter().try_fold(first, |left, (op, term)| {
+            let right = self.term(term)?;
+            in_32_bits(match op {
+                Sum::Add => left + right,
+                Sum::Subtract => left - right,
+            })
+        })
+    }
+
+    fn term(&self, term: &Term) -> Option<i128> {
+        let first = self.factor(&term.first)?;
+        term.rest.iter().try_fold(first, |left, (op, factor)| {
+            let right = self.factor(factor)?;
+            match op {
+                Product::Multiply => in_32_bits(left * right),
+                Product::Divide => in_32_bits(quotient(left, right)?),
+                Product::Modulo => in_32_bits(left - right * quotient(left, right)?),
+            }
+        })
+    }
+
+    fn factor(&self, factor: &Factor) -> Option<i128> {
+        let value = match &factor.operand {
+            Operand::Number(value) => i128::from(*value),
+            Operand::Current(id) => i128::from(self.current[*id]),
+            Operand::Previous(id) => i128::from(self.previous[*id]),
+            Operand::Bracket(inner) => self.expression(inner)?,
+        };
+        if factor.negated {
+            return in_32_bits(0 - value);
+        }
+        Some(value)
+    }
+}
+
+/// "Division cuts toward zero": the quotient of the sizes, with its sign.
+fn quotient(left: i128, right: i128) -> Option<i128> {
+    let size = left.abs().checked_div(right.abs())?;
+    let negative = (left < 0) != (right < 0);
+    Some(if negative { -size } else { size })
+}
+
+fn in_32_bits(value: i128) -> Option<i128> {
+    let range = i128::from(i32::MIN)..=i128::from(i32::MAX);
+    range.contains(&value).then_some(value)
+}
+
+fn holds(relation: Relation, order: Ordering) -> bool {
+    match relation {
+        Relation::Equal => order.is_eq(),
+        Relation::Unequal => order.is_ne(),
+        Relation::Less => order.is_lt(),
+        Relation::LessEqual => order.is_le(),
+        Relation::Greater => order.is_gt(),
+        Relation::GreaterEqual => order.is_ge(),
+    }
+}

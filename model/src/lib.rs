@@ -1,0 +1,75 @@
+//! Reference model of document 01, "Launch rules as formulas, images and traces".
+//!
+//! Written from the document and its readings alone, in safe Rust with the
+//! standard library only. Comments in quotation marks are sentences of the document.
+
+pub mod check;
+pub mod formula;
+pub mod generate;
+pub mod image;
+pub mod machine;
+pub mod number;
+pub mod parse;
+pub mod plain;
+pub mod program;
+pub mod token;
+pub mod trace;
+
+pub use check::{check, check_detail, Breach, Fault, Header, Range};
+pub use formula::satisfies;
+pub use image::{instructions, write_image};
+pub use machine::{scan, start, ScanRefusal};
+pub use parse::parse;
+pub use plain::plain_scan;
+pub use program::Program;
+pub use trace::trace;
+
+/// "At most 32,768 bytes" of text.
+pub const TEXT_LIMIT: usize = 32_768;
+/// "At most 65,536 bytes" of image.
+pub const IMAGE_LIMIT: usize = 65_536;
+/// "At most 64 names in all."
+pub const NAMES: usize = 64;
+/// "1 to 16 bytes" of a name.
+pub const NAME_BYTES: usize = 16;
+/// "1 to 32 cases".
+pub const CASES: usize = 32;
+/// "16 open brackets of both kinds together".
+pub const BRACKETS: usize = 16;
+/// "never over 40 values held".
+pub const HELD: usize = 40;
+
+/// A refusal: its number in "Who can cause which refusal" and its byte place.
+#[derive(Clone, Copy, Debug, PartialEq, Eq)]
+pub struct Refusal {
+    pub number: u8,
+    pub place: usize,
+}
+
+impl Refusal {
+    pub const fn new(number: u8, place: usize) -> Refusal {
+        Refusal { number, place }
+    }
+}
+
+/// Reads a text: "9 text or image over its limit (place 0, before all else)",
+/// then the refusals of the author of the text.
+pub fn read_text(text: &[u8]) -> Result<Program<'_>, Refusal> {
+    if text.len() > TEXT_LIMIT {
+        return Err(Refusal::new(9, 0));
+    }
+    parse(text)
+}
+
+/// Translates `text` and writes its image to the first bytes of `image`.
+/// "10 image buffer too short, after a text without fault (place: the text length)";
+/// "success writes only the image's bytes".
+pub fn translate(text: &[u8], image: &mut [u8]) -> Result<usize, Refusal> {
+    let program = read_text(text)?;
+    let bytes = write_image(&program);
+    match image.get_mut(..bytes.len()) {
+        Some(part) => part.copy_from_slice(&bytes),
+        None => return Err(Refusal::new(10, text.len())),
+    }
+    Ok(bytes.len())
+}

@@ -1,0 +1,156 @@
+//! The trace found satisfies every formula, and no other trace does: for each accepted
+//! step all values in a box larger than the ranges are tried.
+
+use rolvenko_model::formula::step_satisfies;
+use rolvenko_model::generate::{row, text, Rng, Shape};
+use rolvenko_model::{read_text, satisfies, scan, start, write_image, Program};
+
+/// All states with the inputs of `row` and variables up to 2 outside their ranges.
+fn box_of_states(program: &Program, row: &[i32]) -> Vec<Vec<i64>> {
+    let mut states = vec![row
+        .iter()
+        .map(|&value| i64::from(value))
+        .collect::<Vec<_>>()];
+    for name in &program.names[program.inputs..] {
+        let values = i64::from(name.low) - 2..=i64::from(name.high) + 2;
+        states = states
+            .iter()
+            .flat_map(|state| {
+                values.clone().map(move |value| {
+                    let mut longer = state.clone();
+                    longer.push(value);
+                    longer
+                })
+            })
+            .collect();
+    }
+    states
+}
+
+fn wide(state: &[i32]) -> Vec<i64> {
+    state.iter().map(|&value| i64::from(value)).collect()
+}
+
+/// The trace found for random rows, and the accepted rows.
+fn found_trace(rng: &mut Rng, program: &Program, rows: usize) -> (Vec<Vec<i64>>, Vec<Vec<i32>>) {
+    let image = write_image(program);
+    let ranges = program.ranges();
+    let mut state = vec![0; ranges.len()];
+    start(&image, &mut state).expect("start");
+    let mut trace = vec![wide(&state)];
+    let mut accepted = Vec::new();
+    for _ in 0..rows {
+        let row = row(rng, &ranges[..program.inputs]);
+        if scan(&image, &mut state, &row).is_ok() {
+            trace.push(wide(&state));
+            accepted.push(row);
+        }
+    }
+    (trace, accepted)
+}
+
+/// Tries every state of the box at every place; the answer is how many were tried.
+fn only_one(program: &Program, trace: &[Vec<i64>], accepted: &[Vec<i32>]) -> usize {
+    let mut tried = 0;
+    for (index, row) in accepted.iter().enumerate() {
+        let states = box_of_states(program, row);
+        tried += states.len();
+        let fitting: Vec<&Vec<i64>> = states
+            .iter()
+            .filter(|state| step_satisfies(program, &trace[index], state))
+            .collect();
+        assert_eq!(fitting, [&trace[index + 1]]);
+    }
+    tried
+}
+
+#[test]
+fn the_trace_found_is_the_only_one() {
+    let mut tried = 0;
+    let mut places = 0;
+    let mut changed = 0;
+    for seed in 0..6000 {
+        let mut rng = Rng::new(2_000_000 + seed);
+        let text = text(&mut rng, Shape::TINY);
+        let program = read_text(&text).expect("accepted text");
+        let (trace, accepted) = found_trace(&mut rng, &program, 6);
+        assert!(satisfies(&program, &trace));
+        tried += only_one(&program, &trace, &accepted);
+        places += accepted.len();
+        changed += trace.windows(2).filter(|pair| pair[0] != pair[1]).count();
+    }
+    println!("{tried} states tried at {places} places, {changed} of them with a change");
+    assert!(tried > 150_000 && places > 15_000 && changed > 7000);
+}
+
+/// Whole traces of two steps: all pairs of states of the box.
+#[test]
+fn whole_traces() {
+    let mut tried = 0;
+    for seed in 0..1500 {
+        let mut rng = Rng::new(3_000_000 + seed);
+        let text = text(&mut rng, Shape::TINY);
+        let program = read_text(&text).expect("accepted text");
+        let (trace, accepted) = found_trace(&mut rng, &program, 4);
+        if accepted.len() < 2 {
+            continue;
+        }
+        let mut fitting = Vec::new();
+        for first in box_of_states(&program, &accepted[0]) {
+            for second in box_of_states(&program, &accepted[1]) {
+                tried += 1;
+                let other = [trace[0].clone(), first.clone(), second];
+                if satisfies(&program, &other) {
+                    fitting.push(other.to_vec());
+                }
+            }
+        }
+        assert_eq!(fitting, [trace[..3].to_vec()]);
+    }
+    println!("{tried} traces tried");
+    assert!(tried > 150_000);
+}
+
+/// Texts with wide ranges: the trace found satisfies the formulas; one with a value
+/// changed anywhere, by little or by much, does not.
+#[test]
+fn changed_traces() {
+    let mut tried = 0;
+    for seed in 0..6000 {
+        let mut rng = Rng::new(4_000_000 + seed);
+        let shape = Shape::any(&mut rng);
+        let text = text(&mut rng, shape);
+        let program = read_text(&text).expect("accepted text");
+        let (trace, _) = found_trace(&mut rng, &program, 6);
+        assert!(satisfies(&program, &trace));
+        if trace.len() < 2 || program.inputs == program.names.len() {
+            continue;
+        }
+        for by in [1, -1, 2, 1 << 31, 1 << 32, -(1 << 33), i64::MAX / 2] {
+            let mut other = trace.clone();
+            let place = 1 + rng.below(trace.len() - 1);
+            let id = program.inputs + rng.below(program.names.len() - program.inputs);
+            other[place][id] += by;
+            assert!(
+                !satisfies(&program, &other),
+                "{}",
+                String::from_utf8_lossy(&text)
+            );
+            tried += 1;
+        }
+    }
+    println!("{tried} changed traces tried");
+    assert!(tried > 10_000);
+}
+
+/// "the start alone satisfies every such formula", whatever it holds.
+#[test]
+fn start_alone() {
+    for seed in 0..200 {
+        let mut rng = Rng::new(5_000_000 + seed);
+        let text = text(&mut rng, Shape::WIDE);
+        let program = read_text(&text).expect("accepted text");
+        let any: Vec<i64> = program.names.iter().map(|_| rng.bits() as i64).collect();
+        assert!(satisfies(&program, &[any]));
+    }
+}
