@@ -15,6 +15,7 @@ ghost use Rattle.scan.specs.Services.{startOf, scanOf};
 ghost use Rattle.scan.specs.Results.{afterStart, StartedWithin, afterScan, ScannedWithin};
 ghost use Rattle.scan.specs.Internal.{scannedCode, scannedIn, scannedFrom, Fitting, Scratch, Announced};
 
+// The refusals before the code.
 const BROKEN_IMAGE: u8 = 11;
 
 const WRONG_LENGTH: u8 = 12;
@@ -23,7 +24,7 @@ const STATE_OUT_OF_RANGE: u8 = 18;
 
 const INPUT_OUT_OF_RANGE: u8 = 13;
 
-// The number of a refusal and its place.
+// Done, or the number of a refusal and its place.
 pub enum Started {
     Done,
     Refused(u8, usize),
@@ -148,7 +149,7 @@ fn scan_names(
     )
 }
 
-// The image, the lengths of state and row, then their values and the code.
+// The image, the lengths of state and row, then their values and the code. A sound image always has its counts.
 fn scan_in(
     image: &[u8],
     state: &mut [i32],
@@ -181,6 +182,7 @@ fn scan_in(
     }
 }
 
+// One scan: 9, 11, 12, 18, 13, then the code. A refusal leaves the state as found; success writes it.
 pub fn scan(image: &[u8], state: &mut [i32], row: &[i32]) -> Scanned
     ensures { λ r. ⌜ afterScan r (now (state .exit)) ≡ scanOf (now (image .entry)) (now (state .entry)) (now (row .entry)) ⌝ }
     ensures { λ r. ⌜ ScannedWithin imageLimit r ⌝ }
@@ -214,6 +216,7 @@ fn start_in(image: &[u8], state: &mut [i32], low: &mut [i32], high: &mut [i32]) 
     }
 }
 
+// The declared starts, after 9, 11 and 12. A refusal leaves the state as found.
 pub fn start(image: &[u8], state: &mut [i32]) -> Started
     ensures { λ r. ⌜ afterStart r (now (state .exit)) ≡ startOf (now (image .entry)) (now (state .entry)) ⌝ }
     ensures { λ r. ⌜ StartedWithin imageLimit r ⌝ }
