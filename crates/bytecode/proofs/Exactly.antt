@@ -1,28 +1,27 @@
 -- Check answers sound exactly if the image is sound. Assumes nothing.
-use Prim.Native.Nat.{ℕ, zero, suc, _+_, _≤_, _<_}
+use Prim.Native.Nat.{ℕ, zero, suc, _+_, _≤_}
 use native.Mathlib.Omega.{arith}
-use mathlib.Core.Path.{_≡_, refl, sym, ap, _∙_, subst}
-use mathlib.Core.Bool.{Bool, true, false, not, _&&_, cond}
+use mathlib.Core.Path.{_≡_, refl, ap, _∙_}
+use mathlib.Core.Bool.{Bool, true, false, not, _&&_}
 use mathlib.Core.List.{List, [], _∷_, _++_}
 use mathlib.Core.Option.{Option, none, some}
-use lib.Dec.{T, eqb, leb, ltb, ltb→lt, lt→ltb, le→leb, leb→le, eqb→eq, eqb-refl}
-use lib.IntN.{ℤ}
-use lib.ListN.{length, getD, set, drop}
+use lib.Dec.{T, eqb, leb, ltb, ltb→lt, le→leb, eqb→eq, eqb-refl}
+use lib.ListN.{length, getD, drop}
 use lib.Signed.{leZ}
 use borrow.Author.Tests.{lt-ltb, le-ltb, ltb-true, ltb-false}
-use Rattle.limits.specs.Answer.{Answer, accepted, refused, _andThen_}
+use Rattle.limits.specs.Answer.{Answer, accepted}
 use Rattle.arith.specs.Values.{isInt32}
 use Rattle.semantics.specs.Program.{Range, allTrue}
-use Rattle.arith.proofs.Basics.{T-true, true-T, and-left, and-right, and-T, T-not-false}
+use Rattle.arith.proofs.Basics.{T-true, true-T, and-left, and-right, T-not-false}
 use Rattle.leb128.specs.Numbers.{Read, got, nothing, numberAt, signedAt}
 use Rattle.bytecode.specs.Instructions.{Instruction, constant, current, previous, operation, negate, comparison, negated, both, either, gate, pick, assign, settle, fetch}
 use Rattle.bytecode.specs.Translation.{RangeFits, RangesFit}
-use Rattle.bytecode.specs.Check.{Sort, number, truth, Known, known, guard, held, one, empty, unset, closed, fresh, opened, advance, complete, tested, item, checkRange, checkRanges, checkCounts, Header, checkHeader, ends, ifSome, checkCode, atStart, checkBody, checkOf}
+use Rattle.bytecode.specs.Check.{Sort, number, truth, Known, known, one, empty, unset, closed, fresh, opened, advance, complete, item, checkRange, checkRanges, checkCounts, Header, checkHeader, ends, checkCode, atStart, checkBody, checkOf}
 use Rattle.bytecode.specs.Counting.{headerOf, codeOf, counted, countFrom, instructionsIn}
-use Rattle.bytecode.specs.Internal.{heldBy, gateBy, picksBy, idsBy, leftBy, leftByAll, Allowed, Finished, RangesAt, Spells, SoundByPlace}
+use Rattle.bytecode.specs.Internal.{leftBy, leftByAll, Allowed, Finished, RangesAt, Spells, SoundByPlace}
 use Rattle.bytecode.proofs.RoundTrip.{fetch-next}
-use Rattle.bytecode.proofs.Soundness.{_continue_, advances, none≢some, guard-some, continue-some}
-use Rattle.bytecode.proofs.Walk.{HeaderFits, SoundImage, check-sound, Item, passes, item-accepted, Stepped, check-stepped, check-ended, refused≢accepted}
+use Rattle.bytecode.proofs.Soundness.{none≢some, guard-some}
+use Rattle.bytecode.proofs.Walk.{check-sound, Stepped, check-stepped, check-ended}
 
 -- ---- one instruction
 

@@ -3,7 +3,7 @@ use Prim.Native.Nat.{ℕ, zero, suc, _+_, _-_, _^_, _≤_, _<_}
 use native.Mathlib.Numerals.{add-one}
 use native.Mathlib.Omega.{arith}
 use mathlib.Core.Path.{_≡_, refl, sym, ap, subst, _∙_}
-use mathlib.Core.Bool.{Bool, true, false, not, _&&_, cond}
+use mathlib.Core.Bool.{Bool, true, false, not, _&&_}
 use mathlib.Core.List.{List, [], _∷_, map}
 use lib.Dec.{T, leb, ltb}
 use lib.IntN.{ℤ, pos, negsuc}
@@ -21,11 +21,10 @@ use Rattle.semantics.specs.Program.{Range}
 use Rattle.leb128.specs.Numbers.{Read, got, nothing, _then_, numberAt, signedAt, unzigzag}
 use Rattle.leb128.proofs.Signs.{zigzag-unzigzag, zigzag-fits}
 use Rattle.bytecode.specs.Check.{item, Placed, checkRange, checkRanges, Counts, checkCounts, Header, withInputs, checkHeader}
-use Rattle.bytecode.specs.Counting.{extentOf, rangeAt, rangesThen, rangesFrom, behindThen, rangesEnd}
+use Rattle.bytecode.specs.Counting.{extentOf, rangeAt, rangesFrom, rangesEnd}
 use Rattle.bytecode.specs.Internal.{RangesAt}
-use Rattle.bytecode.specs.Results.{Bounded}
 use Rattle.bytecode.proofs.Fetching.{number-within}
-use Rattle.bytecode.proofs.Walk.{HeaderRead, header-read}
+use Rattle.bytecode.proofs.Walk.{header-read}
 
 -- ---- a signed number
 

@@ -1,9 +1,9 @@
 -- The laws of images, each once as it is read; the proofs stand in the files cited. Bytes are numbers below 256. Assumes nothing.
 use Prim.Native.Nat.{ℕ, _+_, _-_}
 use native.Mathlib.Omega.{arith}
-use mathlib.Core.Path.{_≡_, refl, sym, ap, _∙_}
+use mathlib.Core.Path.{_≡_, refl, sym, _∙_}
 use mathlib.Core.List.{List, [], _∷_, _++_, append-assoc}
-use lib.ListN.{length, getD, drop}
+use lib.ListN.{length, drop}
 use lib.Seq.{getD-drop}
 use Rattle.limits.specs.Answer.{accepted}
 use Rattle.semantics.specs.Program.{Range, Program, rangesOf}
@@ -12,8 +12,8 @@ use Rattle.leb128.proofs.Laws.{Bytes}
 use Rattle.leb128.proofs.RoundTrip.{drop-behind, one-spelling}
 use Rattle.bytecode.specs.Instructions.{Instruction, encode, encodeAll, fetch}
 use Rattle.bytecode.specs.Translation.{codeRules, encodeRanges, imageOf, Translatable}
-use Rattle.bytecode.specs.Check.{Header, checkOf}
-use Rattle.bytecode.specs.Counting.{headerOf, codeOf, instructionsIn}
+use Rattle.bytecode.specs.Check.{checkOf}
+use Rattle.bytecode.specs.Counting.{headerOf, codeOf}
 use Rattle.bytecode.specs.Internal.{Spells}
 use Rattle.bytecode.specs.Sound.{Sound}
 use Rattle.bytecode.proofs.RoundTrip.{Small, AllSmall, fetch-encoded}

@@ -1,21 +1,19 @@
 -- Instructions are read back from their bytes, wherever they stand. Assumes nothing.
-use Prim.Native.Nat.{ℕ, zero, suc, _+_, _-_, _*_, _/_, _%_, _^_, _≤_, _<_}
+use Prim.Native.Nat.{ℕ, suc, _+_, _-_, _^_, _≤_, _<_}
 use native.Mathlib.Omega.{arith}
-use mathlib.Core.Path.{_≡_, refl, sym, ap, ap₂, _∙_, subst}
-use mathlib.Core.Bool.{Bool, true, false, not, cond, _&&_}
-use mathlib.Core.List.{List, [], _∷_, _++_, append-assoc}
+use mathlib.Core.Path.{_≡_, refl, sym, ap, _∙_}
+use mathlib.Core.Bool.{Bool, true, false, cond}
+use mathlib.Core.List.{List, [], _∷_, _++_}
 use mathlib.Core.Option.{Option, none, some}
-use lib.Dec.{T, eqb, ltb, ltb→lt}
-use lib.IntN.{ℤ, pos, negsuc}
+use lib.Dec.{T, ltb}
 use lib.ListN.{length, getD, drop, length-append, length-drop}
-use lib.Seq.{drop-drop, drop-append-seam, getD-drop}
-use borrow.Author.Tests.{lt-ltb, le-ltb, ltb-true, ltb-false}
-use Rattle.arith.specs.Values.{isInt32, Operation, add, subtract, multiply, divide, modulo, Comparison, equal, notEqual, less, lessEqual, greater, greaterEqual}
-use Rattle.arith.proofs.Basics.{T-true, true-T}
+use lib.Seq.{getD-drop}
+use borrow.Author.Tests.{lt-ltb, ltb-true}
+use Rattle.arith.specs.Values.{isInt32, add, subtract, multiply, divide, modulo, equal, notEqual, less, lessEqual, greater, greaterEqual}
 use Rattle.leb128.specs.Numbers.{number, zigzag, Read, got, nothing, _then_, numberAt}
 use Rattle.leb128.proofs.Signs.{unzigzag-zigzag}
 use Rattle.leb128.proofs.RoundTrip.{drop-behind, number-at, number-next, zigzag-small}
-use Rattle.bytecode.specs.Instructions.{Instruction, constant, current, previous, operation, negate, comparison, negated, both, either, gate, pick, assign, settle, encode, encodeAll, instructionOf, hasOperand, decoded, fetchCode, fetch}
+use Rattle.bytecode.specs.Instructions.{Instruction, constant, current, previous, operation, negate, comparison, negated, both, either, gate, pick, assign, settle, encode, instructionOf, hasOperand, decoded, fetchCode, fetch}
 
 -- ---- instructions
 

@@ -1,27 +1,26 @@
 -- The image of a translatable program is sound. Assumes nothing.
-use Prim.Native.Nat.{ℕ, zero, suc, _+_, _-_, _^_, _≤_, _<_, max}
+use Prim.Native.Nat.{ℕ, zero, suc, _+_, _-_, _≤_, _<_}
 use native.Mathlib.Omega.{arith}
-use mathlib.Core.Path.{_≡_, refl, sym, ap, ap₂, _∙_, subst}
+use mathlib.Core.Path.{_≡_, refl, sym, ap, _∙_}
 use mathlib.Core.Bool.{Bool, true, false, not, _&&_, false≢true}
 use mathlib.Core.List.{List, [], _∷_, _++_, append-assoc}
 use mathlib.Core.Option.{Option, none, some}
 use lib.Dec.{T, eqb, leb, ltb, lt→ltb, ltb→lt, le→leb, eqb-refl}
-use lib.IntN.{ℤ}
 use lib.ListN.{length, getD, set, drop, length-append, length-drop, length-set}
 use lib.Seq.{drop-append-seam}
 use lib.Signed.{leZ}
 use borrow.Author.Tests.{lt-ltb, le-ltb}
-use Rattle.limits.specs.Answer.{Answer, accepted, refused, _andThen_}
+use Rattle.limits.specs.Answer.{Answer, accepted}
 use Rattle.arith.specs.Values.{isInt32}
-use Rattle.semantics.specs.Program.{Program, Range, Expression, Condition, Case, Rule, function, change, target, rangesOf, UsableE, UsableC, UsableK, UsableR, OrderedRules, knownFirst, allTrue, WellFormed}
+use Rattle.semantics.specs.Program.{Program, Range, Expression, Condition, Case, Rule, function, change, target, rangesOf, UsableE, UsableC, UsableK, UsableR, OrderedRules, knownFirst, allTrue}
 use Rattle.semantics.specs.Program as P
-use Rattle.arith.proofs.Basics.{T-true, true-T, and-left, and-right}
+use Rattle.arith.proofs.Basics.{T-true, and-left, and-right}
 use Rattle.semantics.proofs.Reference.{length-known}
-use Rattle.leb128.specs.Numbers.{Read, got, nothing, number, zigzag, numberAt, signedAt}
-use Rattle.bytecode.specs.Instructions.{Instruction, constant, current, previous, operation, negate, comparison, negated, both, either, gate, pick, assign, settle, encode, encodeAll, fetch}
+use Rattle.leb128.specs.Numbers.{got, number, zigzag}
+use Rattle.bytecode.specs.Instructions.{Instruction, constant, current, previous, operation, negate, comparison, negated, both, either, gate, pick, assign, settle, encode, encodeAll}
 use Rattle.bytecode.specs.Translation.{codeE, codeC, codeCase, codeK, codeR, codeRules, encodeRanges, encodeHeader, imageOf, depthE, depthC, ShallowK, ShallowR, Shallow, RangeFits, RangesFit, Translatable}
-use Rattle.bytecode.specs.Check.{Sort, truth, Known, known, guard, held, one, empty, unset, closed, fresh, opened, advance, complete, item, checkRange, checkRanges, Header, checkCounts, checkHeader, ends, ifSome, checkCode, atStart, checkBody, checkOf}
-use Rattle.bytecode.specs.Counting.{orNone, headerOf, codeOf}
+use Rattle.bytecode.specs.Check.{Sort, truth, Known, known, guard, one, empty, unset, closed, fresh, opened, advance, complete, item, checkRange, checkRanges, Header, checkCounts, checkHeader, checkCode, checkBody, checkOf}
+use Rattle.bytecode.specs.Counting.{headerOf, codeOf}
 use Rattle.leb128.proofs.RoundTrip.{drop-behind, number-at, signed-at}
 use Rattle.bytecode.proofs.RoundTrip.{Small, AllSmall, fetch-encoded, length-encode, encoded-inside}
 

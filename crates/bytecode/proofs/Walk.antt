@@ -5,12 +5,11 @@ use mathlib.Core.Path.{_≡_, refl, sym, ap, _∙_, subst}
 use mathlib.Core.Bool.{Bool, true, false, _&&_, cond}
 use mathlib.Core.List.{List, [], _∷_}
 use mathlib.Core.Option.{Option, none, some}
-use lib.Dec.{T, ltb, leb, leb→le}
+use lib.Dec.{T, leb, leb→le}
 use lib.IntN.{ℤ}
-use lib.ListN.{length, drop}
+use lib.ListN.{length}
 use lib.Signed.{leZ}
 use borrow.Author.Tests.{lt-ltb, le-ltb}
-use Rattle.limits.specs.Limits.{brokenImage}
 use Rattle.limits.specs.Answer.{Answer, accepted, refused, _andThen_}
 use Rattle.arith.specs.Values.{isInt32}
 use Rattle.semantics.specs.Program.{Range}
@@ -18,9 +17,8 @@ use Rattle.arith.proofs.Basics.{true-T}
 use Rattle.leb128.specs.Numbers.{Read, got, nothing, numberAt, signedAt}
 use Rattle.bytecode.specs.Instructions.{Instruction, fetch}
 use Rattle.bytecode.specs.Translation.{RangeFits, RangesFit}
-use Rattle.bytecode.specs.Check.{Known, known, advance, complete, tested, item, Placed, checkRange, checkRanges, Counts, checkCounts, Header, checkHeader, ends, ifSome, checkCode, atStart, checkBody, checkOf}
+use Rattle.bytecode.specs.Check.{Known, advance, complete, tested, item, Placed, checkRange, checkRanges, Counts, checkCounts, Header, checkHeader, ends, ifSome, checkCode, checkBody, checkOf}
 use Rattle.bytecode.specs.Internal.{RangesAt}
-use Rattle.bytecode.specs.Counting.{orNone, headerOf, codeOf}
 
 pub refused≢accepted : {A X : Type 0} (a : A) (n k : ℕ) → refused n k ≡ accepted a → X
 refused≢accepted a n k e = let z : _≡_ {A = ℕ} 0 1 = cc in let f : ⊥ = omega arith in absurd f

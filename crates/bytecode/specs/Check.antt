@@ -4,7 +4,6 @@ use mathlib.Core.Bool.{Bool, true, false, not, _&&_, cond}
 use mathlib.Core.List.{List, [], _∷_}
 use mathlib.Core.Option.{Option, none, some}
 use lib.Dec.{eqb, leb, ltb}
-use lib.IntN.{ℤ}
 use lib.ListN.{length, getD, set, drop}
 use lib.Signed.{leZ}
 use Rattle.limits.specs.Limits.{stackLimit, nameLimit, imageLimit, tooLong, brokenImage}

@@ -1,6 +1,6 @@
 -- What instructions leave, how bytes spell ranges and instructions (Sound cites these), and soundness place by place, as a walk
 -- meets it: a shape for proofs. Document 01, "The image" (Sound). Assumes nothing.
-use Prim.Native.Nat.{ℕ, zero, suc, _+_, _≤_, _<_}
+use Prim.Native.Nat.{ℕ, _+_, _≤_, _<_}
 use mathlib.Core.Path.{_≡_}
 use mathlib.Core.Bool.{Bool, true, false}
 use mathlib.Core.List.{List, [], _∷_, _++_}
@@ -10,7 +10,7 @@ use lib.ListN.{length, getD, set, drop}
 use Rattle.limits.specs.Limits.{stackLimit, nameLimit, imageLimit}
 use Rattle.arith.specs.Values.{isInt32}
 use Rattle.semantics.specs.Program.{Range, allTrue}
-use Rattle.leb128.specs.Numbers.{Read, got, nothing, numberAt, signedAt}
+use Rattle.leb128.specs.Numbers.{got, numberAt, signedAt}
 use Rattle.bytecode.specs.Instructions.{Instruction, constant, current, previous, operation, negate, comparison, negated, both, either, gate, pick, assign, settle, fetch}
 use Rattle.bytecode.specs.Translation.{RangesFit}
 use Rattle.bytecode.specs.Check.{Sort, number, truth, Known, known, unset, fresh, Header, atStart}

@@ -1,5 +1,5 @@
 -- Which expressions and conditions the grammar makes with at most r more open brackets. Document 01, "The text". Assumes nothing.
-use Prim.Native.Nat.{ℕ, zero, suc}
+use Prim.Native.Nat.{ℕ, suc}
 use lib.IntN.{ℤ}
 use Rattle.arith.specs.Values.{Operation, add, subtract, multiply, divide, modulo, Comparison}
 use Rattle.semantics.specs.Program.{Expression, constant, current, previous, operation, negate, Condition, comparison, negated, both, either}

@@ -1,16 +1,15 @@
 -- Sound images: the properties of document 01's paragraph, over the whole code. Document 01, "The image" (Sound). What instructions
 -- leave (heldBy, idsBy) and how bytes spell ranges and instructions (RangesAt, Spells) stands in Internal. Assumes nothing.
-use Prim.Native.Nat.{ℕ, zero, suc, _+_, _≤_, _<_}
+use Prim.Native.Nat.{ℕ, _+_, _≤_, _<_}
 use mathlib.Core.Path.{_≡_}
 use mathlib.Core.Bool.{Bool, true, false}
 use mathlib.Core.List.{List, [], _∷_, _++_}
-use mathlib.Core.Option.{Option, none, some}
 use lib.Dec.{T}
 use lib.ListN.{length, getD, drop}
 use Rattle.limits.specs.Limits.{stackLimit, nameLimit, imageLimit}
 use Rattle.arith.specs.Values.{isInt32}
 use Rattle.semantics.specs.Program.{allTrue, knownFirst}
-use Rattle.leb128.specs.Numbers.{Read, got, nothing, numberAt}
+use Rattle.leb128.specs.Numbers.{got, numberAt}
 use Rattle.bytecode.specs.Instructions.{Instruction, constant, current, previous, operation, negate, comparison, negated, both, either, gate, pick, assign, settle}
 use Rattle.bytecode.specs.Translation.{RangesFit}
 use Rattle.bytecode.specs.Check.{Sort, number, truth, unset, Header}

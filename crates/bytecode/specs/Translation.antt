@@ -1,5 +1,5 @@
 -- The image of a program. Document 01, "The image". Assumes nothing.
-use Prim.Native.Nat.{ℕ, zero, suc, _-_, _≤_, max}
+use Prim.Native.Nat.{ℕ, suc, _-_, _≤_, max}
 use mathlib.Core.Bool.{_&&_}
 use mathlib.Core.List.{List, [], _∷_, _++_}
 use lib.Dec.{T}

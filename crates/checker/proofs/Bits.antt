@@ -1,6 +1,6 @@
 -- Sorts and flags kept as the bits of a number. Assumes nothing.
 use Prim.Native.Nat.{ℕ, zero, suc, _+_, _-_, _*_, _/_, _%_, _^_, _≤_, _<_}
-use mathlib.Core.Path.{_≡_, refl, sym, ap, ap₂, _∙_}
+use mathlib.Core.Path.{_≡_, refl, sym, ap, _∙_}
 use mathlib.Core.Bool.{Bool, true, false, not, _&&_, false≢true}
 use mathlib.Core.List.{List, [], _∷_}
 use native.Mathlib.Omega.{arith}
@@ -12,7 +12,7 @@ use lib.Pow.{pow-mono, pow-pos, shr-shr, shl-exact}
 use borrow.Author.Tests.{eq-eqb, ne-eqb, eqb-true, eqb-false, ltb-true}
 use Rattle.arith.proofs.Basics.{not-true}
 use Rattle.semantics.specs.Program.{allTrue, knownFirst}
-use Rattle.bytecode.specs.Check.{Sort, number, truth, unset}
+use Rattle.bytecode.specs.Check.{Sort, number, unset}
 use Rattle.checker.specs.Represented.{sortOf, sortsOf, flagsOf}
 
 -- ---- sorts

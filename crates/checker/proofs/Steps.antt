@@ -7,12 +7,12 @@ use mathlib.Core.Option.{Option, none, some}
 use native.Mathlib.Omega.{arith}
 use native.Mathlib.Numerals.{add-one}
 use lib.Dec.{eqb, eqb·suc-suc}
-use lib.ListN.{length, getD, set}
-use borrow.Author.Tests.{eq-eqb, ne-eqb, lt-ltb, le-ltb, le-leb, lt-leb}
+use lib.ListN.{set}
+use borrow.Author.Tests.{eq-eqb, ne-eqb, le-leb, lt-leb}
 use Rattle.arith.specs.Values.{Operation, Comparison, isInt32}
 use Rattle.arith.proofs.Basics.{T-true}
 use Rattle.leb128.specs.Numbers.{unzigzag}
-use Rattle.bytecode.specs.Instructions.{constant, operation, negate, comparison, negated, both, either, gate, pick, assign, settle, operationOf, comparisonOf, instructionOf}
+use Rattle.bytecode.specs.Instructions.{constant, operation, negate, comparison, negated, both, either, gate, pick, assign, operationOf, comparisonOf, instructionOf}
 use Rattle.bytecode.specs.Check.{Sort, number, truth, Known, known, guard, one, empty, unset, closed, fresh, opened, advance}
 use Rattle.bytecode.proofs.Heading.{unzigzag-int32}
 use Rattle.checker.specs.declared.advance.Walk.{Walk}

@@ -1,16 +1,16 @@
 -- The walk over the code: what holds at each turn of the loop, and the ways out of it. Assumes nothing.
 use Prim.Native.Nat.{ℕ, zero, suc, _+_, _-_, _^_, _≤_, _<_}
-use mathlib.Core.Path.{_≡_, refl, sym, ap, _∙_}
-use mathlib.Core.Bool.{Bool, true, false}
+use mathlib.Core.Path.{_≡_, refl, sym, _∙_}
+use mathlib.Core.Bool.{false}
 use mathlib.Core.List.{List, []}
 use mathlib.Core.Option.{Option, none, some}
 use native.Mathlib.Omega.{arith}
 use lib.ListN.{length}
 use lib.Pow.{pow-mono, pow-pos}
 use borrow.Author.Tests.{lt-ltb, le-ltb}
-use Rattle.limits.specs.Answer.{Answer, accepted, refused}
+use Rattle.limits.specs.Answer.{Answer, refused}
 use Rattle.semantics.specs.Program.{knownFirst}
-use Rattle.leb128.specs.Numbers.{Read, got, nothing}
+use Rattle.leb128.specs.Numbers.{nothing}
 use Rattle.bytecode.specs.Instructions.{Instruction, decoded, fetch}
 use Rattle.bytecode.specs.Check.{Known, known, complete, ends, ifSome, checkCode}
 use Rattle.checker.specs.declared.advance.Walk.{Walk}

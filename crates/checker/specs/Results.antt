@@ -1,5 +1,5 @@
 -- What the answer of check stands for: document 01's refusal number and place, or sound. Assumes nothing.
-use Prim.Native.Nat.{ℕ, _≤_}
+use Prim.Native.Nat.{_≤_}
 use Rattle.limits.specs.Limits.{imageLimit}
 use Rattle.limits.specs.Answer.{Answer, accepted, refused}
 use Rattle.checker.specs.declared.Checked.{Checked}

@@ -3,37 +3,21 @@ ghost use mathlib.Core.Path.{_≡_};
 ghost use mathlib.Core.List.{[]};
 ghost use mathlib.Core.Option.{none};
 ghost use mathlib.Core.Bool.{true, false};
-ghost use Prim.Native.Nat.{_-_, _<_, _≤_, _^_};
-ghost use lib.Dec.{T};
+ghost use Prim.Native.Nat.{_<_, _^_};
 ghost use lib.ListN.{getD, set};
 ghost use Rattle.bytecode.specs.Instructions.{current as currentOf, previous as previousOf, gate as gateOf, pick as pickOf, assign as assignOf, settle as settleOf, instructionOf};
 ghost use Rattle.bytecode.specs.Check.{truth, known as knownAs, advance as advanceOf, unset as unsetOf, fresh};
-ghost use Rattle.checker.specs.Represented.{
-  sortOf,
-  openOf,
-  sortsOf,
-  flagsOf,
-  picksOf,
-  knownOf,
-  advancedKnown,
-  Small,
-  SmallAfter,
-  advanceBy,
-  pushed,
-  kept,
-  joined,
-  only,
-  outside,
-};
+ghost use Rattle.checker.specs.Represented.{sortOf, sortsOf, openOf, flagsOf, picksOf, knownOf, advancedKnown, Small, SmallAfter};
+ghost use Rattle.checker.specs.Represented.{advanceBy, pushed, kept, joined, only, outside};
 
 // The sort of a value held.
 const NUMBER: u64 = 0;
 
 const TRUTH: u64 = 1;
 
-// What is known before an instruction: how many values are held, and their sorts as bits (the lowest that of the last held); 1 if a
-// gate awaits its pick, else 0 (a number, so that the struct has no padding to copy); the id whose picks await their settle plus 1, or 0; which ids' current values may be used, as
-// bits (the lowest that of id 0), and how many ids there are.
+// What is known before an instruction: how many values are held, and their sorts as bits (the lowest that of the last held); 1 if
+// a gate awaits its pick, else 0 (a number, so that the struct has no padding to copy); the id whose picks await their settle plus
+// 1, or 0; which ids' current values may be used, as bits (the lowest that of id 0), and how many ids there are.
 pub struct Walk {
     pub held: u64,
     pub sorts: u64,
@@ -192,7 +176,7 @@ fn is_unset(w: Walk, id: u64) -> bool
     requires { ⌜ Small w ⌝ }
     ensures { λ r. ⌜ r ≡ unsetOf (flagsOf (w .names) (w .known)) id ⌝ }
 {
-    if w.names <= id {
+    if id >= w.names {
         return false;
     }
     (w.known >> id) % 2 == 0

@@ -3,7 +3,7 @@ ghost use mathlib.Core.Path.{_≡_};
 ghost use mathlib.Core.List.{[]};
 ghost use mathlib.Core.Option.{none};
 ghost use mathlib.Core.Bool.{false};
-ghost use Prim.Native.Nat.{_+_, _-_, _≤_, _<_, _^_};
+ghost use Prim.Native.Nat.{_+_, _-_, _≤_, _^_};
 ghost use lib.ListN.{length};
 ghost use Rattle.limits.specs.Limits.{imageLimit, nameLimit};
 ghost use Rattle.semantics.specs.Program.{knownFirst};
@@ -65,11 +65,12 @@ fn check_code(code: &[u8], base: usize, inputs: usize, names: usize) -> Checked
         names: names as u64,
     };
     while at < code.len() {
+        let place = base + at;
         let bytecode::Fetched::Instruction(byte, n, next) = bytecode::fetch(code, at) else {
-            return Checked::Refused(11, base + at);
+            return Checked::Refused(11, place);
         };
         let Advanced::Kept(k) = advance::advance(byte, n, w) else {
-            return Checked::Refused(11, base + at);
+            return Checked::Refused(11, place);
         };
         w = k;
         at = next;

@@ -1,7 +1,6 @@
 -- `bytecode::check_ranges` meets its contract. The loop's invariant: what is left of the ranges makes the whole header. Assumes nothing.
 use Prim.Native.Nat.{_-_}
-use mathlib.Core.Path.{_≡_, sym, ap, _∙_, subst}
-use native.Mathlib.Omega.{arith}
+use mathlib.Core.Path.{sym, ap, _∙_, subst}
 use lib.ListN.{length}
 use borrow.Author.Needs.{needs}
 use Rattle.bytecode.specs.Results.{rangedAnswer, RangedWithin}

@@ -1,5 +1,5 @@
 -- `bytecode::counts` meets its contract: each way out is one of the ways in which the counts are read. Assumes nothing.
-use mathlib.Core.Path.{_≡_, refl, sym, ap, _∙_}
+use mathlib.Core.Path.{sym, ap, _∙_}
 use native.Mathlib.Omega.{arith}
 use borrow.Author.Needs.{needs}
 use Rattle.leb128.specs.Results.{unsignedRead}

@@ -1,5 +1,5 @@
 -- `bytecode::fetch` meets its contract: each way out is one of the ways in which an instruction is read. Assumes nothing.
-use mathlib.Core.Path.{_≡_, sym, ap, _∙_}
+use mathlib.Core.Path.{sym, ap, _∙_}
 use native.Mathlib.Omega.{arith}
 use borrow.Author.Needs.{needs}
 use Rattle.leb128.specs.Results.{unsignedRead}

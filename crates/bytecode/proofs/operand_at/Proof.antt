@@ -1,7 +1,5 @@
 -- `bytecode::operand_at` meets its contract. Assumes nothing.
-use mathlib.Core.Path.{_≡_, sym, ap, _∙_}
-use Prim.Native.Nat.{ℕ, _+_}
-use Rattle.leb128.specs.Numbers.{got}
+use mathlib.Core.Path.{sym}
 use Rattle.bytecode.proofs.Fetching.{number-none, number-one}
 use borrow.Author.Needs.{needs}
 use native.Mathlib.Omega.{arith}

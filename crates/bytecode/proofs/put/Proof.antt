@@ -1,5 +1,5 @@
 -- `bytecode::put` meets its contract: out of range, `set` is the identity. Assumes nothing.
-use mathlib.Core.Path.{_≡_, sym}
+use mathlib.Core.Path.{sym}
 use lib.Seq.{set-out}
 use borrow.Author.Needs.{needs}
 use Rattle.bytecode.proofs.put.Statement.{statement}

@@ -1,5 +1,5 @@
 -- `bytecode::range_at` meets its contract: each number that is read takes the definition one step on. Assumes nothing.
-use mathlib.Core.Path.{_≡_, sym, ap, _∙_}
+use mathlib.Core.Path.{sym, ap, _∙_}
 use borrow.Author.Needs.{needs}
 use Rattle.arith.proofs.Laws.{same32}
 use Rattle.leb128.specs.Results.{signedRead}

@@ -1,7 +1,7 @@
 -- `bytecode::ranges` meets its contract. The loop's invariant, for each of the three lists: what is left of the ranges makes the whole.
 -- Assumes nothing.
 use Prim.Native.Nat.{ℕ, _-_}
-use mathlib.Core.Path.{_≡_, sym, ap, _∙_}
+use mathlib.Core.Path.{sym, ap, _∙_}
 use mathlib.Core.List.{List}
 use native.Mathlib.Omega.{arith}
 use lib.IntN.{ℤ}

@@ -1,5 +1,5 @@
 -- `checker::check` meets its contract. Assumes nothing.
-use mathlib.Core.Path.{_≡_, refl, sym, ap, subst, _∙_}
+use mathlib.Core.Path.{sym, ap, subst, _∙_}
 use lib.ListN.{length, length-drop}
 use Rattle.bytecode.specs.Results.{headedAnswer, HeadedWithin}
 use Rattle.checker.proofs.Checking.{rest-of, too-long, broken-header, whole-header}

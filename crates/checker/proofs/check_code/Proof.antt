@@ -1,6 +1,6 @@
 -- `checker::check_code` meets its contract. The loop's invariant: what is left of the walk makes the whole. Assumes nothing.
 use Prim.Native.Nat.{_-_}
-use mathlib.Core.Path.{_≡_, refl, sym, ap, subst, _∙_}
+use mathlib.Core.Path.{sym, ap, subst, _∙_}
 use lib.ListN.{length}
 use Rattle.bytecode.specs.Instructions.{instructionOf}
 use Rattle.bytecode.specs.Results.{fetchedRead, FetchedWithin}
@@ -25,6 +25,9 @@ loop-holds c =
     let p = c .before .before .pre in
     rw (c .ones .ensures) (walking-begins _ _ _ _ (p .0) (p .1))
 
+add-place : tie.Need-add-place Inv-loop μ-loop
+add-place c = omega (arith, c .before .loop .inv .inside, c .before .before .before .before .pre .2)
+
 fetch-requires : tie.Need-fetch-requires Inv-loop μ-loop
 fetch-requires c κs = search needs
 
@@ -33,9 +36,6 @@ enum-known-byte c = search needs
 
 enum-told : tie.Need-enum-told Inv-loop μ-loop
 enum-told c = search needs
-
-add-t17 : tie.Need-add-t17 Inv-loop μ-loop
-add-t17 c = omega (arith, c .before .before .before .before .loop .inv .inside, c .before .before .before .before .before .before .before .pre .2)
 
 returns : tie.Need-returns Inv-loop μ-loop
 returns c = (walking-malformed (c .before .before .before .before .loop .inv) (c .before .before .before .loop-test .taken) (sym (c .before .before .fetch .ensures .0) ∙ ap fetchedRead (c .enum-told .given .1)), omega (arith, c .before .before .before .before .loop .inv .inside, c .before .before .before .before .before .before .before .pre .2))
@@ -48,9 +48,6 @@ enum-known-k c = search needs
 
 enum-told-2 : tie.Need-enum-told-2 Inv-loop μ-loop
 enum-told-2 c = search needs
-
-add-t19 : tie.Need-add-t19 Inv-loop μ-loop
-add-t19 c = omega (arith, c .before .before .before .before .before .before .before .before .loop .inv .inside, c .before .before .before .before .before .before .before .before .before .before .before .pre .2)
 
 returns-2 : tie.Need-returns-2 Inv-loop μ-loop
 returns-2 c = (
@@ -76,14 +73,11 @@ complete-requires c κs = c .before .loop .inv .small
 returns-3 : tie.Need-returns-3 Inv-loop μ-loop
 returns-3 c = (sym (walking-ends (c .before .before .before .loop .inv) (c .before .before .loop-test .left) ∙ rw (sym (c .before .complete .ensures) ∙ c .if1 .taken)), tt)
 
-add-t22 : tie.Need-add-t22 Inv-loop μ-loop
-add-t22 c = omega (arith, c .before .before .before .loop .inv .inside, c .before .before .before .before .before .before .pre .2)
+add-t21 : tie.Need-add-t21 Inv-loop μ-loop
+add-t21 c = omega (arith, c .before .before .before .loop .inv .inside, c .before .before .before .before .before .before .pre .2)
 
 returns-4 : tie.Need-returns-4 Inv-loop μ-loop
-returns-4 c = (
-  sym (walking-ends (c .before .before .before .loop .inv) (c .before .before .loop-test .left) ∙ rw (sym (c .before .complete .ensures) ∙ c .if1 .left)),
-  omega (arith, c .before .before .before .loop .inv .inside, c .before .before .before .before .before .before .pre .2),
-)
+returns-4 c = (sym (walking-ends (c .before .before .before .loop .inv) (c .before .before .loop-test .left) ∙ rw (sym (c .before .complete .ensures) ∙ c .if1 .left)), c .before .before .before .before .before .before .pre .2)
 
 pub check-code-spec : {M : Type 1} → statement M
 check-code-spec =
@@ -93,19 +87,18 @@ check-code-spec =
     μ-loop
     ones-requires
     loop-holds
+    add-place
     fetch-requires
     enum-known-byte
     enum-told
-    add-t17
     returns
     advance-requires
     enum-known-k
     enum-told-2
-    add-t19
     returns-2
     loop-less
     loop-again
     complete-requires
     returns-3
-    add-t22
+    add-t21
     returns-4)

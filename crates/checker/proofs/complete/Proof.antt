@@ -1,5 +1,4 @@
 -- `checker::complete` meets its contract. Assumes nothing.
-use mathlib.Core.Path.{_≡_, refl, sym, ap, _∙_}
 use Rattle.checker.proofs.Bits.{sorts-none, flags-all}
 use Rattle.checker.proofs.Steps.{empty-not, closed-not, open-yes}
 use borrow.Author.Needs.{needs}

@@ -1,6 +1,4 @@
 -- `checker::ones` meets its contract. Assumes nothing.
-use mathlib.Core.Path.{_≡_, refl, sym, ap, _∙_}
-use Prim.Native.Nat.{_^_, _≤_}
 use lib.Pow.{pow-pos}
 use Rattle.checker.proofs.Bits.{shifted}
 use borrow.Author.Needs.{needs}

@@ -1,6 +1,5 @@
 -- `ffi::rolvenko_check` meets its contract. Assumes nothing.
-use mathlib.Core.Path.{_≡_, refl, sym, ap, subst, _∙_}
-use Prim.Native.Nat.{_≤_}
+use mathlib.Core.Path.{sym, ap, subst, _∙_}
 use Rattle.checker.specs.Results.{checkedAnswer, CheckedWithin}
 use Rattle.ffi.specs.Packed.{packedCheck}
 use borrow.Author.Needs.{needs}

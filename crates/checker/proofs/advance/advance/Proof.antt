@@ -1,5 +1,5 @@
 -- `checker::advance::advance` meets its contract: each arm is the instruction of its code byte. Assumes nothing.
-use mathlib.Core.Path.{_≡_, refl, sym, ap, _∙_}
+use mathlib.Core.Path.{sym, _∙_}
 use Rattle.bytecode.specs.Instructions.{instructionOf, operationOf, comparisonOf}
 use Rattle.checker.specs.Represented.{knownOf}
 use Rattle.checker.proofs.Steps.{operation-is, comparison-is, both-is, either-is, negate-is, negated-is, constant-is, operation-of, comparison-of, none-below, none-above, from-four, above}

@@ -1,5 +1,5 @@
 -- `checker::advance::current` meets its contract. Assumes nothing.
-use mathlib.Core.Path.{_≡_, refl, sym, ap, _∙_}
+use mathlib.Core.Path.{sym, _∙_}
 use Rattle.checker.specs.Represented.{pushed}
 use borrow.Author.Needs.{needs}
 use Rattle.checker.proofs.advance.current.Statement.{statement}

@@ -1,5 +1,5 @@
 -- `checker::advance::gate` meets its contract. Assumes nothing.
-use mathlib.Core.Path.{_≡_, refl, sym, ap, _∙_}
+use mathlib.Core.Path.{sym, _∙_}
 use Rattle.checker.proofs.Steps.{gate-is, open-yes}
 use Rattle.checker.proofs.Bits.{sorts-none}
 use borrow.Author.Needs.{needs}

@@ -1,5 +1,5 @@
 -- `checker::advance::holds_only` meets its contract. Assumes nothing.
-use mathlib.Core.Path.{_≡_, refl, sym, ap, _∙_}
+use mathlib.Core.Path.{sym}
 use Rattle.checker.specs.Represented.{sortOf}
 use Rattle.checker.proofs.Steps.{only-other, only-one}
 use Rattle.checker.proofs.advance.holds_only.Statement.{statement}

@@ -1,5 +1,5 @@
 -- `checker::advance::is_known` meets its contract. Assumes nothing.
-use mathlib.Core.Path.{_≡_, refl, sym, ap, _∙_}
+use mathlib.Core.Path.{sym}
 use Rattle.checker.proofs.Bits.{flag-at, flag-out}
 use borrow.Author.Needs.{needs}
 use Rattle.checker.proofs.advance.is_known.Statement.{statement}

@@ -1,6 +1,5 @@
 -- `checker::advance::is_unset` meets its contract. Assumes nothing.
-use mathlib.Core.Path.{_≡_, refl, sym, ap, _∙_}
-use Prim.Native.Nat.{_+_, _/_, _%_, _^_, _<_}
+use Prim.Native.Nat.{_/_, _^_}
 use borrow.Author.Tests.{lt-ltb, le-ltb}
 use Rattle.checker.proofs.Bits.{length-flags, flag-at, bit-not}
 use borrow.Author.Needs.{needs}

@@ -1,5 +1,5 @@
 -- `checker::advance::keep` meets its contract. Assumes nothing.
-use mathlib.Core.Path.{_≡_, refl, sym, ap, _∙_}
+use mathlib.Core.Path.{sym}
 use Rattle.checker.proofs.Steps.{kept-none, kept-other, kept-same}
 use Rattle.checker.proofs.advance.keep.Statement.{statement}
 use Rattle.checker.proofs.advance.keep.Tie as tie

@@ -1,5 +1,5 @@
 -- `checker::advance::may_pick` meets its contract. Assumes nothing.
-use mathlib.Core.Path.{_≡_, refl, sym, ap, _∙_}
+use mathlib.Core.Path.{sym}
 use Rattle.checker.proofs.Steps.{fresh-is}
 use borrow.Author.Needs.{needs}
 use Rattle.checker.proofs.advance.may_pick.Statement.{statement}

@@ -1,5 +1,5 @@
 -- `checker::advance::pick` meets its contract. Assumes nothing.
-use mathlib.Core.Path.{_≡_, refl, sym, ap, _∙_}
+use mathlib.Core.Path.{sym, _∙_}
 use borrow.Author.Tests.{not-true, not-false}
 use Rattle.checker.proofs.Bits.{sorts-none}
 use Rattle.checker.proofs.Steps.{pick-is, suc-picks, open-yes}

@@ -1,5 +1,4 @@
 -- `checker::advance::previous` meets its contract. Assumes nothing.
-use mathlib.Core.Path.{_≡_, refl, sym, ap, _∙_}
 use borrow.Author.Tests.{lt-ltb, le-ltb}
 use Rattle.checker.specs.Represented.{pushed}
 use Rattle.checker.proofs.Bits.{length-flags}

@@ -1,6 +1,5 @@
 -- `checker::advance::ruled` meets its contract. Assumes nothing.
-use mathlib.Core.Path.{_≡_, refl, sym, ap, _∙_}
-use Prim.Native.Nat.{_+_, _/_, _%_, _^_, _<_}
+use Prim.Native.Nat.{_+_, _^_}
 use Rattle.checker.proofs.Bits.{sorts-none, unset-means, shifted, flag-set, set-low, below-64}
 use native.Mathlib.Omega.{arith}
 use Rattle.checker.proofs.advance.ruled.Statement.{statement}

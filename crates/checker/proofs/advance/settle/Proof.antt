@@ -1,5 +1,5 @@
 -- `checker::advance::settle` meets its contract. Assumes nothing.
-use mathlib.Core.Path.{_≡_, refl, sym, ap, _∙_}
+use mathlib.Core.Path.{sym, ap, _∙_}
 use borrow.Author.Tests.{not-true, not-false}
 use mathlib.Core.Option.{some}
 use Rattle.checker.proofs.Bits.{sorts-none}

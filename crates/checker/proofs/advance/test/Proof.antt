@@ -1,5 +1,5 @@
 -- `checker::advance::test` meets its contract. Assumes nothing.
-use mathlib.Core.Path.{_≡_, refl, sym, ap, _∙_}
+use mathlib.Core.Path.{ap, _∙_}
 use Rattle.checker.specs.Represented.{openOf}
 use Rattle.checker.proofs.Steps.{outside-no, open-yes}
 use borrow.Author.Needs.{needs}
