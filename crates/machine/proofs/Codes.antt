@@ -13,7 +13,8 @@ use Rattle.semantics.specs.Program.{Range}
 use Rattle.semantics.specs.Formula.{State}
 use Rattle.bytecode.specs.Instructions.{Instruction, operation, comparison, operationOf, comparisonOf, instructionOf}
 use Rattle.machine.specs.Step.{machine, isPick}
-use Rattle.machine.specs.Internal.{truthOf, related, performed, stepped}
+use Rattle.machine.specs.Internal.{truthOf, related, performed}
+use Rattle.machine.specs.Memory.{stepped}
 
 -- ---- arithmetic and comparisons
 

@@ -3,25 +3,19 @@ use mathlib.Core.Path.{_≡_}
 use mathlib.Core.Bool.{Bool, false, _&&_, _||_, cond}
 use mathlib.Core.List.{List, _∷_}
 use mathlib.Core.Option.{Option, none, some}
-use Prim.Native.Nat.{ℕ, _≤_}
+use Prim.Native.Nat.{ℕ}
 use lib.Dec.{eqb, ltb}
 use lib.IntN.{ℤ}
 use lib.ListN.{length}
-use Rattle.limits.specs.Limits.{stackLimit, brokenImage}
+use Rattle.limits.specs.Limits.{brokenImage}
 use Rattle.arith.specs.Values.{Outcome, ok, refusal, compares}
 use Rattle.semantics.specs.Program.{Range}
 use Rattle.semantics.specs.Formula.{State, at}
 use Rattle.bytecode.specs.Instructions.{Instruction, comparisonOf}
 use Rattle.machine.specs.declared.Registers.{Registers}
 use Rattle.machine.specs.declared.Stepped.{Stepped}
-use Rattle.machine.specs.declared.Stepped.the-variants.{Next, Refused}
-use Rattle.machine.specs.Step.{Machine, machine, bit, yes, push, pop, perform, step}
+use Rattle.machine.specs.Step.{Machine, machine, bit, yes, push, pop, perform}
 use Rattle.machine.specs.Memory.{heldOf, stepOutcome}
-
--- what is held stays within the limit
-abbrev pub Few : Stepped → Type 0
-Few (Next m) = m .held ≤ stackLimit
-Few (Refused k) = 0 ≤ 0
 
 -- an instruction that leaves the current values alone
 abbrev pub OnStack : Instruction → Registers → List ℤ → Stepped → List ℤ → Type 0
@@ -43,7 +37,3 @@ module _ (ns : List Range) (s : State) where
   abbrev pub performed : Option Instruction → Bool → List ℤ → State → Outcome Machine
   performed none c vs t = refusal brokenImage
   performed (some i) c vs t = perform ns s i c vs t
-
-  abbrev pub stepped : Option Instruction → Machine → Outcome Machine
-  stepped none m = refusal brokenImage
-  stepped (some i) m = step ns s i m

@@ -1,18 +1,20 @@
 -- What the memory lent to the running machine and its answers stand for. Assumes nothing.
 use mathlib.Core.Path.{_≡_}
 use mathlib.Core.List.{List, [], _∷_, map}
+use mathlib.Core.Option.{Option, none, some}
 use Prim.Native.Nat.{ℕ, zero, suc, _≤_}
 use lib.IntN.{ℤ, pos}
 use lib.ListN.{length, getD}
-use Rattle.limits.specs.Limits.{stackLimit}
+use Rattle.limits.specs.Limits.{stackLimit, brokenImage}
 use Rattle.arith.specs.Values.{Outcome, ok, refusal}
 use Rattle.semantics.specs.Program.{Range}
 use Rattle.semantics.specs.Formula.{State}
+use Rattle.bytecode.specs.Instructions.{Instruction}
 use Rattle.machine.specs.declared.Registers.{Registers}
 use Rattle.machine.specs.declared.Stepped.{Stepped}
 use Rattle.machine.specs.declared.Stepped.the-variants.{Next, Refused}
 use Rattle.machine.specs.declared.Executed.{Executed}
-use Rattle.machine.specs.Step.{Machine, machine}
+use Rattle.machine.specs.Step.{Machine, machine, step}
 use Rattle.machine.specs.Runs.{Ran, ran}
 
 -- the values held: the first n cells of the memory lent for them, the last first
@@ -29,6 +31,11 @@ abbrev pub stepOutcome : Stepped → List ℤ → State → Outcome Machine
 stepOutcome (Next m) vals t = ok (machineOf m vals t)
 stepOutcome (Refused k) vals t = refusal k
 
+-- One instruction, given its code byte and its operand as `instructionOf` reads them: a code byte that is not listed is 11.
+abbrev pub stepped : List Range → State → Option Instruction → Machine → Outcome Machine
+stepped ns s none m = refusal brokenImage
+stepped ns s (some i) m = step ns s i m
+
 abbrev pub ranOf : Executed → List ℤ → State → Ran
 ranOf r vals t = ran (r .steps) (r .place) (stepOutcome (r .last) vals t)
 
@@ -41,6 +48,11 @@ pub record RangesIn (ns : List Range) (low high : List ℤ) : Type 0 where
 pub record Stack (m : Registers) (vals : List ℤ) : Type 0 where
   pub few : m .held ≤ stackLimit
   pub room : stackLimit ≤ length vals
+
+-- what is held stays within the limit
+abbrev pub Few : Stepped → Type 0
+Few (Next m) = m .held ≤ stackLimit
+Few (Refused k) = Unit {0}
 
 -- a low, a high, a previous and a current value of each name
 pub record Named (low high prev cur : List ℤ) : Type 0 where

@@ -1,1 +1,227 @@
-// The start and scan services. Definitions only.
+// Starting and scanning an image: the services start and scan.
+use bytecode::Counted;
+use checker::Checked;
+use machine::Registers;
+use machine::Stepped;
+ghost use mathlib.Core.Path.{_≡_};
+ghost use mathlib.Core.List.{List, _++_};
+ghost use Prim.Native.Nat.{_≤_};
+ghost use lib.ListN.{length, drop};
+ghost use Rattle.limits.specs.Limits.{imageLimit};
+ghost use Rattle.semantics.specs.Program.{Range};
+ghost use Rattle.semantics.specs.ReferenceScan.{allWithin};
+ghost use Rattle.machine.specs.Memory.{RangesIn};
+ghost use Rattle.scan.specs.Services.{startOf, scanOf};
+ghost use Rattle.scan.specs.Results.{afterStart, StartedWithin, afterScan, ScannedWithin};
+ghost use Rattle.scan.specs.Internal.{scannedCode, scannedIn, scannedFrom, Fitting, Scratch, Announced};
+
+// The refusals before the code.
+const BROKEN_IMAGE: u8 = 11;
+
+const WRONG_LENGTH: u8 = 12;
+
+const STATE_OUT_OF_RANGE: u8 = 18;
+
+const INPUT_OUT_OF_RANGE: u8 = 13;
+
+// Done, or the number of a refusal and its place.
+pub enum Started {
+    Done,
+    Refused(u8, usize),
+}
+
+// The steps; or the number of a refusal, its place and the steps.
+pub enum Scanned {
+    Done(usize),
+    Refused(u8, usize, usize),
+}
+
+// `from`, written over the front of `to`.
+fn fill(to: &mut [i32], from: &[i32])
+    requires { ⌜ length (now from) ≤ length (now to) ⌝ }
+    ensures { λ _. ⌜ now (to .exit) ≡ now (from .entry) ++ drop (length (now (from .entry))) (now (to .entry)) ⌝ }
+{
+    let mut i = 0;
+    while i < from.len() {
+        to[i] = from[i];
+        i += 1;
+    }
+}
+
+// Whether each value lies in the range at its place.
+fn all_in_range(low: &[i32], high: &[i32], values: &[i32]) -> bool
+    requires { ⌜ (length (now values) ≤ length (now low)) × (length (now high) ≡ length (now low)) ⌝ }
+    ensures { λ r. ⌜ ((ns : List Range) → RangesIn ns (now (low .entry)) (now (high .entry)) → r ≡ allWithin ns (now (values .entry))) ⌝ }
+{
+    let mut i = 0;
+    while i < values.len() {
+        if !machine::in_range(low[i], high[i], values[i]) {
+            return false;
+        }
+        i += 1;
+    }
+    true
+}
+
+// The code on a copy of the state, in lent memory; the state is written once, at success.
+fn scan_code(
+    code: &[u8],
+    state: &mut [i32],
+    row: &[i32],
+    low: &[i32],
+    high: &[i32],
+    work: &mut [i32],
+    vals: &mut [i32],
+) -> Scanned
+    requires { ⌜ Fitting (now state) (now row) (now low) (now high) (now work) (now vals) ⌝ }
+    ensures { λ r. ⌜ ((ns : List Range) → RangesIn ns (now (low .entry)) (now (high .entry))
+        → afterScan r (now (state .exit)) ≡ scannedCode ns (now (code .entry)) (now (state .entry)) (now (row .entry))) ⌝ }
+    ensures { λ r. ⌜ ScannedWithin (length (now (code .entry))) r ⌝ }
+{
+    fill(work, state);
+    fill(work, row);
+    let m = Registers {
+        held: 0,
+        picked: false,
+        passing: false,
+    };
+    let ran = machine::run(code, low, high, state, work, vals, 0, m, code.len());
+    let last = ran.last;
+    match last {
+        Stepped::Next(_) => {
+            fill(state, work);
+            Scanned::Done(ran.steps)
+        }
+        Stepped::Refused(number) => Scanned::Refused(number, 0, ran.steps),
+    }
+}
+
+// The state, then the row, then the code.
+fn scan_ranges(
+    code: &[u8],
+    state: &mut [i32],
+    row: &[i32],
+    low: &[i32],
+    high: &[i32],
+    work: &mut [i32],
+    vals: &mut [i32],
+) -> Scanned
+    requires { ⌜ Fitting (now state) (now row) (now low) (now high) (now work) (now vals) ⌝ }
+    ensures { λ r. ⌜ ((ns : List Range) → RangesIn ns (now (low .entry)) (now (high .entry))
+        → afterScan r (now (state .exit)) ≡ scannedIn ns (now (code .entry)) (now (state .entry)) (now (row .entry))) ⌝ }
+    ensures { λ r. ⌜ ScannedWithin (length (now (code .entry))) r ⌝ }
+{
+    if !all_in_range(low, high, state) {
+        return Scanned::Refused(STATE_OUT_OF_RANGE, 0, 0);
+    }
+    if !all_in_range(low, high, row) {
+        return Scanned::Refused(INPUT_OUT_OF_RANGE, 0, 0);
+    }
+    scan_code(code, state, row, low, high, work, vals)
+}
+
+// The ranges of as many names as the state has values, from a place of the image on; then the values and the code behind them.
+fn scan_names(
+    image: &[u8],
+    first: usize,
+    state: &mut [i32],
+    row: &[i32],
+    low: &mut [i32],
+    high: &mut [i32],
+    work: &mut [i32],
+    vals: &mut [i32],
+) -> Scanned
+    requires { ⌜ Announced (now image) first (now state) (now row) ⌝ }
+    requires { ⌜ Scratch (now low) (now high) (now work) (now vals) ⌝ }
+    ensures { λ r. ⌜ afterScan r (now (state .exit)) ≡ scannedFrom (now (image .entry)) first (now (state .entry)) (now (row .entry)) ⌝ }
+    ensures { λ r. ⌜ ScannedWithin (length (now (image .entry))) r ⌝ }
+{
+    let names = state.len();
+    let place = bytecode::ranges(image, first, names, low, high, work);
+    scan_ranges(
+        &image[place..],
+        state,
+        row,
+        &low[..names],
+        &high[..names],
+        &mut work[..names],
+        vals,
+    )
+}
+
+// The image, the lengths of state and row, then their values and the code. A sound image always has its counts.
+fn scan_in(
+    image: &[u8],
+    state: &mut [i32],
+    row: &[i32],
+    low: &mut [i32],
+    high: &mut [i32],
+    work: &mut [i32],
+    vals: &mut [i32],
+) -> Scanned
+    requires { ⌜ Scratch (now low) (now high) (now work) (now vals) ⌝ }
+    ensures { λ r. ⌜ afterScan r (now (state .exit)) ≡ scanOf (now (image .entry)) (now (state .entry)) (now (row .entry)) ⌝ }
+    ensures { λ r. ⌜ ScannedWithin imageLimit r ⌝ }
+{
+    let checked = checker::check(image);
+    match checked {
+        Checked::Refused(number, place) => Scanned::Refused(number, place, 0),
+        Checked::Sound => {
+            let counted = bytecode::counts(image);
+            let Counted::Counts(inputs, names, first) = counted else {
+                return Scanned::Refused(BROKEN_IMAGE, 0, 0);
+            };
+            if state.len() != names {
+                return Scanned::Refused(WRONG_LENGTH, 0, 0);
+            }
+            if row.len() != inputs {
+                return Scanned::Refused(WRONG_LENGTH, 0, 0);
+            }
+            scan_names(image, first, state, row, low, high, work, vals)
+        }
+    }
+}
+
+// One scan: 9, 11, 12, 18, 13, then the code. A refusal leaves the state as found; success writes it.
+pub fn scan(image: &[u8], state: &mut [i32], row: &[i32]) -> Scanned
+    ensures { λ r. ⌜ afterScan r (now (state .exit)) ≡ scanOf (now (image .entry)) (now (state .entry)) (now (row .entry)) ⌝ }
+    ensures { λ r. ⌜ ScannedWithin imageLimit r ⌝ }
+{
+    let mut low = [0i32; 64];
+    let mut high = [0i32; 64];
+    let mut work = [0i32; 64];
+    let mut vals = [0i32; 40];
+    scan_in(image, state, row, &mut low, &mut high, &mut work, &mut vals)
+}
+
+// Lows and highs are stored as far as there is room for them; a start needs neither.
+fn start_in(image: &[u8], state: &mut [i32], low: &mut [i32], high: &mut [i32]) -> Started
+    ensures { λ r. ⌜ afterStart r (now (state .exit)) ≡ startOf (now (image .entry)) (now (state .entry)) ⌝ }
+    ensures { λ r. ⌜ StartedWithin imageLimit r ⌝ }
+{
+    let checked = checker::check(image);
+    match checked {
+        Checked::Refused(number, place) => Started::Refused(number, place),
+        Checked::Sound => {
+            let counted = bytecode::counts(image);
+            let Counted::Counts(_, count, first) = counted else {
+                return Started::Refused(BROKEN_IMAGE, 0);
+            };
+            if state.len() != count {
+                return Started::Refused(WRONG_LENGTH, 0);
+            }
+            bytecode::ranges(image, first, count, low, high, state);
+            Started::Done
+        }
+    }
+}
+
+// The declared starts, after 9, 11 and 12. A refusal leaves the state as found.
+pub fn start(image: &[u8], state: &mut [i32]) -> Started
+    ensures { λ r. ⌜ afterStart r (now (state .exit)) ≡ startOf (now (image .entry)) (now (state .entry)) ⌝ }
+    ensures { λ r. ⌜ StartedWithin imageLimit r ⌝ }
+{
+    let mut low = [0i32; 1];
+    let mut high = [0i32; 1];
+    start_in(image, state, &mut low, &mut high)
+}
