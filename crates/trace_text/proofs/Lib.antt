@@ -5,3 +5,5 @@ pub mod Rows
 pub mod Chunks
 pub mod Splitting
 pub mod Printing
+pub mod Lengths
+pub mod Examples
