@@ -1,25 +1,22 @@
 -- How long printed decimals and lines are, and what a buffer with room for them holds. Assumes nothing.
-use mathlib.Core.Path.{_≡_, refl, sym, ap, subst, _∙_}
+use mathlib.Core.Path.{_≡_, refl, sym, ap, _∙_}
 use mathlib.Core.Bool.{Bool, true, false, _&&_, false≢true}
-use mathlib.Core.List.{List, [], _∷_, _++_, map}
-use Prim.Native.Nat.{ℕ, zero, suc, _+_, _-_, _*_, _/_, _%_, _^_, _≤_, _<_, min}
+use mathlib.Core.List.{List, [], _∷_, map}
+use Prim.Native.Nat.{ℕ, zero, suc, _+_, _*_, _/_, _%_, _^_, _≤_, _<_, min}
 use native.Mathlib.Nat.{pow-suc, mul-le-mul-right}
-use native.Mathlib.Numerals.{add-one}
 use native.Mathlib.Omega.{arith}
 use lib.Dec.{T, leb, ltb}
 use lib.IntN.{ℤ, pos, negsuc}
 use lib.ListN.{length, take, drop, length-append, length-take, take-append-drop}
 use lib.Seq.{sets, sets-eq, length-sets, take-at, take-all}
-use lib.Signed.{mag}
 use borrow.Author.Tests.{leb-true, leb-false, ltb-true, ltb-false}
 use Rattle.arith.specs.Values.{isInt32}
 use Rattle.arith.proofs.Laws.{int32-mag}
-use Rattle.lexer.specs.Bytes.{bytes}
 use Rattle.lexer.specs.Lexer.{isDigit, valueOf, valueOn}
 use Rattle.trace_text.specs.Row.{allDigits}
 use Rattle.trace_text.specs.Output.{unsignedDecimal, decimalOf, spaced, headLine, rowLine, refusedLine, Put}
 use Rattle.trace_text.proofs.Puts.{sets-past, sets-append}
-use Rattle.trace_text.proofs.Printing.{decimal-small, decimal-more, spaced-append, head-is, row-is, refused-is}
+use Rattle.trace_text.proofs.Printing.{decimal-small, decimal-more, head-is, row-is, refused-is}
 
 -- ---- decimals
 
@@ -137,8 +134,8 @@ put-cut {l} {xs} {k} {p} h = by (leb (length xs) (length l)) (leb-true (length x
       let g = n refl in
       let e : length (take (length l) xs) ≡ length l = rw length-take (omega arith) in
       let m : sets l 0 xs ≡ sets l 0 (take (length l) xs) =
-          ap (sets l 0) (sym (take-append-drop (length l) xs)) ∙ sets-append l 0 (take (length l) xs) (drop (length l) xs)
-          ∙ sets-past (sets l 0 (take (length l) xs)) _ (drop (length l) xs) (rw length-sets (omega arith))
+      ap (sets l 0) (sym (take-append-drop (length l) xs)) ∙ sets-append l 0 (take (length l) xs) (drop (length l) xs)
+      ∙ sets-past (sets l 0 (take (length l) xs)) _ (drop (length l) xs) (rw length-sets (omega arith))
       in
       let q : p ≡ min (0 + length (take (length l) xs)) (length l) = let r = h .place in omega arith in
       put-all {xs = take (length l) xs} (record { memory = h .memory ∙ m; place = q }) (omega arith)

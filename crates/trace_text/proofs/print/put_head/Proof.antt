@@ -1,10 +1,10 @@
--- `trace_text::put_head` meets its contract. Assumes nothing.
+-- `trace_text::print::put_head` meets its contract. Assumes nothing.
 use borrow.Author.Needs.{needs}
 use Rattle.trace_text.proofs.Puts.{put-then}
 use Rattle.trace_text.proofs.Printing.{head-is}
 use Rattle.trace_text.specs.Output.{spelledBy}
-use Rattle.trace_text.proofs.put_head.Statement.{statement}
-use Rattle.trace_text.proofs.put_head.Tie as tie
+use Rattle.trace_text.proofs.print.put_head.Statement.{statement}
+use Rattle.trace_text.proofs.print.put_head.Tie as tie
 
 slice-aggregate-put-bytes : tie.Need-slice-aggregate-put-bytes
 slice-aggregate-put-bytes c = search needs

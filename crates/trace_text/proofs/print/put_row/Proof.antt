@@ -1,9 +1,9 @@
--- `trace_text::put_row` meets its contract. Assumes nothing.
+-- `trace_text::print::put_row` meets its contract. Assumes nothing.
 use borrow.Author.Needs.{needs}
 use Rattle.trace_text.proofs.Puts.{put-then}
 use Rattle.trace_text.proofs.Printing.{row-is}
-use Rattle.trace_text.proofs.put_row.Statement.{statement}
-use Rattle.trace_text.proofs.put_row.Tie as tie
+use Rattle.trace_text.proofs.print.put_row.Statement.{statement}
+use Rattle.trace_text.proofs.print.put_row.Tie as tie
 
 put-unsigned-decimal-requires : tie.Need-put-unsigned-decimal-requires
 put-unsigned-decimal-requires c κs = search needs

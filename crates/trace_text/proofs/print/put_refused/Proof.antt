@@ -1,9 +1,9 @@
--- `trace_text::put_refused` meets its contract. Assumes nothing.
+-- `trace_text::print::put_refused` meets its contract. Assumes nothing.
 use borrow.Author.Needs.{needs}
 use Rattle.trace_text.proofs.Puts.{put-then}
 use Rattle.trace_text.proofs.Printing.{refused-is}
-use Rattle.trace_text.proofs.put_refused.Statement.{statement}
-use Rattle.trace_text.proofs.put_refused.Tie as tie
+use Rattle.trace_text.proofs.print.put_refused.Statement.{statement}
+use Rattle.trace_text.proofs.print.put_refused.Tie as tie
 
 slice-aggregate-put-bytes : tie.Need-slice-aggregate-put-bytes
 slice-aggregate-put-bytes c = search needs
