@@ -7,3 +7,4 @@ pub mod Splitting
 pub mod Printing
 pub mod Lengths
 pub mod Examples
+pub mod Handed

@@ -123,7 +123,7 @@ unfolding lineOver cellsOver lineAfter cellsAfter
 stays [] c = (refl, refl)
 stays (b ∷ l) c = stays l c
 
-long-length : length longRow ≡ 65
+pub long-length : length longRow ≡ 65
 unfolding longRow
 long-length = refl
 

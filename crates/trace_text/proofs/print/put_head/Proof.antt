@@ -1,6 +1,6 @@
 -- `trace_text::print::put_head` meets its contract. Assumes nothing.
 use borrow.Author.Needs.{needs}
-use Rattle.trace_text.proofs.Puts.{put-then}
+use Rattle.trace_text.proofs.Puts.{put-as, put-then}
 use Rattle.trace_text.proofs.Printing.{head-is}
 use Rattle.trace_text.specs.Output.{spelledBy}
 use Rattle.trace_text.proofs.print.put_head.Statement.{statement}
@@ -26,8 +26,13 @@ same-length c = search needs
 
 returns : tie.Need-returns
 returns c =
-    rw (head-is (spelledBy (c .before .before .before .before .before .before .before .before .before .before .before .before .before .before .before .before .before .before .args .text .now) (c .before .before .before .before .before .before .before .before .before .before .before .before .before .before .before .before .before .before .args .starts .now) (c .before .before .before .before .before .before .before .before .before .before .before .before .before .before .before .before .before .before .args .ends .now) (c .before .before .before .before .before .before .before .before .before .before .before .before .before .before .before .before .before .before .args .count))) at
-    (put-then (put-then (c .before .before .before .before .before .before .before .before .before .before .before .put-bytes .ensures) (c .before .before .before .before .before .before .before .put-names .ensures)) (c .before .before .put-bytes2 .ensures))
+    let e = c .before .before in
+    let n = e .before .before .before .before .before in
+    let w = n .before .before .before .before in
+    let a = w .before .before .before .before .before .before .before .args in
+    put-as
+    (put-then (put-then (w .put-bytes .ensures) (n .put-names .ensures)) (e .put-bytes2 .ensures))
+    (head-is (spelledBy (a .text .now) (a .starts .now) (a .ends .now) (a .count)))
 
 pub put-head-spec : {M : Type 1} → statement M
 put-head-spec =

@@ -1,6 +1,6 @@
 -- `trace_text::print::put_refused` meets its contract. Assumes nothing.
 use borrow.Author.Needs.{needs}
-use Rattle.trace_text.proofs.Puts.{put-then}
+use Rattle.trace_text.proofs.Puts.{put-as, put-then}
 use Rattle.trace_text.proofs.Printing.{refused-is}
 use Rattle.trace_text.proofs.print.put_refused.Statement.{statement}
 use Rattle.trace_text.proofs.print.put_refused.Tie as tie
@@ -31,8 +31,15 @@ same-length c = search needs
 
 returns : tie.Need-returns
 returns c =
-    rw (refused-is (c .before .before .before .before .before .before .before .before .before .before .before .before .before .before .before .before .before .before .before .before .before .before .before .args .number) (c .before .before .before .before .before .before .before .before .before .before .before .before .before .before .before .before .before .before .before .before .before .before .before .args .place)) at
-    (put-then (put-then (put-then (put-then (c .before .before .before .before .before .before .before .before .before .before .before .before .before .before .before .before .before .before .before .put-bytes .ensures) (c .before .before .before .before .before .before .before .before .before .before .before .before .before .before .before .put-unsigned-decimal .ensures)) (c .before .before .before .before .before .before .before .before .before .before .put-bytes2 .ensures)) (c .before .before .before .before .before .before .put-unsigned-decimal2 .ensures)) (c .before .before .put-byte .ensures))
+    let e = c .before .before in
+    let d = e .before .before .before .before in
+    let b = d .before .before .before .before in
+    let n = b .before .before .before .before .before in
+    let w = n .before .before .before .before in
+    let a = w .before .before .before .before .args in
+    put-as
+    (put-then (put-then (put-then (put-then (w .put-bytes .ensures) (n .put-unsigned-decimal .ensures)) (b .put-bytes2 .ensures)) (d .put-unsigned-decimal2 .ensures)) (e .put-byte .ensures))
+    (refused-is (a .number) (a .place))
 
 pub put-refused-spec : {M : Type 1} → statement M
 put-refused-spec =

@@ -1,6 +1,6 @@
 -- `trace_text::print::put_row` meets its contract. Assumes nothing.
 use borrow.Author.Needs.{needs}
-use Rattle.trace_text.proofs.Puts.{put-then}
+use Rattle.trace_text.proofs.Puts.{put-as, put-then}
 use Rattle.trace_text.proofs.Printing.{row-is}
 use Rattle.trace_text.proofs.print.put_row.Statement.{statement}
 use Rattle.trace_text.proofs.print.put_row.Tie as tie
@@ -25,8 +25,15 @@ same-length c = search needs
 
 returns : tie.Need-returns
 returns c =
-    rw (row-is (c .before .before .before .before .before .before .before .before .before .before .before .before .before .before .before .before .before .before .before .before .before .args .number) (c .before .before .before .before .before .before .before .before .before .before .before .before .before .before .before .before .before .before .before .before .before .args .values .now) (c .before .before .before .before .before .before .before .before .before .before .before .before .before .before .before .before .before .before .before .before .before .args .refusal)) at
-    (put-then (put-then (put-then (put-then (c .before .before .before .before .before .before .before .before .before .before .before .before .before .before .before .before .before .before .put-unsigned-decimal .ensures) (c .before .before .before .before .before .before .before .before .before .before .before .before .before .before .put-values .ensures)) (c .before .before .before .before .before .before .before .before .before .before .put-byte .ensures)) (c .before .before .before .before .before .before .put-unsigned-decimal2 .ensures)) (c .before .before .put-byte2 .ensures))
+    let e = c .before .before in
+    let d = e .before .before .before .before in
+    let b = d .before .before .before .before in
+    let v = b .before .before .before .before in
+    let n = v .before .before .before .before in
+    let a = n .before .before .before .args in
+    put-as
+    (put-then (put-then (put-then (put-then (n .put-unsigned-decimal .ensures) (v .put-values .ensures)) (b .put-byte .ensures)) (d .put-unsigned-decimal2 .ensures)) (e .put-byte2 .ensures))
+    (row-is (a .number) (a .values .now) (a .refusal))
 
 pub put-row-spec : {M : Type 1} → statement M
 put-row-spec =
