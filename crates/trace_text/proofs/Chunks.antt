@@ -1,8 +1,8 @@
 -- Standard input split byte by byte, in chunks. Assumes nothing.
-use mathlib.Core.Path.{_≡_, refl, sym, ap, subst, _∙_}
-use mathlib.Core.Bool.{Bool, true, false, false≢true}
+use mathlib.Core.Path.{_≡_, refl, sym, ap, _∙_}
+use mathlib.Core.Bool.{true, false, false≢true}
 use mathlib.Core.List.{List, [], _∷_, _++_, append-assoc}
-use Prim.Native.Nat.{ℕ, zero, suc, _+_, _≤_, _<_, min}
+use Prim.Native.Nat.{ℕ, suc, _+_, _≤_, _<_}
 use native.Mathlib.Numerals.{add-one}
 use native.Mathlib.Omega.{arith}
 use lib.ListN.{length, getD, drop, drop-of-length-le}
@@ -88,7 +88,7 @@ module _ {text₀ : List ℕ} {at : ℕ} {stage₀ : Stage} {chunk : List ℕ} {
   divide-byte l t {next} g {more} {q} m =
       let e = drop-cons chunk i 0 l in
       let r : i + suc (bytesBefore (stageAfter stage (getD chunk i 0)) (drop (suc i) chunk)) ≡ from + bytesBefore stage₀ (drop from chunk) =
-          rw (e, before-cons stage (getD chunk i 0) (drop (suc i) chunk) t) at (h .place)
+      rw (e, before-cons stage (getD chunk i 0) (drop (suc i) chunk) t) at (h .place)
       in
       record {
         stages = rw (g, add-one) (rw e at (h .stages));

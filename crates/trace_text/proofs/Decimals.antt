@@ -1,18 +1,16 @@
 -- Numbers in a field: what is a number, and what is none whatever follows. Assumes nothing.
-use mathlib.Core.Path.{_≡_, refl, sym, ap, subst, _∙_}
+use mathlib.Core.Path.{_≡_, refl, sym, _∙_}
 use mathlib.Core.Bool.{Bool, true, false, _&&_, false≢true}
 use mathlib.Core.List.{List, [], _∷_, _++_}
-use mathlib.Core.Option.{Option, none, some}
+use mathlib.Core.Option.{none, some}
 use Prim.Native.Nat.{ℕ, zero, suc, _+_, _*_, _%_, _≤_, _<_}
 use native.Mathlib.Omega.{arith}
-use lib.Dec.{leb, ltb, eqb}
-use lib.IntN.{ℤ, pos, negsuc, negℤ}
-use borrow.Author.Tests.{le-leb, lt-leb, leb-true, ne-eqb}
+use lib.Dec.{leb}
+use borrow.Author.Tests.{lt-leb, ne-eqb}
 use Rattle.arith.specs.Values.{isInt32}
 use Rattle.leb128.proofs.Laws.{leb-same}
-use Rattle.lexer.specs.Bytes.{pick}
 use Rattle.lexer.specs.Lexer.{isDigit, valueOf, valueOn}
-use Rattle.trace_text.specs.Row.{_andIf_, allDigits, digitsValue, within32, numberOf}
+use Rattle.trace_text.specs.Row.{allDigits, within32, numberOf}
 use Rattle.trace_text.specs.Internal.{signed, inRange}
 
 -- ---- digits

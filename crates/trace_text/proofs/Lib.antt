@@ -5,3 +5,6 @@ pub mod Rows
 pub mod Chunks
 pub mod Splitting
 pub mod Printing
+pub mod Lengths
+pub mod Examples
+pub mod Handed

@@ -1,14 +1,12 @@
 -- Laws of the decimals and lines that are printed. Assumes nothing.
-use mathlib.Core.Path.{_≡_, refl, sym, ap, subst, _∙_}
-use mathlib.Core.Bool.{Bool, true, false, _&&_}
+use mathlib.Core.Path.{_≡_, refl, sym, ap, _∙_}
+use mathlib.Core.Bool.{Bool, true, false}
 use mathlib.Core.List.{List, [], _∷_, _++_, map, append-nil, append-assoc}
-use mathlib.Core.Option.{Option, none, some}
-use Prim.Native.Nat.{ℕ, zero, suc, _+_, _-_, _*_, _/_, _%_, _^_, _≤_, _<_}
-use native.Mathlib.Nat.{pow-suc}
+use Prim.Native.Nat.{ℕ, zero, suc, _+_, _-_, _/_, _%_, _≤_, _<_}
 use native.Mathlib.Numerals.{add-one}
 use native.Mathlib.Omega.{arith}
-use lib.Dec.{leb, ltb, eqb}
-use lib.IntN.{ℤ, pos, negsuc, negℤ}
+use lib.Dec.{ltb}
+use lib.IntN.{ℤ, pos, negsuc}
 use lib.ListN.{length, getD, drop, length-append, drop-of-length-le}
 use lib.Seq.{drop-cons, take-nil}
 use borrow.Author.Tests.{lt-ltb, le-ltb, le-leb, ltb-true, ltb-false}
@@ -127,7 +125,7 @@ no-ends text (s ∷ starts) n = refl
 
 pub spelled-next : (text starts ends : List ℕ) (n i : ℕ) → i < n → i < length starts → i < length ends
     → spelledBy text (drop i starts) (drop i ends) (n - i)
-      ≡ part text (getD starts i 0) (getD ends i 0) ∷ spelledBy text (drop (i + 1) starts) (drop (i + 1) ends) (n - (i + 1))
+    ≡ part text (getD starts i 0) (getD ends i 0) ∷ spelledBy text (drop (i + 1) starts) (drop (i + 1) ends) (n - (i + 1))
 unfolding spelledBy
 spelled-next text starts ends n i h s e =
     let k : n - i ≡ suc (n - (i + 1)) = omega arith in

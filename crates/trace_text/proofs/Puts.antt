@@ -1,12 +1,11 @@
 -- Bytes put into a buffer one run after the other. Assumes nothing.
 use mathlib.Core.Path.{_≡_, refl, sym, ap, subst, _∙_}
 use mathlib.Core.Bool.{Bool, true, false}
-use mathlib.Core.List.{List, [], _∷_, _++_, append-nil}
-use Prim.Native.Nat.{ℕ, zero, suc, _+_, _≤_, _<_, min}
-use native.Mathlib.Numerals.{add-one}
+use mathlib.Core.List.{List, [], _∷_, _++_}
+use Prim.Native.Nat.{ℕ, suc, _+_, _≤_, _<_, min}
 use native.Mathlib.Omega.{arith}
 use lib.Dec.{leb}
-use lib.ListN.{length, take, set, length-set, length-append}
+use lib.ListN.{length, set, length-append}
 use lib.Seq.{sets, length-sets, set-out}
 use borrow.Author.Tests.{leb-true, leb-false}
 use Rattle.trace_text.specs.Output.{Put}
@@ -56,6 +55,10 @@ module _ {l : List ℕ} {at : ℕ} {xs k : List ℕ} {p : ℕ} (h : Put l at xs 
 
 pub put-then : {l : List ℕ} {at : ℕ} {xs k : List ℕ} {p : ℕ} {ys m : List ℕ} {q : ℕ} → Put l at xs k p → Put k p ys m q → Put l at (xs ++ ys) m q
 put-then {ys} h g = record { memory = g .memory ∙ put-sets h ys; place = g .place ∙ put-place h ys }
+
+-- the same bytes
+pub put-as : {l : List ℕ} {at : ℕ} {xs ys k : List ℕ} {p : ℕ} → Put l at xs k p → xs ≡ ys → Put l at ys k p
+put-as {l} {at} {xs} {ys} {k} {p} h e = subst (λ (zs : List ℕ). Put l at zs k p) e h
 
 -- from a place past the end as from the end
 pub put-clip : {l : List ℕ} {at : ℕ} {xs k : List ℕ} {p : ℕ} → Put l (min at (length l)) xs k p → Put l at xs k p

@@ -1,22 +1,21 @@
 -- A line that is read byte by byte comes to the row that Row says. Assumes nothing.
-use mathlib.Core.Path.{_≡_, refl, sym, ap, ap₂, subst, _∙_}
-use mathlib.Core.Bool.{Bool, true, false, _&&_, false≢true}
-use mathlib.Core.List.{List, [], _∷_, _++_, append-nil, append-assoc}
+use mathlib.Core.Path.{_≡_, refl, sym, ap, _∙_}
+use mathlib.Core.Bool.{Bool, true, false, false≢true}
+use mathlib.Core.List.{List, [], _∷_, _++_, append-nil}
 use mathlib.Core.Option.{Option, none, some}
-use Prim.Native.Nat.{ℕ, zero, suc, _+_, _*_, _%_, _≤_, _<_}
-use native.Mathlib.Numerals.{add-one}
+use Prim.Native.Nat.{ℕ, suc, _+_, _*_, _%_, _≤_, _<_}
 use native.Mathlib.Omega.{arith}
 use lib.Dec.{leb, ltb, eqb}
-use lib.IntN.{ℤ, pos}
+use lib.IntN.{ℤ}
 use lib.ListN.{length, set, length-append}
 use lib.Seq.{sets, set-comm, set-set, append-snoc}
-use borrow.Author.Tests.{le-leb, lt-leb, leb-true, leb-false, lt-ltb, ltb-true, ltb-false, eq-eqb, ne-eqb, eqb-true, eqb-false}
+use borrow.Author.Tests.{le-leb, lt-leb, leb-true, leb-false, ltb-true, ltb-false, eq-eqb, ne-eqb, eqb-true, eqb-false}
 use Rattle.lexer.specs.Bytes.{pick}
 use Rattle.lexer.specs.Lexer.{isDigit, valueOf, valueOn}
 use Rattle.trace_text.specs.declared.Line.{Line}
 use Rattle.trace_text.specs.declared.Line.the-variants.{Start, Wanted, Minus, Number, NoRow}
 use Rattle.trace_text.specs.Row.{_andIf_, allDigits, numberOf, beforeField, fieldsOf, numbersOf, rowOf, longRow, handed, handedOf}
-use Rattle.trace_text.specs.Internal.{digitAfter, numberBegins, signed, inRange, counts, cellsEnd, lineAfter, cellsAfter, lineOver, cellsOver, countOf, cellsOf}
+use Rattle.trace_text.specs.Internal.{longerBy, digitAfter, numberBegins, signed, inRange, cellsEnd, lineAfter, cellsAfter, lineOver, cellsOver, countOf, cellsOf}
 use Rattle.trace_text.proofs.Puts.{sets-append}
 use Rattle.trace_text.proofs.Lines.{over-cons, cells-cons, over-nil, cells-nil}
 use Rattle.trace_text.proofs.Decimals.{all-append, value-append, signs, signs-append, number-in, number-out, none-first, none-minus, none-empty, none-lone, none-large, none-byte}
@@ -124,7 +123,7 @@ unfolding lineOver cellsOver lineAfter cellsAfter
 stays [] c = (refl, refl)
 stays (b ∷ l) c = stays l c
 
-long-length : length longRow ≡ 65
+pub long-length : length longRow ≡ 65
 unfolding longRow
 long-length = refl
 
@@ -152,7 +151,7 @@ module _ (cells : List ℤ) (b : ℕ) (l : List ℕ) {s : Line} {p : List ℕ} {
 -- ---- the next byte
 
 digit-goes : (n : ℕ) (negative : Bool) (v b : ℕ) → isDigit b ≡ true → v ≤ 214748364 → digitAfter n negative v b ≡ Number n negative (10 * v + b % 16)
-unfolding digitAfter
+unfolding digitAfter longerBy
 digit-goes n negative v b e h = rw (e, le-leb v 214748364 h)
 
 digit-first : (n : ℕ) (negative : Bool) (b : ℕ) → isDigit b ≡ true → digitAfter n negative 0 b ≡ Number n negative (valueOf (b ∷ []))
@@ -165,7 +164,7 @@ unfolding valueOf valueOn
 digit-next n negative d ds b e h = digit-goes n negative (valueOf (d ∷ ds)) b e h ∙ ap (Number n negative) (sym (value-append ds (b ∷ []) (10 * 0 + d % 16)))
 
 digit-large : (n : ℕ) (negative : Bool) (v b : ℕ) → isDigit b ≡ true → 214748364 < v → digitAfter n negative v b ≡ NoRow
-unfolding digitAfter
+unfolding digitAfter longerBy
 digit-large n negative v b e h = rw (e, lt-leb v 214748364 h)
 
 digit-none : (n : ℕ) (negative : Bool) (v b : ℕ) → isDigit b ≡ false → digitAfter n negative v b ≡ NoRow
@@ -302,14 +301,14 @@ module _ (cells zs : List ℤ) (few : length zs ≤ 64) where
         let few′ = handed-few (zs ++ (z ∷ [])) (rw grows (omega arith)) in
         record {
           ends = rw (over-nil _, cells-nil _ (sets cells 0 zs), found r, few′, r, m)
-          (sym grows, sym (sets-append cells 0 zs (z ∷ []) ∙ ap (λ (k : ℕ). sets (sets cells 0 zs) k (z ∷ [])) (omega arith)));
+              (sym grows, sym (sets-append cells 0 zs (z ∷ []) ∙ ap (λ (k : ℕ). sets (sets cells 0 zs) k (z ∷ [])) (omega arith)));
         }
     by true false r m =
         let h = ltb-false (length zs) 64 m in
         let many′ = handed-many (zs ++ (z ∷ [])) (rw grows (omega arith)) in
         record {
           ends = rw (over-nil _, cells-nil _ (sets cells 0 zs), found r, many′, r, m)
-          (sym long-length, stored-over cells 0 zs longRow (rw long-length (omega arith)));
+              (sym long-length, stored-over cells 0 zs longRow (rw long-length (omega arith)));
         }
     by false t r m = end-none (rw r) (rw r) (number-out negative d ds all r)
 

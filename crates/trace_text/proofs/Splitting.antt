@@ -1,21 +1,23 @@
 -- Standard input that is split byte by byte comes to the text and the rows that Input says. Assumes nothing.
-use mathlib.Core.Path.{_≡_, refl, sym, ap, ap₂, subst, _∙_}
+use mathlib.Core.Path.{_≡_, refl, sym, ap, subst, _∙_}
 use mathlib.Core.Bool.{Bool, true, false, true≢false}
 use mathlib.Core.List.{List, [], _∷_, _++_, map}
-use Prim.Native.Nat.{ℕ, zero, suc, _+_, _≤_, _<_, min}
+use Prim.Native.Nat.{ℕ, suc, _+_, _≤_, _<_}
 use native.Mathlib.Omega.{arith}
 use lib.Dec.{eqb, leb}
 use lib.ListN.{length, take, drop, length-take}
 use lib.Seq.{take-all}
-use borrow.Author.Tests.{eq-eqb, ne-eqb, eqb-true, eqb-false}
+use borrow.Author.Tests.{eqb-true}
 use Rattle.lexer.specs.Bytes.{pick, sameBytes}
 use Rattle.lexer.specs.Lexer.{isDigit}
 use Rattle.trace_text.specs.declared.Stage.{Stage}
-use Rattle.trace_text.specs.declared.Stage.the-variants.{LineStart, InLine, Hash, Rows}
+use Rattle.trace_text.specs.declared.Stage.the-variants.{LineStart, InLine, Hash}
 use Rattle.trace_text.specs.declared.Line.{Line}
 use Rattle.trace_text.specs.declared.Line.the-variants.{Start, Wanted, Minus, Number, NoRow}
 use Rattle.trace_text.specs.Input.{beforeLine, linesOf, bare, isHashLine, textIn, textOf, rowsIn, rowLines}
-use Rattle.trace_text.specs.Internal.{stageAfter, textAfter, stageOver, textOver, isRows, bytesBefore, bytesIn, isEnded, isBegun, counts, digitAfter, numberBegins, lineAfter, lineOver}
+use Rattle.trace_text.specs.Internal.{stageAfter, textAfter, stageOver, textOver, isRows, bytesBefore, bytesIn, isEnded, isBegun, counts, longerBy, digitAfter, numberBegins, lineAfter, lineOver}
+use Rattle.trace_text.specs.Output.{Put}
+use Rattle.trace_text.proofs.Lengths.{put-cut}
 use Rattle.trace_text.proofs.Chunks.{rows-of, stage-rows, text-rows, none-before}
 
 -- ---- a byte as the splitter sees it
@@ -95,6 +97,10 @@ text-seen text h = take-all 32769 text (omega arith)
 
 pub text-over : (text : List ℕ) → 32768 < length text → 32768 < length (take 32769 text)
 text-over text h = rw length-take (omega arith)
+
+-- so the text that is lent to translate is the text, or over its limit as the text is
+pub text-held : (input : List ℕ) {buffer after : List ℕ} {n : ℕ} → length buffer ≡ 32769 → Put buffer 0 (textOver LineStart input) after n → take n after ≡ take 32769 (textOf input)
+text-held input e h = put-cut h ∙ (rw (e, text-split input))
 
 -- ---- the rows
 
@@ -230,7 +236,7 @@ begun-pick true a b p q = p
 begun-pick false a b p q = q
 
 digit-begun : (n : ℕ) (negative : Bool) (v b : ℕ) → isBegun (digitAfter n negative v b) ≡ true
-unfolding digitAfter
+unfolding digitAfter longerBy
 digit-begun n negative v b = begun-pick (isDigit b) _ _ (begun-pick (leb v 214748364) _ _ refl refl) refl
 
 after-begun : (s : Line) (b : ℕ) → isBegun (lineAfter s b) ≡ true

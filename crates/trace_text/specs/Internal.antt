@@ -1,11 +1,10 @@
 -- The state that the reader of standard input carries from byte to byte. Shapes for contracts of single steps; proofs/ shows that a
 -- whole input, and a whole line, come to what Input and Row say. Assumes nothing.
-use Prim.Native.Nat.{ℕ, zero, suc, _+_, _*_, _%_}
+use Prim.Native.Nat.{ℕ, suc, _+_, _*_, _%_}
 use mathlib.Core.Bool.{Bool, true, false, _&&_}
 use mathlib.Core.List.{List, [], _∷_, _++_}
 use lib.Dec.{eqb, leb, ltb}
 use lib.IntN.{ℤ, pos, negℤ}
-use lib.ListN.{length}
 use lib.Seq.{sets}
 use Rattle.limits.specs.Limits.{nameLimit}
 use Rattle.lexer.specs.Bytes.{pick}
@@ -56,9 +55,12 @@ bytesBefore stage (b ∷ input) = let more = suc (bytesBefore (stageAfter stage 
 
 -- ---- one line
 
--- a further digit of a number; one that is too large for 32 bits whatever follows makes the line no row
+-- a number with the digit d more; one that is too large for 32 bits whatever follows makes the line no row
+unfoldable pub longerBy : ℕ → Bool → ℕ → ℕ → Line
+longerBy n negative v d = pick (leb v 214748364) (Number n negative (10 * v + d)) NoRow
+
 unfoldable pub digitAfter : ℕ → Bool → ℕ → ℕ → Line
-digitAfter n negative v b = pick (isDigit b) (pick (leb v 214748364) (Number n negative (10 * v + b % 16)) NoRow) NoRow
+digitAfter n negative v b = pick (isDigit b) (longerBy n negative v (b % 16)) NoRow
 
 unfoldable pub numberBegins : ℕ → ℕ → Line
 numberBegins n b = pick (eqb b 45) (Minus n) (digitAfter n false 0 b)

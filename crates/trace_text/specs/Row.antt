@@ -1,7 +1,7 @@
 -- The row of a line. Document 01, "Latches to try", second paragraph: decimals, `-` allowed, with single spaces; a line that isn't
 -- so, or has a number outside 32 bits, has the wrong length. Assumes nothing.
-use Prim.Native.Nat.{ℕ, zero, suc}
-use mathlib.Core.Bool.{Bool, true, false, _&&_}
+use Prim.Native.Nat.{ℕ, suc}
+use mathlib.Core.Bool.{Bool, true, _&&_}
 use mathlib.Core.List.{List, [], _∷_}
 use mathlib.Core.Option.{Option, none, some}
 use lib.Dec.{eqb, leb}

@@ -2,15 +2,15 @@
 // limit, so what is read is a state carried from byte to byte.
 ghost use mathlib.Core.Path.{_≡_};
 ghost use mathlib.Core.Bool.{true};
-ghost use mathlib.Core.List.{[], _∷_, map};
-ghost use Prim.Native.Nat.{_+_, _≤_, min};
+ghost use Prim.Native.Nat.{_+_, _≤_};
 ghost use lib.ListN.{length, drop, set};
 ghost use lib.Seq.{sets};
-ghost use Rattle.lexer.specs.Bytes.{part};
 ghost use Rattle.trace_text.specs.Input.{bare};
 ghost use Rattle.trace_text.specs.Row.{longRow, handedOf};
-ghost use Rattle.trace_text.specs.Output.{Put, unsignedDecimal, decimalOf, spaced, refusedLine, headLine, rowLine, spelledBy};
-ghost use Rattle.trace_text.specs.Internal.{textStage, stageAfter, textAfter, stageOver, textOver, isRows, bytesBefore, digitAfter, numberBegins, signed as signedOf, inRange, counts, cellsEnd, lineAfter, cellsAfter, lineOver, cellsOver, countOf, cellsOf, bytesIn, isEnded, isBegun};
+ghost use Rattle.trace_text.specs.Output.{Put};
+ghost use Rattle.trace_text.specs.Internal.{textStage, stageAfter, textAfter, stageOver, textOver, isRows, bytesBefore, longerBy, digitAfter, numberBegins, signed as signedOf, inRange, counts, cellsEnd, lineAfter, cellsAfter, lineOver, cellsOver, countOf, cellsOf, bytesIn, isEnded, isBegun};
+
+pub mod print;
 
 // ---- the text and the rows
 
@@ -58,27 +58,6 @@ pub fn is_rows(stage: Stage) -> bool
     }
 }
 
-// The place, or the end where the place is past it.
-fn clip(end: usize, at: usize) -> usize
-    ensures { λ r. ⌜ r ≡ min at end ⌝ }
-{
-    if at < end {
-        return at;
-    }
-    end
-}
-
-// One byte, where there is room for it; the place behind it, at most the buffer's end.
-pub fn put_byte(out: &mut [u8], at: usize, b: u8) -> usize
-    ensures { λ r. ⌜ Put (now (out .entry)) at (b ∷ []) (now (out .exit)) r ⌝ }
-{
-    if at < out.len() {
-        out[at] = b;
-        return at + 1;
-    }
-    out.len()
-}
-
 fn text_stage(b: u8) -> Stage
     ensures { λ r. ⌜ r ≡ textStage b ⌝ }
 {
@@ -117,19 +96,19 @@ pub fn put_text(text: &mut [u8], at: usize, stage: Stage, b: u8) -> usize
     match stage {
         Stage::LineStart => {
             if b == 35 {
-                return clip(text.len(), at);
+                return print::clip(text.len(), at);
             }
-            put_byte(text, at, b)
+            print::put_byte(text, at, b)
         }
-        Stage::InLine => put_byte(text, at, b),
+        Stage::InLine => print::put_byte(text, at, b),
         Stage::Hash => {
             if b == 10 {
-                return clip(text.len(), at);
+                return print::clip(text.len(), at);
             }
-            let next = put_byte(text, at, 35);
-            put_byte(text, next, b)
+            let next = print::put_byte(text, at, 35);
+            print::put_byte(text, next, b)
         }
-        Stage::Rows => clip(text.len(), at),
+        Stage::Rows => print::clip(text.len(), at),
     }
 }
 
@@ -140,7 +119,7 @@ pub fn split_chunk(text: &mut [u8], s: Split, chunk: &[u8], from: usize) -> Divi
     ensures { λ r. ⌜ r .rows ≡ from + bytesBefore (s .stage) (drop from (now (chunk .entry))) ⌝ }
 {
     let mut stage = s.stage;
-    let mut place = clip(text.len(), s.length);
+    let mut place = print::clip(text.len(), s.length);
     let mut i = from;
     while i < chunk.len() {
         if is_rows(stage) {
@@ -148,7 +127,10 @@ pub fn split_chunk(text: &mut [u8], s: Split, chunk: &[u8], from: usize) -> Divi
                 stage: stage,
                 length: place,
             };
-            return Divided { split: split, rows: i };
+            return Divided {
+                split: split,
+                rows: i,
+            };
         }
         let b = chunk[i];
         place = put_text(text, place, stage, b);
@@ -159,7 +141,10 @@ pub fn split_chunk(text: &mut [u8], s: Split, chunk: &[u8], from: usize) -> Divi
         stage: stage,
         length: place,
     };
-    Divided { split: split, rows: i }
+    Divided {
+        split: split,
+        rows: i,
+    }
 }
 
 // ---- the row of a line
@@ -204,6 +189,17 @@ fn wide(x: u8) -> u64
     x as u64
 }
 
+// A number with one digit more; one that is too large for 32 bits whatever follows makes the line no row.
+fn longer(n: usize, negative: bool, v: u64, d: u64) -> Line
+    requires { ⌜ d ≤ 9 ⌝ }
+    ensures { λ r. ⌜ r ≡ longerBy n negative v d ⌝ }
+{
+    match v {
+        0..=214748364 => Line::Number(n, negative, 10 * v + d),
+        _ => Line::NoRow,
+    }
+}
+
 fn digit(n: usize, negative: bool, v: u64, b: u8) -> Line
     ensures { λ r. ⌜ r ≡ digitAfter n negative v b ⌝ }
 {
@@ -213,19 +209,16 @@ fn digit(n: usize, negative: bool, v: u64, b: u8) -> Line
     if 58 <= b {
         return Line::NoRow;
     }
-    if 214748364 < v {
-        return Line::NoRow;
-    }
-    Line::Number(n, negative, 10 * v + wide(b) % 16)
+    longer(n, negative, v, wide(b) % 16)
 }
 
 fn begin(n: usize, b: u8) -> Line
     ensures { λ r. ⌜ r ≡ numberBegins n b ⌝ }
 {
-    if b == 45 {
-        return Line::Minus(n);
+    match b {
+        45 => Line::Minus(n),
+        _ => digit(n, false, 0, b),
     }
-    digit(n, false, 0, b)
 }
 
 fn in_range(negative: bool, v: u64) -> bool
@@ -310,11 +303,19 @@ pub fn line_chunk(cells: &mut [i32], s: Line, chunk: &[u8], from: usize) -> Fed
         let b = chunk[i];
         i += 1;
         if b == 10 {
-            return Fed { line: line, next: i, ended: true };
+            return Fed {
+                line: line,
+                next: i,
+                ended: true,
+            };
         }
         line = line_byte(cells, line, b);
     }
-    Fed { line: line, next: i, ended: false }
+    Fed {
+        line: line,
+        next: i,
+        ended: false,
+    }
 }
 
 // A row of a length that no image has.
@@ -358,123 +359,4 @@ pub fn read_row(cells: &mut [i32], line: &[u8]) -> usize
         i += 1;
     }
     line_end(cells, s)
-}
-
-// ---- printing
-
-// The shortest decimal.
-pub fn put_unsigned_decimal(out: &mut [u8], at: usize, n: u64) -> usize
-    ensures { λ r. ⌜ Put (now (out .entry)) at (unsignedDecimal n) (now (out .exit)) r ⌝ }
-{
-    if n < 10 {
-        return put_byte(out, at, (48 + n) as u8);
-    }
-    let next = put_unsigned_decimal(out, at, n / 10);
-    put_byte(out, next, (48 + n % 10) as u8)
-}
-
-pub fn put_decimal(out: &mut [u8], at: usize, z: i32) -> usize
-    ensures { λ r. ⌜ Put (now (out .entry)) at (decimalOf z) (now (out .exit)) r ⌝ }
-{
-    if 0 <= z {
-        return put_unsigned_decimal(out, at, z as u64);
-    }
-    let next = put_byte(out, at, 45);
-    let n = -1 - z;
-    put_unsigned_decimal(out, next, n as u64 + 1)
-}
-
-fn put_bytes(out: &mut [u8], at: usize, word: &[u8]) -> usize
-    ensures { λ r. ⌜ Put (now (out .entry)) at (now (word .entry)) (now (out .exit)) r ⌝ }
-{
-    let mut place = clip(out.len(), at);
-    let mut i = 0;
-    while i < word.len() {
-        place = put_byte(out, place, word[i]);
-        i += 1;
-    }
-    place
-}
-
-// The part of the text from `start` to `end`, after a space.
-fn put_name(out: &mut [u8], at: usize, text: &[u8], start: usize, end: usize) -> usize
-    ensures { λ r. ⌜ Put (now (out .entry)) at (32 ∷ part (now (text .entry)) start end) (now (out .exit)) r ⌝ }
-{
-    let mut place = put_byte(out, at, 32);
-    let mut i = start;
-    while i < end {
-        if text.len() <= i {
-            return place;
-        }
-        place = put_byte(out, place, text[i]);
-        i += 1;
-    }
-    place
-}
-
-// The names that the first `count` entries of the table spell, each after a space.
-fn put_names(out: &mut [u8], at: usize, text: &[u8], starts: &[usize], ends: &[usize], count: usize) -> usize
-    ensures { λ r. ⌜ Put (now (out .entry)) at (spaced (spelledBy (now (text .entry)) (now (starts .entry)) (now (ends .entry)) count)) (now (out .exit)) r ⌝ }
-{
-    let mut place = clip(out.len(), at);
-    let mut i = 0;
-    while i < count {
-        if starts.len() <= i {
-            return place;
-        }
-        if ends.len() <= i {
-            return place;
-        }
-        let s = starts[i];
-        let e = ends[i];
-        place = put_name(out, place, text, s, e);
-        i += 1;
-    }
-    place
-}
-
-// `scan`, the names that the first `count` entries of the table spell, `result`.
-pub fn put_head(out: &mut [u8], at: usize, text: &[u8], starts: &[usize], ends: &[usize], count: usize) -> usize
-    ensures { λ r. ⌜ Put (now (out .entry)) at (headLine (spelledBy (now (text .entry)) (now (starts .entry)) (now (ends .entry)) count)) (now (out .exit)) r ⌝ }
-{
-    let first = put_bytes(out, at, b"scan");
-    let second = put_names(out, first, text, starts, ends, count);
-    put_bytes(out, second, b" result\n")
-}
-
-// Numbers, each after a space.
-fn put_values(out: &mut [u8], at: usize, values: &[i32]) -> usize
-    ensures { λ r. ⌜ Put (now (out .entry)) at (spaced (map decimalOf (now (values .entry)))) (now (out .exit)) r ⌝ }
-{
-    let mut place = clip(out.len(), at);
-    let mut i = 0;
-    while i < values.len() {
-        let z = values[i];
-        let next = put_byte(out, place, 32);
-        place = put_decimal(out, next, z);
-        i += 1;
-    }
-    place
-}
-
-// Row number, values, refusal or 0.
-pub fn put_row(out: &mut [u8], at: usize, number: u64, values: &[i32], refusal: u64) -> usize
-    ensures { λ r. ⌜ Put (now (out .entry)) at (rowLine number (now (values .entry)) refusal) (now (out .exit)) r ⌝ }
-{
-    let first = put_unsigned_decimal(out, at, number);
-    let second = put_values(out, first, values);
-    let third = put_byte(out, second, 32);
-    let fourth = put_unsigned_decimal(out, third, refusal);
-    put_byte(out, fourth, 10)
-}
-
-// `refused K at P`
-pub fn put_refused(out: &mut [u8], at: usize, number: u64, place: u64) -> usize
-    ensures { λ r. ⌜ Put (now (out .entry)) at (refusedLine number place) (now (out .exit)) r ⌝ }
-{
-    let first = put_bytes(out, at, b"refused ");
-    let second = put_unsigned_decimal(out, first, number);
-    let third = put_bytes(out, second, b" at ");
-    let fourth = put_unsigned_decimal(out, third, place);
-    put_byte(out, fourth, 10)
 }

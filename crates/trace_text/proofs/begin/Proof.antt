@@ -5,16 +5,16 @@ use Rattle.trace_text.specs.Internal.{numberBegins}
 use Rattle.trace_text.proofs.begin.Statement.{statement}
 use Rattle.trace_text.proofs.begin.Tie as tie
 
-returns : tie.Need-returns
-unfolding numberBegins
-returns c = rw (eq-eqb _ 45 (c .if1 .taken))
-
 digit-requires : tie.Need-digit-requires
 digit-requires c κs = search needs
 
+returns : tie.Need-returns
+unfolding numberBegins
+returns c = rw (eq-eqb _ 45 (c .match .keys1))
+
 returns-2 : tie.Need-returns-2
 unfolding numberBegins
-returns-2 c = rw (ne-eqb _ 45 (c .before .if1 .left)) (c .digit .ensures)
+returns-2 c = rw (ne-eqb _ 45 (c .before .match .rest .1)) (c .digit .ensures)
 
 pub begin-spec : {M : Type 1} → statement M
-begin-spec = tie.close (tie.spec returns digit-requires returns-2)
+begin-spec = tie.close (tie.spec digit-requires returns returns-2)

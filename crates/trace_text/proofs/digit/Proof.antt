@@ -1,8 +1,10 @@
 -- `trace_text::digit` meets its contract: each test decides one of the definition. Assumes nothing.
+use mathlib.Core.Path.{ap, _∙_}
+use Prim.Native.Nat.{ℕ, _%_}
 use borrow.Author.Tests.{lt-leb, le-leb, lt-ltb, le-ltb}
 use borrow.Author.Needs.{needs}
 use Rattle.lexer.specs.Lexer.{isDigit}
-use Rattle.trace_text.specs.Internal.{digitAfter}
+use Rattle.trace_text.specs.Internal.{longerBy, digitAfter}
 use Rattle.trace_text.proofs.digit.Statement.{statement}
 use Rattle.trace_text.proofs.digit.Tie as tie
 
@@ -14,22 +16,16 @@ returns-2 : tie.Need-returns-2
 unfolding digitAfter isDigit
 returns-2 c = rw (le-leb 48 _ (c .before .if1 .left), le-ltb _ 58 (c .if2 .taken))
 
-returns-3 : tie.Need-returns-3
-unfolding digitAfter isDigit
-returns-3 c = rw (le-leb 48 _ (c .before .before .if1 .left), lt-ltb _ 58 (c .before .if2 .left), lt-leb _ 214748364 (c .if3 .taken))
-
-mul-t6 : tie.Need-mul-t6
-mul-t6 c = search needs
-
 wide-requires : tie.Need-wide-requires
 wide-requires c κs = search needs
 
-add-t9 : tie.Need-add-t9
-add-t9 c = search needs
+longer-requires : tie.Need-longer-requires
+longer-requires c κs = search needs
 
-returns-4 : tie.Need-returns-4
+returns-3 : tie.Need-returns-3
 unfolding digitAfter isDigit
-returns-4 c = rw (le-leb 48 _ (c .before .before .before .if1 .left), lt-ltb _ 58 (c .before .before .if2 .left), le-leb _ 214748364 (c .before .if3 .left), c .wide .ensures)
+returns-3 c =
+    rw (le-leb 48 _ (c .before .before .before .if1 .left), lt-ltb _ 58 (c .before .before .if2 .left)) (c .longer .ensures ∙ ap (λ (x : ℕ). longerBy (c .before .before .before .before .args .n) (c .before .before .before .before .args .negative) (c .before .before .before .before .args .v) (x % 16)) (c .before .wide .ensures))
 
 pub digit-spec : {M : Type 1} → statement M
-digit-spec = tie.close (tie.spec returns returns-2 returns-3 mul-t6 wide-requires add-t9 returns-4)
+digit-spec = tie.close (tie.spec returns returns-2 wide-requires longer-requires returns-3)

@@ -1,5 +1,5 @@
 -- `trace_text::read_row` meets its contract. The loop's invariant: what is left of the line makes the whole. Assumes nothing.
-use mathlib.Core.Path.{_≡_, refl, sym, ap, ap₂, _∙_}
+use mathlib.Core.Path.{refl, ap, ap₂, _∙_}
 use Prim.Native.Nat.{_-_}
 use native.Mathlib.Omega.{arith}
 use Rattle.trace_text.specs.Internal.{countOf, cellsOf}

@@ -1,5 +1,5 @@
 -- `trace_text::split_chunk` meets its contract. The loop's invariant: what is left of the chunk makes the whole. Assumes nothing.
-use mathlib.Core.Path.{_≡_, refl, sym, ap, _∙_}
+use mathlib.Core.Path.{refl, sym, _∙_}
 use Prim.Native.Nat.{_-_}
 use native.Mathlib.Omega.{arith}
 use lib.ListN.{length}

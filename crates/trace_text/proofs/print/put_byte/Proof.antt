@@ -1,10 +1,10 @@
--- `trace_text::put_byte` meets its contract: a store out of range leaves the list as it is. Assumes nothing.
+-- `trace_text::print::put_byte` meets its contract: a store out of range leaves the list as it is. Assumes nothing.
 use mathlib.Core.Path.{sym}
 use native.Mathlib.Omega.{arith}
 use lib.Seq.{set-out}
 use borrow.Author.Needs.{needs}
-use Rattle.trace_text.proofs.put_byte.Statement.{statement}
-use Rattle.trace_text.proofs.put_byte.Tie as tie
+use Rattle.trace_text.proofs.print.put_byte.Statement.{statement}
+use Rattle.trace_text.proofs.print.put_byte.Tie as tie
 
 slice-write-out : tie.Need-slice-write-out
 slice-write-out c = search needs

@@ -1,5 +1,4 @@
--- `trace_text::put_bytes` meets its contract. The loop's invariant: the bytes that are left, put from here, make the whole. Assumes nothing.
-use mathlib.Core.Path.{_≡_, refl, sym, ap, _∙_}
+-- `trace_text::print::put_bytes` meets its contract. The loop's invariant: the bytes that are left, put from here, make the whole. Assumes nothing.
 use mathlib.Core.List.{_∷_, []}
 use Prim.Native.Nat.{_-_}
 use native.Mathlib.Numerals.{add-one}
@@ -8,8 +7,8 @@ use lib.ListN.{length, getD, drop, drop-of-length-le}
 use lib.Seq.{drop-cons}
 use borrow.Author.Needs.{needs}
 use Rattle.trace_text.proofs.Puts.{put-clip, Putting, putting, putting-next, putting-done}
-use Rattle.trace_text.proofs.put_bytes.Statement.{statement}
-use Rattle.trace_text.proofs.put_bytes.Tie as tie
+use Rattle.trace_text.proofs.print.put_bytes.Statement.{statement}
+use Rattle.trace_text.proofs.print.put_bytes.Tie as tie
 
 abbrev Inv-loop : tie.InvT-loop
 Inv-loop out₀ at word place₀ i₀ out place i = Putting out₀ place₀ word out place (drop i word)

@@ -1,16 +1,16 @@
--- `trace_text::put_names` meets its contract. The loop's invariant: the names that are left, put from here, make the whole. Assumes nothing.
-use mathlib.Core.Path.{_≡_, refl, sym, ap, _∙_}
-use mathlib.Core.List.{List, _∷_, [], _++_}
-use Prim.Native.Nat.{ℕ, _+_, _-_, _<_, _≤_}
+-- `trace_text::print::put_names` meets its contract. The loop's invariant: the names that are left, put from here, make the whole. Assumes nothing.
+use mathlib.Core.Path.{_≡_}
+use mathlib.Core.List.{_∷_}
+use Prim.Native.Nat.{_-_}
 use native.Mathlib.Omega.{arith}
-use lib.ListN.{length, getD, drop, drop-of-length-le}
+use lib.ListN.{getD, drop, drop-of-length-le}
 use borrow.Author.Needs.{needs}
 use Rattle.lexer.specs.Bytes.{part}
 use Rattle.trace_text.specs.Output.{spaced, spelledBy}
 use Rattle.trace_text.proofs.Puts.{put-clip, Putting, putting, putting-next, putting-done}
 use Rattle.trace_text.proofs.Printing.{no-names, no-starts, no-ends, spelled-next}
-use Rattle.trace_text.proofs.put_names.Statement.{statement}
-use Rattle.trace_text.proofs.put_names.Tie as tie
+use Rattle.trace_text.proofs.print.put_names.Statement.{statement}
+use Rattle.trace_text.proofs.print.put_names.Tie as tie
 
 abbrev Inv-loop : tie.InvT-loop
 Inv-loop out₀ at text starts ends count place₀ i₀ out place i =

@@ -1,4 +1,4 @@
--- `trace_text::put_unsigned_decimal` meets its contract. It calls itself with the number without its last digit; the measure is the
+-- `trace_text::print::put_unsigned_decimal` meets its contract. It calls itself with the number without its last digit; the measure is the
 -- number. Assumes nothing.
 use Prim.Native.Nat.{ℕ, _<_}
 use native.Mathlib.Omega.{arith}
@@ -7,12 +7,12 @@ use borrow.Fn.Kinds.{In}
 use borrow.Fn.PlainCycle.{Measures, is, falls, and}
 use Rattle.trace_text.proofs.Puts.{put-then}
 use Rattle.trace_text.proofs.Printing.{decimal-small, decimal-more}
-use Rattle.trace_text.proofs.put_unsigned_decimal.Reads as reads
-use Rattle.trace_text.proofs.put_unsigned_decimal.Kinds as kinds
-use Rattle.trace_text.proofs.+put_unsigned_decimal.Lts-put_unsigned_decimal as lts
-use Rattle.trace_text.proofs.put_byte.Reads as put-byte-reads
-use Rattle.trace_text.proofs.+put_unsigned_decimal.{statement}
-use Rattle.trace_text.proofs.+put_unsigned_decimal.Tie.{close}
+use Rattle.trace_text.proofs.print.put_unsigned_decimal.Reads as reads
+use Rattle.trace_text.proofs.print.put_unsigned_decimal.Kinds as kinds
+use Rattle.trace_text.proofs.print.+put_unsigned_decimal.Lts-put_unsigned_decimal as lts
+use Rattle.trace_text.proofs.print.put_byte.Reads as put-byte-reads
+use Rattle.trace_text.proofs.print.+put_unsigned_decimal.{statement}
+use Rattle.trace_text.proofs.print.+put_unsigned_decimal.Tie.{close}
 
 abbrev μ : Measures 1 kinds.ps ℕ
 μ κs a = a .1 .1 .0

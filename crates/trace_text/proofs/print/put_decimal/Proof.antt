@@ -1,8 +1,8 @@
--- `trace_text::put_decimal` meets its contract. Each arm has one equation from what the code reads to a natural number. Assumes nothing.
-use mathlib.Core.Path.{_≡_, refl, sym, ap, _∙_}
+-- `trace_text::print::put_decimal` meets its contract. Each arm has one equation from what the code reads to a natural number. Assumes nothing.
+use mathlib.Core.Path.{_≡_, ap, _∙_}
 use mathlib.Core.Bool.{true, false}
 use mathlib.Core.List.{_∷_}
-use Prim.Native.Nat.{ℕ, _+_}
+use Prim.Native.Nat.{_+_}
 use native.Mathlib.Omega.{arith}
 use lib.IntN.{ℤ, pos, negsuc, _-ℤ_}
 use lib.Signed.{mag, leZ}
@@ -12,8 +12,8 @@ use mir.Val.{SFits, toZ, ofZ}
 use Rattle.leb128.proofs.Signs.{same32, not-below, is-below, mirror-negsuc}
 use Rattle.trace_text.specs.Output.{unsignedDecimal, decimalOf}
 use Rattle.trace_text.proofs.Puts.{put-then}
-use Rattle.trace_text.proofs.put_decimal.Statement.{statement}
-use Rattle.trace_text.proofs.put_decimal.Tie as tie
+use Rattle.trace_text.proofs.print.put_decimal.Statement.{statement}
+use Rattle.trace_text.proofs.print.put_decimal.Tie as tie
 
 module _ (z : ℤ) (f : SFits w32 z) where
   -- z ≥ 0: what is read is the number n = z

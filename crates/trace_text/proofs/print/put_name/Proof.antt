@@ -1,15 +1,15 @@
--- `trace_text::put_name` meets its contract. The loop's invariant: the bytes that are left, put from here, make the whole. Assumes nothing.
-use mathlib.Core.Path.{_≡_, refl, sym, ap, _∙_}
+-- `trace_text::print::put_name` meets its contract. The loop's invariant: the bytes that are left, put from here, make the whole. Assumes nothing.
+use mathlib.Core.Path.{_∙_}
 use mathlib.Core.List.{_∷_, []}
 use Prim.Native.Nat.{_-_}
 use native.Mathlib.Omega.{arith}
-use lib.ListN.{length, getD}
+use lib.ListN.{getD}
 use borrow.Author.Needs.{needs}
 use Rattle.lexer.specs.Bytes.{part}
 use Rattle.trace_text.proofs.Puts.{put-then, put-inside, put-length, Putting, putting, putting-next, putting-done}
 use Rattle.trace_text.proofs.Printing.{part-next, part-end, part-past}
-use Rattle.trace_text.proofs.put_name.Statement.{statement}
-use Rattle.trace_text.proofs.put_name.Tie as tie
+use Rattle.trace_text.proofs.print.put_name.Statement.{statement}
+use Rattle.trace_text.proofs.print.put_name.Tie as tie
 
 abbrev Inv-loop : tie.InvT-loop
 Inv-loop out₀ at text start end place₀ i₀ out place i = Putting out₀ place₀ (part text i₀ end) out place (part text i end)

@@ -1,10 +1,9 @@
--- `trace_text::put_values` meets its contract. The loop's invariant: the numbers that are left, put from here, make the whole. Assumes nothing.
-use mathlib.Core.Path.{_≡_, refl, sym, ap, _∙_}
-use mathlib.Core.List.{List, _∷_, [], _++_, map}
-use Prim.Native.Nat.{ℕ, _+_, _-_, _<_, _≤_}
+-- `trace_text::print::put_values` meets its contract. The loop's invariant: the numbers that are left, put from here, make the whole. Assumes nothing.
+use mathlib.Core.List.{_∷_, map}
+use Prim.Native.Nat.{_-_}
 use native.Mathlib.Numerals.{add-one}
 use native.Mathlib.Omega.{arith}
-use lib.IntN.{ℤ, pos}
+use lib.IntN.{pos}
 use lib.ListN.{length, getD, drop, drop-of-length-le}
 use lib.Seq.{drop-cons}
 use borrow.Author.Needs.{needs}
@@ -13,8 +12,8 @@ use mir.Val.{SFits}
 use Rattle.arith.proofs.Laws.{same32}
 use Rattle.trace_text.specs.Output.{decimalOf, spaced}
 use Rattle.trace_text.proofs.Puts.{put-clip, put-then, Putting, putting, putting-next, putting-done}
-use Rattle.trace_text.proofs.put_values.Statement.{statement}
-use Rattle.trace_text.proofs.put_values.Tie as tie
+use Rattle.trace_text.proofs.print.put_values.Statement.{statement}
+use Rattle.trace_text.proofs.print.put_values.Tie as tie
 
 abbrev Inv-loop : tie.InvT-loop
 Inv-loop out₀ at values place₀ i₀ out place i = Putting out₀ place₀ (spaced (map decimalOf values)) out place (spaced (map decimalOf (drop i values)))
