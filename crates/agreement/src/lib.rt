@@ -28,7 +28,7 @@ fn fault(read: Token) -> Compared
 }
 
 // The tokens from `from` up to `to` are wanted at `at`.
-pub fn compare_part(text: &[u8], from: usize, to: usize, at: usize) -> Compared
+fn compare_part(text: &[u8], from: usize, to: usize, at: usize) -> Compared
     requires { ⌜ to ≤ length (now text) ⌝ }
     ensures { λ r. ⌜ comparedOf r ≡ partFrom (length (now (text .entry))) (now (text .entry)) from to at ⌝ }
 {
@@ -54,7 +54,7 @@ pub fn compare_part(text: &[u8], from: usize, to: usize, at: usize) -> Compared
 }
 
 // A token of a kind is wanted at `at`.
-pub fn compare_sign(text: &[u8], kind: u8, at: usize) -> Compared
+fn compare_sign(text: &[u8], kind: u8, at: usize) -> Compared
     requires { ⌜ kind ≤ 30 ⌝ }
     ensures { λ r. ⌜ comparedOf r ≡ kindAt (now (text .entry)) (kindOf kind) at ⌝ }
 {

@@ -15,7 +15,7 @@ use mir.Val.{SFits}
 use Rattle.limits.specs.Limits.{noToken, notAllowed, outOfLimit}
 use Rattle.arith.specs.Values.{isInt32}
 use Rattle.arith.proofs.Basics.{T-true}
-use Rattle.arith.proofs.Laws.{fits-int32}
+use Rattle.arith.proofs.Laws.{fits-int32, same32}
 use Rattle.lexer.specs.Bytes.{pick, part}
 use Rattle.lexer.specs.Token.{Kind, digits, initWord, semicolon, minus, is, token, fault}
 use Rattle.lexer.specs.Lexer.{tokenAt, valueOf}
@@ -32,7 +32,7 @@ use Rattle.declarations.specs.Results.{numberOf, boundOf, unexpected}
 use Rattle.declarations.specs.declared.Bound.{Bound}
 use Rattle.declarations.specs.declared.Number.{Number}
 use Rattle.declarations.specs.declared.Number.the-variants.{Is, Outside}
-use Rattle.declarations.proofs.Numbers.{between}
+use Rattle.declarations.proofs.Numbers.{kept, between}
 
 -- ---- tests
 
@@ -130,6 +130,15 @@ unread-fault g h i = rw (i, h, g)
 pub unread-sign : {e : Expected} {k p : ℕ} {b : Bound} (q : Parsed (Unit {0})) → expectedOf e ≡ q → e ≡ E.Refused k p → b ≡ unexpected e → (q ≡ refused k p) × (boundOf b ≡ refused k p)
 unread-sign q h g i = (sym h ∙ ap expectedOf g, rw (i, g))
 
+-- ---- bounds that were held in locals
+
+module _ (low high : ℤ) (fl : SFits w32 low) (fh : SFits w32 high) (text : List ℕ) (at : ℕ) {p : Parsed ℤ} where
+  pub bound-kept : p ≡ boundAt (inRange (kept low) (kept high)) text at → p ≡ boundAt (inRange low high) text at
+  bound-kept h = rw (same32 fl, same32 fh) at h
+
+  pub start-kept : p ≡ startAt text (kept low) (kept high) at → p ≡ startAt text low high at
+  start-kept h = rw (same32 fl, same32 fh) at h
+
 -- ---- a signed number
 
 module _ (test : ℤ → Bool) (text : List ℕ) (at : ℕ) where
@@ -157,8 +166,8 @@ module _ (low high : ℤ) (s : ℕ) {num : Number} (hn : numberOf num ≡ pick (
   pub absent-out : (n : ℕ) → num ≡ Outside → refused outOfLimit s ≡ pick (inRange low high (pos 0)) (accepted (pos 0) n) (refused outOfLimit s)
   absent-out n g = rw (unpicked (inRange low high (pos 0)) (pos 0) (sym (ap numberOf g) ∙ hn))
 
-  pub absent-in : {z : ℤ} (n : ℕ) → num ≡ Is z → accepted z n ≡ pick (inRange low high (pos 0)) (accepted (pos 0) n) (refused outOfLimit s)
-  absent-in {z} n g = let p = picked (inRange low high (pos 0)) (pos 0) z (sym (ap numberOf g) ∙ hn) in rw (p .0, p .1)
+  pub absent-in : {z : ℤ} (n : ℕ) → SFits w32 z → num ≡ Is z → accepted (kept z) n ≡ pick (inRange low high (pos 0)) (accepted (pos 0) n) (refused outOfLimit s)
+  absent-in {z} n f g = let p = picked (inRange low high (pos 0)) (pos 0) z (sym (ap numberOf g) ∙ hn) in rw (p .0, same32 f, p .1)
 
 module _ (text : List ℕ) (low high : ℤ) (at : ℕ) where
   pub start-fault : (p : ℕ) → tokenAt text at ≡ fault p → startAt text low high at ≡ refused noToken p

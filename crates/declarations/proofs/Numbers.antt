@@ -11,13 +11,17 @@ use lib.Seq.{sets}
 use lib.Signed.{leZ}
 use borrow.Author.Tests.{leb-true}
 use mir.Syntax.{w32, w64}
-use mir.Val.{SFits, toZ}
+use mir.Val.{SFits, toZ, ofZ}
 use mir.Facts.{toZ-pos}
-use Rattle.arith.proofs.Laws.{mag-neg}
+use Rattle.arith.proofs.Laws.{mag-neg, same32}
 use Rattle.leb128.specs.Numbers.{number, zigzag}
 use Rattle.leb128.proofs.Laws.{at-most-five}
 use Rattle.semantics.specs.Program.{Range}
 use Rattle.declarations.specs.Internal.{rangeBytes}
+
+-- what a signed local gives back
+abbrev pub kept : ℤ → ℤ
+kept z = toZ w32 (ofZ w32 z)
 
 -- ---- bounds
 
@@ -39,6 +43,9 @@ module _ (v : ℕ) (h : v ≤ 2 ^ 32) where
   pub negated-fits : SFits w64 (negℤ (pos v))
   negated-fits = record { sfits = omega (arith, mag-neg (pos v)) }
 
+  pub negates : SFits w64 (pos 0 -ℤ toZ w64 v)
+  negates = rw negated negated-fits
+
 -- ---- bytes
 
 pub sets-append : (l : List ℕ) (i : ℕ) (xs ys : List ℕ) → sets l i (xs ++ ys) ≡ sets (sets l i xs) (i + length xs) ys
@@ -49,8 +56,15 @@ sets-append l i (x ∷ xs) ys = sets-append (set l i x) (suc i) xs ys ∙ ap (λ
 pub near : (to a : ℕ) (z : ℤ) → a ≡ to + length (number (zigzag z)) → a ≤ to + 5
 near to a z e = omega (arith, at-most-five (zigzag z))
 
+-- a number written at `to`, up to end
+abbrev pub Number : List ℕ → List ℕ → ℕ → ℕ → ℤ → Type 0
+Number before after to end z = (end ≡ to + length (number (zigzag z))) × (after ≡ sets before to (number (zigzag z)))
+
+pub number-kept : (before after : List ℕ) (to end : ℕ) (z : ℤ) → SFits w32 z → Number before after to end (kept z) → Number before after to end z
+number-kept before after to end z f n = rw (same32 f) at n
+
 -- three numbers, each written behind the one before
-pub three-written : (before m1 m2 after : List ℕ) (to a b end : ℕ) (r : Range) → (a ≡ to + length (number (zigzag (r .low)))) × (m1 ≡ sets before to (number (zigzag (r .low)))) → (b ≡ a + length (number (zigzag (r .high)))) × (m2 ≡ sets m1 a (number (zigzag (r .high)))) → (end ≡ b + length (number (zigzag (r .start)))) × (after ≡ sets m2 b (number (zigzag (r .start)))) → (end ≡ to + length (rangeBytes r)) × (after ≡ sets before to (rangeBytes r))
+pub three-written : (before m1 m2 after : List ℕ) (to a b end : ℕ) (r : Range) → Number before m1 to a (r .low) → Number m1 m2 a b (r .high) → Number m2 after b end (r .start) → (end ≡ to + length (rangeBytes r)) × (after ≡ sets before to (rangeBytes r))
 unfolding rangeBytes
 three-written before m1 m2 after to a b end range p q r =
     let x = number (zigzag (range .low)) in

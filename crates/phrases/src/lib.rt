@@ -40,7 +40,7 @@ pub fn expect(text: &[u8], at: usize, kind: u8) -> Expected
 }
 
 // The name that the text spells from `start` to `end`.
-pub fn expect_name(text: &[u8], at: usize, start: usize, end: usize) -> Expected
+fn expect_name(text: &[u8], at: usize, start: usize, end: usize) -> Expected
     ensures { λ r. ⌜ expectedOf r ≡ expected (now (text .entry)) (own (part (now (text .entry)) start end)) at ⌝ }
 {
     let read = lexer::token_at(text, at);
@@ -56,7 +56,7 @@ pub fn expect_name(text: &[u8], at: usize, start: usize, end: usize) -> Expected
 }
 
 // The previous value of that name: it stands after the `_`.
-pub fn expect_previous(text: &[u8], at: usize, start: usize, end: usize) -> Expected
+fn expect_previous(text: &[u8], at: usize, start: usize, end: usize) -> Expected
     ensures { λ r. ⌜ expectedOf r ≡ expected (now (text .entry)) (ownPrevious (part (now (text .entry)) start end)) at ⌝ }
 {
     let read = lexer::token_at(text, at);

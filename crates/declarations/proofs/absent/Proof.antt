@@ -22,7 +22,7 @@ returns c = absent-out _ _ _ (rw (same32 (c .before .before .before .fits .low),
 returns-2 : tie.Need-returns-2
 returns-2 c =
     let f : SFits w32 (c .before .z .given .0 .0) = search needs in
-    rw (same32 f) (absent-in _ _ _ (rw (same32 (c .before .before .before .before .fits .low), same32 (c .before .before .before .before .fits .high)) at (c .before .before .before .within .ensures)) _ (c .before .z .given .1))
+    absent-in _ _ _ (rw (same32 (c .before .before .before .before .fits .low), same32 (c .before .before .before .before .fits .high)) at (c .before .before .before .within .ensures)) _ f (c .before .z .given .1)
 
 pub absent-spec : {M : Type 1} → statement M
 absent-spec = tie.close (tie.spec within-requires enum-known-z enum-told returns returns-2)

@@ -6,6 +6,7 @@ use Rattle.lexer.proofs.KindNumbers.{kind-is, kind-is-not}
 use Rattle.phrases.specs.Results.{faultOf}
 use Rattle.lexer.proofs.Tokens.{is-token, is-fault}
 use Rattle.declarations.proofs.NewNames.{faulty-name, refuses-other, refuses-known, refuses-long, refuses-last, takes-name}
+use native.Mathlib.Omega.{arith}
 use borrow.Author.Needs.{needs}
 use Rattle.declarations.proofs.new_name.Statement.{statement}
 use Rattle.declarations.proofs.new_name.Tie as tie
@@ -62,7 +63,7 @@ unfolding kindNumber
 returns-4 c = refuses-long _ _ _ _ _ _ _ _ _ _ (is-token _ _ _ (c .before .before .before .before .before .before .before .before .before .before .before .token-at .ensures) _ _ _ (c .before .before .before .before .before .before .before .before .before .read .given .1) .0) (kind-is _ name (c .before .before .before .before .before .before .before .if1 .left)) (sym (c .before .before .before .before .find .ensures) ∙ ap foundId (c .before .before .enum-told3 .given .1)) (sym (c .before .is-over-long .ensures) ∙ c .if2 .taken)
 
 add-requires : tie.Need-add-requires
-add-requires c κs = search needs
+add-requires c κs = (omega (arith, c .before .before .before .before .before .before .before .before .before .before .before .before .before .before .before .before .before .before .pre .in-starts, c .before .before .if3 .taken), omega (arith, c .before .before .before .before .before .before .before .before .before .before .before .before .before .before .before .before .before .before .pre .in-ends, c .before .before .if3 .taken))
 
 same-length-5 : tie.Need-same-length-5
 same-length-5 c = search needs

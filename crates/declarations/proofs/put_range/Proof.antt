@@ -1,7 +1,6 @@
 -- `declarations::put_range` meets its contract. Assumes nothing.
 use native.Mathlib.Omega.{arith}
-use Rattle.arith.proofs.Laws.{same32}
-use Rattle.declarations.proofs.Numbers.{near, three-written}
+use Rattle.declarations.proofs.Numbers.{near, number-kept, three-written}
 use borrow.Author.Needs.{needs}
 use Rattle.declarations.proofs.put_range.Statement.{statement}
 use Rattle.declarations.proofs.put_range.Tie as tie
@@ -19,7 +18,9 @@ same-length : tie.Need-same-length
 same-length c = search needs
 
 returns : tie.Need-returns
-returns c = rw (same32 (c .before .before .before .before .before .before .before .before .before .before .before .before .before .fits .low), same32 (c .before .before .before .before .before .before .before .before .before .before .before .before .before .fits .high), same32 (c .before .before .before .before .before .before .before .before .before .before .before .before .before .fits .start)) at (three-written _ _ _ _ _ _ _ _ (record { low = _; high = _; start = _ }) (c .before .before .before .before .before .before .before .before .before .before .put-signed .ensures) (c .before .before .before .before .before .before .put-signed2 .ensures) (c .before .before .put-signed3 .ensures))
+returns c =
+    three-written _ _ _ _ _ _ _ _ (record { low = c .before .before .before .before .before .before .before .before .before .before .before .before .before .args .low; high = c .before .before .before .before .before .before .before .before .before .before .before .before .before .args .high; start = c .before .before .before .before .before .before .before .before .before .before .before .before .before .args .start })
+    (number-kept _ _ _ _ (c .before .before .before .before .before .before .before .before .before .before .before .before .before .args .low) (c .before .before .before .before .before .before .before .before .before .before .before .before .before .fits .low) (c .before .before .before .before .before .before .before .before .before .before .put-signed .ensures)) (number-kept _ _ _ _ (c .before .before .before .before .before .before .before .before .before .before .before .before .before .args .high) (c .before .before .before .before .before .before .before .before .before .before .before .before .before .fits .high) (c .before .before .before .before .before .before .put-signed2 .ensures)) (number-kept _ _ _ _ (c .before .before .before .before .before .before .before .before .before .before .before .before .before .args .start) (c .before .before .before .before .before .before .before .before .before .before .before .before .before .fits .start) (c .before .before .put-signed3 .ensures))
 
 pub put-range-spec : {M : Type 1} → statement M
 put-range-spec =

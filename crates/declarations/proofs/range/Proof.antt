@@ -1,5 +1,6 @@
 -- `declarations::range` meets its contract: each part that was read takes the definition one step on. Assumes nothing.
 use mathlib.Core.Path.{_≡_, sym, ap, _∙_}
+use native.Mathlib.Omega.{arith}
 use mir.Syntax.{w32}
 use mir.Val.{SFits}
 use Rattle.arith.specs.Values.{lowest, highest}
@@ -10,11 +11,15 @@ use Rattle.grammar.specs.Parsed.{accepted, sign, expected}
 use Rattle.grammar.specs.Declarations.{inRange, boundAt, startAt}
 use Rattle.phrases.specs.Results.{expectedOf}
 use Rattle.declarations.specs.Results.{boundOf}
+use Rattle.declarations.proofs.Bounds.{bound-kept, start-kept}
 use Rattle.declarations.proofs.Ranges.{no-low, no-dots, no-high, no-start, whole-range}
 use Rattle.declarations.proofs.Steps.{refuses-bound, refuses-sign, writes}
 use borrow.Author.Needs.{needs}
 use Rattle.declarations.proofs.range.Statement.{statement}
 use Rattle.declarations.proofs.range.Tie as tie
+
+highest-fits : SFits w32 highest
+highest-fits = record { sfits = omega arith }
 
 -- what each call found, as an equation of the definition
 low-fits : (c : tie.After-known-told) → SFits w32 (c .before .first .given .0 .0)
@@ -31,13 +36,13 @@ high-fits : (c : tie.After-known-told3) → SFits w32 (c .before .second .given 
 high-fits c = search needs
 
 high-is : (c : tie.After-known-told3) → boundAt (inRange (c .before .before .before .before .before .before .before .before .before .first .given .0 .0) highest) (c .before .before .before .before .before .before .before .before .before .before .before .before .before .before .args .text .now) (c .before .before .before .before .before .between .given .0 .0) ≡ accepted (c .before .second .given .0 .0) (c .before .second .given .0 .1 .0)
-high-is c = sym (rw (same32 (low-fits (c .before .before .before .before .before .before .before .before))) at (c .before .before .before .bound-at2 .ensures)) ∙ ap boundOf (c .before .second .given .1)
+high-is c = sym (bound-kept _ _ (low-fits (c .before .before .before .before .before .before .before .before)) highest-fits _ _ (c .before .before .before .bound-at2 .ensures)) ∙ ap boundOf (c .before .second .given .1)
 
 start-fits : (c : tie.After-known-told4) → SFits w32 (c .before .third .given .0 .0)
 start-fits c = search needs
 
 start-is : (c : tie.After-known-told4) → startAt (c .before .before .before .before .before .before .before .before .before .before .before .before .before .before .before .before .before .before .args .text .now) (c .before .before .before .before .before .before .before .before .before .before .before .before .before .first .given .0 .0) (c .before .before .before .before .before .second .given .0 .0) (c .before .before .before .before .before .second .given .0 .1 .0) ≡ accepted (c .before .third .given .0 .0) (c .before .third .given .0 .1 .0)
-start-is c = sym (rw (same32 (low-fits (c .before .before .before .before .before .before .before .before .before .before .before .before)), same32 (high-fits (c .before .before .before .before))) at (c .before .before .before .start-at .ensures)) ∙ ap boundOf (c .before .third .given .1)
+start-is c = sym (start-kept _ _ (low-fits (c .before .before .before .before .before .before .before .before .before .before .before .before)) (high-fits (c .before .before .before .before)) _ _ (c .before .before .before .start-at .ensures)) ∙ ap boundOf (c .before .third .given .1)
 
 bound-at-requires : tie.Need-bound-at-requires
 bound-at-requires c κs = search needs
@@ -87,7 +92,7 @@ out-of-limit-requires-2 c κs = search needs
 returns-3 : tie.Need-returns-3
 returns-3 c =
     refuses-bound _ _ _ _ _ (c .before .enum-told3 .given .1) (c .out-of-limit2 .ensures)
-    (no-high _ _ _ _ (low-is (c .before .before .before .before .before .before .before .before)) _ (dots-is (c .before .before .before .before)) _ _ (sym (rw (same32 (low-fits (c .before .before .before .before .before .before .before .before))) at (c .before .before .before .bound-at2 .ensures)) ∙ ap boundOf (c .before .enum-told3 .given .1)))
+    (no-high _ _ _ _ (low-is (c .before .before .before .before .before .before .before .before)) _ (dots-is (c .before .before .before .before)) _ _ (sym (bound-kept _ _ (low-fits (c .before .before .before .before .before .before .before .before)) highest-fits _ _ (c .before .before .before .bound-at2 .ensures)) ∙ ap boundOf (c .before .enum-told3 .given .1)))
 
 start-at-requires : tie.Need-start-at-requires
 start-at-requires c κs = search needs
@@ -104,7 +109,7 @@ out-of-limit-requires-3 c κs = search needs
 returns-4 : tie.Need-returns-4
 returns-4 c =
     refuses-bound _ _ _ _ _ (c .before .enum-told4 .given .1) (c .out-of-limit3 .ensures)
-    (no-start _ _ _ _ (low-is (c .before .before .before .before .before .before .before .before .before .before .before .before)) _ (dots-is (c .before .before .before .before .before .before .before .before)) _ _ (high-is (c .before .before .before .before)) _ _ (sym (rw (same32 (low-fits (c .before .before .before .before .before .before .before .before .before .before .before .before)), same32 (high-fits (c .before .before .before .before))) at (c .before .before .before .start-at .ensures)) ∙ ap boundOf (c .before .enum-told4 .given .1)))
+    (no-start _ _ _ _ (low-is (c .before .before .before .before .before .before .before .before .before .before .before .before)) _ (dots-is (c .before .before .before .before .before .before .before .before)) _ _ (high-is (c .before .before .before .before)) _ _ (sym (start-kept _ _ (low-fits (c .before .before .before .before .before .before .before .before .before .before .before .before)) (high-fits (c .before .before .before .before)) _ _ (c .before .before .before .start-at .ensures)) ∙ ap boundOf (c .before .enum-told4 .given .1)))
 
 put-range-requires : tie.Need-put-range-requires
 put-range-requires c κs = search needs

@@ -2,7 +2,7 @@
 use mir.Syntax.{w64}
 use mir.Facts.{toZ-ofZ}
 use Rattle.arith.proofs.Laws.{same32}
-use Rattle.declarations.proofs.Numbers.{held, negated, negated-fits}
+use Rattle.declarations.proofs.Numbers.{held, negated, negated-fits, negates}
 use borrow.Author.Needs.{needs}
 use Rattle.declarations.proofs.signed.Statement.{statement}
 use Rattle.declarations.proofs.signed.Tie as tie
@@ -11,7 +11,7 @@ cast-z : tie.Need-cast-z
 cast-z c = search needs
 
 sub-within : tie.Need-sub-within
-sub-within c = rw (negated _ (c .before .pre)) (negated-fits _ (c .before .pre))
+sub-within c = negates _ (c .before .pre)
 
 within-requires : tie.Need-within-requires
 within-requires c κs = search needs
