@@ -2,10 +2,11 @@
 -- each bracket left to open, and the function's rank. The invariant of the two loops is `Turn`. Assumes nothing.
 use Prim.Native.Nat.{ℕ, _+_, _-_, _*_, _<_}
 use mathlib.Core.Path.{_∙_}
+use mathlib.Core.List.{List}
 use native.Mathlib.Omega.{arith}
 use lib.ListN.{length}
 use borrow.Author.Needs.{needs}
-use borrow.Fn.Kinds.{In, Out}
+use borrow.Fn.Kinds.{PK, In, Out}
 use borrow.Fn.PlainCycle.{Measures, is, falls, and}
 use Rattle.lexer.specs.Token.{kindNumber, closeSquare}
 use Rattle.grammar.specs.Conditions.{connect, andOf, orOf, conjunction as conjunction-of, condition as condition-of}
@@ -56,43 +57,20 @@ abbrev μ-inverted : Measures 4 inverted-kinds.ps ℕ
 abbrev μ-square : Measures 4 square-kinds.ps ℕ
 μ-square κs a = 5 * a .1 .1 .1 .1 .1 .1 .0
 
-abbrev atom-at : ℕ → In 4 atom-kinds.ps
-atom-at t = and 4 atom-kinds.ps (is 4 atom-kinds.ps μ-atom t) atom.Pre
+-- a function is proved at each measure t, with what it calls in the cycle at any measure below
+abbrev just : (ps : List (PK 4)) → Measures 4 ps ℕ → In 4 ps → ℕ → In 4 ps
+just ps μ pre t = and 4 ps (is 4 ps μ t) pre
 
-abbrev atom-below : ℕ → In 4 atom-kinds.ps
-atom-below t = and 4 atom-kinds.ps (falls 4 atom-kinds.ps _<_ μ-atom t) atom.Pre
-
-abbrev condition-at : ℕ → In 4 condition-kinds.ps
-condition-at t = and 4 condition-kinds.ps (is 4 condition-kinds.ps μ-condition t) condition.Pre
-
-abbrev condition-below : ℕ → In 4 condition-kinds.ps
-condition-below t = and 4 condition-kinds.ps (falls 4 condition-kinds.ps _<_ μ-condition t) condition.Pre
-
-abbrev conjunction-at : ℕ → In 4 conjunction-kinds.ps
-conjunction-at t = and 4 conjunction-kinds.ps (is 4 conjunction-kinds.ps μ-conjunction t) conjunction.Pre
-
-abbrev conjunction-below : ℕ → In 4 conjunction-kinds.ps
-conjunction-below t = and 4 conjunction-kinds.ps (falls 4 conjunction-kinds.ps _<_ μ-conjunction t) conjunction.Pre
-
-abbrev inverted-at : ℕ → In 4 inverted-kinds.ps
-inverted-at t = and 4 inverted-kinds.ps (is 4 inverted-kinds.ps μ-inverted t) inverted.Pre
-
-abbrev inverted-below : ℕ → In 4 inverted-kinds.ps
-inverted-below t = and 4 inverted-kinds.ps (falls 4 inverted-kinds.ps _<_ μ-inverted t) inverted.Pre
-
-abbrev square-at : ℕ → In 4 square-kinds.ps
-square-at t = and 4 square-kinds.ps (is 4 square-kinds.ps μ-square t) square.Pre
-
-abbrev square-below : ℕ → In 4 square-kinds.ps
-square-below t = and 4 square-kinds.ps (falls 4 square-kinds.ps _<_ μ-square t) square.Pre
+abbrev below : (ps : List (PK 4)) → Measures 4 ps ℕ → In 4 ps → ℕ → In 4 ps
+below ps μ pre t = and 4 ps (falls 4 ps _<_ μ t) pre
 
 -- ---- atom
 
 abbrev atom-claims : ℕ → atom-lts.Claims
-atom-claims t = (ahead-reads.Asked, ahead-reads.Learnt, inverted-below t, inverted.Post, square-below t, square.Post, comparison-reads.Asked, comparison-reads.Learnt)
+atom-claims t = (ahead-reads.Asked, ahead-reads.Learnt, below inverted-kinds.ps μ-inverted inverted.Pre t, inverted.Post, below square-kinds.ps μ-square square.Pre t, square.Post, comparison-reads.Asked, comparison-reads.Learnt)
 
 abbrev atom-need : ℕ → (atom-lts.Claims → In 4 atom-kinds.ps → Out 4 atom-kinds.ps atom-kinds.r → Type 0) → Type 0
-atom-need t need = need (atom-claims t) (atom-at t) atom.Post
+atom-need t need = need (atom-claims t) (just atom-kinds.ps μ-atom atom.Pre t) atom.Post
 
 atom-returns : (t : ℕ) → atom-need t atom-lts.Need-returns
 atom-returns t c = ahead-fault _ _ _ (c .before .before .ahead .ensures) (c .enum-told .given .1) (atom-fault _ _ _ _)
@@ -158,10 +136,10 @@ abbrev condition-μ-loop : condition-lts.MeasureT-loop
 condition-μ-loop text starts ends names at left out₀ to behind₀ t₀ out behind t = length text - behind .at
 
 abbrev condition-claims : ℕ → condition-lts.Claims
-condition-claims t = (conjunction-below t, conjunction.Post, or-code-reads.Asked, or-code-reads.Learnt, put-byte-reads.Asked, put-byte-reads.Learnt)
+condition-claims t = (below conjunction-kinds.ps μ-conjunction conjunction.Pre t, conjunction.Post, or-code-reads.Asked, or-code-reads.Learnt, put-byte-reads.Asked, put-byte-reads.Learnt)
 
 abbrev condition-need : ℕ → (condition-lts.Claims → In 4 condition-kinds.ps → Out 4 condition-kinds.ps condition-kinds.r → condition-lts.InvT-loop → condition-lts.MeasureT-loop → Type 0) → Type 0
-condition-need t need = need (condition-claims t) (condition-at t) condition.Post condition-Inv-loop condition-μ-loop
+condition-need t need = need (condition-claims t) (just condition-kinds.ps μ-condition condition.Pre t) condition.Post condition-Inv-loop condition-μ-loop
 
 condition-conjunction-requires : (t : ℕ) → condition-need t condition-lts.Need-conjunction-requires
 condition-conjunction-requires t c κs =
@@ -259,10 +237,10 @@ abbrev conjunction-μ-loop : conjunction-lts.MeasureT-loop
 conjunction-μ-loop text starts ends names at left out₀ to behind₀ t₀ out behind t = length text - behind .at
 
 abbrev conjunction-claims : ℕ → conjunction-lts.Claims
-conjunction-claims t = (atom-below t, atom.Post, and-code-reads.Asked, and-code-reads.Learnt, put-byte-reads.Asked, put-byte-reads.Learnt)
+conjunction-claims t = (below atom-kinds.ps μ-atom atom.Pre t, atom.Post, and-code-reads.Asked, and-code-reads.Learnt, put-byte-reads.Asked, put-byte-reads.Learnt)
 
 abbrev conjunction-need : ℕ → (conjunction-lts.Claims → In 4 conjunction-kinds.ps → Out 4 conjunction-kinds.ps conjunction-kinds.r → conjunction-lts.InvT-loop → conjunction-lts.MeasureT-loop → Type 0) → Type 0
-conjunction-need t need = need (conjunction-claims t) (conjunction-at t) conjunction.Post conjunction-Inv-loop conjunction-μ-loop
+conjunction-need t need = need (conjunction-claims t) (just conjunction-kinds.ps μ-conjunction conjunction.Pre t) conjunction.Post conjunction-Inv-loop conjunction-μ-loop
 
 conjunction-atom-requires : (t : ℕ) → conjunction-need t conjunction-lts.Need-atom-requires
 conjunction-atom-requires t c κs =
@@ -353,10 +331,10 @@ conjunction-loop-again t c =
 -- ---- inverted
 
 abbrev inverted-claims : ℕ → inverted-lts.Claims
-inverted-claims t = (ahead-reads.Asked, ahead-reads.Learnt, square-below t, square.Post, put-byte-reads.Asked, put-byte-reads.Learnt)
+inverted-claims t = (ahead-reads.Asked, ahead-reads.Learnt, below square-kinds.ps μ-square square.Pre t, square.Post, put-byte-reads.Asked, put-byte-reads.Learnt)
 
 abbrev inverted-need : ℕ → (inverted-lts.Claims → In 4 inverted-kinds.ps → Out 4 inverted-kinds.ps inverted-kinds.r → Type 0) → Type 0
-inverted-need t need = need (inverted-claims t) (inverted-at t) inverted.Post
+inverted-need t need = need (inverted-claims t) (just inverted-kinds.ps μ-inverted inverted.Pre t) inverted.Post
 
 inverted-returns : (t : ℕ) → inverted-need t inverted-lts.Need-returns
 inverted-returns t c = ahead-fault _ _ _ (c .before .before .ahead .ensures) (c .enum-told .given .1) (inverted-fault _ _ _)
@@ -416,10 +394,10 @@ inverted-returns-4 t c =
 -- ---- square
 
 abbrev square-claims : ℕ → square-lts.Claims
-square-claims t = (condition-below t, condition.Post, closed-reads.Asked, closed-reads.Learnt)
+square-claims t = (below condition-kinds.ps μ-condition condition.Pre t, condition.Post, closed-reads.Asked, closed-reads.Learnt)
 
 abbrev square-need : ℕ → (square-lts.Claims → In 4 square-kinds.ps → Out 4 square-kinds.ps square-kinds.r → Type 0) → Type 0
-square-need t need = need (square-claims t) (square-at t) square.Post
+square-need t need = need (square-claims t) (just square-kinds.ps μ-square square.Pre t) square.Post
 
 square-returns : (t : ℕ) → square-need t square-lts.Need-returns
 square-returns t c = refuses (refused-now (square-none _ _ _ _ (c .if1 .taken)))
@@ -443,74 +421,22 @@ square-returns-2 t c =
 pub +atom+condition+conjunction+inverted+square-spec : {M : Type 1} → statement M
 +atom+condition+conjunction+inverted+square-spec =
     close μ-atom μ-condition μ-conjunction μ-inverted μ-square
-    (λ t. atom-lts.spec (atom-claims t) (atom-at t) atom.Post
-    (λ c κs. search needs)
-    (λ c. search needs)
-    (λ c. search needs)
-    (atom-returns t)
-    (atom-inverted-requires t)
-    (λ c. search needs)
-    (atom-returns-2 t)
-    (atom-square-requires t)
-    (λ c. search needs)
-    (atom-returns-3 t)
-    (atom-comparison-requires t)
-    (λ c. search needs)
-    (atom-returns-4 t))
-    (λ t. condition-lts.spec (condition-claims t) (condition-at t) condition.Post condition-Inv-loop condition-μ-loop
-    (condition-conjunction-requires t)
-    (λ c. search needs)
-    (λ c. search needs)
-    (λ c. search needs)
-    (condition-returns t)
-    (condition-loop-holds t)
-    (λ c κs. search needs)
-    (condition-same-length-2 t)
-    (condition-returns-2 t)
-    (condition-conjunction-requires-2 t)
-    (λ c. search needs)
-    (λ c. search needs)
-    (condition-same-length-3 t)
-    (condition-returns-3 t)
-    (condition-put-byte-requires t)
-    (condition-loop-less t)
+    (λ t. atom-lts.spec (atom-claims t) (just atom-kinds.ps μ-atom atom.Pre t) atom.Post
+    (λ c κs. search needs) (λ c. search needs) (λ c. search needs) (atom-returns t) (atom-inverted-requires t) (λ c. search needs) (atom-returns-2 t)
+    (atom-square-requires t) (λ c. search needs) (atom-returns-3 t) (atom-comparison-requires t) (λ c. search needs) (atom-returns-4 t))
+    (λ t. condition-lts.spec (condition-claims t) (just condition-kinds.ps μ-condition condition.Pre t) condition.Post condition-Inv-loop condition-μ-loop
+    (condition-conjunction-requires t) (λ c. search needs) (λ c. search needs) (λ c. search needs) (condition-returns t) (condition-loop-holds t)
+    (λ c κs. search needs) (condition-same-length-2 t) (condition-returns-2 t) (condition-conjunction-requires-2 t) (λ c. search needs)
+    (λ c. search needs) (condition-same-length-3 t) (condition-returns-3 t) (condition-put-byte-requires t) (condition-loop-less t)
     (condition-loop-again t))
-    (λ t. conjunction-lts.spec (conjunction-claims t) (conjunction-at t) conjunction.Post conjunction-Inv-loop conjunction-μ-loop
-    (conjunction-atom-requires t)
-    (λ c. search needs)
-    (λ c. search needs)
-    (λ c. search needs)
-    (conjunction-returns t)
-    (conjunction-loop-holds t)
-    (λ c κs. search needs)
-    (conjunction-same-length-2 t)
-    (conjunction-returns-2 t)
-    (conjunction-atom-requires-2 t)
-    (λ c. search needs)
-    (λ c. search needs)
-    (conjunction-same-length-3 t)
-    (conjunction-returns-3 t)
-    (conjunction-put-byte-requires t)
-    (conjunction-loop-less t)
+    (λ t. conjunction-lts.spec (conjunction-claims t) (just conjunction-kinds.ps μ-conjunction conjunction.Pre t) conjunction.Post conjunction-Inv-loop conjunction-μ-loop
+    (conjunction-atom-requires t) (λ c. search needs) (λ c. search needs) (λ c. search needs) (conjunction-returns t) (conjunction-loop-holds t)
+    (λ c κs. search needs) (conjunction-same-length-2 t) (conjunction-returns-2 t) (conjunction-atom-requires-2 t) (λ c. search needs)
+    (λ c. search needs) (conjunction-same-length-3 t) (conjunction-returns-3 t) (conjunction-put-byte-requires t) (conjunction-loop-less t)
     (conjunction-loop-again t))
-    (λ t. inverted-lts.spec (inverted-claims t) (inverted-at t) inverted.Post
-    (λ c κs. search needs)
-    (λ c. search needs)
-    (λ c. search needs)
-    (inverted-returns t)
-    (inverted-square-requires t)
-    (λ c. search needs)
-    (λ c. search needs)
-    (λ c. search needs)
-    (inverted-returns-2 t)
-    (inverted-put-byte-requires t)
-    (λ c. search needs)
-    (inverted-returns-3 t)
+    (λ t. inverted-lts.spec (inverted-claims t) (just inverted-kinds.ps μ-inverted inverted.Pre t) inverted.Post
+    (λ c κs. search needs) (λ c. search needs) (λ c. search needs) (inverted-returns t) (inverted-square-requires t) (λ c. search needs)
+    (λ c. search needs) (λ c. search needs) (inverted-returns-2 t) (inverted-put-byte-requires t) (λ c. search needs) (inverted-returns-3 t)
     (inverted-returns-4 t))
-    (λ t. square-lts.spec (square-claims t) (square-at t) square.Post
-    (square-returns t)
-    (square-sub-condition t)
-    (square-condition-requires t)
-    (λ c κs. search needs)
-    (λ c. search needs)
-    (square-returns-2 t))
+    (λ t. square-lts.spec (square-claims t) (just square-kinds.ps μ-square square.Pre t) square.Post
+    (square-returns t) (square-sub-condition t) (square-condition-requires t) (λ c κs. search needs) (λ c. search needs) (square-returns-2 t))

@@ -2,10 +2,11 @@
 -- bracket left to open, and the function's rank. The invariant of the two loops is `Turn`. Assumes nothing.
 use Prim.Native.Nat.{ℕ, _+_, _-_, _*_, _<_}
 use mathlib.Core.Path.{refl, _∙_}
+use mathlib.Core.List.{List}
 use native.Mathlib.Omega.{arith}
 use lib.ListN.{length}
 use borrow.Author.Needs.{needs}
-use borrow.Fn.Kinds.{In, Out}
+use borrow.Fn.Kinds.{PK, In, Out}
 use borrow.Fn.PlainCycle.{Measures, is, falls, and}
 use Rattle.lexer.specs.Token.{kindNumber, closeRound}
 use Rattle.semantics.specs.Program.{operation}
@@ -59,43 +60,20 @@ abbrev μ-primary : Measures 4 primary-kinds.ps ℕ
 abbrev μ-term : Measures 4 term-kinds.ps ℕ
 μ-term κs a = 5 * a .1 .1 .1 .1 .1 .0 + 3
 
-abbrev bracket-at : ℕ → In 4 bracket-kinds.ps
-bracket-at t = and 4 bracket-kinds.ps (is 4 bracket-kinds.ps μ-bracket t) bracket.Pre
+-- a function is proved at each measure t, with what it calls in the cycle at any measure below
+abbrev just : (ps : List (PK 4)) → Measures 4 ps ℕ → In 4 ps → ℕ → In 4 ps
+just ps μ pre t = and 4 ps (is 4 ps μ t) pre
 
-abbrev bracket-below : ℕ → In 4 bracket-kinds.ps
-bracket-below t = and 4 bracket-kinds.ps (falls 4 bracket-kinds.ps _<_ μ-bracket t) bracket.Pre
-
-abbrev expression-at : ℕ → In 4 expression-kinds.ps
-expression-at t = and 4 expression-kinds.ps (is 4 expression-kinds.ps μ-expression t) expression.Pre
-
-abbrev expression-below : ℕ → In 4 expression-kinds.ps
-expression-below t = and 4 expression-kinds.ps (falls 4 expression-kinds.ps _<_ μ-expression t) expression.Pre
-
-abbrev factor-at : ℕ → In 4 factor-kinds.ps
-factor-at t = and 4 factor-kinds.ps (is 4 factor-kinds.ps μ-factor t) factor.Pre
-
-abbrev factor-below : ℕ → In 4 factor-kinds.ps
-factor-below t = and 4 factor-kinds.ps (falls 4 factor-kinds.ps _<_ μ-factor t) factor.Pre
-
-abbrev primary-at : ℕ → In 4 primary-kinds.ps
-primary-at t = and 4 primary-kinds.ps (is 4 primary-kinds.ps μ-primary t) primary.Pre
-
-abbrev primary-below : ℕ → In 4 primary-kinds.ps
-primary-below t = and 4 primary-kinds.ps (falls 4 primary-kinds.ps _<_ μ-primary t) primary.Pre
-
-abbrev term-at : ℕ → In 4 term-kinds.ps
-term-at t = and 4 term-kinds.ps (is 4 term-kinds.ps μ-term t) term.Pre
-
-abbrev term-below : ℕ → In 4 term-kinds.ps
-term-below t = and 4 term-kinds.ps (falls 4 term-kinds.ps _<_ μ-term t) term.Pre
+abbrev below : (ps : List (PK 4)) → Measures 4 ps ℕ → In 4 ps → ℕ → In 4 ps
+below ps μ pre t = and 4 ps (falls 4 ps _<_ μ t) pre
 
 -- ---- bracket
 
 abbrev bracket-claims : ℕ → bracket-lts.Claims
-bracket-claims t = (expression-below t, expression.Post, closed-reads.Asked, closed-reads.Learnt)
+bracket-claims t = (below expression-kinds.ps μ-expression expression.Pre t, expression.Post, closed-reads.Asked, closed-reads.Learnt)
 
 abbrev bracket-need : ℕ → (bracket-lts.Claims → In 4 bracket-kinds.ps → Out 4 bracket-kinds.ps bracket-kinds.r → Type 0) → Type 0
-bracket-need t need = need (bracket-claims t) (bracket-at t) bracket.Post
+bracket-need t need = need (bracket-claims t) (just bracket-kinds.ps μ-bracket bracket.Pre t) bracket.Post
 
 bracket-returns : (t : ℕ) → bracket-need t bracket-lts.Need-returns
 bracket-returns t c = refuses (refused-now (bracket-none _ _ _ _ (c .if1 .taken)))
@@ -126,10 +104,10 @@ abbrev expression-μ-loop : expression-lts.MeasureT-loop
 expression-μ-loop text starts ends names at left out₀ to behind₀ t₀ out behind t = length text - behind .at
 
 abbrev expression-claims : ℕ → expression-lts.Claims
-expression-claims t = (term-below t, term.Post, sum-code-reads.Asked, sum-code-reads.Learnt, put-byte-reads.Asked, put-byte-reads.Learnt)
+expression-claims t = (below term-kinds.ps μ-term term.Pre t, term.Post, sum-code-reads.Asked, sum-code-reads.Learnt, put-byte-reads.Asked, put-byte-reads.Learnt)
 
 abbrev expression-need : ℕ → (expression-lts.Claims → In 4 expression-kinds.ps → Out 4 expression-kinds.ps expression-kinds.r → expression-lts.InvT-loop → expression-lts.MeasureT-loop → Type 0) → Type 0
-expression-need t need = need (expression-claims t) (expression-at t) expression.Post expression-Inv-loop expression-μ-loop
+expression-need t need = need (expression-claims t) (just expression-kinds.ps μ-expression expression.Pre t) expression.Post expression-Inv-loop expression-μ-loop
 
 expression-term-requires : (t : ℕ) → expression-need t expression-lts.Need-term-requires
 expression-term-requires t c κs =
@@ -220,10 +198,10 @@ expression-loop-again t c =
 -- ---- factor
 
 abbrev factor-claims : ℕ → factor-lts.Claims
-factor-claims t = (ahead-reads.Asked, ahead-reads.Learnt, primary-below t, primary.Post, put-byte-reads.Asked, put-byte-reads.Learnt)
+factor-claims t = (ahead-reads.Asked, ahead-reads.Learnt, below primary-kinds.ps μ-primary primary.Pre t, primary.Post, put-byte-reads.Asked, put-byte-reads.Learnt)
 
 abbrev factor-need : ℕ → (factor-lts.Claims → In 4 factor-kinds.ps → Out 4 factor-kinds.ps factor-kinds.r → Type 0) → Type 0
-factor-need t need = need (factor-claims t) (factor-at t) factor.Post
+factor-need t need = need (factor-claims t) (just factor-kinds.ps μ-factor factor.Pre t) factor.Post
 
 factor-returns : (t : ℕ) → factor-need t factor-lts.Need-returns
 factor-returns t c = ahead-fault _ _ _ (c .before .before .ahead .ensures) (c .enum-told .given .1) (factor-fault _ _ _)
@@ -314,10 +292,10 @@ factor-returns-5 t c =
 -- ---- primary
 
 abbrev primary-claims : ℕ → primary-lts.Claims
-primary-claims t = (number-reads.Asked, number-reads.Learnt, current-reads.Asked, current-reads.Learnt, previous-reads.Asked, previous-reads.Learnt, bracket-below t, bracket.Post)
+primary-claims t = (number-reads.Asked, number-reads.Learnt, current-reads.Asked, current-reads.Learnt, previous-reads.Asked, previous-reads.Learnt, below bracket-kinds.ps μ-bracket bracket.Pre t, bracket.Post)
 
 abbrev primary-need : ℕ → (primary-lts.Claims → In 4 primary-kinds.ps → Out 4 primary-kinds.ps primary-kinds.r → Type 0) → Type 0
-primary-need t need = need (primary-claims t) (primary-at t) primary.Post
+primary-need t need = need (primary-claims t) (just primary-kinds.ps μ-primary primary.Pre t) primary.Post
 
 primary-number-requires : (t : ℕ) → primary-need t primary-lts.Need-number-requires
 primary-number-requires t c κs =
@@ -397,10 +375,10 @@ abbrev term-μ-loop : term-lts.MeasureT-loop
 term-μ-loop text starts ends names at left out₀ to behind₀ t₀ out behind t = length text - behind .at
 
 abbrev term-claims : ℕ → term-lts.Claims
-term-claims t = (factor-below t, factor.Post, product-code-reads.Asked, product-code-reads.Learnt, put-byte-reads.Asked, put-byte-reads.Learnt)
+term-claims t = (below factor-kinds.ps μ-factor factor.Pre t, factor.Post, product-code-reads.Asked, product-code-reads.Learnt, put-byte-reads.Asked, put-byte-reads.Learnt)
 
 abbrev term-need : ℕ → (term-lts.Claims → In 4 term-kinds.ps → Out 4 term-kinds.ps term-kinds.r → term-lts.InvT-loop → term-lts.MeasureT-loop → Type 0) → Type 0
-term-need t need = need (term-claims t) (term-at t) term.Post term-Inv-loop term-μ-loop
+term-need t need = need (term-claims t) (just term-kinds.ps μ-term term.Pre t) term.Post term-Inv-loop term-μ-loop
 
 term-factor-requires : (t : ℕ) → term-need t term-lts.Need-factor-requires
 term-factor-requires t c κs =
@@ -491,80 +469,22 @@ term-loop-again t c =
 pub +bracket+expression+factor+primary+term-spec : {M : Type 1} → statement M
 +bracket+expression+factor+primary+term-spec =
     close μ-bracket μ-expression μ-factor μ-primary μ-term
-    (λ t. bracket-lts.spec (bracket-claims t) (bracket-at t) bracket.Post
-    (bracket-returns t)
-    (bracket-sub-expression t)
-    (bracket-expression-requires t)
-    (λ c κs. search needs)
-    (λ c. search needs)
-    (bracket-returns-2 t))
-    (λ t. expression-lts.spec (expression-claims t) (expression-at t) expression.Post expression-Inv-loop expression-μ-loop
-    (expression-term-requires t)
-    (λ c. search needs)
-    (λ c. search needs)
-    (λ c. search needs)
-    (expression-returns t)
-    (expression-loop-holds t)
-    (λ c κs. search needs)
-    (expression-same-length-2 t)
-    (expression-returns-2 t)
-    (expression-term-requires-2 t)
-    (λ c. search needs)
-    (λ c. search needs)
-    (expression-same-length-3 t)
-    (expression-returns-3 t)
-    (expression-put-byte-requires t)
-    (expression-loop-less t)
+    (λ t. bracket-lts.spec (bracket-claims t) (just bracket-kinds.ps μ-bracket bracket.Pre t) bracket.Post
+    (bracket-returns t) (bracket-sub-expression t) (bracket-expression-requires t) (λ c κs. search needs) (λ c. search needs) (bracket-returns-2 t))
+    (λ t. expression-lts.spec (expression-claims t) (just expression-kinds.ps μ-expression expression.Pre t) expression.Post expression-Inv-loop expression-μ-loop
+    (expression-term-requires t) (λ c. search needs) (λ c. search needs) (λ c. search needs) (expression-returns t) (expression-loop-holds t)
+    (λ c κs. search needs) (expression-same-length-2 t) (expression-returns-2 t) (expression-term-requires-2 t) (λ c. search needs)
+    (λ c. search needs) (expression-same-length-3 t) (expression-returns-3 t) (expression-put-byte-requires t) (expression-loop-less t)
     (expression-loop-again t))
-    (λ t. factor-lts.spec (factor-claims t) (factor-at t) factor.Post
-    (λ c κs. search needs)
-    (λ c. search needs)
-    (λ c. search needs)
-    (factor-returns t)
-    (λ c κs. search needs)
-    (λ c. search needs)
-    (λ c. search needs)
-    (factor-returns-2 t)
-    (factor-primary-requires t)
-    (λ c. search needs)
-    (λ c. search needs)
-    (λ c. search needs)
-    (factor-returns-3 t)
-    (factor-put-byte-requires t)
-    (λ c. search needs)
-    (factor-returns-4 t)
-    (factor-primary-requires-2 t)
-    (λ c. search needs)
-    (factor-returns-5 t))
-    (λ t. primary-lts.spec (primary-claims t) (primary-at t) primary.Post
-    (primary-number-requires t)
-    (λ c. search needs)
-    (primary-returns t)
-    (primary-current-requires t)
-    (λ c. search needs)
-    (primary-returns-2 t)
-    (primary-previous-requires t)
-    (λ c. search needs)
-    (primary-returns-3 t)
-    (primary-bracket-requires t)
-    (λ c. search needs)
-    (primary-returns-4 t)
+    (λ t. factor-lts.spec (factor-claims t) (just factor-kinds.ps μ-factor factor.Pre t) factor.Post
+    (λ c κs. search needs) (λ c. search needs) (λ c. search needs) (factor-returns t) (λ c κs. search needs) (λ c. search needs) (λ c. search needs)
+    (factor-returns-2 t) (factor-primary-requires t) (λ c. search needs) (λ c. search needs) (λ c. search needs) (factor-returns-3 t)
+    (factor-put-byte-requires t) (λ c. search needs) (factor-returns-4 t) (factor-primary-requires-2 t) (λ c. search needs) (factor-returns-5 t))
+    (λ t. primary-lts.spec (primary-claims t) (just primary-kinds.ps μ-primary primary.Pre t) primary.Post
+    (primary-number-requires t) (λ c. search needs) (primary-returns t) (primary-current-requires t) (λ c. search needs) (primary-returns-2 t)
+    (primary-previous-requires t) (λ c. search needs) (primary-returns-3 t) (primary-bracket-requires t) (λ c. search needs) (primary-returns-4 t)
     (primary-returns-5 t))
-    (λ t. term-lts.spec (term-claims t) (term-at t) term.Post term-Inv-loop term-μ-loop
-    (term-factor-requires t)
-    (λ c. search needs)
-    (λ c. search needs)
-    (λ c. search needs)
-    (term-returns t)
-    (term-loop-holds t)
-    (λ c κs. search needs)
-    (term-same-length-2 t)
-    (term-returns-2 t)
-    (term-factor-requires-2 t)
-    (λ c. search needs)
-    (λ c. search needs)
-    (term-same-length-3 t)
-    (term-returns-3 t)
-    (term-put-byte-requires t)
-    (term-loop-less t)
-    (term-loop-again t))
+    (λ t. term-lts.spec (term-claims t) (just term-kinds.ps μ-term term.Pre t) term.Post term-Inv-loop term-μ-loop
+    (term-factor-requires t) (λ c. search needs) (λ c. search needs) (λ c. search needs) (term-returns t) (term-loop-holds t) (λ c κs. search needs)
+    (term-same-length-2 t) (term-returns-2 t) (term-factor-requires-2 t) (λ c. search needs) (λ c. search needs) (term-same-length-3 t)
+    (term-returns-3 t) (term-put-byte-requires t) (term-loop-less t) (term-loop-again t))
