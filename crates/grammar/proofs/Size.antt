@@ -37,20 +37,20 @@ use Rattle.limits.specs.Limits.{nameLimit, caseLimit, textLimit}
 use Rattle.arith.specs.Values.{isInt32}
 
 -- what is accepted ends within the text, and twice its code's bytes are at most three times its own
-abbrev Pays : {A : Type 0} → (A → ℕ) → ℕ → ℕ → Parsed A → Type 0
+abbrev pub Pays : {A : Type 0} → (A → ℕ) → ℕ → ℕ → Parsed A → Type 0
 Pays bytes len at (accepted x n) = (2 * bytes x + 3 * at ≤ 3 * n) × (n ≤ len)
 Pays bytes len at (refused k q) = Unit {0}
 
 -- ---- fixed tokens have a byte each
 
-abbrev Solid : List Wanted → Type 0
+abbrev pub Solid : List Wanted → Type 0
 Solid [] = Unit {0}
 Solid (sign w ∷ ws) = (is ending w ≡ false) × Solid ws
 Solid (own w ∷ ws) = Solid ws
 Solid (ownPrevious w ∷ ws) = Solid ws
 
 -- an accepted phrase of c tokens ends within the text, c bytes on or more
-abbrev Long : {A : Type 0} → ℕ → ℕ → ℕ → Parsed A → Type 0
+abbrev pub Long : {A : Type 0} → ℕ → ℕ → ℕ → Parsed A → Type 0
 Long c len at (accepted u n) = (at + c ≤ n) × (n ≤ len)
 Long c len at (refused k q) = Unit {0}
 
@@ -67,7 +67,7 @@ module _ (text : List ℕ) where
   phrase-more c at n (accepted u m) h g = (omega (arith, g .0), g .1)
   phrase-more c at n (refused k q) h g = tt
 
-  phrase-long : (ws : List Wanted) → Solid ws → (at : ℕ) → at ≤ length text → Long (length ws) (length text) at (phrase text ws at)
+  pub phrase-long : (ws : List Wanted) → Solid ws → (at : ℕ) → at ≤ length text → Long (length ws) (length text) at (phrase text ws at)
   unfolding phrase is kindNumber
   phrase-long [] sol at h = (omega arith, h)
   phrase-long (sign w ∷ ws) sol at h =
@@ -85,13 +85,13 @@ module _ (text : List ℕ) where
 
 -- ---- rules
 
-case-append : (v : ℕ) (cs : List Spanned) (c : Spanned) → length (codeK v (casesOf (cs ++ (c ∷ [])))) ≡ length (codeK v (casesOf cs)) + length (codeK v (casesOf (c ∷ [])))
+pub case-append : (v : ℕ) (cs : List Spanned) (c : Spanned) → length (codeK v (casesOf (cs ++ (c ∷ [])))) ≡ length (codeK v (casesOf cs)) + length (codeK v (casesOf (c ∷ [])))
 unfolding codeK
 case-append v [] c = omega arith
 case-append v (d ∷ cs) c = simp length-append (omega (arith, simp length-append at (case-append v cs c)))
 
 module _ (sc : Scope) (few : length (sc .names) ≤ 64) (v : ℕ) (hv : v < 64) where
-  case-pays : (w : List ℕ) (at n : ℕ) → n ≤ length (sc .text) → Pays (λ c. length (codeK v (casesOf (c ∷ [])))) (length (sc .text)) n (caseAt sc w at n)
+  pub case-pays : (w : List ℕ) (at n : ℕ) → n ≤ length (sc .text) → Pays (λ c. length (codeK v (casesOf (c ∷ [])))) (length (sc .text)) n (caseAt sc w at n)
   unfolding caseAt followed codeK is kindNumber
   case-pays w at n h =
       then-prop (Pays (λ (c : Spanned). length (codeK v (casesOf (c ∷ [])))) (length (sc .text)) n) (listed sc n) _ (λ k q. tt)
@@ -108,7 +108,7 @@ module _ (sc : Scope) (few : length (sc .names) ≤ 64) (v : ℕ) (hv : v < 64) 
       let g4 = subst (Long 1 (length (sc .text)) n3) e4 (phrase-long (sc .text) _ (refl, tt) n3 (g3 .1)) in
       (simp length-append (omega (arith, g1 .2, g2 .0, g3 .2, g4 .0, id-bytes v (omega arith))), g4 .1)))))
 
-  cases-pay : (w : List ℕ) (left : ℕ) (done : List Spanned) (from at : ℕ) → at ≤ length (sc .text) → 2 * length (codeK v (casesOf done)) + 3 * from ≤ 3 * at → Pays (λ cs. length (codeK v (casesOf cs))) (length (sc .text)) from (casesFrom left sc w done at)
+  pub cases-pay : (w : List ℕ) (left : ℕ) (done : List Spanned) (from at : ℕ) → at ≤ length (sc .text) → 2 * length (codeK v (casesOf done)) + 3 * from ≤ 3 * at → Pays (λ cs. length (codeK v (casesOf cs))) (length (sc .text)) from (casesFrom left sc w done at)
   unfolding casesFrom
   cases-pay w zero done from at h g =
       token-prop (Pays (λ (cs : List Spanned). length (codeK v (casesOf cs))) (length (sc .text)) from) (tokenAt (sc .text) at) _ (λ k q. tt)
@@ -132,10 +132,10 @@ module _ (sc : Scope) (few : length (sc .names) ≤ 64) (v : ℕ) (hv : v < 64) 
 
 -- ---- declarations
 
-abbrev nameBytes : Name → ℕ
+abbrev pub nameBytes : Name → ℕ
 nameBytes x = length (number (zigzag (x .range .low))) + (length (number (zigzag (x .range .high))) + length (number (zigzag (x .range .start))))
 
-header-append : (l : List Name) (x : Name) → length (header (l ++ (x ∷ []))) ≡ length (header l) + nameBytes x
+pub header-append : (l : List Name) (x : Name) → length (header (l ++ (x ∷ []))) ≡ length (header l) + nameBytes x
 unfolding header
 header-append [] x = simp length-append (omega arith)
 header-append (y ∷ l) x = simp length-append (omega (arith, header-append l x))
@@ -220,7 +220,7 @@ module _ (text : List ℕ) where
           (λ i ei. tt))
           (λ e. tt))
 
-  declarations-pay : (f : ℕ) (word : Kind) (names : List Name) (at : ℕ) → at ≤ length text → 2 * length (header names) ≤ 3 * at → Pays (λ l. length (header l)) (length text) 0 (declarationsFrom f word text names at)
+  pub declarations-pay : (f : ℕ) (word : Kind) (names : List Name) (at : ℕ) → at ≤ length text → 2 * length (header names) ≤ 3 * at → Pays (λ l. length (header l)) (length text) 0 (declarationsFrom f word text names at)
   unfolding declarationsFrom
   declarations-pay zero word names at h g = (omega arith, h)
   declarations-pay (suc f) word names at h g =
@@ -236,18 +236,18 @@ module _ (text : List ℕ) where
 
 -- ---- the rules and the whole
 
-rules-append : (rs : List Rule) (r : Rule) → length (codeR (rs ++ (r ∷ []))) ≡ length (codeR rs) + length (codeR (r ∷ []))
+pub rules-append : (rs : List Rule) (r : Rule) → length (codeR (rs ++ (r ∷ []))) ≡ length (codeR rs) + length (codeR (r ∷ []))
 unfolding codeR
 rules-append [] r = omega arith
 rules-append (function v e ∷ rs) r = simp length-append (omega (arith, rules-append rs r))
 rules-append (change v ks cs ∷ rs) r = simp length-append (omega (arith, rules-append rs r))
 
-abbrev ruleBytes : Rule → ℕ
+abbrev pub ruleBytes : Rule → ℕ
 ruleBytes r = length (codeR (r ∷ []))
 
 module _ (sc : Scope) (few : length (sc .names) ≤ 64) (lengths : length (sc .names) ≡ length (sc .known)) where
   module _ (v : ℕ) (hv : v < 64) where
-    function-pays : (w : List ℕ) (at : ℕ) → at ≤ length (sc .text) → Pays ruleBytes (length (sc .text)) at (functionAt sc w v at)
+    pub function-pays : (w : List ℕ) (at : ℕ) → at ≤ length (sc .text) → Pays ruleBytes (length (sc .text)) at (functionAt sc w v at)
     unfolding functionAt followed codeR is kindNumber
     function-pays w at h =
         then-prop (Pays ruleBytes (length (sc .text)) at) (phrase (sc .text) _ at) _ (λ k q. tt)
@@ -261,7 +261,7 @@ module _ (sc : Scope) (few : length (sc .names) ≤ 64) (lengths : length (sc .n
         let g3 = subst (Long 3 (length (sc .text)) n2) e3 (phrase-long (sc .text) _ (refl, (refl, (refl, tt))) n2 (g2 .1)) in
         (simp length-append (omega (arith, g1 .0, g2 .2, g3 .0, id-bytes v (omega arith))), g3 .1))))
 
-    change-pays : (w : List ℕ) (at : ℕ) → at ≤ length (sc .text) → Pays ruleBytes (length (sc .text)) at (changeAt sc w v at)
+    pub change-pays : (w : List ℕ) (at : ℕ) → at ≤ length (sc .text) → Pays ruleBytes (length (sc .text)) at (changeAt sc w v at)
     unfolding changeAt followed codeR codeK is kindNumber
     change-pays w at h =
         then-prop (Pays ruleBytes (length (sc .text)) at) (phrase (sc .text) _ at) _ (λ k q. tt)
@@ -281,7 +281,7 @@ module _ (sc : Scope) (few : length (sc .names) ≤ 64) (lengths : length (sc .n
         let g5 = subst (Long 2 (length (sc .text)) n4) e5 (phrase-long (sc .text) _ (refl, (refl, tt)) n4 (g4 .1)) in
         (simp length-append (omega (arith, g1 .0, g2 .0, g3 .0, g4 .0, g5 .0, id-bytes v (omega arith))), g5 .1))))))
 
-    formulas-pay : (w : List ℕ) (at : ℕ) → at ≤ length (sc .text) → Pays ruleBytes (length (sc .text)) at (formulas sc w v at)
+    pub formulas-pay : (w : List ℕ) (at : ℕ) → at ≤ length (sc .text) → Pays ruleBytes (length (sc .text)) at (formulas sc w v at)
     unfolding formulas
     formulas-pay w at h =
         then-prop (Pays ruleBytes (length (sc .text)) at) (phrase (sc .text) _ at) _ (λ k q. tt)
@@ -298,7 +298,7 @@ module _ (sc : Scope) (few : length (sc .names) ≤ 64) (lengths : length (sc .n
         later at n (accepted r m) h g = (omega (arith, g .0), g .1)
         later at n (refused k q) h g = tt
 
-  rule-pays : (s n : ℕ) → n ≤ length (sc .text) → Pays ruleBytes (length (sc .text)) n (ruleAt sc s n)
+  pub rule-pays : (s n : ℕ) → n ≤ length (sc .text) → Pays ruleBytes (length (sc .text)) n (ruleAt sc s n)
   unfolding ruleAt withId
   rule-pays s n h =
       pick-prop (Pays ruleBytes (length (sc .text)) n) (overLong s n) _ _ (λ e. tt)
@@ -306,7 +306,7 @@ module _ (sc : Scope) (few : length (sc .names) ≤ 64) (lengths : length (sc .n
       (λ v ev. pick-prop (Pays ruleBytes (length (sc .text)) n) (getD (sc .known) v false) _ _ (λ t. tt)
       (λ t. formulas-pay v (omega (arith, id-of (sc .names) (part (sc .text) s n) v ev)) (part (sc .text) s n) n h)))
 
-rules-pay : (f : ℕ) (sc : Scope) → length (sc .names) ≤ 64 → length (sc .names) ≡ length (sc .known) → (done : List Rule) (from at : ℕ) → at ≤ length (sc .text) → 2 * length (codeR done) + 3 * from ≤ 3 * at → Pays (λ rs. length (codeR rs)) (length (sc .text)) from (rulesFrom f sc done at)
+pub rules-pay : (f : ℕ) (sc : Scope) → length (sc .names) ≤ 64 → length (sc .names) ≡ length (sc .known) → (done : List Rule) (from at : ℕ) → at ≤ length (sc .text) → 2 * length (codeR done) + 3 * from ≤ 3 * at → Pays (λ rs. length (codeR rs)) (length (sc .text)) from (rulesFrom f sc done at)
 unfolding rulesFrom
 rules-pay zero sc few lengths done from at h g = tt
 rules-pay (suc f) sc few lengths done from at h g =

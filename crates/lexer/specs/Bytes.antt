@@ -2,7 +2,7 @@
 use Prim.Native.Nat.{ℕ, _-_}
 use Prim.Native.String as S
 use Prim.Native.String.{String}
-use Prim.Native.Char.{Char, code}
+use Prim.Native.Char.{code}
 use mathlib.Core.Bool.{Bool, true, false}
 use mathlib.Core.List.{List, [], _∷_}
 use lib.ListN.{take, drop}

@@ -1,5 +1,5 @@
--- Reading tokens by longest match. Document 01, "The text", first paragraph. Assumes nothing.
-use Prim.Native.Nat.{ℕ, zero, suc, _+_, _-_, _*_, _%_}
+-- Reading tokens. Document 01, "The text", first paragraph: each comment is a sentence of it, or says how one is read. Assumes nothing.
+use Prim.Native.Nat.{ℕ, _+_, _-_, _*_, _%_}
 use mathlib.Core.Bool.{Bool, true, false, _&&_}
 use mathlib.Core.List.{List, [], _∷_}
 use lib.ListN.{length, getD, drop}
@@ -10,10 +10,11 @@ use Rattle.lexer.specs.Token.{Kind, unknown, ending, name, previous, dig
 
 -- ---- bytes
 
--- space, tab, LF and CR separate
+-- Space, tab, CR and LF separate.
 unfoldable pub isSpace : ℕ → Bool
 isSpace b = pick (eqb b 32) true (pick (eqb b 9) true (pick (eqb b 10) true (eqb b 13)))
 
+-- Letters and digits are those of ASCII.
 unfoldable pub isDigit : ℕ → Bool
 isDigit b = leb 48 b && ltb b 58
 
@@ -23,7 +24,7 @@ isLetter b = pick (leb 65 b && ltb b 91) true (leb 97 b && ltb b 123)
 unfoldable pub isAlphanumeric : ℕ → Bool
 isAlphanumeric b = pick (isLetter b) true (isDigit b)
 
--- ---- runs
+-- ---- runs: longest match
 
 -- the end of a run of such bytes that has come to i, with l the rest of the text from there
 unfoldable pub runOn : (ℕ → Bool) → List ℕ → ℕ → ℕ
@@ -35,15 +36,12 @@ runEnd p text at = runOn p (drop at text) at
 
 -- ---- names
 
--- two names are the same when their bytes are the same
-unfoldable pub sameName : List ℕ → List ℕ → Bool
-sameName a b = sameBytes a b
-
 -- a word of the grammar
 pub record Word : Type 0 where
   pub spelling : List ℕ
   pub kind : Kind
 
+-- Words of the grammar, no names: `input var init mod GX`.
 abbrev pub words : List Word
 words =
     record { spelling = bytes "input"; kind = inputWord }
@@ -57,17 +55,21 @@ abbrev pub wordIn : List Word → List ℕ → Kind
 wordIn [] run = name
 wordIn (w ∷ ws) run = let r = wordIn ws run in pick (sameBytes run (w .spelling)) (w .kind) r
 
--- what a run of letters and digits that begins with a letter is: a word of the grammar, else a name
+-- A name is a letter, then letters or digits: such a run is a word of the grammar, else a name.
 unfoldable pub wordOf : List ℕ → Kind
 wordOf run = wordIn words run
 
--- a name that begins at s and ends before n is over-long
+-- 1 to 16 bytes (a longer run is a name too, but is refused 8): the name that begins at s and ends before n is over-long.
 unfoldable pub overLong : ℕ → ℕ → Bool
 overLong s n = ltb spellingLimit (n - s)
 
+-- Names are the same when their bytes are the same; a name is the part of the text itself that spells it (`part`).
+unfoldable pub sameName : List ℕ → List ℕ → Bool
+sameName a b = sameBytes a b
+
 -- ---- signs
 
--- the sign that two bytes make
+-- `..` `->` `<=` `>=` `<>`, by the first byte a and the second byte b
 unfoldable pub pairOf : ℕ → ℕ → Kind
 pairOf a b =
     pick (eqb b 46 && eqb a 46) dots
@@ -76,7 +78,7 @@ pairOf a b =
     (pick (eqb b 61 && eqb a 62) greaterEqual
     (pick (eqb b 62 && eqb a 60) notEqual unknown))))
 
--- the sign that one byte makes
+-- `; : ( ) [ ] ~ & | = < > + - * /`
 unfoldable pub signOf : ℕ → Kind
 signOf b =
     pick (eqb b 59) semicolon
@@ -100,7 +102,7 @@ signOf b =
 unfoldable pub readOf : Kind → ℕ → ℕ → Read
 readOf k s n = pick (is k unknown) (fault s) (token k s n)
 
--- the longer of the signs at s, whose first bytes are a and b
+-- Tokens are read by longest match: a sign of two bytes before one of one byte. At s stands a, then b.
 unfoldable pub signAt : ℕ → ℕ → ℕ → Read
 signAt a b s =
     let one = readOf (signOf a) s (s + 1) in
@@ -109,14 +111,15 @@ signAt a b s =
 
 -- ---- tokens
 
--- a run of letters and digits at s
+-- a run of letters and digits at s, which begins with a letter
 unfoldable pub wordAt : List ℕ → ℕ → Read
 wordAt text s = let e = runEnd isAlphanumeric text s in token (wordOf (part text s e)) s e
 
+-- runs of digits
 unfoldable pub digitsAt : List ℕ → ℕ → Read
 digitsAt text s = token digits s (runEnd isDigit text s)
 
--- `_` at s makes a previous-value token with the name directly after it, and is lone before anything else
+-- `_` directly before a name makes a previous-value token; before anything else, a word of the grammar included, it is lone.
 unfoldable pub previousAt : List ℕ → ℕ → Read
 previousAt text s =
     let e = runEnd isAlphanumeric text (s + 1) in

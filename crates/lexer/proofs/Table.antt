@@ -1,0 +1,62 @@
+-- Laws of the table of names. Assumes nothing.
+use mathlib.Core.Path.{_≡_, refl, ap}
+use mathlib.Core.List.{List, [], _∷_, _++_}
+use mathlib.Core.Option.{none, some}
+use mathlib.Core.Bool.{true, false}
+use Prim.Native.Nat.{ℕ, zero, suc, _+_, _-_, _≤_, _<_}
+use native.Mathlib.Nat.{sub-zero}
+use native.Mathlib.Numerals.{add-one}
+use native.Mathlib.Omega.{arith}
+use lib.ListN.{length, getD, drop, set, length-set}
+use lib.Seq.{drop-cons}
+use Rattle.lexer.specs.Bytes.{part}
+use Rattle.lexer.specs.Lexer.{sameName}
+use Rattle.lexer.specs.Names.{idFrom, idOf, namesOf, Table}
+
+names-none : (text starts ends : List ℕ) → namesOf text starts ends 0 ≡ []
+unfolding namesOf
+names-none text [] ends = refl
+names-none text (s ∷ starts) [] = refl
+names-none text (s ∷ starts) (e ∷ ends) = refl
+
+module _ (text starts ends : List ℕ) (n i : ℕ) (t : Table starts ends n) where
+  -- the names from i on
+  abbrev pub from : List (List ℕ)
+  from = namesOf text (drop i starts) (drop i ends) (n - i)
+
+  names-step : i < n → from ≡ part text (getD starts i 0) (getD ends i 0) ∷ namesOf text (drop (i + 1) starts) (drop (i + 1) ends) (n - (i + 1))
+  unfolding namesOf
+  names-step h =
+      let m : n - i ≡ suc (n - (i + 1)) = omega arith in
+      rw (drop-cons starts i 0 (omega (arith, t .in-starts)), drop-cons ends i 0 (omega (arith, t .in-ends)), m, add-one i)
+
+  module _ (w : List ℕ) where
+    pub id-here : i < n → sameName w (part text (getD starts i 0) (getD ends i 0)) ≡ true → idFrom from w i ≡ some i
+    unfolding idFrom
+    id-here h e = rw (names-step h, e)
+
+    pub id-next : i < n → sameName w (part text (getD starts i 0) (getD ends i 0)) ≡ false → idFrom from w i ≡ idFrom (namesOf text (drop (i + 1) starts) (drop (i + 1) ends) (n - (i + 1))) w (i + 1)
+    unfolding idFrom
+    id-next h e = rw (names-step h, e)
+
+    pub id-none : n ≤ i → idFrom from w i ≡ none
+    unfolding idFrom
+    id-none h =
+        let z : n - i ≡ 0 = omega arith in
+        rw (z, names-none text (drop i starts) (drop i ends))
+
+-- all of them
+pub id-start : (text starts ends : List ℕ) (n : ℕ) (w : List ℕ) → idFrom (namesOf text (drop 0 starts) (drop 0 ends) (n - 0)) w 0 ≡ idOf (namesOf text starts ends n) w
+unfolding idOf
+id-start text starts ends n w = ap (λ (m : ℕ). idFrom (namesOf text starts ends m) w 0) (sub-zero n)
+
+-- a name more
+pub names-add : (text starts ends : List ℕ) (n s e : ℕ) → n < length starts → n < length ends → namesOf text (set starts n s) (set ends n e) (suc n) ≡ namesOf text starts ends n ++ (part text s e ∷ [])
+unfolding namesOf
+names-add text [] ends n s e hs he = absurd (omega arith)
+names-add text (a ∷ starts) [] n s e hs he = absurd (omega arith)
+names-add text (a ∷ starts) (b ∷ ends) zero s e hs he = ap (λ (l : List (List ℕ)). part text s e ∷ l) (names-none text starts ends)
+names-add text (a ∷ starts) (b ∷ ends) (suc n) s e hs he = ap (λ (l : List (List ℕ)). part text a b ∷ l) (names-add text starts ends n s e (omega arith) (omega arith))
+
+pub table-add : (starts ends : List ℕ) (n s e : ℕ) → n < length starts → n < length ends → Table (set starts n s) (set ends n e) (n + 1)
+table-add starts ends n s e hs he = record { in-starts = simp length-set (omega arith); in-ends = simp length-set (omega arith) }

@@ -1,0 +1,198 @@
+-- The ways through the reader of tokens, and where a token that it answers stands. Assumes nothing.
+use mathlib.Core.Path.{_≡_, refl, ap, sym, _∙_, subst}
+use mathlib.Core.List.{List, [], _∷_}
+use mathlib.Core.Bool.{true, false}
+use Prim.Native.Nat.{ℕ, _+_, _-_, _≤_, _<_}
+use native.Mathlib.Omega.{arith}
+use lib.ListN.{length, getD}
+use lib.Dec.{eqb, ltb, leb}
+use borrow.Author.Tests.{eq-eqb, ne-eqb, lt-ltb, le-ltb, leb-true, leb-false}
+use Rattle.lexer.specs.Bytes.{part, sameBytes}
+use Rattle.lexer.specs.Token.{Kind, kindNumber, unknown, ending, name, digits, is, Read, token, fault}
+use Rattle.lexer.specs.Lexer.{isSpace, isDigit, isLetter, isAlphanumeric, runEnd, Word, words, wordIn, wordOf, pairOf, signOf, readOf, signAt, wordAt, digitsAt, previousAt, tokenOf, tokenPast, tokenAt}
+use Rattle.lexer.specs.Results.{kindOf, tokenRead, Lies, Placed}
+use Rattle.lexer.specs.declared.Token.{Token}
+use Rattle.lexer.specs.declared.Token.the-variants.{Is, Fault}
+use Rattle.lexer.proofs.Laws.{pick-prop, run-out, token-at-moved}
+use Rattle.lexer.proofs.KindNumbers.{ending-number, is-unknown, is-known, numbered, known-number}
+
+-- ---- signs
+
+module _ (a b s : ℕ) where
+  pub sign-two : (k : ℕ) → k ≡ kindNumber (pairOf a b) → (k ≡ 0 → ⊥) → tokenRead (Is k s (s + 2)) ≡ signAt a b s
+  unfolding signAt
+  sign-two k e f = rw (is-known (pairOf a b) k e f, numbered (pairOf a b) k e)
+
+  module _ (k : ℕ) (e : k ≡ kindNumber (pairOf a b)) (z : k ≡ 0) where
+    pub sign-one : (j : ℕ) → j ≡ kindNumber (signOf a) → (j ≡ 0 → ⊥) → tokenRead (Is j s (s + 1)) ≡ signAt a b s
+    unfolding signAt readOf
+    sign-one j ej f = rw (is-unknown (pairOf a b) k e z, is-known (signOf a) j ej f, numbered (signOf a) j ej)
+
+    pub sign-none : (j : ℕ) → j ≡ kindNumber (signOf a) → j ≡ 0 → tokenRead (Fault s) ≡ signAt a b s
+    unfolding signAt readOf
+    sign-none j ej y = rw (is-unknown (pairOf a b) k e z, is-unknown (signOf a) j ej y)
+
+-- ---- `_` at s
+
+module _ (text : List ℕ) (s b : ℕ) (hb : b ≡ getD text (s + 1) 0) where
+  pub previous-lone : isLetter b ≡ false → tokenRead (Fault s) ≡ previousAt text s
+  unfolding previousAt
+  previous-lone h = rw (← hb, h)
+
+  module _ (e k : ℕ) (h : isLetter b ≡ true) (he : e ≡ runEnd isAlphanumeric text (s + 1)) (hk : k ≡ kindNumber (wordOf (part text (s + 1) e))) where
+    word-is : is (wordOf (part text (s + 1) (runEnd isAlphanumeric text (s + 1)))) name ≡ eqb k 2
+    unfolding is kindNumber
+    word-is = rw (← he, hk)
+
+    pub previous-name : k ≡ 2 → tokenRead (Is 3 s e) ≡ previousAt text s
+    unfolding previousAt kindOf
+    previous-name k2 = rw (← hb, h, word-is, k2, ← he)
+
+    pub previous-word : (k ≡ 2 → ⊥) → tokenRead (Fault s) ≡ previousAt text s
+    unfolding previousAt
+    previous-word f = rw (← hb, h, word-is, ne-eqb _ _ f)
+
+-- ---- no token is of no kind
+
+abbrev Known : Read → Type 0
+Known (token k s n) = is k unknown ≡ false
+Known (fault p) = Unit {0}
+
+abbrev AllKnown : List Word → Type 0
+AllKnown [] = Unit {0}
+AllKnown (w ∷ ws) = (is (w .kind) unknown ≡ false) × AllKnown ws
+
+word-in-known : (ws : List Word) (run : List ℕ) → AllKnown ws → is (wordIn ws run) unknown ≡ false
+unfolding is kindNumber
+word-in-known [] run h = refl
+word-in-known (w ∷ ws) run h = pick-prop (λ (k : Kind). is k unknown ≡ false) (sameBytes run (w .spelling)) _ _ (λ t. h .0) (λ t. word-in-known ws run (h .1))
+
+word-known : (run : List ℕ) → is (wordOf run) unknown ≡ false
+unfolding wordOf is kindNumber
+word-known run = word-in-known words run (refl, (refl, (refl, (refl, (refl, tt)))))
+
+sign-known : (a b s : ℕ) → Known (signAt a b s)
+unfolding signAt readOf
+sign-known a b s =
+    pick-prop Known (is (pairOf a b) unknown) _ _
+    (λ t. pick-prop Known (is (signOf a) unknown) _ _ (λ u. tt) (λ u. u))
+    (λ t. t)
+
+previous-known : (text : List ℕ) (s : ℕ) → Known (previousAt text s)
+unfolding previousAt is kindNumber
+previous-known text s =
+    pick-prop Known (isLetter (getD text (s + 1) 0)) _ _
+    (λ t. pick-prop Known (is (wordOf (part text (s + 1) (runEnd isAlphanumeric text (s + 1)))) name) _ _ (λ u. refl) (λ u. tt))
+    (λ t. tt)
+
+digits-known : is digits unknown ≡ false
+unfolding is kindNumber
+digits-known = refl
+
+ending-known : is ending unknown ≡ false
+unfolding is kindNumber
+ending-known = refl
+
+of-known : (text : List ℕ) (s b : ℕ) → Known (tokenOf text s b)
+unfolding tokenOf wordAt digitsAt
+of-known text s b =
+    pick-prop Known (isLetter b) _ _ (λ t. word-known _)
+    (λ n1. pick-prop Known (isDigit b) _ _ (λ t. digits-known)
+    (λ n2. pick-prop Known (eqb b 95) _ _ (λ t. previous-known text s) (λ n3. sign-known b _ s)))
+
+token-known : (text : List ℕ) (at : ℕ) → Known (tokenAt text at)
+unfolding tokenAt tokenPast
+token-known text at =
+    let s = runEnd isSpace text at in
+    pick-prop Known (ltb s (length text)) _ _ (λ t. of-known text s (getD text s 0)) (λ t. ending-known)
+
+-- ---- where a token stands
+
+token-beyond : (text : List ℕ) (at : ℕ) → length text ≤ at → tokenAt text at ≡ token ending at at
+unfolding tokenAt tokenPast
+token-beyond text at h = rw (run-out isSpace text at h, le-ltb _ _ h)
+
+module _ (text : List ℕ) (at k s n : ℕ) (e : tokenRead (Is k s n) ≡ tokenAt text at) where
+  kind-known : (1 ≤ k) × (k ≤ 30)
+  kind-known = known-number k (subst Known (sym e) (token-known text at))
+
+  lies : Lies (length text) at k s n
+  lies = pick-prop (λ (x : ℕ). Lies (length text) at k s n) (leb at (length text)) 0 0 inside beyond
+    where
+      inside : leb at (length text) ≡ true → Lies (length text) at k s n
+      inside t =
+          let m = token-at-moved text at (kindOf k) s n (leb-true _ _ t) (sym e) in
+          record {
+            some-kind = kind-known .0;
+            known-kind = kind-known .1;
+            after = m .0;
+            ordered = m .1;
+            within = λ h. m .2;
+            moved = λ f. m .3 (λ g. f (ending-number k (kind-known .1) g));
+          }
+
+      beyond : leb at (length text) ≡ false → Lies (length text) at k s n
+      beyond t =
+          let l : length text < at = leb-false _ _ t in
+          let g : token (kindOf k) s n ≡ token ending at at = e ∙ token-beyond text at (omega arith) in
+          let gk : kindOf k ≡ ending = cc in
+          let gs : s ≡ at = cc in
+          let gn : n ≡ at = cc in
+          record {
+            some-kind = kind-known .0;
+            known-kind = kind-known .1;
+            after = omega arith;
+            ordered = omega arith;
+            within = λ h. absurd (omega arith);
+            moved = λ f. absurd (f (ending-number k (kind-known .1) gk));
+          }
+
+pub placed : (text : List ℕ) (at : ℕ) (t : Token) → tokenRead t ≡ tokenAt text at → Placed (length text) at t
+placed text at (Is k s n) e = lies text at k s n e
+placed text at (Fault p) e = tt
+
+-- ---- the token at `at`, from what its reader has found on its way
+
+-- what the reader promises of its answer
+abbrev pub Answers : List ℕ → ℕ → Token → Type 0
+Answers text at t = (tokenRead t ≡ tokenAt text at) × Placed (length text) at t
+
+answers : (text : List ℕ) (at : ℕ) (t : Token) → tokenRead t ≡ tokenAt text at → Answers text at t
+answers text at t e = (e, placed text at t e)
+
+module _ (text : List ℕ) (at s : ℕ) (hs : s ≡ runEnd isSpace text at) where
+  pub token-end : length text ≤ s → Answers text at (Is 1 s s)
+  unfolding tokenAt tokenPast kindOf
+  token-end h = answers text at (Is 1 s s) (rw (← hs, le-ltb _ _ h))
+
+  module _ (h : s < length text) where
+    past : tokenOf text s (getD text s 0) ≡ tokenAt text at
+    unfolding tokenAt tokenPast
+    past = rw (← hs, lt-ltb _ _ h)
+
+    pub token-word : (e k : ℕ) → isLetter (getD text s 0) ≡ true → e ≡ runEnd isAlphanumeric text s → k ≡ kindNumber (wordOf (part text s e)) → Answers text at (Is k s e)
+    unfolding tokenOf wordAt
+    token-word e k l he hk = answers text at (Is k s e) (rw (← past, l, numbered _ k hk, ← he))
+
+    module _ (n1 : isLetter (getD text s 0) ≡ false) where
+      pub token-digits : (e : ℕ) → isDigit (getD text s 0) ≡ true → e ≡ runEnd isDigit text s → Answers text at (Is 4 s e)
+      unfolding tokenOf digitsAt kindOf
+      token-digits e d he = answers text at (Is 4 s e) (rw (← past, n1, d, ← he))
+
+      module _ (n2 : isDigit (getD text s 0) ≡ false) (t : Token) where
+        pub token-previous : getD text s 0 ≡ 95 → tokenRead t ≡ previousAt text s → Answers text at t
+        unfolding tokenOf
+        token-previous e ht = answers text at t (rw (← past, n1, n2, eq-eqb _ _ e) ht)
+
+        pub token-sign : (b : ℕ) → (getD text s 0 ≡ 95 → ⊥) → b ≡ getD text (s + 1) 0 → tokenRead t ≡ signAt (getD text s 0) b s → Answers text at t
+        unfolding tokenOf
+        token-sign b f hb ht = answers text at t (rw (← past, n1, n2, ne-eqb _ _ f, ← hb) ht)
+
+-- ---- for callers: what an answer says once it is taken apart
+
+module _ (text : List ℕ) (at : ℕ) (t : Token) (a : Answers text at t) where
+  pub is-token : (k s n : ℕ) → t ≡ Is k s n → (tokenAt text at ≡ token (kindOf k) s n) × Lies (length text) at k s n
+  is-token k s n e = (sym (a .0) ∙ ap tokenRead e, subst (Placed (length text) at) e (a .1))
+
+  pub is-fault : (p : ℕ) → t ≡ Fault p → tokenAt text at ≡ fault p
+  is-fault p e = sym (a .0) ∙ ap tokenRead e
