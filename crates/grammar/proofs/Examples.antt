@@ -379,6 +379,11 @@ latches =
     }
     -- L5: 16 brackets pass (17 are above)
     ∷ record { text = computing (round 16 (bytes "1")); image = 0x00 ∷ 0x01 ∷ 0x00 ∷ 0x02 ∷ 0x00 ∷ 0x01 ∷ 0x02 ∷ 0x15 ∷ 0x00 ∷ [] }
+    -- operators of one kind are read left to right, `* / mod` before `+ -`
+    ∷ record {
+      text = computing (bytes "9 - 4 - 2 * 3");
+      image = 0x00 ∷ 0x01 ∷ 0x00 ∷ 0x02 ∷ 0x00 ∷ 0x01 ∷ 0x12 ∷ 0x01 ∷ 0x08 ∷ 0x05 ∷ 0x01 ∷ 0x04 ∷ 0x01 ∷ 0x06 ∷ 0x06 ∷ 0x05 ∷ 0x15 ∷ 0x00 ∷ [];
+    }
     ∷ []
 
 abbrev imagesOf : List Latch → List (Answer (List ℕ))
