@@ -26,9 +26,11 @@ use Rattle.machine.specs.Step.{Machine, machine}
 use Rattle.machine.specs.Runs.{Ran, run}
 use Rattle.machine.specs.Names.{stateLength, rowLength, startingState, stateInRange, rowInRange}
 use Rattle.machine.proofs.Laws.{run-steps}
-use Rattle.machine.proofs.Translated.{exec, exec-rules, run-exec}
-use Rattle.translate.specs.Services.{Translated, stored, translated, programOf, translationOf}
-use Rattle.scan.specs.Services.{Started, startOf, started, Scanned, refusedScan, finished, runOf, scanCode, testedScan, scanned, scanOf}
+use Rattle.machine.proofs.AfterTranslation.{exec, exec-rules, run-exec}
+use Rattle.grammar.specs.Parse.{programOf}
+use Rattle.grammar.proofs.Accepted.{program-translatable}
+use Rattle.translate.specs.Services.{AfterTranslation, stored, translated, translationOf}
+use Rattle.scan.specs.Services.{AfterStart, startOf, started, AfterScan, refusedScan, finished, runOf, scanCode, testedScan, scanned, scanOf}
 use Rattle.correctness.specs.TraceCorrect.{scansOf, verdictOf, replyOf, repliesOf, StepsIf, StepsAre, begun, found, TraceCorrect, Demand3}
 
 -- ---- one scan
@@ -36,7 +38,7 @@ use Rattle.correctness.specs.TraceCorrect.{scansOf, verdictOf, replyOf, 
 abbrev currentOf : Machine → State
 currentOf (machine b c vs t) = t
 
-reply-tested : (b : Bool) (k : ℕ) (s : State) (r : Scanned) (o : Outcome State) → replyOf r ≡ reply s o → replyOf (testedScan b k s r) ≡ reply s (check b k o)
+reply-tested : (b : Bool) (k : ℕ) (s : State) (r : AfterScan) (o : Outcome State) → replyOf r ≡ reply s o → replyOf (testedScan b k s r) ≡ reply s (check b k o)
 reply-tested true k s r o e = e
 reply-tested false k s r o e = refl
 
@@ -89,7 +91,7 @@ module _ (p : Program) (t : Translatable p) where
 
 -- ---- steps, of any image
 
-steps-tested : (n : ℕ) (b : Bool) (k : ℕ) (s : State) (r : Scanned) → StepsIf n (r .steps) (r .answer) → StepsIf n (testedScan b k s r .steps) (testedScan b k s r .answer)
+steps-tested : (n : ℕ) (b : Bool) (k : ℕ) (s : State) (r : AfterScan) → StepsIf n (r .steps) (r .answer) → StepsIf n (testedScan b k s r .steps) (testedScan b k s r .answer)
 steps-tested n true k s r h = h
 steps-tested n false k s r h = tt
 
@@ -132,7 +134,7 @@ module _ (p : Program) (t : Translatable p) where
       let g = starts-in-range p (t .well-formed) in
       let a = scans-agree p t rows (startsOf p) g in
       let x₀ : OnlyTrace p (startsOf p) rows (repliesOf (imageOf p) (startsOf p) rows) = rw a (reference-trace p (t .well-formed) rows (startsOf p) g) in
-      let q : startsOf p ≡ begun (imageOf p) lent = sym (ap {A = Started} (λ r. r .state) e) in
+      let q : startsOf p ≡ begun (imageOf p) lent = sym (ap {A = AfterStart} (λ r. r .state) e) in
       let x = subst (λ (s : State). OnlyTrace p s rows (repliesOf (imageOf p) s rows)) q x₀ in
       record {
         started = e;
@@ -154,8 +156,8 @@ record Stored (text buffer : List ℕ) (n : ℕ) : Type 0 where
 stored-image : (text image buffer : List ℕ) (n : ℕ) → stored text image buffer .answer ≡ accepted n → take n (stored text image buffer .buffer) ≡ image
 stored-image text image buffer n = go (leb (length image) (length buffer))
   where
-    go : (b : Bool) → cond {A = Translated} b (record { answer = accepted (length image); buffer = image ++ drop (length image) buffer }) (record { answer = refused 10 (length text); buffer = buffer }) .answer ≡ accepted n
-        → take n (cond {A = Translated} b (record { answer = accepted (length image); buffer = image ++ drop (length image) buffer }) (record { answer = refused 10 (length text); buffer = buffer }) .buffer) ≡ image
+    go : (b : Bool) → cond {A = AfterTranslation} b (record { answer = accepted (length image); buffer = image ++ drop (length image) buffer }) (record { answer = refused 10 (length text); buffer = buffer }) .answer ≡ accepted n
+        → take n (cond {A = AfterTranslation} b (record { answer = accepted (length image); buffer = image ++ drop (length image) buffer }) (record { answer = refused 10 (length text); buffer = buffer }) .buffer) ≡ image
     go true e = let q : length image ≡ n = cc in rw (← q) (take-append-seam image (drop (length image) buffer))
     go false e = let z : _≡_ {A = ℕ} 0 1 = cc in let f : ⊥ = omega arith in absurd f
 
@@ -168,12 +170,11 @@ image-stored text buffer n e = go (programOf text) refl e
     go (refused number place) h q = let z : _≡_ {A = ℕ} 0 1 = cc in let f : ⊥ = omega arith in absurd f
 
 -- Demand 3, for every text that translation accepts, every buffer, every state lent to start and every list of rows.
-module _ (translatable : (text : List ℕ) (p : Program) → programOf text ≡ accepted p → Translatable p) where
-  pub trace-correct : (text buffer : List ℕ) (n : ℕ) → translationOf text buffer .answer ≡ accepted n → (lent : State) (rows : List (List ℤ)) → Demand3 text buffer n lent rows
-  trace-correct text buffer n e lent rows =
-      let x = image-stored text buffer n e in
-      record {
-        program = x .program;
-        parsed = x .parsed;
-        correct = λ l. rw (x .image) (image-correct (x .program) (translatable text (x .program) (x .parsed)) lent (l ∙ sym (length-map (x .program .names) (λ n. n .range))) rows);
-      }
+pub trace-correct : (text buffer : List ℕ) (n : ℕ) → translationOf text buffer .answer ≡ accepted n → (lent : State) (rows : List (List ℤ)) → Demand3 text buffer n lent rows
+trace-correct text buffer n e lent rows =
+    let x = image-stored text buffer n e in
+    record {
+      program = x .program;
+      parsed = x .parsed;
+      correct = λ l. rw (x .image) (image-correct (x .program) (program-translatable text (x .program) (x .parsed)) lent (l ∙ sym (length-map (x .program .names) (λ n. n .range))) rows);
+    }

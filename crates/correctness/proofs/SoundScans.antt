@@ -23,7 +23,7 @@ use Rattle.machine.specs.Runs.{Ran, run}
 use Rattle.machine.specs.Names.{stateLength, rowLength, stateInRange, rowInRange}
 use Rattle.machine.proofs.Refusals.{ByRules, RefusedByRules, run-by-rules}
 use Rattle.machine.proofs.Ranges.{Within, AllWithin, run-within}
-use Rattle.scan.specs.Services.{Scanned, refusedScan, finished, runOf, scanCode, testedScan, scanned, scanOf}
+use Rattle.scan.specs.Services.{AfterScan, refusedScan, finished, runOf, scanCode, testedScan, scanned, scanOf}
 
 header-is : (image : List ℕ) (y : SoundImage image) → headerOf image ≡ y .header
 unfolding headerOf
@@ -48,7 +48,7 @@ abbrev pub OfCaller : Answer (Unit {0}) → Type 0
 OfCaller (accepted u) = Unit {0}
 OfCaller (refused number place) = (12 ≤ number) × (number ≤ 18) × (place ≡ 0)
 
-tested-caller : (b : Bool) (k : ℕ) (s : State) (r : Scanned) → 12 ≤ k → k ≤ 18 → OfCaller (r .answer) → OfCaller (testedScan b k s r .answer)
+tested-caller : (b : Bool) (k : ℕ) (s : State) (r : AfterScan) → 12 ≤ k → k ≤ 18 → OfCaller (r .answer) → OfCaller (testedScan b k s r .answer)
 tested-caller true k s r l m h = h
 tested-caller false k s r l m h = (l, m, refl)
 
@@ -70,7 +70,7 @@ sound-scan image e found row =
 
 -- ---- ranges
 
-tested-within : (ns : List Range) (b : Bool) (k : ℕ) (s : State) (r : Scanned) → Within ns s → (T b → Within ns (r .state)) → Within ns (testedScan b k s r .state)
+tested-within : (ns : List Range) (b : Bool) (k : ℕ) (s : State) (r : AfterScan) → Within ns s → (T b → Within ns (r .state)) → Within ns (testedScan b k s r .state)
 tested-within ns true k s r w h = h tt
 tested-within ns false k s r w h = w
 

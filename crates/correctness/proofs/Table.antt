@@ -12,20 +12,21 @@ use Rattle.semantics.specs.Program.{within}
 use Rattle.semantics.specs.ReferenceScan.{picked}
 use Rattle.arith.proofs.Basics.{and-left, and-right, eqZ→≡}
 use Rattle.leb128.specs.Numbers.{number, zigzag, unzigzag, numberAt, signedAt, groups, grouped, numberIn, below32}
-use Rattle.bytecode.specs.Instructions.{instructionOf, fetch}
+use Rattle.bytecode.specs.Instructions.{instructionOf, hasOperand, fetch}
 use Rattle.bytecode.specs.Translation.{imageOf}
-use Rattle.bytecode.specs.Check.{checkHeader, checkBody, checkOf}
+use Rattle.bytecode.specs.Check.{checkCounts, checkRange, checkHeader, checkBody, checkOf}
 use Rattle.bytecode.specs.Counting.{headerOf, codeOf}
 use Rattle.machine.specs.Step.{bit, yes}
 use Rattle.machine.specs.Names.{startingState}
-use Rattle.scan.specs.Services.{Scanned, scanCode, scanOf}
+use Rattle.scan.specs.Services.{AfterScan, scanCode, scanOf}
 use Rattle.correctness.specs.TraceCorrect.{scansOf}
-use Rattle.translate.specs.Services.{programOf, translationOf}
-use Rattle.grammar.specs.Parse.{program, parse}
+use Rattle.translate.specs.Services.{translationOf}
+use Rattle.grammar.specs.Parse.{program, parse, programOf}
 use Rattle.grammar.specs.Rules.{caseAt, casesFrom, listFrom, plainList, partFrom, kindAt, partsFrom, settled, agreeingList, functionAt, changeAt, formulas, ruleAt, rulesFrom}
 use Rattle.grammar.specs.Declarations.{inRange, signedAt as signedLiteralAt, boundAt, newName, startAt, declaration, declarationsFrom, declarations}
 use Rattle.grammar.specs.Conditions.{comparisonOf, compared, comparisonAt, opposite, inverted, atom, connect, andOf, orOf, conjunction, condition, square, wholeCondition, listed}
-use Rattle.grammar.specs.Expressions.{idFrom, idOf, withId, currentAt, previousAt as previousValueAt, numberAt as literalAt, primary, negative, factor, productOf, sumOf, term, expression, bracket, wholeExpression}
+use Rattle.lexer.specs.Names.{idFrom, idOf}
+use Rattle.grammar.specs.Expressions.{withId, currentAt, previousAt as previousValueAt, numberAt as literalAt, primary, negative, factor, productOf, sumOf, term, expression, bracket, wholeExpression}
 use Rattle.grammar.specs.Parsed.{expected, phrase, followed, rest, chain}
 use Rattle.lexer.specs.Lexer.{isSpace, isDigit, isLetter, isAlphanumeric, runOn, runEnd, sameName, wordOf, overLong, pairOf, signOf, readOf, signAt, wordAt, digitsAt, previousAt, tokenOf, tokenPast, tokenAt, sameToken, valueOn, valueOf}
 use Rattle.lexer.specs.Token.{kindNumber, is}
@@ -70,25 +71,25 @@ answer-same (accepted u) (refused m q) h = absurd h
 answer-same (refused n p) (accepted w) h = absurd h
 answer-same (refused n p) (refused m q) h = ap₂ refused (eqb→eq n m (and-left (eqb n m) _ h)) (eqb→eq p q (and-right (eqb n m) _ h))
 
-abbrev sameScan : Scanned → Scanned → Bool
+abbrev sameScan : AfterScan → AfterScan → Bool
 sameScan a b = sameAnswer (a .answer) (b .answer) && (eqb (a .steps) (b .steps) && sameState (a .state) (b .state))
 
-scan-made : (x y : Answer (Unit {0})) (n m : ℕ) (s t : List ℤ) → x ≡ y → n ≡ m → s ≡ t → _≡_ {A = Scanned} (record { answer = x; steps = n; state = s }) (record { answer = y; steps = m; state = t })
+scan-made : (x y : Answer (Unit {0})) (n m : ℕ) (s t : List ℤ) → x ≡ y → n ≡ m → s ≡ t → _≡_ {A = AfterScan} (record { answer = x; steps = n; state = s }) (record { answer = y; steps = m; state = t })
 scan-made x y n m s t e f g = rw (e, f, g)
 
-scan-same : (a b : Scanned) → T (sameScan a b) → a ≡ b
+scan-same : (a b : AfterScan) → T (sameScan a b) → a ≡ b
 scan-same a b h =
     let k = and-right (sameAnswer (a .answer) (b .answer)) _ h in
     scan-made (a .answer) (b .answer) (a .steps) (b .steps) (a .state) (b .state) (answer-same (a .answer) (b .answer) (and-left (sameAnswer (a .answer) (b .answer)) _ h))
     (eqb→eq (a .steps) (b .steps) (and-left (eqb (a .steps) (b .steps)) _ k)) (state-same (a .state) (b .state) (and-right (eqb (a .steps) (b .steps)) _ k))
 
-abbrev sameScans : List Scanned → List Scanned → Bool
+abbrev sameScans : List AfterScan → List AfterScan → Bool
 sameScans [] [] = true
 sameScans [] (b ∷ bs) = false
 sameScans (a ∷ more) [] = false
 sameScans (a ∷ more) (b ∷ bs) = sameScan a b && sameScans more bs
 
-scans-same : (a b : List Scanned) → T (sameScans a b) → a ≡ b
+scans-same : (a b : List AfterScan) → T (sameScans a b) → a ≡ b
 scans-same [] [] h = refl
 scans-same [] (b ∷ bs) h = absurd h
 scans-same (a ∷ more) [] h = absurd h
@@ -138,7 +139,7 @@ all-hold [] h = tt
 all-hold (e ∷ es) h = (test-holds e (and-left (test e) _ h), all-hold es (and-right (test e) _ h))
 
 computed : T (testAll examples)
-unfolding sameBytesOf kindNumber is isSpace isDigit isLetter isAlphanumeric runOn runEnd sameName wordOf overLong pairOf signOf readOf signAt wordAt digitsAt previousAt tokenOf tokenPast tokenAt sameToken valueOn valueOf expected phrase followed rest chain idFrom idOf withId currentAt previousValueAt literalAt primary negative factor productOf sumOf term expression bracket wholeExpression comparisonOf compared comparisonAt opposite inverted atom connect andOf orOf conjunction condition square wholeCondition listed inRange signedLiteralAt boundAt newName startAt declaration declarationsFrom declarations caseAt casesFrom listFrom plainList partFrom kindAt partsFrom settled agreeingList functionAt changeAt formulas ruleAt rulesFrom program parse groups number zigzag unzigzag grouped numberIn below32 numberAt signedAt instructionOf fetch imageOf checkHeader checkBody checkOf headerOf codeOf bit yes within picked arithmetic negation compares programOf translationOf scanCode scanOf
+unfolding sameBytesOf kindNumber is isSpace isDigit isLetter isAlphanumeric runOn runEnd sameName wordOf overLong pairOf signOf readOf signAt wordAt digitsAt previousAt tokenOf tokenPast tokenAt sameToken valueOn valueOf expected phrase followed rest chain idFrom idOf withId currentAt previousValueAt literalAt primary negative factor productOf sumOf term expression bracket wholeExpression comparisonOf compared comparisonAt opposite inverted atom connect andOf orOf conjunction condition square wholeCondition listed inRange signedLiteralAt boundAt newName startAt declaration declarationsFrom declarations caseAt casesFrom listFrom plainList partFrom kindAt partsFrom settled agreeingList functionAt changeAt formulas ruleAt rulesFrom program parse groups number zigzag unzigzag grouped numberIn below32 numberAt signedAt instructionOf hasOperand fetch imageOf checkCounts checkRange checkHeader checkBody checkOf headerOf codeOf bit yes within picked arithmetic negation compares programOf translationOf scanCode scanOf
 computed = tt
 
 pub examples-hold : AllHold examples

@@ -10,8 +10,8 @@ use Rattle.lexer.specs.Bytes.{bytes}
 use Rattle.bytecode.specs.Check.{checkOf}
 use Rattle.bytecode.specs.Counting.{headerOf}
 use Rattle.machine.specs.Names.{startingState}
-use Rattle.translate.specs.Services.{Translated, translationOf}
-use Rattle.scan.specs.Services.{Scanned}
+use Rattle.translate.specs.Services.{AfterTranslation, translationOf}
+use Rattle.scan.specs.Services.{AfterScan}
 use Rattle.correctness.specs.TraceCorrect.{scansOf}
 
 -- an example gives a text, or the bytes of an image
@@ -25,7 +25,7 @@ written (accepted n) buffer = accepted (take n buffer)
 written (refused number place) buffer = refused number place
 
 -- texts are translated into a buffer of 128 bytes
-abbrev pub translated : Translated → Answer (List ℕ)
+abbrev pub translated : AfterTranslation → Answer (List ℕ)
 translated r = written (r .answer) (r .buffer)
 
 abbrev pub imageGiven : Given → Answer (List ℕ)
@@ -38,7 +38,7 @@ pub record Example : Type 0 where
   pub translation : Answer (List ℕ)
   pub verdict : Answer (Unit {0})
   pub rows : List (List ℤ)
-  pub results : List Scanned
+  pub results : List AfterScan
 
 -- of an image: check's answer, and the scans from the declared starts
 abbrev pub HoldsOn : Answer (List ℕ) → Example → Type 0
@@ -55,14 +55,14 @@ AllHold (e ∷ es) = HoldsOf e × AllHold es
 
 -- ---- the table
 
-abbrev pub done : ℕ → State → Scanned
+abbrev pub done : ℕ → State → AfterScan
 done n s = record { answer = accepted tt; steps = n; state = s }
 
-abbrev pub stopped : ℕ → ℕ → State → Scanned
+abbrev pub stopped : ℕ → ℕ → State → AfterScan
 stopped k n s = record { answer = refused k 0; steps = n; state = s }
 
 -- a text whose image is sound
-abbrev pub sound : List ℕ → List ℕ → List (List ℤ) → List Scanned → Example
+abbrev pub sound : List ℕ → List ℕ → List (List ℤ) → List AfterScan → Example
 sound t b rows results = record { given = text t; translation = accepted b; verdict = accepted tt; rows = rows; results = results }
 
 -- L1 the empty text: image 00 00

@@ -10,11 +10,12 @@ use Rattle.semantics.specs.Program.{Program}
 use Rattle.semantics.specs.Formula.{State, Satisfies}
 use Rattle.semantics.specs.Rows.{Reply, referenceReplies, startsOf, acceptedStates, acceptedRows, traceOf, finalState, lastPlace, Fits}
 use Rattle.bytecode.specs.Counting.{instructionsIn}
-use Rattle.translate.specs.Services.{Translated, programOf, translationOf}
-use Rattle.scan.specs.Services.{Started, startOf, Scanned, scanOf}
+use Rattle.grammar.specs.Parse.{programOf}
+use Rattle.translate.specs.Services.{AfterTranslation, translationOf}
+use Rattle.scan.specs.Services.{AfterStart, startOf, AfterScan, scanOf}
 
 -- Scan is called once for each row, with the image written and the state as start or the scan before left it.
-abbrev pub scansOf : List ℕ → State → List (List ℤ) → List Scanned
+abbrev pub scansOf : List ℕ → State → List (List ℤ) → List AfterScan
 scansOf image s [] = []
 scansOf image s (r ∷ rs) = let a = scanOf image s r in a ∷ scansOf image (a .state) rs
 
@@ -23,7 +24,7 @@ abbrev pub verdictOf : Answer (Unit {0}) → Outcome (Unit {0})
 verdictOf (accepted u) = ok tt
 verdictOf (refused number place) = refusal number
 
-abbrev pub replyOf : Scanned → Reply
+abbrev pub replyOf : AfterScan → Reply
 replyOf a = record { verdict = verdictOf (a .answer); state = a .state }
 
 abbrev pub repliesOf : List ℕ → State → List (List ℤ) → List Reply
@@ -34,7 +35,7 @@ abbrev pub StepsIf : ℕ → ℕ → Answer (Unit {0}) → Type 0
 StepsIf n steps (accepted u) = steps ≡ n
 StepsIf n steps (refused number place) = Unit {0}
 
-abbrev pub StepsAre : ℕ → List Scanned → Type 0
+abbrev pub StepsAre : ℕ → List AfterScan → Type 0
 StepsAre n [] = Unit {0}
 StepsAre n (a ∷ more) = StepsIf n (a .steps) (a .answer) × StepsAre n more
 
