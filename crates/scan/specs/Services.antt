@@ -1,8 +1,8 @@
--- The start and scan services on bytes: what they answer and leave in the memory lent to them, for every input. Document 01,
--- "Who can cause which refusal". Assumes nothing.
-use Prim.Native.Nat.{ℕ, zero, suc}
+-- Start and scan on bytes: what they answer and leave in the memory lent to them, for every input. Document 01, "Who can cause
+-- which refusal". Assumes nothing.
 use mathlib.Core.Bool.{Bool, true, false, _&&_, cond}
 use mathlib.Core.List.{List, []}
+use Prim.Native.Nat.{ℕ}
 use lib.Dec.{eqb}
 use lib.IntN.{ℤ}
 use lib.ListN.{length}
@@ -19,36 +19,36 @@ use Rattle.machine.specs.Names.{stateLength, rowLength, startingState, stateInR
 
 -- ---- start
 
--- the answer, and the state left
-pub record Started : Type 0 where
+-- what a start answers, and the state left
+pub record AfterStart : Type 0 where
   pub answer : Answer (Unit {0})
   pub state : State
 
--- Start tests 9, then 11, then 12 (place 0); its success writes the declared starts.
-abbrev pub started : Answer (Unit {0}) → Header → State → Started
+-- Start tests 9, then 11, then 12 (place 0); its success writes the declared starts. Every refusal leaves the state as found.
+abbrev pub started : Answer (Unit {0}) → Header → State → AfterStart
 started (refused number place) h found = record { answer = refused number place; state = found }
 started (accepted u) h found =
     cond (eqb (length found) (stateLength h))
     (record { answer = accepted tt; state = startingState h })
     (record { answer = refused wrongLength 0; state = found })
 
-unfoldable pub startOf : List ℕ → State → Started
+unfoldable pub startOf : List ℕ → State → AfterStart
 startOf image found = started (checkOf image) (headerOf image) found
 
 -- ---- scan
 
--- the answer, the steps, and the state left
-pub record Scanned : Type 0 where
+-- what a scan answers, the steps, and the state left
+pub record AfterScan : Type 0 where
   pub answer : Answer (Unit {0})
   pub steps : ℕ
   pub state : State
 
--- a refusal before the code: no place but for 9 and 11, 0 steps, the state as found
-abbrev pub refusedScan : ℕ → ℕ → ℕ → State → Scanned
+-- Every refusal leaves the state as found. The place of 12 to 18 is 0; the steps before the code are 0.
+abbrev pub refusedScan : ℕ → ℕ → ℕ → State → AfterScan
 refusedScan number place n found = record { answer = refused number place; steps = n; state = found }
 
 -- A refused scan reports the steps up to and including the refusing instruction; success writes the state.
-abbrev pub finished : State → ℕ → Outcome Machine → Scanned
+abbrev pub finished : State → ℕ → Outcome Machine → AfterScan
 finished found n (ok (machine b c vs t)) = record { answer = accepted tt; steps = n; state = t }
 finished found n (refusal k) = refusedScan k 0 n found
 
@@ -57,15 +57,15 @@ abbrev pub runOf : List ℕ → State → List ℤ → Ran
 runOf image found row =
     run (headerOf image .ranges) found (codeOf image) (length (codeOf image)) 0 0 (machine false false [] (withInputs found row))
 
-unfoldable pub scanCode : List ℕ → State → List ℤ → Scanned
+unfoldable pub scanCode : List ℕ → State → List ℤ → AfterScan
 scanCode image found row = finished found (runOf image found row .steps) (runOf image found row .last)
 
-abbrev pub testedScan : Bool → ℕ → State → Scanned → Scanned
+abbrev pub testedScan : Bool → ℕ → State → AfterScan → AfterScan
 testedScan true k found r = r
 testedScan false k found r = refusedScan k 0 0 found
 
 -- Check, start and scan test 9, then 11. Start and scan then test 12; scan goes on with 18, 13, then the code.
-abbrev pub scanned : Answer (Unit {0}) → Header → List ℕ → State → List ℤ → Scanned
+abbrev pub scanned : Answer (Unit {0}) → Header → List ℕ → State → List ℤ → AfterScan
 scanned (refused number place) h image found row = refusedScan number place 0 found
 scanned (accepted u) h image found row =
     testedScan (eqb (length found) (stateLength h) && eqb (length row) (rowLength h)) wrongLength found
@@ -73,5 +73,5 @@ scanned (accepted u) h image found row =
     (testedScan (rowInRange h row) inputOutOfRange found
     (scanCode image found row)))
 
-unfoldable pub scanOf : List ℕ → State → List ℤ → Scanned
+unfoldable pub scanOf : List ℕ → State → List ℤ → AfterScan
 scanOf image found row = scanned (checkOf image) (headerOf image) image found row
