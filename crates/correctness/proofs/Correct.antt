@@ -26,7 +26,7 @@ use Rattle.machine.specs.Step.{Machine, machine}
 use Rattle.machine.specs.Runs.{Ran, run}
 use Rattle.machine.specs.Names.{stateLength, rowLength, startingState, stateInRange, rowInRange}
 use Rattle.machine.proofs.Laws.{run-steps}
-use Rattle.machine.proofs.AfterTranslation.{exec, exec-rules, run-exec}
+use Rattle.machine.proofs.Translated.{exec, exec-rules, run-exec}
 use Rattle.grammar.specs.Parse.{programOf}
 use Rattle.grammar.proofs.Accepted.{program-translatable}
 use Rattle.translate.specs.Services.{AfterTranslation, stored, translated, translationOf}
