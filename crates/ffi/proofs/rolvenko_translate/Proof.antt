@@ -1,0 +1,64 @@
+-- `ffi::rolvenko_translate` meets its contract. Assumes nothing.
+use mathlib.Core.Path.{_≡_, sym, ap, _∙_}
+use mathlib.Core.List.{List}
+use Prim.Native.Nat.{ℕ}
+use borrow.Author.Needs.{needs}
+use Rattle.translate.specs.declared.Translated.{Translated}
+use Rattle.translate.specs.Services.{AfterTranslation}
+use Rattle.translate.specs.Results.{afterTranslation}
+use Rattle.ffi.specs.Packed.{packedTranslation}
+use Rattle.ffi.proofs.rolvenko_translate.Statement.{statement}
+use Rattle.ffi.proofs.rolvenko_translate.Tie as tie
+use Rattle.ffi.proofs.rolvenko_translate.Reads as reads
+use Rattle.ffi.proofs.rolvenko_translate.Lts as lts
+use Rattle.ffi.proofs.pack_clipped.Reads as pack-clipped-reads
+use Rattle.translate.proofs.translate.Reads as translate-reads
+
+translate-requires : tie.Need-translate-requires
+translate-requires c κs = search needs
+
+enum-known-length : tie.Need-enum-known-length
+enum-known-length c = search needs
+
+pack-clipped-requires : tie.Need-pack-clipped-requires
+pack-clipped-requires c κs = search needs
+
+enum-known-number : tie.Need-enum-known-number
+enum-known-number c = search needs
+
+pack-clipped-requires-2 : tie.Need-pack-clipped-requires-2
+pack-clipped-requires-2 c κs = search needs
+
+same-length : tie.Need-same-length
+same-length c = search needs
+
+-- the answer r with the buffer left is the definition's
+answered : {r q : Translated} {left : List ℕ} {d : AfterTranslation} → r ≡ q → afterTranslation r left ≡ d → packedTranslation (afterTranslation q left .answer) ≡ packedTranslation (d .answer)
+answered {left = left} e h = ap (λ (x : Translated). packedTranslation (afterTranslation x left .answer)) (sym e) ∙ ap {A = AfterTranslation} (λ x. packedTranslation (x .answer)) h
+
+returns : tie.Need-returns
+returns c =
+    let e = c .before .before .before .before .before .before .translate .ensures in
+    (c .pack-clipped .ensures ∙ answered (c .before .before .length .given .1) e, ap {A = AfterTranslation} (λ x. x .buffer) e)
+
+same-length-2 : tie.Need-same-length-2
+same-length-2 c = search needs
+
+returns-2 : tie.Need-returns-2
+returns-2 c =
+    let e = c .before .before .before .before .before .before .translate .ensures in
+    (c .pack-clipped2 .ensures ∙ answered (c .before .before .number .given .1) e, ap {A = AfterTranslation} (λ x. x .buffer) e)
+
+pub rolvenko-translate-spec : {M : Type 1} → statement M
+rolvenko-translate-spec =
+    tie.close
+    (tie.spec
+    translate-requires
+    enum-known-length
+    pack-clipped-requires
+    enum-known-number
+    pack-clipped-requires-2
+    same-length
+    returns
+    same-length-2
+    returns-2)
