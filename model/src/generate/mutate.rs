@@ -109,7 +109,7 @@ fn any_token(rng: &mut Rng, tokens: &[Vec<u8>]) -> Vec<u8> {
 /// Puts `_` before a name, or takes it away.
 fn toggle_previous(rng: &mut Rng, tokens: &mut [Vec<u8>]) {
     let names: Vec<usize> = (0..tokens.len())
-        .filter(|&i| tokens[i][0] == b'_' || tokens[i][0].is_ascii_alphabetic())
+        .filter(|&i| matches!(tokens[i].first(), Some(&b) if b == b'_' || b.is_ascii_alphabetic()))
         .collect();
     if names.is_empty() {
         return;
@@ -126,7 +126,7 @@ fn toggle_previous(rng: &mut Rng, tokens: &mut [Vec<u8>]) {
 fn change_number(rng: &mut Rng, tokens: &mut [Vec<u8>]) {
     const NUMBERS: [&str; 6] = ["0", "00", "1", "9", "2147483647", "2147483648"];
     let digits: Vec<usize> = (0..tokens.len())
-        .filter(|&i| tokens[i][0].is_ascii_digit())
+        .filter(|&i| matches!(tokens[i].first(), Some(b) if b.is_ascii_digit()))
         .collect();
     if !digits.is_empty() {
         tokens[*rng.choose(&digits)] = rng.choose(&NUMBERS).as_bytes().to_vec();
