@@ -157,8 +157,18 @@ refuse sc w v at to out₀ d e = (refuses d e, record { held = λ cs n f. never 
 pub casing-first : (sc : Scope) (w : List ℕ) (v at to : ℕ) (out₀ from upto : List ℕ) → Room (sc .text) at to → caseLimit ≤ length from → caseLimit ≤ length upto → Casing sc w v at to out₀ from upto out₀ at to 0
 unfolding codeK
 casing-first sc w v at to out₀ from upto r hf hu = record {
-    done = []; counted = refl; few = omega arith; same = refl; room = r; ended = omega arith; wrote = refl;
-    listed = sym (spans-none from upto); inside = λ i h. absurd (omega arith); in-from = hf; in-upto = hu }
+  done = [];
+  counted = refl;
+  few = omega arith;
+  same = refl;
+  room = r;
+  ended = omega arith;
+  wrote = refl;
+  listed = sym (spans-none from upto);
+  inside = λ i h. absurd (omega arith);
+  in-from = hf;
+  in-upto = hu;
+}
 
 module _ {sc : Scope} {w : List ℕ} {v at to : ℕ} {out₀ from upto out : List ℕ} {a t count : ℕ} (x : Casing sc w v at to out₀ from upto out a t count) where
   -- the cases come to a refusal
@@ -232,18 +242,29 @@ module _ {sc : Scope} {w : List ℕ} {v at to : ℕ} {out₀ from upto out : Lis
             module _ {k2 s2 n2 : ℕ} (f2 : Found (sc .text) m k2 s2 n2) where
               pub casing-last : is (kindOf k2) bar ≡ false → Answer sc w v at to out₀ (set from count a) (set upto count e) out′ (Done m u (count + 1))
               casing-last j =
-                  let q : casesFrom caseLimit sc w [] at ≡ accepted all m = x .same ∙ (some-left ∙ cases-last sc w (x .done) a (f .read) i (caseLimit - (count + 1)) (g .is) (f2 .read) j) in
-                  (writes (record { tree = all; is = q; ended = all-ended; told = sym all-counted; wrote = all-wrote }),
-                  record {
-                    held = λ cs y r. subst (λ (l : List Spanned). Spans (sc .text) (set from count a) (set upto count e) (length l)) (same-value (sym q ∙ r)) (rw all-counted held);
-                    listed = λ cs y r. subst (λ (l : List Spanned). spansOf l ≡ spansIn (set from count a) (set upto count e) (length l)) (same-value (sym q ∙ r)) (rw all-counted all-listed) })
+                  let q : casesFrom caseLimit sc w [] at ≡ accepted all m = x .same ∙ (some-left ∙ cases-last sc w (x .done) a (f .read) i (caseLimit - (count + 1)) (g .is) (f2 .read) j) in (
+                    writes (record { tree = all; is = q; ended = all-ended; told = sym all-counted; wrote = all-wrote }),
+                    record {
+                      held = λ cs y r. subst (λ (l : List Spanned). Spans (sc .text) (set from count a) (set upto count e) (length l)) (same-value (sym q ∙ r)) (rw all-counted held);
+                      listed = λ cs y r. subst (λ (l : List Spanned). spansOf l ≡ spansIn (set from count a) (set upto count e) (length l)) (same-value (sym q ∙ r)) (rw all-counted all-listed);
+                    },
+                  )
 
               pub casing-more : is (kindOf k2) bar ≡ true → Casing sc w v at to out₀ (set from count a) (set upto count e) out′ n2 u (count + 1)
               casing-more j = record {
-                  done = all; counted = all-counted; few = omega (arith, more);
-                  same = x .same ∙ (some-left ∙ cases-more sc w (x .done) a (f .read) i (caseLimit - (count + 1)) (g .is) (f2 .read) j);
-                  room = record {
-                    short = x .room .short; within = f2 .lies .within (paid .1);
-                    room = omega (arith, g .ended, paid .0, casing-room .room, f2 .lies .after, f2 .lies .ordered) };
-                  ended = all-ended; wrote = all-wrote; listed = all-listed; inside = all-inside;
-                  in-from = simp length-set (x .in-from); in-upto = simp length-set (x .in-upto) }
+                done = all;
+                counted = all-counted;
+                few = omega (arith, more);
+                same = x .same ∙ (some-left ∙ cases-more sc w (x .done) a (f .read) i (caseLimit - (count + 1)) (g .is) (f2 .read) j);
+                room = record {
+                  short = x .room .short;
+                  within = f2 .lies .within (paid .1);
+                  room = omega (arith, g .ended, paid .0, casing-room .room, f2 .lies .after, f2 .lies .ordered);
+                };
+                ended = all-ended;
+                wrote = all-wrote;
+                listed = all-listed;
+                inside = all-inside;
+                in-from = simp length-set (x .in-from);
+                in-upto = simp length-set (x .in-upto);
+              }

@@ -132,4 +132,5 @@ module _ {sc : Scope} {at a left : ℕ} (w : Listing sc at a left) where
               record {
                 done = w .done ++ (x .tree ∷ []);
                 same = w .same ∙ (some-left ∙ list-more sc (w .done) a (f .read) (left - 1) i (x .is) (here .read) (told here bar j));
-                room = record { short = m .short; within = m .within; room = omega arith } }
+                room = record { short = m .short; within = m .within; room = omega arith };
+              }

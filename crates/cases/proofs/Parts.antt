@@ -64,8 +64,9 @@ module _ {A : Type 0} {bytes : A → List ℕ} {tells : A → ℕ} {p : Parsed A
 
   pub writes : {n t x : ℕ} → Got bytes tells p to before after n t x → Writes bytes tells p to before after (Done n t x)
   writes g = record {
-      answer = rw (g .is, g .ended, g .told);
-      wrote = λ a m e. g .wrote ∙ ap (λ (b : A). sets before to (bytes b)) (same-value (sym (g .is) ∙ e)) }
+    answer = rw (g .is, g .ended, g .told);
+    wrote = λ a m e. g .wrote ∙ ap (λ (b : A). sets before to (bytes b)) (same-value (sym (g .is) ∙ e));
+  }
 
   -- an answer that is a refusal
   pub refuses : {r : Part} {k q : ℕ} → r ≡ Refused k q → p ≡ refused k q → Writes bytes tells p to before after r

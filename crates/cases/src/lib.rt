@@ -79,7 +79,16 @@ pub fn put(out: &mut [u8], to: usize, code: u8, id: usize) -> usize
 }
 
 // `c] & w = (e)`, after the bracket that ends at `at`. The number told is where the condition ends, its bracket included.
-pub fn case(text: &[u8], starts: &[usize], ends: &[usize], names: Names, w: Variable, at: usize, out: &mut [u8], to: usize) -> Part
+pub fn case(
+    text: &[u8],
+    starts: &[usize],
+    ends: &[usize],
+    names: Names,
+    w: Variable,
+    at: usize,
+    out: &mut [u8],
+    to: usize,
+) -> Part
     requires { ⌜ Declared (now starts) (now ends) names ⌝ }
     requires { ⌜ Room (now text) at to ⌝ }
     requires { ⌜ w .id < nameLimit ⌝ }
@@ -106,7 +115,18 @@ pub fn case(text: &[u8], starts: &[usize], ends: &[usize], names: Names, w: Vari
 }
 
 // Cases with `|` between them. Where their conditions stand is kept in `from` and `upto`; the number told is how many there are.
-pub fn cases(text: &[u8], starts: &[usize], ends: &[usize], names: Names, w: Variable, from: &mut [usize], upto: &mut [usize], at: usize, out: &mut [u8], to: usize) -> Part
+pub fn cases(
+    text: &[u8],
+    starts: &[usize],
+    ends: &[usize],
+    names: Names,
+    w: Variable,
+    from: &mut [usize],
+    upto: &mut [usize],
+    at: usize,
+    out: &mut [u8],
+    to: usize,
+) -> Part
     requires { ⌜ Declared (now starts) (now ends) names ⌝ }
     requires { ⌜ Room (now text) at to ⌝ }
     requires { ⌜ w .id < nameLimit ⌝ }
@@ -201,7 +221,16 @@ fn settled(read: Expected, compared: Compared) -> Expected
 }
 
 // The no-change formula's list and its closing bracket, where the list of the change formula is kept in `from` and `upto`.
-pub fn agreeing_list(text: &[u8], starts: &[usize], ends: &[usize], names: Names, from: &[usize], upto: &[usize], count: usize, at: usize) -> Expected
+pub fn agreeing_list(
+    text: &[u8],
+    starts: &[usize],
+    ends: &[usize],
+    names: Names,
+    from: &[usize],
+    upto: &[usize],
+    count: usize,
+    at: usize,
+) -> Expected
     requires { ⌜ Declared (now starts) (now ends) names ⌝ }
     requires { ⌜ Room (now text) at 0 ⌝ }
     requires { ⌜ Spans (now text) (now from) (now upto) count ⌝ }

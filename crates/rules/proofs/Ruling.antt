@@ -127,8 +127,15 @@ pub record Ruling (text starts ends : List ℕ) (count known₀ at to : ℕ) (ou
 pub ruling-first : (text starts ends : List ℕ) (count known at to : ℕ) (out : List ℕ) → known < 2 ^ count → Room text at to → Ruling text starts ends count known at to out out known at to 0
 unfolding codeR
 ruling-first text starts ends count known at to out h r = record {
-    rules = []; counted = refl; same = refl; fuel = omega (arith, missing-few (knownOf known count), known-length known count); below = h; room = r;
-    ended = omega arith; wrote = refl }
+  rules = [];
+  counted = refl;
+  same = refl;
+  fuel = omega (arith, missing-few (knownOf known count), known-length known count);
+  below = h;
+  room = r;
+  ended = omega arith;
+  wrote = refl;
+}
 
 module _ {text starts ends : List ℕ} {count known₀ at to : ℕ} {out₀ out : List ℕ} {known a t done : ℕ} (x : Ruling text starts ends count known₀ at to out₀ out known a t done) (d : Declared starts ends (naming count known)) where
   abbrev sc : Scope
@@ -156,8 +163,12 @@ module _ {text starts ends : List ℕ} {count known₀ at to : ℕ} {out₀ out 
         let j = same-kinds k 1 (eqb-true k 1 y) in
         pick-prop (Answer out) (eqb known (2 ^ count - 1)) _ _
         (λ z. writes (record {
-          tree = x .rules; is = come ∙ rules-end (64 - done) sc (x .rules) a (f .read) i j (known-all count known (x .below) ∙ z);
-          ended = x .ended; told = sym (x .counted); wrote = x .wrote }))
+          tree = x .rules;
+          is = come ∙ rules-end (64 - done) sc (x .rules) a (f .read) i j (known-all count known (x .below) ∙ z);
+          ended = x .ended;
+          told = sym (x .counted);
+          wrote = x .wrote;
+        }))
         (λ z. refuses refl (come ∙ rules-missing (64 - done) sc (x .rules) a (f .read) i j (known-all count known (x .below) ∙ z))))
         (λ y. refuses refl (come ∙ rules-other (64 - done) sc (x .rules) a (f .read) i (other-kinds k 1 (f .lies .known-kind) (omega arith) (eqb-false k 1 y)))))
 
@@ -191,14 +202,15 @@ module _ {text starts ends : List ℕ} {count known₀ at to : ℕ} {out₀ out 
 
         pub ruling-more : {known′ : ℕ} → known′ ≡ known + 2 ^ id → Ruling text starts ends count known₀ at to out₀ out′ known′ m u (done + 1)
         ruling-more e = rw e (record {
-            rules = x .rules ++ (g .tree ∷ []);
-            counted = length-append (x .rules) (g .tree ∷ []) ∙ ap (λ (y : ℕ). y + 1) (x .counted);
-            same = come ∙ (rules-more (64 - done) sc (x .rules) a (f .read) i (g .is) ∙ turned);
-            fuel = omega (arith, x .fuel, missing-set (knownOf known count) id (omega (arith, fresh .0, known-length known count)) (fresh .1), ap missing (known-set count known id (fresh .0) clear));
-            below = set-below count known id (fresh .0) (x .below) clear;
-            room = record { short = x .room .short; within = paid .1; room = omega (arith, g .ended, paid .0, ruling-room .room) };
-            ended = rw (code-append (x .rules) (g .tree)) (simp length-append (omega (arith, g .ended, x .ended)));
-            wrote = rw (code-append (x .rules) (g .tree)) (then-bytes out₀ to (codeR (x .rules)) (codeOfRule (g .tree)) (x .ended) (x .wrote) (g .wrote)) })
+          rules = x .rules ++ (g .tree ∷ []);
+          counted = length-append (x .rules) (g .tree ∷ []) ∙ ap (λ (y : ℕ). y + 1) (x .counted);
+          same = come ∙ (rules-more (64 - done) sc (x .rules) a (f .read) i (g .is) ∙ turned);
+          fuel = omega (arith, x .fuel, missing-set (knownOf known count) id (omega (arith, fresh .0, known-length known count)) (fresh .1), ap missing (known-set count known id (fresh .0) clear));
+          below = set-below count known id (fresh .0) (x .below) clear;
+          room = record { short = x .room .short; within = paid .1; room = omega (arith, g .ended, paid .0, ruling-room .room) };
+          ended = rw (code-append (x .rules) (g .tree)) (simp length-append (omega (arith, g .ended, x .ended)));
+          wrote = rw (code-append (x .rules) (g .tree)) (then-bytes out₀ to (codeR (x .rules)) (codeOfRule (g .tree)) (x .ended) (x .wrote) (g .wrote));
+        })
           where
             turned : rulesFrom (64 - done) (ruled sc (target (g .tree))) (x .rules ++ (g .tree ∷ [])) m ≡ rulesFrom (65 - (done + 1)) (scopeOf text starts ends (naming count (known + 2 ^ id))) (x .rules ++ (g .tree ∷ [])) m
             turned = let q : 64 - done ≡ 65 - (done + 1) = omega arith in rw (ruled-scope, q)

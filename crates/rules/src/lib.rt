@@ -27,7 +27,16 @@ const LET: u8 = 21;
 const SETTLE: u8 = 22;
 
 // `w = (e));`
-fn function(text: &[u8], starts: &[usize], ends: &[usize], names: Names, w: Variable, at: usize, out: &mut [u8], to: usize) -> Part
+fn function(
+    text: &[u8],
+    starts: &[usize],
+    ends: &[usize],
+    names: Names,
+    w: Variable,
+    at: usize,
+    out: &mut [u8],
+    to: usize,
+) -> Part
     requires { ⌜ Declared (now starts) (now ends) names ⌝ }
     requires { ⌜ Room (now text) at to ⌝ }
     requires { ⌜ w .id < nameLimit ⌝ }
@@ -49,7 +58,18 @@ fn function(text: &[u8], starts: &[usize], ends: &[usize], names: Names, w: Vari
 }
 
 // `(w = _w) -> [c] & w = (e) | ..);` and `w: GX(w = _w -> ~([c] | ..));`. Where the conditions stand is kept in `from` and `upto`.
-fn change(text: &[u8], starts: &[usize], ends: &[usize], names: Names, w: Variable, from: &mut [usize], upto: &mut [usize], at: usize, out: &mut [u8], to: usize) -> Part
+fn change(
+    text: &[u8],
+    starts: &[usize],
+    ends: &[usize],
+    names: Names,
+    w: Variable,
+    from: &mut [usize],
+    upto: &mut [usize],
+    at: usize,
+    out: &mut [u8],
+    to: usize,
+) -> Part
     requires { ⌜ Declared (now starts) (now ends) names ⌝ }
     requires { ⌜ Room (now text) at to ⌝ }
     requires { ⌜ w .id < nameLimit ⌝ }
@@ -80,7 +100,18 @@ fn change(text: &[u8], starts: &[usize], ends: &[usize], names: Names, w: Variab
 }
 
 // The rule of the variable, after its name.
-fn formulas(text: &[u8], starts: &[usize], ends: &[usize], names: Names, w: Variable, from: &mut [usize], upto: &mut [usize], at: usize, out: &mut [u8], to: usize) -> Part
+fn formulas(
+    text: &[u8],
+    starts: &[usize],
+    ends: &[usize],
+    names: Names,
+    w: Variable,
+    from: &mut [usize],
+    upto: &mut [usize],
+    at: usize,
+    out: &mut [u8],
+    to: usize,
+) -> Part
     requires { ⌜ Declared (now starts) (now ends) names ⌝ }
     requires { ⌜ Room (now text) at to ⌝ }
     requires { ⌜ w .id < nameLimit ⌝ }
@@ -110,7 +141,18 @@ fn is_known(known: u64, id: usize) -> bool
 }
 
 // The rule whose name stands from `start` to `end`. The number told is the variable's id.
-fn rule(text: &[u8], starts: &[usize], ends: &[usize], names: Names, start: usize, end: usize, from: &mut [usize], upto: &mut [usize], out: &mut [u8], to: usize) -> Part
+fn rule(
+    text: &[u8],
+    starts: &[usize],
+    ends: &[usize],
+    names: Names,
+    start: usize,
+    end: usize,
+    from: &mut [usize],
+    upto: &mut [usize],
+    out: &mut [u8],
+    to: usize,
+) -> Part
     requires { ⌜ Declared (now starts) (now ends) names ⌝ }
     requires { ⌜ Room (now text) end to ⌝ }
     requires { ⌜ SpanRoom (now from) (now upto) ⌝ }
@@ -126,7 +168,18 @@ fn rule(text: &[u8], starts: &[usize], ends: &[usize], names: Names, start: usiz
     if is_known(names.known, id) {
         return Part::Refused(6, start);
     }
-    formulas(text, starts, ends, names, Variable { start, end, id }, from, upto, end, out, to)
+    formulas(
+        text,
+        starts,
+        ends,
+        names,
+        Variable { start, end, id },
+        from,
+        upto,
+        end,
+        out,
+        to,
+    )
 }
 
 // The lowest n bits: the names of ids below n.
@@ -164,7 +217,17 @@ fn finish(kind: u8, start: usize, end: usize, names: Names, t: usize, done: usiz
 }
 
 // Rules up to the end of the text. The number told is how many there are.
-fn rules_in(text: &[u8], starts: &[usize], ends: &[usize], names: Names, from: &mut [usize], upto: &mut [usize], at: usize, out: &mut [u8], to: usize) -> Part
+fn rules_in(
+    text: &[u8],
+    starts: &[usize],
+    ends: &[usize],
+    names: Names,
+    from: &mut [usize],
+    upto: &mut [usize],
+    at: usize,
+    out: &mut [u8],
+    to: usize,
+) -> Part
     requires { ⌜ Declared (now starts) (now ends) names ⌝ }
     requires { ⌜ Room (now text) at to ⌝ }
     requires { ⌜ Below names ⌝ }
@@ -184,7 +247,18 @@ fn rules_in(text: &[u8], starts: &[usize], ends: &[usize], names: Names, from: &
         if kind != lexer::NAME {
             return finish(kind, start, end, Names { count, known }, t, done);
         }
-        let one = rule(text, starts, ends, Names { count, known }, start, end, from, upto, out, t);
+        let one = rule(
+            text,
+            starts,
+            ends,
+            Names { count, known },
+            start,
+            end,
+            from,
+            upto,
+            out,
+            t,
+        );
         let Part::Done(b, u, id) = one else {
             return one;
         };
@@ -195,7 +269,15 @@ fn rules_in(text: &[u8], starts: &[usize], ends: &[usize], names: Names, from: &
     }
 }
 
-pub fn rules(text: &[u8], starts: &[usize], ends: &[usize], names: Names, at: usize, out: &mut [u8], to: usize) -> Part
+pub fn rules(
+    text: &[u8],
+    starts: &[usize],
+    ends: &[usize],
+    names: Names,
+    at: usize,
+    out: &mut [u8],
+    to: usize,
+) -> Part
     requires { ⌜ Declared (now starts) (now ends) names ⌝ }
     requires { ⌜ Room (now text) at to ⌝ }
     requires { ⌜ Below names ⌝ }

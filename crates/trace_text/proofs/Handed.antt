@@ -98,7 +98,7 @@ rows-open (b ∷ l) cells p room e = by (eqb b 10) refl (rows-open l) where
   by false f go =
       let s : lineOver Start (p ++ (b ∷ [])) ≡ lineAfter (lineOver Start p) b = line-append Start p (b ∷ []) ∙ over-cons (lineOver Start p) b [] ∙ over-nil _ in
       let c : cellsOver Start cells (p ++ (b ∷ [])) ≡ cellsAfter (lineOver Start p) (cellsOver Start cells p) b =
-          cells-append Start cells p (b ∷ []) ∙ cells-cons (lineOver Start p) (cellsOver Start cells p) b [] ∙ cells-nil _ _
+      cells-append Start cells p (b ∷ []) ∙ cells-cons (lineOver Start p) (cellsOver Start cells p) b [] ∙ cells-nil _ _
       in
       rw f (rw (s, c, append-snoc p b l) at (go cells (p ++ (b ∷ [])) room (open-more p b e f)))
 

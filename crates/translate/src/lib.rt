@@ -118,7 +118,12 @@ pub fn analyse(text: &[u8], starts: &mut [usize], ends: &mut [usize]) -> Analysi
     descend(text, starts, ends, &mut none)
 }
 
-fn translate_in(text: &[u8], image: &mut [u8], starts: &mut [usize], ends: &mut [usize]) -> Translated
+fn translate_in(
+    text: &[u8],
+    image: &mut [u8],
+    starts: &mut [usize],
+    ends: &mut [usize],
+) -> Translated
     requires { ⌜ Room (now starts) (now ends) 0 ⌝ }
     ensures { λ r. ⌜ afterTranslation r (now (image .exit)) ≡ translationOf (now (text .entry)) (now (image .entry)) ⌝ }
 {

@@ -24,68 +24,54 @@ use Rattle.leb128.proofs.put_byte.Reads as put-byte-reads
 use Rattle.phrases.proofs.case_value_opening.Reads as case-value-opening-reads
 use Rattle.phrases.proofs.expect.Reads as expect-reads
 
--- src/lib.rt:88:9
 listed-requires : tie.Need-listed-requires
 listed-requires c κs = (c .before .before .before .before .before .pre .0, c .before .before .before .before .before .pre .1 .0)
 
--- src/lib.rt:89:33
 enum-known-first : tie.Need-enum-known-first
 enum-known-first c = search needs
 
--- src/lib.rt:90:9
 enum-told : tie.Need-enum-told
 enum-told c = search needs
 
--- src/lib.rt:90:9
 unread-requires : tie.Need-unread-requires
 unread-requires c κs = search needs
 
--- src/lib.rt:90:9
 same-length : tie.Need-same-length
 same-length c = search needs
 
--- src/lib.rt:90:9
 returns : tie.Need-returns
 returns c = λ from. not-read (c .unread .ensures) (c .before .before .before .before .before .listed .ensures) (c .before .enum-told .given .1) (condition-refused _ _ from _)
 
--- src/lib.rt:92:9
 case-value-opening-requires : tie.Need-case-value-opening-requires
 case-value-opening-requires c κs = search needs
 
--- src/lib.rt:93:25
 enum-known-opened : tie.Need-enum-known-opened
 enum-known-opened c = search needs
 
--- src/lib.rt:94:9
 enum-told-2 : tie.Need-enum-told-2
 enum-told-2 c = search needs
 
--- src/lib.rt:94:9
 unexpected-requires : tie.Need-unexpected-requires
 unexpected-requires c κs = search needs
 
--- src/lib.rt:94:9
 same-length-2 : tie.Need-same-length-2
 same-length-2 c = search needs
 
--- src/lib.rt:94:9
 returns-2 : tie.Need-returns-2
 returns-2 c = λ from.
     let l = accepted-by (c .before .before .before .before .before .before .before .before .before .listed .ensures) (c .before .before .before .before .before .first .given .1) in
     not-expected (c .unexpected .ensures) (c .before .before .before .case-value-opening .ensures) (c .before .enum-told2 .given .1) (opening-refused _ _ from _ (l .is))
 
--- src/lib.rt:96:9
 put-byte-requires : tie.Need-put-byte-requires
-put-byte-requires c κs = 
+put-byte-requires c κs =
     let l = accepted-by (c .before .before .before .before .before .before .before .before .before .before .listed .ensures) (c .before .before .before .before .before .before .first .given .1) in
     let few = few-names _ (c .before .before .before .before .before .before .before .before .before .before .before .before .before .before .before .before .pre .0) in
     let rl = room-after (c .before .before .before .before .before .before .before .before .before .before .before .before .before .before .before .before .pre .1 .0) (listed-grown _ few _ (c .before .before .before .before .before .before .before .before .before .before .before .before .before .before .before .before .pre .1 .0 .within)) l in
     omega arith
 
--- src/lib.rt:97:9
 whole-expression-requires : tie.Need-whole-expression-requires
 unfolding is kindNumber
-whole-expression-requires c κs = 
+whole-expression-requires c κs =
     let l = accepted-by (c .before .before .before .before .before .before .before .before .before .before .before .before .before .before .listed .ensures) (c .before .before .before .before .before .before .before .before .before .before .first .given .1) in
     let few = few-names _ (c .before .before .before .before .before .before .before .before .before .before .before .before .before .before .before .before .before .before .before .before .pre .0) in
     let rl = room-after (c .before .before .before .before .before .before .before .before .before .before .before .before .before .before .before .before .before .before .before .before .pre .1 .0) (listed-grown _ few _ (c .before .before .before .before .before .before .before .before .before .before .before .before .before .before .before .before .before .before .before .before .pre .1 .0 .within)) l in
@@ -93,50 +79,39 @@ whole-expression-requires c κs =
     let rp = room-phrase {u = c .before .before .before .put-byte .result} (caseValueOpening _) (refl, (refl, (refl, tt))) rl p (omega (arith, c .before .before .before .put-byte .ensures .0)) in
     (c .before .before .before .before .before .before .before .before .before .before .before .before .before .before .before .before .before .before .before .before .pre .0, rp)
 
--- src/lib.rt:98:33
 enum-known-second : tie.Need-enum-known-second
 enum-known-second c = search needs
 
--- src/lib.rt:99:9
 enum-told-3 : tie.Need-enum-told-3
 enum-told-3 c = search needs
 
--- src/lib.rt:99:9
 unread-requires-2 : tie.Need-unread-requires-2
 unread-requires-2 c κs = search needs
 
--- src/lib.rt:99:9
 same-length-3 : tie.Need-same-length-3
 same-length-3 c = search needs
 
--- src/lib.rt:99:9
 returns-3 : tie.Need-returns-3
 returns-3 c = λ from.
     let l = accepted-by (c .before .before .before .before .before .before .before .before .before .before .before .before .before .before .before .before .before .before .before .before .listed .ensures) (c .before .before .before .before .before .before .before .before .before .before .before .before .before .before .before .before .first .given .1) in
     let p = found (c .before .before .before .before .before .before .before .before .before .before .before .before .before .before .case-value-opening .ensures) (c .before .before .before .before .before .before .before .before .before .before .before .before .opened .given .1) in
     not-read (c .unread2 .ensures) (c .before .before .before .before .before .whole-expression .ensures) (c .before .enum-told3 .given .1) (value-refused _ _ from _ (l .is) p)
 
--- src/lib.rt:101:9
 expect-requires : tie.Need-expect-requires
 expect-requires c κs = search needs
 
--- src/lib.rt:102:25
 enum-known-closed : tie.Need-enum-known-closed
 enum-known-closed c = search needs
 
--- src/lib.rt:103:9
 enum-told-4 : tie.Need-enum-told-4
 enum-told-4 c = search needs
 
--- src/lib.rt:103:9
 unexpected-requires-2 : tie.Need-unexpected-requires-2
 unexpected-requires-2 c κs = search needs
 
--- src/lib.rt:103:9
 same-length-4 : tie.Need-same-length-4
 same-length-4 c = c .before .before .before .before .before .before .before .before .before .whole-expression .kept .1 .1 .1 .1 .1 .0 ∙ c .before .before .before .before .before .before .before .before .before .before .before .before .before .put-byte .kept .0 ∙ c .before .before .before .before .before .before .before .before .before .before .before .before .before .before .before .before .before .before .before .before .before .before .before .before .listed .kept .1 .1 .1 .1 .1 .0
 
--- src/lib.rt:103:9
 returns-4 : tie.Need-returns-4
 unfolding kindOf
 returns-4 c = λ from.
@@ -145,10 +120,9 @@ returns-4 c = λ from.
     let v = accepted-by (c .before .before .before .before .before .before .before .before .before .whole-expression .ensures) (c .before .before .before .before .before .second .given .1) in
     not-expected (c .unexpected2 .ensures) (c .before .before .before .expect .ensures) (c .before .enum-told4 .given .1) (closing-refused _ _ from _ (l .is) p (v .is))
 
--- src/lib.rt:105:19
 put-requires : tie.Need-put-requires
 unfolding is kindNumber
-put-requires c κs = 
+put-requires c κs =
     let l = accepted-by (c .before .before .before .before .before .before .before .before .before .before .before .before .before .before .before .before .before .before .before .before .before .before .before .before .before .listed .ensures) (c .before .before .before .before .before .before .before .before .before .before .before .before .before .before .before .before .before .before .before .before .before .first .given .1) in
     let few = few-names _ (c .before .before .before .before .before .before .before .before .before .before .before .before .before .before .before .before .before .before .before .before .before .before .before .before .before .before .before .before .before .before .before .pre .0) in
     let rl = room-after (c .before .before .before .before .before .before .before .before .before .before .before .before .before .before .before .before .before .before .before .before .before .before .before .before .before .before .before .before .before .before .before .pre .1 .0) (listed-grown _ few _ (c .before .before .before .before .before .before .before .before .before .before .before .before .before .before .before .before .before .before .before .before .before .before .before .before .before .before .before .before .before .before .before .pre .1 .0 .within)) l in
@@ -158,11 +132,9 @@ put-requires c κs =
     let rv = room-after rp (whole-expression-grown _ few _ (rp .within)) v in
     (omega arith, c .before .before .before .before .before .before .before .before .before .before .before .before .before .before .before .before .before .before .before .before .before .before .before .before .before .before .before .before .before .before .before .pre .1 .1)
 
--- src/lib.rt:82:1
 same-length-5 : tie.Need-same-length-5
 same-length-5 c = c .before .before .put .kept .0 ∙ c .before .before .before .before .before .before .before .before .before .before .before .before .before .whole-expression .kept .1 .1 .1 .1 .1 .0 ∙ c .before .before .before .before .before .before .before .before .before .before .before .before .before .before .before .before .before .put-byte .kept .0 ∙ c .before .before .before .before .before .before .before .before .before .before .before .before .before .before .before .before .before .before .before .before .before .before .before .before .before .before .before .before .listed .kept .1 .1 .1 .1 .1 .0
 
--- src/lib.rt:82:1
 returns-5 : tie.Need-returns-5
 unfolding kindOf
 returns-5 c = λ from.
@@ -175,7 +147,8 @@ returns-5 c = λ from.
       is = case-accepted _ _ from _ (l .is) p (v .is) q;
       ended = case-length _ _ _ (l .count) (c .before .before .before .before .before .before .before .before .before .before .before .before .before .before .before .before .before .put-byte .ensures .0) (v .count) (c .before .before .put .ensures .0);
       told = refl;
-      wrote = case-bytes _ _ _ _ (l .count) (l .wrote) (c .before .before .before .before .before .before .before .before .before .before .before .before .before .before .before .before .before .put-byte .ensures .0) (c .before .before .before .before .before .before .before .before .before .before .before .before .before .before .before .before .before .put-byte .ensures .1) (v .count) (v .wrote) (c .before .before .put .ensures .1) })
+      wrote = case-bytes _ _ _ _ (l .count) (l .wrote) (c .before .before .before .before .before .before .before .before .before .before .before .before .before .before .before .before .before .put-byte .ensures .0) (c .before .before .before .before .before .before .before .before .before .before .before .before .before .before .before .before .before .put-byte .ensures .1) (v .count) (v .wrote) (c .before .before .put .ensures .1);
+    })
 
 pub case-spec : {M : Type 1} → statement M
 case-spec =

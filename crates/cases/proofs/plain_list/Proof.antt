@@ -27,98 +27,79 @@ Inv-loop text starts ends names at nothing₀ a₀ left₀ nothing a left = List
 abbrev μ-loop : tie.MeasureT-loop
 μ-loop text starts ends names at nothing₀ a₀ left₀ nothing a left = left
 
--- src/lib.rt:159:5
 loop-holds : tie.Need-loop-holds Inv-loop μ-loop
 loop-holds c = (listing-first (c .before .before .before .pre .1), refl)
 
--- src/lib.rt:160:13
 token-at-requires : tie.Need-token-at-requires Inv-loop μ-loop
 token-at-requires c κs = search needs
 
--- src/lib.rt:161:23
 enum-known-read : tie.Need-enum-known-read Inv-loop μ-loop
 enum-known-read c = search needs
 
--- src/lib.rt:162:13
 enum-told : tie.Need-enum-told Inv-loop μ-loop
 enum-told c = search needs
 
--- src/lib.rt:162:13
 fault-requires : tie.Need-fault-requires Inv-loop μ-loop
 fault-requires c κs = search needs
 
--- src/lib.rt:162:13
 returns : tie.Need-returns Inv-loop μ-loop
 returns c = rw (c .fault .ensures, c .before .enum-told .given .1) (listing-fault (c .before .before .before .before .loop .inv .0) (is-fault _ _ _ (c .before .before .before .token-at .ensures) _ (c .before .enum-told .given .1)))
 
--- src/lib.rt:165:13
 returns-2 : tie.Need-returns-2 Inv-loop μ-loop
-returns-2 c = 
+returns-2 c =
     let f = found-token _ _ (c .before .before .before .before .token-at .ensures) (c .before .before .read .given .1) in
     listing-full (c .before .before .before .before .before .loop .inv .0) f (c .if1 .taken)
 
--- src/lib.rt:168:13
 returns-3 : tie.Need-returns-3 Inv-loop μ-loop
 unfolding kindOf
-returns-3 c = 
+returns-3 c =
     let f = found-token _ _ (c .before .before .before .before .before .token-at .ensures) (c .before .before .before .read .given .1) in
     listing-other (c .before .before .before .before .before .before .loop .inv .0) f (c .before .if1 .left) (other-kinds _ _ (f .lies .known-kind) (omega arith) (c .if2 .taken))
 
--- src/lib.rt:170:70
 slice-aggregate-listed : tie.Need-slice-aggregate-listed Inv-loop μ-loop
 slice-aggregate-listed c = sym (c .before .before .before .before .before .before .before .loop .inv .1)
 
--- src/lib.rt:170:13
 listed-requires : tie.Need-listed-requires Inv-loop μ-loop
-listed-requires c κs = 
+listed-requires c κs =
     let f = found-token _ _ (c .before .before .before .before .before .before .token-at .ensures) (c .before .before .before .before .read .given .1) in
     (c .before .before .before .before .before .before .before .before .before .before .before .pre .0, listing-room (c .before .before .before .before .before .before .before .loop .inv .0) f (c .before .before .if1 .left))
 
--- src/lib.rt:171:37
 enum-known-one : tie.Need-enum-known-one Inv-loop μ-loop
 enum-known-one c = search needs
 
--- src/lib.rt:172:13
 enum-told-2 : tie.Need-enum-told-2 Inv-loop μ-loop
 enum-told-2 c = search needs
 
--- src/lib.rt:172:13
 unlisted-requires : tie.Need-unlisted-requires Inv-loop μ-loop
 unlisted-requires c κs = search needs
 
--- src/lib.rt:172:13
 returns-4 : tie.Need-returns-4 Inv-loop μ-loop
 unfolding kindOf
-returns-4 c = 
+returns-4 c =
     let f = found-token _ _ (c .before .before .before .before .before .before .before .before .before .before .before .token-at .ensures) (c .before .before .before .before .before .before .before .before .before .read .given .1) in
     let i = same-kinds _ 19 (c .before .before .before .before .before .before .if2 .left) in
     rw (c .unlisted .ensures, c .before .enum-told2 .given .1) (listing-refused (c .before .before .before .before .before .before .before .before .before .before .before .before .loop .inv .0) f (c .before .before .before .before .before .before .before .if1 .left) i (refused-by (c .before .before .before .before .listed .ensures) (c .before .enum-told2 .given .1)))
 
--- src/lib.rt:175:13
 expect-requires : tie.Need-expect-requires Inv-loop μ-loop
 expect-requires c κs = search needs
 
--- src/lib.rt:175:13
 returns-5 : tie.Need-returns-5 Inv-loop μ-loop
 unfolding kindOf kindNumber
-returns-5 c = 
+returns-5 c =
     let f = found-token _ _ (c .before .before .before .before .before .before .before .before .before .before .before .before .before .before .token-at .ensures) (c .before .before .before .before .before .before .before .before .before .before .before .before .read .given .1) in
     let i = same-kinds _ 19 (c .before .before .before .before .before .before .before .before .before .if2 .left) in
     let x = accepted-by (c .before .before .before .before .before .before .before .listed .ensures) (c .before .before .before .before .one .given .1) in
     c .expect .ensures ∙ sym (listing-last (c .before .before .before .before .before .before .before .before .before .before .before .before .before .before .before .loop .inv .0) f (c .before .before .before .before .before .before .before .before .before .before .if1 .left) i x (c .before .if3 .taken))
 
--- src/lib.rt:178:9
 sub-left : tie.Need-sub-left Inv-loop μ-loop
 sub-left c = search needs
 
--- src/lib.rt:159:5
 loop-less : tie.Need-loop-less Inv-loop μ-loop
 loop-less c = omega (arith, c .before .before .before .before .before .before .before .before .before .if1 .left)
 
--- src/lib.rt:159:5
 loop-again : tie.Need-loop-again Inv-loop μ-loop
 unfolding kindOf kindNumber
-loop-again c = 
+loop-again c =
     let f = found-token _ _ (c .before .before .before .before .before .before .before .before .before .before .before .before .before .token-at .ensures) (c .before .before .before .before .before .before .before .before .before .before .before .read .given .1) in
     let i = same-kinds _ 19 (c .before .before .before .before .before .before .before .before .if2 .left) in
     let x = accepted-by (c .before .before .before .before .before .before .listed .ensures) (c .before .before .before .one .given .1) in

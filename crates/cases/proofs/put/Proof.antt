@@ -7,19 +7,15 @@ use Rattle.cases.proofs.put.Lts as lts
 use Rattle.leb128.proofs.put_byte.Reads as put-byte-reads
 use Rattle.leb128.proofs.put_unsigned.Reads as put-unsigned-reads
 
--- src/lib.rt:77:9
 put-byte-requires : tie.Need-put-byte-requires
 put-byte-requires c κs = search needs
 
--- src/lib.rt:78:5
 put-unsigned-requires : tie.Need-put-unsigned-requires
 put-unsigned-requires c κs = search needs
 
--- src/lib.rt:73:1
 same-length : tie.Need-same-length
 same-length c = search needs
 
--- src/lib.rt:73:1
 returns : tie.Need-returns
 returns c = put-bytes (c .before .before .before .before .before .before .before .before .before .args .out .now) (c .before .before .before .before .before .before .before .before .before .args .to) (c .before .before .before .before .before .before .before .before .before .args .code) (c .before .before .before .before .before .before .before .before .before .args .id) (c .before .before .before .before .before .before .put-byte .ensures .0) (c .before .before .before .before .before .before .put-byte .ensures .1) (c .before .before .put-unsigned .ensures .0) (c .before .before .put-unsigned .ensures .1)
 

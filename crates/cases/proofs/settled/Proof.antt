@@ -9,48 +9,38 @@ use Rattle.cases.proofs.settled.Tie as tie
 use Rattle.cases.proofs.settled.Reads as reads
 use Rattle.cases.proofs.settled.Lts as lts
 
--- src/lib.rt:186:27
 enum-known-compared : tie.Need-enum-known-compared
 enum-known-compared c = search needs
 
--- src/lib.rt:187:9
 enum-told : tie.Need-enum-told
 enum-told c = search needs
 
--- src/lib.rt:187:9
 returns : tie.Need-returns
 unfolding settled placeOnly
 returns c = λ p e. rw (c .enum-told .given .1) e
 
--- src/lib.rt:189:27
 enum-known-read : tie.Need-enum-known-read
 enum-known-read c = search needs
 
--- src/lib.rt:190:9
 enum-told-2 : tie.Need-enum-told-2
 enum-told-2 c = search needs
 
--- src/lib.rt:190:9
 returns-2 : tie.Need-returns-2
 unfolding placeOnly
 returns-2 c = λ p e. rw (c .before .before .before .compared .given .1, place-accepted p (sym e ∙ ap expectedOf (c .enum-told2 .given .1)) _)
 
--- src/lib.rt:193:9
 returns-3 : tie.Need-returns-3
 unfolding placeOnly
 returns-3 c = λ p e. let r = place-refused p (sym e ∙ ap expectedOf (c .before .before .read .given .1)) in rw (c .before .before .before .before .before .compared .given .1, settled-before r _ (c .if1 .taken))
 
--- src/lib.rt:197:13
 returns-4 : tie.Need-returns-4
 unfolding placeOnly
 returns-4 c = λ p e. let r = place-refused p (sym e ∙ ap expectedOf (c .before .before .before .before .read .given .1)) in rw (c .before .before .before .before .before .before .before .compared .given .1, settled-here r _ (c .before .before .if1 .left) (c .before .if2 .taken) (c .if3 .taken))
 
--- src/lib.rt:183:1
 returns-5 : tie.Need-returns-5
 unfolding placeOnly
 returns-5 c = λ p e. let r = place-refused p (sym e ∙ ap expectedOf (c .before .before .before .before .read .given .1)) in rw (c .before .before .before .before .before .before .before .compared .given .1, settled-late r _ (c .before .before .if1 .left) (c .before .if2 .taken) (c .if3 .left))
 
--- src/lib.rt:183:1
 returns-6 : tie.Need-returns-6
 unfolding placeOnly
 returns-6 c = λ p e. let r = place-refused p (sym e ∙ ap expectedOf (c .before .before .before .read .given .1)) in rw (c .before .before .before .before .before .before .compared .given .1, settled-after r _ (c .before .if1 .left) (c .if2 .left))

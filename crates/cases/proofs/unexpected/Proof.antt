@@ -4,19 +4,15 @@ use Rattle.cases.proofs.unexpected.Tie as tie
 use Rattle.cases.proofs.unexpected.Reads as reads
 use Rattle.cases.proofs.unexpected.Lts as lts
 
--- src/lib.rt:49:31
 enum-told : tie.Need-enum-told
 enum-told c = search needs
 
--- src/lib.rt:50:27
 enum-known-e : tie.Need-enum-known-e
 enum-known-e c = search needs
 
--- src/lib.rt:45:1
 returns : tie.Need-returns
 returns c = search needs
 
--- src/lib.rt:45:1
 returns-2 : tie.Need-returns-2
 returns-2 c = rw (c .before .e .given .1)
 

@@ -4,19 +4,15 @@ use Rattle.cases.proofs.unlisted.Tie as tie
 use Rattle.cases.proofs.unlisted.Reads as reads
 use Rattle.cases.proofs.unlisted.Lts as lts
 
--- src/lib.rt:67:42
 enum-told : tie.Need-enum-told
 enum-told c = search needs
 
--- src/lib.rt:68:36
 enum-known-s : tie.Need-enum-known-s
 enum-known-s c = search needs
 
--- src/lib.rt:63:1
 returns : tie.Need-returns
 returns c = search needs
 
--- src/lib.rt:63:1
 returns-2 : tie.Need-returns-2
 returns-2 c = rw (c .before .s .given .1)
 

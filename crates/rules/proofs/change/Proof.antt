@@ -27,99 +27,78 @@ use Rattle.phrases.proofs.change_opening.Reads as change-opening-reads
 use Rattle.phrases.proofs.formula_closing.Reads as formula-closing-reads
 use Rattle.phrases.proofs.no_change_opening.Reads as no-change-opening-reads
 
--- src/lib.rt:59:9
 change-opening-requires : tie.Need-change-opening-requires
 change-opening-requires c κs = search needs
 
--- src/lib.rt:60:25
 enum-known-opened : tie.Need-enum-known-opened
 enum-known-opened c = search needs
 
--- src/lib.rt:61:9
 enum-told : tie.Need-enum-told
 enum-told c = search needs
 
--- src/lib.rt:61:9
 unexpected-requires : tie.Need-unexpected-requires
 unexpected-requires c κs = search needs
 
--- src/lib.rt:61:9
 returns : tie.Need-returns
 returns c = not-expected (c .unexpected .ensures) (c .before .before .before .change-opening .ensures) (c .before .enum-told .given .1) (change-unopened _ _ _ _)
 
--- src/lib.rt:63:9
 cases-requires : tie.Need-cases-requires
 unfolding is kindNumber
-cases-requires c κs = 
+cases-requires c κs =
     let p = found (c .before .before .before .before .before .before .change-opening .ensures) (c .before .before .before .before .opened .given .1) in
     let r = room-phrase {u = c .before .before .before .before .before .before .before .before .before .before .before .before .before .args .to} (changeOpening _) (refl, (refl, (refl, (refl, tt)))) (c .before .before .before .before .before .before .before .before .before .before .before .before .before .pre .1 .0) p (omega arith) in
     (c .before .before .before .before .before .before .before .before .before .before .before .before .before .pre .0, (r, (c .before .before .before .before .before .before .before .before .before .before .before .before .before .pre .1 .1 .0, (c .before .before .before .before .before .before .before .before .before .before .before .before .before .pre .1 .1 .1 .in-from, c .before .before .before .before .before .before .before .before .before .before .before .before .before .pre .1 .1 .1 .in-upto))))
 
--- src/lib.rt:64:20
 enum-known-listed : tie.Need-enum-known-listed
 enum-known-listed c = search needs
 
--- src/lib.rt:65:9
 enum-told-2 : tie.Need-enum-told-2
 enum-told-2 c = search needs
 
--- src/lib.rt:65:9
 same-length : tie.Need-same-length
 same-length c = search needs
 
--- src/lib.rt:65:9
 same-length-2 : tie.Need-same-length-2
 same-length-2 c = search needs
 
--- src/lib.rt:65:9
 same-length-3 : tie.Need-same-length-3
 same-length-3 c = search needs
 
--- src/lib.rt:65:9
 returns-2 : tie.Need-returns-2
-returns-2 c = 
+returns-2 c =
     let p = found (c .before .before .before .before .before .before .before .before .before .before .before .before .before .before .before .change-opening .ensures) (c .before .before .before .before .before .before .before .before .before .before .before .before .before .opened .given .1) in
     not-part (c .before .before .before .before .before .before .before .before .cases .ensures .0) (c .enum-told2 .given .1) (cases-refused _ _ _ _ p)
 
--- src/lib.rt:67:9
 no-change-opening-requires : tie.Need-no-change-opening-requires
 no-change-opening-requires c κs = search needs
 
--- src/lib.rt:68:25
 enum-known-next : tie.Need-enum-known-next
 enum-known-next c = search needs
 
--- src/lib.rt:69:9
 enum-told-3 : tie.Need-enum-told-3
 enum-told-3 c = search needs
 
--- src/lib.rt:69:9
 unexpected-requires-2 : tie.Need-unexpected-requires-2
 unexpected-requires-2 c κs = search needs
 
--- src/lib.rt:69:9
 same-length-4 : tie.Need-same-length-4
 same-length-4 c = search needs
 
--- src/lib.rt:69:9
 same-length-5 : tie.Need-same-length-5
 same-length-5 c = search needs
 
--- src/lib.rt:69:9
 same-length-6 : tie.Need-same-length-6
 same-length-6 c = search needs
 
--- src/lib.rt:69:9
 returns-3 : tie.Need-returns-3
-returns-3 c = 
+returns-3 c =
     let p = found (c .before .before .before .before .before .before .before .before .before .before .before .before .before .before .before .before .before .before .before .before .change-opening .ensures) (c .before .before .before .before .before .before .before .before .before .before .before .before .before .before .before .before .before .before .opened .given .1) in
     let g = got (c .before .before .before .before .before .before .before .before .before .before .before .before .before .cases .ensures .0) (c .before .before .before .before .before .listed .given .1) in
     not-expected (c .unexpected2 .ensures) (c .before .before .before .no-change-opening .ensures) (c .before .enum-told3 .given .1) (no-change-unopened _ _ _ _ p (g .is))
 
--- src/lib.rt:71:9
 agreeing-list-requires : tie.Need-agreeing-list-requires
 unfolding is kindNumber
-agreeing-list-requires c κs = 
+agreeing-list-requires c κs =
     let p = found (c .before .before .before .before .before .before .before .before .before .before .before .before .before .before .before .before .before .before .before .before .before .before .change-opening .ensures) (c .before .before .before .before .before .before .before .before .before .before .before .before .before .before .before .before .before .before .before .before .opened .given .1) in
     let r = room-phrase {u = c .before .before .before .before .before .before .before .before .before .before .before .before .before .before .before .before .before .before .before .before .before .before .before .before .before .before .before .before .before .args .to} (changeOpening _) (refl, (refl, (refl, (refl, tt)))) (c .before .before .before .before .before .before .before .before .before .before .before .before .before .before .before .before .before .before .before .before .before .before .before .before .before .before .before .before .before .pre .1 .0) p (omega arith) in
     let g = got (c .before .before .before .before .before .before .before .before .before .before .before .before .before .before .before .cases .ensures .0) (c .before .before .before .before .before .before .before .listed .given .1) in
@@ -127,70 +106,55 @@ agreeing-list-requires c κs =
     let rc = room-cases _ _ _ _ _ (few-names _ (c .before .before .before .before .before .before .before .before .before .before .before .before .before .before .before .before .before .before .before .before .before .before .before .before .before .before .before .before .before .pre .0)) (c .before .before .before .before .before .before .before .before .before .before .before .before .before .before .before .before .before .before .before .before .before .before .before .before .before .before .before .before .before .pre .1 .1 .0) r g in
     (c .before .before .before .before .before .before .before .before .before .before .before .before .before .before .before .before .before .before .before .before .before .before .before .before .before .before .before .before .before .pre .0, (room-list (noChangeOpening _) rc q, told-spans _ _ _ _ _ (c .before .before .before .before .before .before .before .before .before .before .before .before .before .before .before .cases .ensures .1) g))
 
--- src/lib.rt:72:25
 enum-known-agreed : tie.Need-enum-known-agreed
 enum-known-agreed c = search needs
 
--- src/lib.rt:73:9
 enum-told-4 : tie.Need-enum-told-4
 enum-told-4 c = search needs
 
--- src/lib.rt:73:9
 unexpected-requires-3 : tie.Need-unexpected-requires-3
 unexpected-requires-3 c κs = search needs
 
--- src/lib.rt:73:9
 same-length-7 : tie.Need-same-length-7
 same-length-7 c = search needs
 
--- src/lib.rt:73:9
 same-length-8 : tie.Need-same-length-8
 same-length-8 c = search needs
 
--- src/lib.rt:73:9
 same-length-9 : tie.Need-same-length-9
 same-length-9 c = search needs
 
--- src/lib.rt:73:9
 returns-4 : tie.Need-returns-4
-returns-4 c = 
+returns-4 c =
     let p = found (c .before .before .before .before .before .before .before .before .before .before .before .before .before .before .before .before .before .before .before .before .before .before .before .before .before .before .change-opening .ensures) (c .before .before .before .before .before .before .before .before .before .before .before .before .before .before .before .before .before .before .before .before .before .before .before .before .opened .given .1) in
     let g = got (c .before .before .before .before .before .before .before .before .before .before .before .before .before .before .before .before .before .before .before .cases .ensures .0) (c .before .before .before .before .before .before .before .before .before .before .before .listed .given .1) in
     let q = found (c .before .before .before .before .before .before .before .before .before .no-change-opening .ensures) (c .before .before .before .before .before .before .before .next .given .1) in
     let l = c .before .before .before .agreeing-list .ensures (g .tree) (told-listed _ _ _ _ _ (c .before .before .before .before .before .before .before .before .before .before .before .before .before .before .before .before .before .before .before .cases .ensures .1) g) in
     not-expected (c .unexpected3 .ensures) l (c .before .enum-told4 .given .1) (λ e. list-refused _ _ _ _ p (g .is) q (place-refused _ e))
 
--- src/lib.rt:75:9
 formula-closing-requires : tie.Need-formula-closing-requires
 formula-closing-requires c κs = search needs
 
--- src/lib.rt:76:25
 enum-known-closed : tie.Need-enum-known-closed
 enum-known-closed c = search needs
 
--- src/lib.rt:77:9
 enum-told-5 : tie.Need-enum-told-5
 enum-told-5 c = search needs
 
--- src/lib.rt:77:9
 unexpected-requires-4 : tie.Need-unexpected-requires-4
 unexpected-requires-4 c κs = search needs
 
--- src/lib.rt:77:9
 same-length-10 : tie.Need-same-length-10
 same-length-10 c = search needs
 
--- src/lib.rt:77:9
 same-length-11 : tie.Need-same-length-11
 same-length-11 c = search needs
 
--- src/lib.rt:77:9
 same-length-12 : tie.Need-same-length-12
 same-length-12 c = search needs
 
--- src/lib.rt:77:9
 returns-5 : tie.Need-returns-5
-returns-5 c = 
+returns-5 c =
     let p = found (c .before .before .before .before .before .before .before .before .before .before .before .before .before .before .before .before .before .before .before .before .before .before .before .before .before .before .before .before .before .before .change-opening .ensures) (c .before .before .before .before .before .before .before .before .before .before .before .before .before .before .before .before .before .before .before .before .before .before .before .before .before .before .before .before .opened .given .1) in
     let g = got (c .before .before .before .before .before .before .before .before .before .before .before .before .before .before .before .before .before .before .before .before .before .before .before .cases .ensures .0) (c .before .before .before .before .before .before .before .before .before .before .before .before .before .before .before .listed .given .1) in
     let q = found (c .before .before .before .before .before .before .before .before .before .before .before .before .before .no-change-opening .ensures) (c .before .before .before .before .before .before .before .before .before .before .before .next .given .1) in
@@ -198,31 +162,26 @@ returns-5 c =
     let a = placed _ (found l (c .before .before .before .before .before .agreed .given .1)) in
     not-expected (c .unexpected4 .ensures) (c .before .before .before .formula-closing .ensures) (c .before .enum-told5 .given .1) (change-unclosed _ _ _ _ p (g .is) q (a .is))
 
--- src/lib.rt:79:19
 put-requires : tie.Need-put-requires
 unfolding is kindNumber
-put-requires c κs = 
+put-requires c κs =
     let p = found (c .before .before .before .before .before .before .before .before .before .before .before .before .before .before .before .before .before .before .before .before .before .before .before .before .before .before .before .before .before .before .before .change-opening .ensures) (c .before .before .before .before .before .before .before .before .before .before .before .before .before .before .before .before .before .before .before .before .before .before .before .before .before .before .before .before .before .opened .given .1) in
     let r = room-phrase {u = c .before .before .before .before .before .before .before .before .before .before .before .before .before .before .before .before .before .before .before .before .before .before .before .before .before .before .before .before .before .before .before .before .before .before .before .before .before .before .args .to} (changeOpening _) (refl, (refl, (refl, (refl, tt)))) (c .before .before .before .before .before .before .before .before .before .before .before .before .before .before .before .before .before .before .before .before .before .before .before .before .before .before .before .before .before .before .before .before .before .before .before .before .before .before .pre .1 .0) p (omega arith) in
     let g = got (c .before .before .before .before .before .before .before .before .before .before .before .before .before .before .before .before .before .before .before .before .before .before .before .before .cases .ensures .0) (c .before .before .before .before .before .before .before .before .before .before .before .before .before .before .before .before .listed .given .1) in
     let rc = room-cases _ _ _ _ _ (few-names _ (c .before .before .before .before .before .before .before .before .before .before .before .before .before .before .before .before .before .before .before .before .before .before .before .before .before .before .before .before .before .before .before .before .before .before .before .before .before .before .pre .0)) (c .before .before .before .before .before .before .before .before .before .before .before .before .before .before .before .before .before .before .before .before .before .before .before .before .before .before .before .before .before .before .before .before .before .before .before .before .before .before .pre .1 .1 .0) r g in
     (omega arith, c .before .before .before .before .before .before .before .before .before .before .before .before .before .before .before .before .before .before .before .before .before .before .before .before .before .before .before .before .before .before .before .before .before .before .before .before .before .before .pre .1 .1 .0)
 
--- src/lib.rt:52:1
 same-length-13 : tie.Need-same-length-13
 same-length-13 c = search needs
 
--- src/lib.rt:52:1
 same-length-14 : tie.Need-same-length-14
 same-length-14 c = search needs
 
--- src/lib.rt:52:1
 same-length-15 : tie.Need-same-length-15
 same-length-15 c = search needs
 
--- src/lib.rt:52:1
 returns-6 : tie.Need-returns-6
-returns-6 c = 
+returns-6 c =
     let p = found (c .before .before .before .before .before .before .before .before .before .before .before .before .before .before .before .before .before .before .before .before .before .before .before .before .before .before .before .before .before .before .before .before .before .before .change-opening .ensures) (c .before .before .before .before .before .before .before .before .before .before .before .before .before .before .before .before .before .before .before .before .before .before .before .before .before .before .before .before .before .before .before .before .opened .given .1) in
     let g = got (c .before .before .before .before .before .before .before .before .before .before .before .before .before .before .before .before .before .before .before .before .before .before .before .before .before .before .before .cases .ensures .0) (c .before .before .before .before .before .before .before .before .before .before .before .before .before .before .before .before .before .before .before .listed .given .1) in
     let q = found (c .before .before .before .before .before .before .before .before .before .before .before .before .before .before .before .before .before .no-change-opening .ensures) (c .before .before .before .before .before .before .before .before .before .before .before .before .before .before .before .next .given .1) in
@@ -230,9 +189,12 @@ returns-6 c =
     let a = placed _ (found l (c .before .before .before .before .before .before .before .before .before .agreed .given .1)) in
     let z = found (c .before .before .before .before .before .before .before .formula-closing .ensures) (c .before .before .before .before .before .closed .given .1) in
     writes (record {
-      tree = Program.change (c .before .before .before .before .before .before .before .before .before .before .before .before .before .before .before .before .before .before .before .before .before .before .before .before .before .before .before .before .before .before .before .before .before .before .before .before .before .before .before .before .before .args .w .id) (casesOf (g .tree)) (a .tree); is = change-accepted _ _ _ _ p (g .is) q (a .is) z;
-      ended = change-length (c .before .before .before .before .before .before .before .before .before .before .before .before .before .before .before .before .before .before .before .before .before .before .before .before .before .before .before .before .before .before .before .before .before .before .before .before .before .before .before .before .before .args .to) (c .before .before .before .before .before .before .before .before .before .before .before .before .before .before .before .before .before .before .before .before .before .before .before .before .before .before .before .before .before .before .before .before .before .before .before .before .before .before .before .before .before .args .w .id) (g .tree) (a .tree) (g .ended) (c .before .before .put .ensures .0); told = refl;
-      wrote = change-bytes (c .before .before .before .before .before .before .before .before .before .before .before .before .before .before .before .before .before .before .before .before .before .before .before .before .before .before .before .before .before .before .before .before .before .before .before .before .before .before .before .before .before .args .out .now) (c .before .before .before .before .before .before .before .before .before .before .before .before .before .before .before .before .before .before .before .before .before .before .before .before .before .before .before .before .before .before .before .before .before .before .before .before .before .before .before .before .before .args .to) (c .before .before .before .before .before .before .before .before .before .before .before .before .before .before .before .before .before .before .before .before .before .before .before .before .before .before .before .before .before .before .before .before .before .before .before .before .before .before .before .before .before .args .w .id) (g .tree) (a .tree) (g .ended) (g .wrote) (c .before .before .put .ensures .1) })
+      tree = Program.change (c .before .before .before .before .before .before .before .before .before .before .before .before .before .before .before .before .before .before .before .before .before .before .before .before .before .before .before .before .before .before .before .before .before .before .before .before .before .before .before .before .before .args .w .id) (casesOf (g .tree)) (a .tree);
+      is = change-accepted _ _ _ _ p (g .is) q (a .is) z;
+      ended = change-length (c .before .before .before .before .before .before .before .before .before .before .before .before .before .before .before .before .before .before .before .before .before .before .before .before .before .before .before .before .before .before .before .before .before .before .before .before .before .before .before .before .before .args .to) (c .before .before .before .before .before .before .before .before .before .before .before .before .before .before .before .before .before .before .before .before .before .before .before .before .before .before .before .before .before .before .before .before .before .before .before .before .before .before .before .before .before .args .w .id) (g .tree) (a .tree) (g .ended) (c .before .before .put .ensures .0);
+      told = refl;
+      wrote = change-bytes (c .before .before .before .before .before .before .before .before .before .before .before .before .before .before .before .before .before .before .before .before .before .before .before .before .before .before .before .before .before .before .before .before .before .before .before .before .before .before .before .before .before .args .out .now) (c .before .before .before .before .before .before .before .before .before .before .before .before .before .before .before .before .before .before .before .before .before .before .before .before .before .before .before .before .before .before .before .before .before .before .before .before .before .before .before .before .before .args .to) (c .before .before .before .before .before .before .before .before .before .before .before .before .before .before .before .before .before .before .before .before .before .before .before .before .before .before .before .before .before .before .before .before .before .before .before .before .before .before .before .before .before .args .w .id) (g .tree) (a .tree) (g .ended) (g .wrote) (c .before .before .put .ensures .1);
+    })
 
 pub change-spec : {M : Type 1} → statement M
 change-spec =

@@ -8,21 +8,17 @@ use Rattle.rules.proofs.finish.Reads as reads
 use Rattle.rules.proofs.finish.Lts as lts
 use Rattle.rules.proofs.first.Reads as first-reads
 
--- src/lib.rt:158:9
 returns : tie.Need-returns
 unfolding endOf
 returns c = rw (ne-eqb _ _ (c .if1 .taken))
 
--- src/lib.rt:160:23
 first-requires : tie.Need-first-requires
 first-requires c κs = search needs
 
--- src/lib.rt:161:9
 returns-2 : tie.Need-returns-2
 unfolding endOf
 returns-2 c = rw (eq-eqb _ _ (c .before .before .before .if1 .left), eq-eqb _ _ (c .if2 .taken ∙ c .before .before .first .ensures))
 
--- src/lib.rt:153:1
 returns-3 : tie.Need-returns-3
 unfolding endOf
 returns-3 c = rw (eq-eqb _ _ (c .before .before .before .if1 .left), ne-eqb _ _ (λ e. c .if2 .left (e ∙ sym (c .before .before .first .ensures))))

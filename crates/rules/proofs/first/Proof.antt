@@ -8,19 +8,15 @@ use Rattle.rules.proofs.first.Tie as tie
 use Rattle.rules.proofs.first.Reads as reads
 use Rattle.rules.proofs.first.Lts as lts
 
--- src/lib.rt:138:9
 returns : tie.Need-returns
 returns c = rw (c .if1 .taken)
 
--- src/lib.rt:140:6
 shl-result : tie.Need-shl-result
 shl-result c = search needs
 
--- src/lib.rt:140:5
 sub-result : tie.Need-sub-result
 sub-result c = rw (shifted (c .before .args .n) (omega arith)) (pow-pos (c .before .args .n))
 
--- src/lib.rt:133:1
 returns-2 : tie.Need-returns-2
 returns-2 c = rw (shifted (c .before .args .n) (omega arith))
 

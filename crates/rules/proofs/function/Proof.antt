@@ -21,107 +21,90 @@ use Rattle.expressions.proofs.whole_expression.Reads as whole-expression-reads
 use Rattle.phrases.proofs.function_closing.Reads as function-closing-reads
 use Rattle.phrases.proofs.value_opening.Reads as value-opening-reads
 
--- src/lib.rt:36:9
 value-opening-requires : tie.Need-value-opening-requires
 value-opening-requires c κs = search needs
 
--- src/lib.rt:37:25
 enum-known-opened : tie.Need-enum-known-opened
 enum-known-opened c = search needs
 
--- src/lib.rt:38:9
 enum-told : tie.Need-enum-told
 enum-told c = search needs
 
--- src/lib.rt:38:9
 unexpected-requires : tie.Need-unexpected-requires
 unexpected-requires c κs = search needs
 
--- src/lib.rt:38:9
 returns : tie.Need-returns
 returns c = not-expected (c .unexpected .ensures) (c .before .before .before .value-opening .ensures) (c .before .enum-told .given .1) (value-unopened _ _ _ _)
 
--- src/lib.rt:40:9
 whole-expression-requires : tie.Need-whole-expression-requires
 unfolding is kindNumber
-whole-expression-requires c κs = 
+whole-expression-requires c κs =
     let p = found (c .before .before .before .before .value-opening .ensures) (c .before .before .opened .given .1) in
     let r = room-phrase {u = c .before .before .before .before .before .before .before .before .before .args .to} (valueOpening _) (refl, (refl, tt)) (c .before .before .before .before .before .before .before .before .before .pre .1 .0) p (omega arith) in
     (c .before .before .before .before .before .before .before .before .before .pre .0, r)
 
--- src/lib.rt:41:33
 enum-known-value : tie.Need-enum-known-value
 enum-known-value c = search needs
 
--- src/lib.rt:42:9
 enum-told-2 : tie.Need-enum-told-2
 enum-told-2 c = search needs
 
--- src/lib.rt:42:9
 unread-requires : tie.Need-unread-requires
 unread-requires c κs = search needs
 
--- src/lib.rt:42:9
 same-length : tie.Need-same-length
 same-length c = search needs
 
--- src/lib.rt:42:9
 returns-2 : tie.Need-returns-2
-returns-2 c = 
+returns-2 c =
     let p = found (c .before .before .before .before .before .before .before .before .before .before .value-opening .ensures) (c .before .before .before .before .before .before .before .before .opened .given .1) in
     not-read (c .unread .ensures) (c .before .before .before .before .before .whole-expression .ensures) (c .before .enum-told2 .given .1) (value-refused _ _ _ _ p)
 
--- src/lib.rt:44:9
 function-closing-requires : tie.Need-function-closing-requires
 function-closing-requires c κs = search needs
 
--- src/lib.rt:45:25
 enum-known-closed : tie.Need-enum-known-closed
 enum-known-closed c = search needs
 
--- src/lib.rt:46:9
 enum-told-3 : tie.Need-enum-told-3
 enum-told-3 c = search needs
 
--- src/lib.rt:46:9
 unexpected-requires-2 : tie.Need-unexpected-requires-2
 unexpected-requires-2 c κs = search needs
 
--- src/lib.rt:46:9
 same-length-2 : tie.Need-same-length-2
 same-length-2 c = search needs
 
--- src/lib.rt:46:9
 returns-3 : tie.Need-returns-3
-returns-3 c = 
+returns-3 c =
     let p = found (c .before .before .before .before .before .before .before .before .before .before .before .before .before .before .value-opening .ensures) (c .before .before .before .before .before .before .before .before .before .before .before .before .opened .given .1) in
     let v = accepted-by (c .before .before .before .before .before .before .before .before .before .whole-expression .ensures) (c .before .before .before .before .before .value .given .1) in
     not-expected (c .unexpected2 .ensures) (c .before .before .before .function-closing .ensures) (c .before .enum-told3 .given .1) (value-unclosed _ _ _ _ p (v .is))
 
--- src/lib.rt:48:19
 put-requires : tie.Need-put-requires
 unfolding is kindNumber
-put-requires c κs = 
+put-requires c κs =
     let p = found (c .before .before .before .before .before .before .before .before .before .before .before .before .before .before .before .value-opening .ensures) (c .before .before .before .before .before .before .before .before .before .before .before .before .before .opened .given .1) in
     let r = room-phrase {u = c .before .before .before .before .before .before .before .before .before .before .before .before .before .before .before .before .before .before .before .before .args .to} (valueOpening _) (refl, (refl, tt)) (c .before .before .before .before .before .before .before .before .before .before .before .before .before .before .before .before .before .before .before .before .pre .1 .0) p (omega arith) in
     let v = accepted-by (c .before .before .before .before .before .before .before .before .before .before .whole-expression .ensures) (c .before .before .before .before .before .before .value .given .1) in
     let s = room-after r (whole-expression-grown _ (few-names _ (c .before .before .before .before .before .before .before .before .before .before .before .before .before .before .before .before .before .before .before .before .pre .0)) _ (r .within)) v in
     (omega arith, c .before .before .before .before .before .before .before .before .before .before .before .before .before .before .before .before .before .before .before .before .pre .1 .1)
 
--- src/lib.rt:30:1
 same-length-3 : tie.Need-same-length-3
 same-length-3 c = search needs
 
--- src/lib.rt:30:1
 returns-4 : tie.Need-returns-4
-returns-4 c = 
+returns-4 c =
     let p = found (c .before .before .before .before .before .before .before .before .before .before .before .before .before .before .before .before .before .before .value-opening .ensures) (c .before .before .before .before .before .before .before .before .before .before .before .before .before .before .before .before .opened .given .1) in
     let v = accepted-by (c .before .before .before .before .before .before .before .before .before .before .before .before .before .whole-expression .ensures) (c .before .before .before .before .before .before .before .before .before .value .given .1) in
     let q = found (c .before .before .before .before .before .before .before .function-closing .ensures) (c .before .before .before .before .before .closed .given .1) in
     writes (record {
-      tree = Program.function (c .before .before .before .before .before .before .before .before .before .before .before .before .before .before .before .before .before .before .before .before .before .before .before .args .w .id) (v .tree); is = function-accepted _ _ _ _ p (v .is) q;
-      ended = function-length _ _ _ (v .count) (c .before .before .put .ensures .0); told = refl;
-      wrote = function-bytes _ _ _ _ (v .count) (v .wrote) (c .before .before .put .ensures .1) })
+      tree = Program.function (c .before .before .before .before .before .before .before .before .before .before .before .before .before .before .before .before .before .before .before .before .before .before .before .args .w .id) (v .tree);
+      is = function-accepted _ _ _ _ p (v .is) q;
+      ended = function-length _ _ _ (v .count) (c .before .before .put .ensures .0);
+      told = refl;
+      wrote = function-bytes _ _ _ _ (v .count) (v .wrote) (c .before .before .put .ensures .1);
+    })
 
 pub function-spec : {M : Type 1} → statement M
 function-spec =

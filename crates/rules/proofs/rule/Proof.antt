@@ -13,63 +13,50 @@ use Rattle.lexer.proofs.is_over_long.Reads as is-over-long-reads
 use Rattle.rules.proofs.formulas.Reads as formulas-reads
 use Rattle.rules.proofs.is_known.Reads as is-known-reads
 
--- src/lib.rt:119:8
 is-over-long-requires : tie.Need-is-over-long-requires
 is-over-long-requires c κs = search needs
 
--- src/lib.rt:120:9
 returns : tie.Need-returns
 returns c = refuses refl (rule-long _ _ _ (sym (c .before .is-over-long .ensures) ∙ c .if1 .taken))
 
--- src/lib.rt:122:9
 find-requires : tie.Need-find-requires
 find-requires c κs = search needs
 
--- src/lib.rt:123:19
 enum-known-found : tie.Need-enum-known-found
 enum-known-found c = search needs
 
--- src/lib.rt:124:9
 enum-told : tie.Need-enum-told
 enum-told c = search needs
 
--- src/lib.rt:124:9
 returns-2 : tie.Need-returns-2
 returns-2 c = refuses refl (rule-unknown _ _ _ (sym (c .before .before .before .before .is-over-long .ensures) ∙ c .before .before .before .if1 .left) (sym (c .before .before .find .ensures) ∙ ap foundId (c .enum-told .given .1)))
 
--- src/lib.rt:126:8
 is-known-requires : tie.Need-is-known-requires
-is-known-requires c κs = 
+is-known-requires c κs =
     let e = sym (c .before .before .before .find .ensures) ∙ ap foundId (c .before .found .given .1) in
     id-few _ (c .before .before .before .before .before .before .before .before .before .before .before .before .pre .0) _ e
 
--- src/lib.rt:127:9
 returns-3 : tie.Need-returns-3
-returns-3 c = 
+returns-3 c =
     let e = sym (c .before .before .before .before .before .find .ensures) ∙ ap foundId (c .before .before .before .found .given .1) in
     refuses refl (rule-second _ _ _ (sym (c .before .before .before .before .before .before .before .is-over-long .ensures) ∙ c .before .before .before .before .before .before .if1 .left) e (bit-known _ (c .before .before .before .before .before .before .before .before .before .before .before .before .before .before .pre .0) _ e (c .before .is-known .ensures) ∙ c .if2 .taken))
 
--- src/lib.rt:129:5
 formulas-requires : tie.Need-formulas-requires
-formulas-requires c κs = 
+formulas-requires c κs =
     let e = sym (c .before .before .before .before .before .before .before .before .find .ensures) ∙ ap foundId (c .before .before .before .before .before .before .found .given .1) in
     (c .before .before .before .before .before .before .before .before .before .before .before .before .before .before .before .before .before .pre .0, (c .before .before .before .before .before .before .before .before .before .before .before .before .before .before .before .before .before .pre .1 .0, (id-few _ (c .before .before .before .before .before .before .before .before .before .before .before .before .before .before .before .before .before .pre .0) _ e, c .before .before .before .before .before .before .before .before .before .before .before .before .before .before .before .before .before .pre .1 .1)))
 
--- src/lib.rt:113:1
 same-length : tie.Need-same-length
 same-length c = search needs
 
--- src/lib.rt:113:1
 same-length-2 : tie.Need-same-length-2
 same-length-2 c = search needs
 
--- src/lib.rt:113:1
 same-length-3 : tie.Need-same-length-3
 same-length-3 c = search needs
 
--- src/lib.rt:113:1
 returns-4 : tie.Need-returns-4
-returns-4 c = 
+returns-4 c =
     let e = sym (c .before .before .before .before .before .before .before .before .before .before .before .before .before .before .before .find .ensures) ∙ ap foundId (c .before .before .before .before .before .before .before .before .before .before .before .before .before .found .given .1) in
     reads-as (rule-formulas _ _ _ (sym (c .before .before .before .before .before .before .before .before .before .before .before .before .before .before .before .before .before .is-over-long .ensures) ∙ c .before .before .before .before .before .before .before .before .before .before .before .before .before .before .before .before .if1 .left) e (bit-known _ (c .before .before .before .before .before .before .before .before .before .before .before .before .before .before .before .before .before .before .before .before .before .before .before .before .pre .0) _ e (c .before .before .before .before .before .before .before .before .before .before .before .is-known .ensures) ∙ c .before .before .before .before .before .before .before .before .before .before .if2 .left)) (c .before .before .before .before .before .before .formulas .ensures)
 

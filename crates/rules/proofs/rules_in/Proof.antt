@@ -29,112 +29,89 @@ Inv-loop text starts ends from₀ upto₀ at out₀ to count known₀ a₀ t₀ 
 abbrev μ-loop : tie.MeasureT-loop
 μ-loop text starts ends from₀ upto₀ at out₀ to count known₀ a₀ t₀ done₀ from upto out known a t done = 65 - done
 
--- src/lib.rt:179:5
 loop-holds : tie.Need-loop-holds Inv-loop μ-loop
 loop-holds c = (ruling-first _ _ _ _ _ _ _ _ (c .before .before .before .before .before .before .pre .1 .1 .0 .below) (c .before .before .before .before .before .before .pre .1 .0), refl, refl, refl)
 
--- src/lib.rt:180:13
 token-at-requires : tie.Need-token-at-requires Inv-loop μ-loop
 token-at-requires c κs = search needs
 
--- src/lib.rt:181:23
 enum-known-read : tie.Need-enum-known-read Inv-loop μ-loop
 enum-known-read c = search needs
 
--- src/lib.rt:182:38
 enum-told : tie.Need-enum-told Inv-loop μ-loop
 enum-told c = search needs
 
--- src/lib.rt:182:38
 fault-requires : tie.Need-fault-requires Inv-loop μ-loop
 fault-requires c κs = search needs
 
--- src/lib.rt:182:13
 unexpected-requires : tie.Need-unexpected-requires Inv-loop μ-loop
 unexpected-requires c κs = search needs
 
--- src/lib.rt:182:13
 same-length : tie.Need-same-length Inv-loop μ-loop
 same-length c = c .before .before .before .before .before .loop .inv .1
 
--- src/lib.rt:182:13
 same-length-2 : tie.Need-same-length-2 Inv-loop μ-loop
 same-length-2 c = c .before .before .before .before .before .loop .inv .2
 
--- src/lib.rt:182:13
 same-length-3 : tie.Need-same-length-3 Inv-loop μ-loop
 same-length-3 c = c .before .before .before .before .before .loop .inv .3
 
--- src/lib.rt:182:13
 returns : tie.Need-returns Inv-loop μ-loop
-returns c = 
+returns c =
     let d = declared-as (c .before .before .before .before .before .before .before .before .before .before .before .before .pre .0) (c .before .before .before .before .before .loop .known) in
     ruling-fault (c .before .before .before .before .before .loop .inv .0) d (c .unexpected .ensures ∙ rw (c .before .fault .ensures, c .before .before .enum-told .given .1)) (is-fault _ _ _ (c .before .before .before .before .token-at .ensures) _ (c .before .before .enum-told .given .1))
 
--- src/lib.rt:185:13
 finish-requires : tie.Need-finish-requires Inv-loop μ-loop
 finish-requires c κs = c .before .before .before .before .before .before .before .before .before .before .before .before .pre .0 .few
 
--- src/lib.rt:185:13
 same-length-4 : tie.Need-same-length-4 Inv-loop μ-loop
 same-length-4 c = c .before .before .before .before .before .before .loop .inv .1
 
--- src/lib.rt:185:13
 same-length-5 : tie.Need-same-length-5 Inv-loop μ-loop
 same-length-5 c = c .before .before .before .before .before .before .loop .inv .2
 
--- src/lib.rt:185:13
 same-length-6 : tie.Need-same-length-6 Inv-loop μ-loop
 same-length-6 c = c .before .before .before .before .before .before .loop .inv .3
 
--- src/lib.rt:185:13
 returns-2 : tie.Need-returns-2 Inv-loop μ-loop
 unfolding kindOf
-returns-2 c = 
+returns-2 c =
     let d = declared-as (c .before .before .before .before .before .before .before .before .before .before .before .before .before .pre .0) (c .before .before .before .before .before .before .loop .known) in
     let f = found-token _ _ (c .before .before .before .before .before .token-at .ensures) (c .before .before .before .read .given .1) in
     ruling-end (c .before .before .before .before .before .before .loop .inv .0) d f (other-kinds _ _ (f .lies .known-kind) (omega arith) (c .before .if1 .taken)) (c .finish .ensures)
 
--- src/lib.rt:187:13
 rule-requires : tie.Need-rule-requires Inv-loop μ-loop
-rule-requires c κs = 
+rule-requires c κs =
     let d = declared-as (c .before .before .before .before .before .before .before .before .before .before .before .before .before .before .before .pre .0) (c .before .before .before .before .before .before .before .before .loop .known) in
     let f = found-token _ _ (c .before .before .before .before .before .before .before .token-at .ensures) (c .before .before .before .before .before .read .given .1) in
     (d, (ruling-room (c .before .before .before .before .before .before .before .before .loop .inv .0) d f, record { in-from = omega (arith, c .before .before .before .before .before .before .before .before .loop .inv .1, c .before .before .before .before .before .before .before .before .before .before .before .before .before .before .before .pre .1 .1 .1 .in-from); in-upto = omega (arith, c .before .before .before .before .before .before .before .before .loop .inv .2, c .before .before .before .before .before .before .before .before .before .before .before .before .before .before .before .pre .1 .1 .1 .in-upto) }))
 
--- src/lib.rt:188:24
 enum-known-one : tie.Need-enum-known-one Inv-loop μ-loop
 enum-known-one c = search needs
 
--- src/lib.rt:189:13
 enum-told-2 : tie.Need-enum-told-2 Inv-loop μ-loop
 enum-told-2 c = search needs
 
--- src/lib.rt:189:13
 same-length-7 : tie.Need-same-length-7 Inv-loop μ-loop
 same-length-7 c = c .before .before .before .before .before .before .before .before .rule .kept .1 .1 .1 .1 .1 .1 .0 ∙ c .before .before .before .before .before .before .before .before .before .before .before .before .before .before .before .before .before .loop .inv .1
 
--- src/lib.rt:189:13
 same-length-8 : tie.Need-same-length-8 Inv-loop μ-loop
 same-length-8 c = c .before .before .before .before .before .before .before .before .rule .kept .1 .1 .1 .1 .1 .1 .1 .0 ∙ c .before .before .before .before .before .before .before .before .before .before .before .before .before .before .before .before .before .loop .inv .2
 
--- src/lib.rt:189:13
 same-length-9 : tie.Need-same-length-9 Inv-loop μ-loop
 same-length-9 c = c .before .before .before .before .before .before .before .before .rule .kept .1 .1 .1 .1 .1 .1 .1 .1 .0 ∙ c .before .before .before .before .before .before .before .before .before .before .before .before .before .before .before .before .before .loop .inv .3
 
--- src/lib.rt:189:13
 returns-3 : tie.Need-returns-3 Inv-loop μ-loop
 unfolding kindOf
-returns-3 c = 
+returns-3 c =
     let d = declared-as (c .before .before .before .before .before .before .before .before .before .before .before .before .before .before .before .before .before .before .before .before .before .before .before .before .pre .0) (c .before .before .before .before .before .before .before .before .before .before .before .before .before .before .before .before .before .loop .known) in
     let f = found-token _ _ (c .before .before .before .before .before .before .before .before .before .before .before .before .before .before .before .before .token-at .ensures) (c .before .before .before .before .before .before .before .before .before .before .before .before .before .before .read .given .1) in
     let i = same-kinds _ 2 (c .before .before .before .before .before .before .before .before .before .before .before .before .if1 .left) in
     ruling-refused (c .before .before .before .before .before .before .before .before .before .before .before .before .before .before .before .before .before .loop .inv .0) d f i (c .enum-told2 .given .1) (refused-part (c .before .before .before .before .before .before .before .before .rule .ensures) (c .enum-told2 .given .1))
 
--- src/lib.rt:191:9
 with-requires : tie.Need-with-requires Inv-loop μ-loop
 unfolding kindOf
-with-requires c κs = 
+with-requires c κs =
     let d = declared-as (c .before .before .before .before .before .before .before .before .before .before .before .before .before .before .before .before .before .before .before .before .before .before .before .before .before .pre .0) (c .before .before .before .before .before .before .before .before .before .before .before .before .before .before .before .before .before .before .loop .known) in
     let f = found-token _ _ (c .before .before .before .before .before .before .before .before .before .before .before .before .before .before .before .before .before .token-at .ensures) (c .before .before .before .before .before .before .before .before .before .before .before .before .before .before .before .read .given .1) in
     let i = same-kinds _ 2 (c .before .before .before .before .before .before .before .before .before .before .before .before .before .if1 .left) in
@@ -142,22 +119,19 @@ with-requires c κs =
     let k = ruling-clear (c .before .before .before .before .before .before .before .before .before .before .before .before .before .before .before .before .before .before .loop .inv .0) d f i g in
     ((k .0, c .before .before .before .before .before .before .before .before .before .before .before .before .before .before .before .before .before .before .before .before .before .before .before .before .before .pre .0 .few), (c .before .before .before .before .before .before .before .before .before .before .before .before .before .before .before .before .before .before .loop .inv .0 .below, k .1))
 
--- src/lib.rt:192:9
 add-done : tie.Need-add-done Inv-loop μ-loop
-add-done c = 
+add-done c =
     let d = declared-as (c .before .before .before .before .before .before .before .before .before .before .before .before .before .before .before .before .before .before .before .before .before .before .before .before .before .before .pre .0) (c .before .before .before .before .before .before .before .before .before .before .before .before .before .before .before .before .before .before .before .loop .known) in
     omega (arith, ruling-fuel (c .before .before .before .before .before .before .before .before .before .before .before .before .before .before .before .before .before .before .before .loop .inv .0) d)
 
--- src/lib.rt:179:5
 loop-less : tie.Need-loop-less Inv-loop μ-loop
-loop-less c = 
+loop-less c =
     let d = declared-as (c .before .before .before .before .before .before .before .before .before .before .before .before .before .before .before .before .before .before .before .before .before .before .before .before .before .before .pre .0) (c .before .before .before .before .before .before .before .before .before .before .before .before .before .before .before .before .before .before .before .loop .known) in
     omega (arith, ruling-fuel (c .before .before .before .before .before .before .before .before .before .before .before .before .before .before .before .before .before .before .before .loop .inv .0) d)
 
--- src/lib.rt:179:5
 loop-again : tie.Need-loop-again Inv-loop μ-loop
 unfolding kindOf
-loop-again c = 
+loop-again c =
     let d = declared-as (c .before .before .before .before .before .before .before .before .before .before .before .before .before .before .before .before .before .before .before .before .before .before .before .before .before .before .pre .0) (c .before .before .before .before .before .before .before .before .before .before .before .before .before .before .before .before .before .before .before .loop .known) in
     let f = found-token _ _ (c .before .before .before .before .before .before .before .before .before .before .before .before .before .before .before .before .before .before .token-at .ensures) (c .before .before .before .before .before .before .before .before .before .before .before .before .before .before .before .before .read .given .1) in
     let i = same-kinds _ 2 (c .before .before .before .before .before .before .before .before .before .before .before .before .before .before .if1 .left) in

@@ -6,15 +6,12 @@ use Rattle.rules.proofs.with.Tie as tie
 use Rattle.rules.proofs.with.Reads as reads
 use Rattle.rules.proofs.with.Lts as lts
 
--- src/lib.rt:149:14
 shl-result : tie.Need-shl-result
 shl-result c = search needs
 
--- src/lib.rt:149:5
 add-result : tie.Need-add-result
 add-result c = rw (shifted (c .args .id) (omega arith)) (record { fits = below-64 (c .args .count) _ (c .pre .0 .1) (set-below (c .args .count) _ _ (c .pre .0 .0) (c .pre .1 .0) (clear-bit _ (c .pre .1 .1))) })
 
--- src/lib.rt:144:1
 returns : tie.Need-returns
 returns c = rw (shifted (c .args .id) (omega arith))
 

@@ -74,10 +74,13 @@ rules-requires : tie.Need-rules-requires
 rules-requires c κs =
     let x = declared (c .before .before .before .before .before) in
     let f = few (c .before .before .before .before .before) in
-    let r = c .before .before .before .before .before .before .before .before .before .before .before .before .before .before .before .before .before .before .before .before .before .pre .1 in
-    (record { table = record { in-starts = omega (arith, x .named, f .names, r .in-starts); in-ends = omega (arith, x .named, f .names, r .in-ends) }; few = omega (arith, x .named, f .names) },
-    (record { short = c .before .before .before .before .before .before .before .before .before .before .before .before .before .before .before .before .before .before .before .before .before .pre .0; within = f .within; room = omega (arith, x .ended, f .room) },
-    record { below = low-bits (x .counted) (x .named) (f .inputs) (c .before .before .before .first .ensures) }))
+    let r = c .before .before .before .before .before .before .before .before .before .before .before .before .before .before .before .before .before .before .before .before .before .pre .1 in (
+      record { table = record { in-starts = omega (arith, x .named, f .names, r .in-starts); in-ends = omega (arith, x .named, f .names, r .in-ends) }; few = omega (arith, x .named, f .names) },
+      (
+        record { short = c .before .before .before .before .before .before .before .before .before .before .before .before .before .before .before .before .before .before .before .before .before .pre .0; within = f .within; room = omega (arith, x .ended, f .room) },
+        record { below = low-bits (x .counted) (x .named) (f .inputs) (c .before .before .before .first .ensures) },
+      ),
+    )
 
 -- the rules, in the scope of the names declared
 ruled : (c : tie.After-rules) →

@@ -60,9 +60,10 @@ unfolding headerAfter
 declarations-requires-2 c κs =
     let x = all-inputs (c .before .before .before .before) in
     let f = inputs-few (c .before .before .before .before .before .before .before .before .before .before .before .before .before .before .before .before .before .before .before .before .args .text .now) (c .before .before .before .before .before .before .before .before .before .before .before .before .before .before .before .before .before .before .before .before .pre .0) (x .all) (c .before .before .before .before .first .given .0 .0) (x .read) in
-    let r = c .before .before .before .before .before .before .before .before .before .before .before .before .before .before .before .before .before .before .before .before .pre .1 in
-    ((omega arith, omega (arith, x .ended, f .1, f .2, c .before .before .before .before .before .before .before .before .before .before .before .before .before .before .before .before .before .before .before .before .pre .0)),
-    record { few = omega (arith, x .counted, f .0); in-starts = omega (arith, r .in-starts); in-ends = omega (arith, r .in-ends) })
+    let r = c .before .before .before .before .before .before .before .before .before .before .before .before .before .before .before .before .before .before .before .before .pre .1 in (
+      (omega arith, omega (arith, x .ended, f .1, f .2, c .before .before .before .before .before .before .before .before .before .before .before .before .before .before .before .before .before .before .before .before .pre .0)),
+      record { few = omega (arith, x .counted, f .0); in-starts = omega (arith, r .in-starts); in-ends = omega (arith, r .in-ends) },
+    )
 
 enum-known-second : tie.Need-enum-known-second
 enum-known-second c = search needs

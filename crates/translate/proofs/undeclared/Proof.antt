@@ -4,19 +4,15 @@ use Rattle.translate.proofs.undeclared.Tie as tie
 use Rattle.translate.proofs.undeclared.Reads as reads
 use Rattle.translate.proofs.undeclared.Lts as lts
 
--- src/lib.rt:40:37
 enum-told : tie.Need-enum-told
 enum-told c = search needs
 
--- src/lib.rt:41:27
 enum-known-d : tie.Need-enum-known-d
 enum-known-d c = search needs
 
--- src/lib.rt:36:1
 returns : tie.Need-returns
 returns c = search needs
 
--- src/lib.rt:36:1
 returns-2 : tie.Need-returns-2
 returns-2 c = rw (c .before .d .given .1)
 

@@ -4,19 +4,15 @@ use Rattle.translate.proofs.unheaded.Tie as tie
 use Rattle.translate.proofs.unheaded.Reads as reads
 use Rattle.translate.proofs.unheaded.Lts as lts
 
--- src/lib.rt:49:39
 enum-told : tie.Need-enum-told
 enum-told c = search needs
 
--- src/lib.rt:50:26
 enum-known-h : tie.Need-enum-known-h
 enum-known-h c = search needs
 
--- src/lib.rt:45:1
 returns : tie.Need-returns
 returns c = search needs
 
--- src/lib.rt:45:1
 returns-2 : tie.Need-returns-2
 returns-2 c = rw (c .before .h .given .1)
 
