@@ -1,0 +1,5 @@
+pub mod Stores
+pub mod Scans
+pub mod Recorded
+pub mod Showing
+pub mod Texts

@@ -1,0 +1,67 @@
+-- `replay::scan_rows` meets its contract: what is left to do makes the whole. Assumes nothing.
+use Prim.Native.Nat.{_-_}
+use native.Mathlib.Omega.{arith}
+use mathlib.Core.Path.{_≡_, refl, _∙_}
+use lib.ListN.{length}
+use borrow.Author.Needs.{needs}
+use Rattle.replay.specs.Internal.{records}
+use Rattle.replay.proofs.Scans.{Scanning, scanning-goes, scanning-ends}
+use Rattle.replay.proofs.scan_rows.Statement.{statement}
+use Rattle.replay.proofs.scan_rows.Tie as tie
+
+abbrev Inv-loop : tie.InvT-loop
+Inv-loop image state₀ cells lengths at numbers₀ steps₀ trace₀ c₀ state numbers steps trace cursor =
+    Scanning image cells lengths (records state₀ numbers₀ steps₀ trace₀ at) cursor (records state numbers steps trace (cursor .place))
+    × (length state ≡ length state₀) × (length numbers ≡ length numbers₀) × (length steps ≡ length steps₀) × (length trace ≡ length trace₀)
+
+abbrev μ-loop : tie.MeasureT-loop
+μ-loop image state₀ cells lengths at numbers₀ steps₀ trace₀ c₀ state numbers steps trace cursor =
+    length lengths - cursor .row
+
+loop-holds : tie.Need-loop-holds Inv-loop μ-loop
+loop-holds c = (record { inside = omega arith; room = (c .before .before .before .before .pre); so = refl }, refl, refl, refl, refl)
+
+scan-row-requires : tie.Need-scan-row-requires Inv-loop μ-loop
+scan-row-requires c κs =
+    let v = c .before .before .before .before .before .before .loop .inv .0 in
+    record { row = c .before .before .before .before .if1 .taken; cell = v .inside; place = v .room }
+
+loop-less : tie.Need-loop-less Inv-loop μ-loop
+loop-less c = omega (arith, c .before .before .before .before .before .before .scan-row .ensures .row)
+
+loop-again : tie.Need-loop-again Inv-loop μ-loop
+loop-again c =
+    let v = c .before .before .before .before .before .before .before .before .before .before .before .before .before .loop .inv in
+    let r = c .before .before .before .before .before .before .scan-row in
+    (scanning-goes (v .0) (r .result) _ (c .before .before .before .before .before .before .before .before .before .before .before .if1 .taken) (r .ensures), r .kept .1 .0 ∙ v .1, r .kept .1 .1 .1 .1 .1 .0 ∙ v .2, r .kept .1 .1 .1 .1 .1 .1 .0 ∙ v .3, r .kept .1 .1 .1 .1 .1 .1 .1 .0 ∙ v .4)
+
+same-length : tie.Need-same-length Inv-loop μ-loop
+same-length c = search needs
+
+same-length-2 : tie.Need-same-length-2 Inv-loop μ-loop
+same-length-2 c = search needs
+
+same-length-3 : tie.Need-same-length-3 Inv-loop μ-loop
+same-length-3 c = search needs
+
+same-length-4 : tie.Need-same-length-4 Inv-loop μ-loop
+same-length-4 c = search needs
+
+returns : tie.Need-returns Inv-loop μ-loop
+returns c = scanning-ends (c .before .before .loop .inv .0) (c .if1 .left)
+
+pub scan-rows-spec : {M : Type 1} → statement M
+scan-rows-spec =
+    tie.close
+    (tie.spec
+    Inv-loop
+    μ-loop
+    loop-holds
+    scan-row-requires
+    loop-less
+    loop-again
+    same-length
+    same-length-2
+    same-length-3
+    same-length-4
+    returns)

@@ -1,0 +1,21 @@
+-- `replay::store_number` meets its contract: a store out of range leaves the list as it is. Assumes nothing.
+use mathlib.Core.Path.{sym}
+use lib.Seq.{set-out}
+use borrow.Author.Needs.{needs}
+use Rattle.replay.proofs.store_number.Statement.{statement}
+use Rattle.replay.proofs.store_number.Tie as tie
+
+slice-write-numbers : tie.Need-slice-write-numbers
+slice-write-numbers c = search needs
+
+same-length : tie.Need-same-length
+same-length c = search needs
+
+returns : tie.Need-returns
+returns c = search needs
+
+returns-2 : tie.Need-returns-2
+returns-2 c = sym (set-out _ _ _ (c .if1 .left))
+
+pub store-number-spec : {M : Type 1} → statement M
+store-number-spec = tie.close (tie.spec slice-write-numbers same-length returns returns-2)

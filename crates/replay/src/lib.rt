@@ -1,0 +1,199 @@
+// A whole list of rows in one call: start, then a scan for each row, with records of them.
+use scan::Scanned;
+use scan::Started;
+use translate::Translated;
+ghost use mathlib.Core.Path.{_≡_};
+ghost use mathlib.Core.List.{List};
+ghost use Prim.Native.Nat.{ℕ, _+_, _≤_, min};
+ghost use lib.ListN.{length, set};
+ghost use lib.Seq.{sets};
+ghost use Rattle.scan.specs.Services.{startOf};
+ghost use Rattle.replay.specs.Replay.{rowsOf, replayRows, replayOf};
+ghost use Rattle.replay.specs.Results.{lent, afterReplay, ShownBy};
+ghost use Rattle.replay.specs.Internal.{records, scanRows, Within, RowScanned};
+
+// The image's length; or the number and place of the refusal of translation or start.
+pub enum Replayed {
+    Done(usize),
+    Refused(u8, usize),
+}
+
+// Where a replay stands: the next row, its first cell, and the place behind the trace so far.
+struct Cursor {
+    row: usize,
+    cell: usize,
+    place: usize,
+}
+
+// The place n behind `at`, no further than `most`.
+fn behind(at: usize, n: usize, most: usize) -> usize
+    requires { ⌜ at ≤ most ⌝ }
+    ensures { λ r. ⌜ r ≡ min (at + n) most ⌝ }
+{
+    if n < most - at {
+        return at + n;
+    }
+    most
+}
+
+// A refusal's number at a row's place, where there is room for it.
+fn store_number(numbers: &mut [u8], i: usize, number: u8)
+    ensures { λ _. ⌜ now (numbers .exit) ≡ set (now (numbers .entry)) i number ⌝ }
+{
+    if i < numbers.len() {
+        numbers[i] = number;
+    }
+}
+
+// A scan's steps, likewise.
+fn store_steps(steps: &mut [usize], i: usize, n: usize)
+    ensures { λ _. ⌜ now (steps .exit) ≡ set (now (steps .entry)) i n ⌝ }
+{
+    if i < steps.len() {
+        steps[i] = n;
+    }
+}
+
+// A state from a place of the trace on, as far as there is room; the place behind it.
+fn store_state(trace: &mut [i32], at: usize, state: &[i32]) -> usize
+    requires { ⌜ at ≤ length (now trace) ⌝ }
+    ensures { λ r. ⌜ r ≡ min (at + length (now (state .entry))) (length (now (trace .entry))) ⌝ }
+    ensures { λ _. ⌜ now (trace .exit) ≡ sets (now (trace .entry)) at (now (state .entry)) ⌝ }
+{
+    let end = behind(at, state.len(), trace.len());
+    let mut i = at;
+    while i < end {
+        trace[i] = state[i - at];
+        i += 1;
+    }
+    end
+}
+
+// The scan of the next row, with its records: number and steps at the row's place, the state of an accepted one behind the trace.
+fn scan_row(
+    image: &[u8],
+    state: &mut [i32],
+    cells: &[i32],
+    lengths: &[usize],
+    cursor: Cursor,
+    numbers: &mut [u8],
+    steps: &mut [usize],
+    trace: &mut [i32],
+) -> Cursor
+    requires { ⌜ Within cursor (now cells) (now lengths) (now trace) ⌝ }
+    ensures { λ r. ⌜ RowScanned (now (image .entry)) (now (cells .entry)) (now (lengths .entry)) cursor r
+        (records (now (state .entry)) (now (numbers .entry)) (now (steps .entry)) (now (trace .entry)) (cursor .place))
+        (records (now (state .exit)) (now (numbers .exit)) (now (steps .exit)) (now (trace .exit)) (r .place)) ⌝ }
+{
+    let row = cursor.row;
+    let cell = cursor.cell;
+    let place = cursor.place;
+    let end = behind(cell, lengths[row], cells.len());
+    let next = row + 1;
+    let scanned = scan::scan(image, state, &cells[cell..end]);
+    match scanned {
+        Scanned::Done(n) => {
+            store_number(numbers, row, 0);
+            store_steps(steps, row, n);
+            let added = store_state(trace, place, state);
+            Cursor {
+                row: next,
+                cell: end,
+                place: added,
+            }
+        }
+        Scanned::Refused(number, _, reached) => {
+            store_number(numbers, row, number);
+            store_steps(steps, row, reached);
+            Cursor {
+                row: next,
+                cell: end,
+                place: place,
+            }
+        }
+    }
+}
+
+// The rows that cells and lengths spell, each scanned on the state that the scan before left. The place behind the trace.
+fn scan_rows(
+    image: &[u8],
+    state: &mut [i32],
+    cells: &[i32],
+    lengths: &[usize],
+    at: usize,
+    numbers: &mut [u8],
+    steps: &mut [usize],
+    trace: &mut [i32],
+) -> usize
+    requires { ⌜ at ≤ length (now trace) ⌝ }
+    ensures { λ r. ⌜ records (now (state .exit)) (now (numbers .exit)) (now (steps .exit)) (now (trace .exit)) r
+        ≡ scanRows (now (image .entry)) 0 (rowsOf (now (cells .entry)) (now (lengths .entry)))
+        (records (now (state .entry)) (now (numbers .entry)) (now (steps .entry)) (now (trace .entry)) at) ⌝ }
+{
+    let mut cursor = Cursor {
+        row: 0,
+        cell: 0,
+        place: at,
+    };
+    while cursor.row < lengths.len() {
+        cursor = scan_row(image, state, cells, lengths, cursor, numbers, steps, trace);
+    }
+    cursor.place
+}
+
+// A whole image: start, then the rows.
+fn replay_image(
+    image: &[u8],
+    state: &mut [i32],
+    cells: &[i32],
+    lengths: &[usize],
+    numbers: &mut [u8],
+    steps: &mut [usize],
+    trace: &mut [i32],
+) -> Replayed
+    ensures { λ r. ⌜ ((buffer : List ℕ) → afterReplay r (lent buffer (now (state .exit)) (now (numbers .exit)) (now (steps .exit)) (now (trace .exit)))
+        ≡ replayRows (startOf (now (image .entry)) (now (state .entry))) (length (now (image .entry))) (now (image .entry)) (rowsOf (now (cells .entry)) (now (lengths .entry)))
+        (lent buffer (now (state .entry)) (now (numbers .entry)) (now (steps .entry)) (now (trace .entry)))) ⌝ }
+{
+    let started = scan::start(image, state);
+    match started {
+        Started::Refused(number, place) => Replayed::Refused(number, place),
+        Started::Done => {
+            let at = store_state(trace, 0, state);
+            scan_rows(image, state, cells, lengths, at, numbers, steps, trace);
+            Replayed::Done(image.len())
+        }
+    }
+}
+
+pub fn replay(
+    text: &[u8],
+    image: &mut [u8],
+    state: &mut [i32],
+    cells: &[i32],
+    lengths: &[usize],
+    numbers: &mut [u8],
+    steps: &mut [usize],
+    trace: &mut [i32],
+) -> Replayed
+    ensures { λ r. ⌜ afterReplay r (lent (now (image .exit)) (now (state .exit)) (now (numbers .exit)) (now (steps .exit)) (now (trace .exit)))
+        ≡ replayOf (now (text .entry)) (now (cells .entry)) (now (lengths .entry))
+        (lent (now (image .entry)) (now (state .entry)) (now (numbers .entry)) (now (steps .entry)) (now (trace .entry))) ⌝ }
+    ensures { λ r. ⌜ ShownBy r (now (text .entry)) (now (cells .entry)) (now (lengths .entry))
+        (lent (now (image .entry)) (now (state .entry)) (now (numbers .entry)) (now (steps .entry)) (now (trace .entry)))
+        (lent (now (image .exit)) (now (state .exit)) (now (numbers .exit)) (now (steps .exit)) (now (trace .exit))) ⌝ }
+{
+    let translated = translate::translate(text, image);
+    match translated {
+        Translated::Refused(number, place) => Replayed::Refused(number, place),
+        Translated::Image(n) => replay_image(
+            &image[..n],
+            state,
+            cells,
+            lengths,
+            numbers,
+            steps,
+            trace,
+        ),
+    }
+}
