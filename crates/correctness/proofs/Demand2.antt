@@ -17,6 +17,7 @@ use Rattle.bytecode.proofs.Images.{check-exact, translated-sound}
 use Rattle.grammar.specs.Parse.{programOf}
 use Rattle.grammar.specs.Spelled.{Spelled}
 use Rattle.grammar.proofs.Accepted.{parse-growth, program-parsed, program-translatable}
+use Rattle.grammar.proofs.PlacesText.{program-refused}
 use Rattle.grammar.proofs.ConverseText.{accepted-exactly, one-meaning}
 use Rattle.translate.specs.Services.{AfterTranslation, translated, translationOf}
 use Rattle.correctness.specs.Demand2.{Translates, Declines, faulty, short, Demand2}
@@ -119,6 +120,7 @@ demand-2 = record {
   one-meaning = one-meaning;
   translated-exactly = λ text buffer n. record { only-if = λ a. stored-translates text buffer n (image-stored text buffer n a); whenever = translates-accepted text buffer n };
   refused-exactly = λ text buffer number place. record { only-if = λ a. refusal-declines text buffer number place a .0; whenever = declines-refused text buffer number place };
+  faults = program-refused;
   written = written;
   untouched = λ text buffer number place a. refusal-declines text buffer number place a .1;
   checked-exactly = λ image. record { only-if = check-exact image .accepted-sound; whenever = check-exact image .sound-accepted };

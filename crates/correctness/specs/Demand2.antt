@@ -41,8 +41,10 @@ pub record Demand2 : Type 0 where
   pub one-meaning : (text : List ℕ) (p q : Program) → Spelled text p → Spelled text q → p ≡ q
   -- Translation succeeds exactly if the text is accepted and its image fits the buffer; it answers the image's length.
   pub translated-exactly : (text buffer : List ℕ) (n : ℕ) → (translationOf text buffer .answer ≡ accepted n) exactlyIf Translates text buffer n
-  -- Else it is refused, by the text's first fault or by 10.
+  -- Else it is refused, by the text's first fault or by 10: every text has an image or a refusal.
   pub refused-exactly : (text buffer : List ℕ) (number place : ℕ) → (translationOf text buffer .answer ≡ refused number place) exactlyIf Declines text buffer number place
+  -- A fault has one of the numbers 1 to 9; its place is in the text, or is the text's length.
+  pub faults : (text : List ℕ) (number place : ℕ) → programOf text ≡ refused number place → (1 ≤ number) × (number ≤ 9) × (place ≤ length text)
   -- Success writes only the image's bytes: those of the program that the text spells, and what stood behind them stays.
   pub written : (text buffer : List ℕ) (n : ℕ) → translationOf text buffer .answer ≡ accepted n
       → (p : Program) → Spelled text p → translationOf text buffer .buffer ≡ imageOf p ++ drop (length (imageOf p)) buffer

@@ -9,7 +9,7 @@ ghost use Rattle.limits.specs.Limits.{textLimit};
 ghost use Rattle.grammar.specs.Parse.{program, parse};
 ghost use Rattle.declarations.specs.Post.{Room};
 ghost use Rattle.translate.specs.Services.{translationOf};
-ghost use Rattle.translate.specs.Results.{afterTranslation};
+ghost use Rattle.translate.specs.Results.{afterTranslation, TranslatedWithin};
 ghost use Rattle.translate.specs.Internal.{undeclaredOf, unheadedOf, unruledOf, untranslatedOf, Heads, Descends, Analyses};
 
 const TEXT_LIMIT: usize = 32768;
@@ -126,6 +126,7 @@ fn translate_in(
 ) -> Translated
     requires { ⌜ Room (now starts) (now ends) 0 ⌝ }
     ensures { λ r. ⌜ afterTranslation r (now (image .exit)) ≡ translationOf (now (text .entry)) (now (image .entry)) ⌝ }
+    ensures { λ r. ⌜ TranslatedWithin r ⌝ }
 {
     let analysis = analyse(text, starts, ends);
     let Analysis::Accepted(size, _, _) = analysis else {
@@ -140,6 +141,7 @@ fn translate_in(
 
 pub fn translate(text: &[u8], image: &mut [u8]) -> Translated
     ensures { λ r. ⌜ afterTranslation r (now (image .exit)) ≡ translationOf (now (text .entry)) (now (image .entry)) ⌝ }
+    ensures { λ r. ⌜ TranslatedWithin r ⌝ }
 {
     let mut starts = [0usize; 64];
     let mut ends = [0usize; 64];
