@@ -25,7 +25,7 @@ use Rattle.translate.specs.declared.Analysis.{Analysis}
 use Rattle.translate.specs.declared.Analysis.the-variants as N
 use Rattle.translate.specs.declared.Translated.{Translated}
 use Rattle.translate.specs.declared.Translated.the-variants as T
-use Rattle.translate.specs.Services.{AfterTranslation, stored, translated, translationOf}
+use Rattle.translate.specs.Services.{AfterTranslation, translated, translationOf}
 use Rattle.translate.specs.Results.{translatedAnswer, afterTranslation, TranslatedWithin}
 use Rattle.translate.specs.Internal.{Counts, analysed, measured, measuresOf, Analyses, Descends}
 use Rattle.translate.proofs.Stores.{sets-front}

@@ -1,7 +1,6 @@
 // The translate service: the same descent twice, over an empty buffer to check and measure, then over the lent one.
 use cases::Part;
 use declarations::Declared;
-use expressions::Names;
 ghost use mathlib.Core.Path.{_≡_};
 ghost use Prim.Native.Nat.{_≤_};
 ghost use lib.ListN.{length};
@@ -96,8 +95,8 @@ fn descend(text: &[u8], starts: &mut [usize], ends: &mut [usize], out: &mut [u8]
     let Heading::Until(a, t, inputs, count) = head else {
         return unheaded(head);
     };
-    let known = rules::first(inputs);
-    let read = rules::rules(text, starts, ends, Names { count, known }, a, out, t);
+    let names = expressions::first_names(inputs, count);
+    let read = rules::rules(text, starts, ends, names, a, out, t);
     let Part::Done(_, size, _) = read else {
         return unruled(read);
     };
