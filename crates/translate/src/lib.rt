@@ -1,9 +1,11 @@
-// The translate service: the same descent twice, over an empty buffer to check and measure, then over the lent one.
+// The translate service: one descent that checks the text and makes its image in memory of its own, which is then stored where it fits.
+// A refused text so never touches the lent buffer.
 use cases::Part;
 use declarations::Declared;
 ghost use mathlib.Core.Path.{_≡_};
-ghost use Prim.Native.Nat.{_≤_};
-ghost use lib.ListN.{length};
+ghost use mathlib.Core.List.{_++_};
+ghost use Prim.Native.Nat.{_+_, _*_, _≤_};
+ghost use lib.ListN.{length, drop};
 ghost use Rattle.limits.specs.Limits.{textLimit};
 ghost use Rattle.grammar.specs.Parse.{program, parse};
 ghost use Rattle.declarations.specs.Post.{Room};
@@ -117,32 +119,75 @@ pub fn analyse(text: &[u8], starts: &mut [usize], ends: &mut [usize]) -> Analysi
     descend(text, starts, ends, &mut none)
 }
 
+// `from`, written over the front of `to`.
+fn store(to: &mut [u8], from: &[u8])
+    requires { ⌜ length (now from) ≤ length (now to) ⌝ }
+    ensures { λ _. ⌜ now (to .exit) ≡ now (from .entry) ++ drop (length (now (from .entry))) (now (to .entry)) ⌝ }
+{
+    let mut i = 0;
+    while i < from.len() {
+        to[i] = from[i];
+        i += 1;
+    }
+}
+
+// Over lent scratch memory with room for the image.
 fn translate_in(
     text: &[u8],
     image: &mut [u8],
     starts: &mut [usize],
     ends: &mut [usize],
+    scratch: &mut [u8],
 ) -> Translated
     requires { ⌜ Room (now starts) (now ends) 0 ⌝ }
+    requires { ⌜ (length (now text) ≤ textLimit) × (3 * length (now text) + 4 ≤ 2 * length (now scratch)) ⌝ }
     ensures { λ r. ⌜ afterTranslation r (now (image .exit)) ≡ translationOf (now (text .entry)) (now (image .entry)) ⌝ }
     ensures { λ r. ⌜ TranslatedWithin r ⌝ }
 {
-    let analysis = analyse(text, starts, ends);
+    let analysis = descend(text, starts, ends, scratch);
     let Analysis::Accepted(size, _, _) = analysis else {
         return untranslated(analysis);
     };
     if image.len() < size {
         return Translated::Refused(10, text.len());
     }
-    descend(text, starts, ends, image);
+    store(image, &scratch[..size]);
     Translated::Image(size)
+}
+
+// A text of at most 1,024 bytes, whose image has at most 1,538: clearing the scratch memory would else take longer than the descent.
+fn translate_short(text: &[u8], image: &mut [u8]) -> Translated
+    requires { ⌜ length (now text) ≤ 1024 ⌝ }
+    ensures { λ r. ⌜ afterTranslation r (now (image .exit)) ≡ translationOf (now (text .entry)) (now (image .entry)) ⌝ }
+    ensures { λ r. ⌜ TranslatedWithin r ⌝ }
+{
+    let mut starts = [0usize; 64];
+    let mut ends = [0usize; 64];
+    let mut scratch = [0u8; 1538];
+    translate_in(text, image, &mut starts, &mut ends, &mut scratch)
+}
+
+// No image of a text has over 49,154 bytes.
+fn translate_any(text: &[u8], image: &mut [u8]) -> Translated
+    requires { ⌜ length (now text) ≤ textLimit ⌝ }
+    ensures { λ r. ⌜ afterTranslation r (now (image .exit)) ≡ translationOf (now (text .entry)) (now (image .entry)) ⌝ }
+    ensures { λ r. ⌜ TranslatedWithin r ⌝ }
+{
+    let mut starts = [0usize; 64];
+    let mut ends = [0usize; 64];
+    let mut scratch = [0u8; 49154];
+    translate_in(text, image, &mut starts, &mut ends, &mut scratch)
 }
 
 pub fn translate(text: &[u8], image: &mut [u8]) -> Translated
     ensures { λ r. ⌜ afterTranslation r (now (image .exit)) ≡ translationOf (now (text .entry)) (now (image .entry)) ⌝ }
     ensures { λ r. ⌜ TranslatedWithin r ⌝ }
 {
-    let mut starts = [0usize; 64];
-    let mut ends = [0usize; 64];
-    translate_in(text, image, &mut starts, &mut ends)
+    if TEXT_LIMIT < text.len() {
+        return Translated::Refused(9, 0);
+    }
+    if text.len() <= 1024 {
+        return translate_short(text, image);
+    }
+    translate_any(text, image)
 }
