@@ -1,6 +1,6 @@
 //! The image check against the model's.
 
-use crate::compare::{fence, hex, inside, Options, Table};
+use crate::compare::{deep_image, fence, hex, inside, Options, Table};
 use crate::shrink::{shrink, smaller_bytes};
 use rolvenko_model::generate::{damaged_image, random_bytes, random_image, text, unsound_images, Rng, Shape};
 use rolvenko_model::{check_detail, read_text, write_image, IMAGE_LIMIT};
@@ -91,6 +91,11 @@ pub fn run(options: &Options, table: &mut Table) -> Result<(), String> {
         }
         for _ in 0..200 {
             compare(&damaged_image(&mut rng, &image), table)?;
+        }
+        for _ in 0..10 {
+            let deep = deep_image(&mut rng);
+            compare(&deep, table)?;
+            compare(&damaged_image(&mut rng, &deep), table)?;
         }
         for _ in 0..50 {
             compare(&random_image(&mut rng), table)?;

@@ -1,5 +1,6 @@
-//! Options, the table of answers, and fences around lent memory.
+//! Options, the table of answers, fences around lent memory, and an image that the model's generators lack.
 
+use rolvenko_model::generate::Rng;
 use std::collections::BTreeMap;
 use std::path::PathBuf;
 use std::time::{Duration, Instant};
@@ -108,6 +109,20 @@ impl<T> Fenced<T> {
     pub fn inside(&mut self, length: usize) -> &mut [T] {
         &mut self.0[MARGIN..MARGIN + length]
     }
+}
+
+/// An image of one function that holds 30 to 44 values at once: sound up to 40.
+pub fn deep_image(rng: &mut Rng) -> Vec<u8> {
+    let held = 30 + rng.below(15);
+    let mut image = vec![1, 1, 0, 2, 0, 127, 126, 0];
+    for _ in 0..held {
+        image.extend(*rng.choose(&[[1, 2], [1, 1], [2, 0], [3, 0], [3, 1]]));
+    }
+    for _ in 1..held {
+        image.push(*rng.choose(&[4, 5, 6]));
+    }
+    image.extend([21, 1]);
+    image
 }
 
 /// Bytes as hexadecimal digits.

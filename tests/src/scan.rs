@@ -1,6 +1,6 @@
 //! Start and scan against the model's, on sound, damaged and random images, states and rows of any length and any numbers.
 
-use crate::compare::{fence, hex, inside, Options, Table};
+use crate::compare::{deep_image, fence, hex, inside, Options, Table};
 use crate::shrink::{shrink, smaller_bytes, smaller_numbers};
 use rolvenko_model::generate::{any_number, damaged_image, random_bytes, random_image, row, state, text, unsound_images, Rng, Shape};
 use rolvenko_model::{check_detail, read_text, write_image, Range};
@@ -147,6 +147,8 @@ pub fn run(options: &Options, table: &mut Table) -> Result<(), String> {
             let (found, line) = (any_numbers(&mut rng, 5), any_numbers(&mut rng, 3));
             both(&random_image(&mut rng), &found, &line, table)?;
             both(&random_bytes(&mut rng, 40), &found, &line, table)?;
+            let number = any_number(&mut rng);
+            both(&deep_image(&mut rng), &[1, number % 9], &[1], table)?;
         }
     }
     Ok(())
