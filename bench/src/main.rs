@@ -11,24 +11,26 @@ mod once;
 mod timing;
 
 use input::{inputs, Input};
-use once::{archive, model, Work};
+use once::{archive, model, Memory, Work};
 use std::hint::black_box;
-use timing::times;
+use timing::Least;
 
-/// Seconds of one call, and what a unit of its work is.
-struct Line {
-    service: &'static str,
-    units: usize,
-    archive: f64,
-    model: f64,
-    native: Option<f64>,
+/// A service on an input, with the least time of each who can do it.
+struct Line<'i> {
+    input: &'i Input,
+    work: Work<'i>,
+    rules: native::Scan,
+    memory: Memory,
+    archive: Least,
+    model: Least,
+    native: Option<Least>,
 }
 
 fn main() {
     let words: Vec<String> = std::env::args().skip(1).collect();
     let words: Vec<&str> = words.iter().map(String::as_str).collect();
     match words[..] {
-        [] => tables(15),
+        [] => tables(30),
         ["--rounds", rounds] => tables(rounds.parse().expect("a number of rounds")),
         ["--once", who, service, input, calls] => once::run(who, service, input, calls.parse().expect("a number of calls")),
         _ => {
@@ -43,75 +45,75 @@ fn tables(rounds: u32) {
     let programs: Vec<_> = inputs.iter().map(Input::program).collect();
     let natives = native::compiled(&programs);
     let mut lines = Vec::new();
-    println!("{:<10} {:<14} {:>7} {:>11} {:>11} {:>7} {:>9}", "service", "input", "units", "archive", "model", "ratio", "gcc -O2");
     for service in ["translate", "check", "scan"] {
-        for (input, native) in inputs.iter().zip(&natives) {
-            let line = measured(service, input, *native, rounds);
-            line.print(&input.name);
-            lines.push((input, line));
-        }
+        lines.extend(inputs.iter().zip(&natives).map(|(input, rules)| Line::new(service, input, *rules)));
     }
+    // The rounds of a line are spread over the whole run, so that a busy while of the machine spoils few of them.
+    for _ in 0..rounds {
+        lines.iter_mut().for_each(Line::round);
+    }
+    println!("{:<10} {:<14} {:>7} {:>11} {:>11} {:>7} {:>9}", "service", "input", "units", "archive", "model", "ratio", "gcc -O2");
+    lines.iter().for_each(Line::print);
     growth(&lines);
 }
 
-fn measured(service: &'static str, input: &Input, native: native::Scan, rounds: u32) -> Line {
-    let work = Work::new(service, input);
-    work.agree(native);
-    let (mut a, mut m, mut c) = (work.memory(), work.memory(), work.memory());
-    let mut run_archive = || archive(&work, black_box(&mut a));
-    let mut run_model = || model(&work, black_box(&mut m));
-    let mut run_native = || once::native(&work, native, black_box(&mut c));
-    if service != "scan" {
-        let found = times(rounds, &mut [&mut run_archive, &mut run_model]);
-        return Line::new(service, &work, found[0], found[1], None);
-    }
-    let found = times(rounds, &mut [&mut run_archive, &mut run_model, &mut run_native]);
-    Line::new(service, &work, found[0], found[1], Some(found[2]))
-}
-
-impl Line {
-    fn new(service: &'static str, work: &Work, archive: f64, model: f64, native: Option<f64>) -> Line {
+impl<'i> Line<'i> {
+    fn new(service: &'static str, input: &'i Input, rules: native::Scan) -> Line<'i> {
+        let work = Work::new(service, input);
+        work.agree(rules);
         Line {
-            service,
-            units: work.units(),
-            archive,
-            model,
-            native,
+            input,
+            memory: work.memory(),
+            work,
+            rules,
+            archive: Least::default(),
+            model: Least::default(),
+            native: (service == "scan").then(Least::default),
+        }
+    }
+
+    fn round(&mut self) {
+        let (work, memory) = (&self.work, &mut self.memory);
+        self.archive.round(&mut || archive(work, black_box(memory)));
+        self.model.round(&mut || model(work, black_box(memory)));
+        if let Some(native) = &mut self.native {
+            native.round(&mut || once::native(work, self.rules, black_box(memory)));
         }
     }
 
     /// Nanoseconds a unit: a byte of text, or an instruction of one scan.
-    fn each(&self, time: f64) -> f64 {
-        time * 1e9 / self.units as f64
+    fn each(&self, time: &Least) -> f64 {
+        time.seconds * 1e9 / self.work.units() as f64
     }
 
-    fn show(&self, time: f64) -> String {
-        if self.service == "translate" {
+    fn show(&self, time: &Least) -> String {
+        if self.work.service == "translate" {
             return format!("{:.1} MB/s", 1e3 / self.each(time));
         }
         format!("{:.2} ns", self.each(time))
     }
 
-    fn print(&self, input: &str) {
+    fn print(&self) {
         println!(
-            "{:<10} {input:<14} {:>7} {:>11} {:>11} {:>7.2} {:>9}",
-            self.service,
-            self.units,
-            self.show(self.archive),
-            self.show(self.model),
-            self.model / self.archive,
-            self.native.map_or(String::new(), |time| self.show(time))
+            "{:<10} {:<14} {:>7} {:>11} {:>11} {:>7.2} {:>9}",
+            self.work.service,
+            self.input.name,
+            self.work.units(),
+            self.show(&self.archive),
+            self.show(&self.model),
+            self.model.seconds / self.archive.seconds,
+            self.native.as_ref().map_or(String::new(), |time| self.show(time))
         );
     }
 }
 
 /// Time against size on the generated texts: nanoseconds a unit at each size, and the slope of log time over log size (1: linear).
-fn growth(lines: &[(&Input, Line)]) {
+fn growth(lines: &[Line]) {
     println!("\ngrowth of the archive's time with size, generated texts of 1 to 32 KiB: ns a byte (translate) or instruction, slope of log time");
     for service in ["translate", "check", "scan"] {
-        let of = lines.iter().filter(|(input, line)| input.generated && line.service == service);
-        let points: Vec<(f64, f64)> = of.map(|(_, line)| (line.units as f64, line.archive)).collect();
-        let each: Vec<String> = points.iter().map(|(units, time)| format!("{:>7.2}", time * 1e9 / units)).collect();
+        let of: Vec<&Line> = lines.iter().filter(|line| line.input.generated && line.work.service == service).collect();
+        let points: Vec<(f64, f64)> = of.iter().map(|line| (line.work.units() as f64, line.archive.seconds)).collect();
+        let each: Vec<String> = of.iter().map(|line| format!("{:>7.2}", line.each(&line.archive))).collect();
         println!("{service:<10} {}  slope {:.2}", each.join(" "), slope(&points));
     }
 }

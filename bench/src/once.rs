@@ -9,7 +9,7 @@ const ROOM: usize = 49_154;
 
 /// A service on an input.
 pub struct Work<'i> {
-    service: &'i str,
+    pub service: &'i str,
     input: &'i Input,
 }
 

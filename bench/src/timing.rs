@@ -1,4 +1,4 @@
-//! Functions timed in turn, by the processor time of this thread, so that what else the machine does counts little.
+//! Processor time of this thread, so that what else the machine does counts little.
 
 use std::ffi::c_int;
 
@@ -12,7 +12,7 @@ extern "C" {
     fn clock_gettime(clock: c_int, time: *mut Time) -> c_int;
 }
 
-/// Processor time of this thread, in seconds.
+/// In seconds.
 fn now() -> f64 {
     let mut time = Time {
         seconds: 0,
@@ -23,6 +23,27 @@ fn now() -> f64 {
     time.seconds as f64 + time.nanoseconds as f64 * 1e-9
 }
 
+/// The least time of a call over the rounds so far.
+#[derive(Default)]
+pub struct Least {
+    calls: u32,
+    pub seconds: f64,
+}
+
+impl Least {
+    /// One round of calls, of about 5 ms; the first one finds how many these are.
+    pub fn round(&mut self, run: &mut dyn FnMut()) {
+        if self.calls == 0 {
+            self.calls = 1;
+            while seconds(self.calls, run) < 0.005 {
+                self.calls *= 2;
+            }
+            self.seconds = f64::MAX;
+        }
+        self.seconds = self.seconds.min(seconds(self.calls, run) / f64::from(self.calls));
+    }
+}
+
 /// Seconds that `calls` calls take.
 fn seconds(calls: u32, run: &mut dyn FnMut()) -> f64 {
     let start = now();
@@ -30,26 +51,4 @@ fn seconds(calls: u32, run: &mut dyn FnMut()) -> f64 {
         run();
     }
     now() - start
-}
-
-/// Calls that take about 5 ms.
-fn calls_for(run: &mut dyn FnMut()) -> u32 {
-    let mut calls = 1;
-    while seconds(calls, run) < 0.005 {
-        calls *= 2;
-    }
-    calls
-}
-
-/// Seconds a call of each function: the least of `rounds` rounds, in each of which all are timed in turn.
-pub fn times(rounds: u32, functions: &mut [&mut dyn FnMut()]) -> Vec<f64> {
-    let calls: Vec<u32> = functions.iter_mut().map(|f| calls_for(*f)).collect();
-    let mut best = vec![f64::MAX; functions.len()];
-    for _ in 0..rounds {
-        for (index, function) in functions.iter_mut().enumerate() {
-            let time = seconds(calls[index], *function) / f64::from(calls[index]);
-            best[index] = best[index].min(time);
-        }
-    }
-    best
 }
