@@ -19,6 +19,7 @@ extern "C" {
 /// Compiles one function for each program, in order.
 pub fn compiled(programs: &[Program]) -> Vec<Scan> {
     let folder = Path::new(env!("CARGO_MANIFEST_DIR")).join("target");
+    std::fs::create_dir_all(&folder).expect("a folder for the C source");
     let (source, library) = (folder.join("rules.c"), folder.join("librules.so"));
     let functions: String = programs.iter().enumerate().map(|(index, p)| Writer::default().function(index, p)).collect();
     std::fs::write(&source, format!("#include <stdint.h>\n{functions}")).expect("the C source is written");
