@@ -2,12 +2,11 @@
 use Prim.Native.Nat.{ℕ, zero, suc, _+_, _≤_}
 use native.Mathlib.Omega.{arith}
 use mathlib.Core.Path.{_≡_, refl, sym, ap, ap₂, _∙_, subst}
-use mathlib.Core.Bool.{Bool, true, false, _&&_, cond}
-use mathlib.Core.List.{List, [], _∷_, _++_, map}
-use lib.Dec.{T, eqb, leb, eqb-refl}
+use mathlib.Core.Bool.{Bool, true, false, _&&_}
+use mathlib.Core.List.{List, [], _∷_}
+use lib.Dec.{eqb}
 use lib.IntN.{ℤ}
-use lib.ListN.{length, take, drop, length-map}
-use lib.Seq.{take-append-seam}
+use lib.ListN.{length, length-map}
 use borrow.Author.Tests.{eq-eqb}
 use Rattle.limits.specs.Answer.{Answer, accepted, refused}
 use Rattle.arith.specs.Values.{Outcome, ok, refusal, _>>=_, check}
@@ -27,10 +26,10 @@ use Rattle.machine.specs.Runs.{Ran, run}
 use Rattle.machine.specs.Names.{stateLength, rowLength, startingState, stateInRange, rowInRange}
 use Rattle.machine.proofs.Laws.{run-steps}
 use Rattle.machine.proofs.Translated.{exec, exec-rules, run-exec}
-use Rattle.grammar.specs.Parse.{programOf}
 use Rattle.grammar.proofs.Accepted.{program-translatable}
-use Rattle.translate.specs.Services.{AfterTranslation, stored, translated, translationOf}
+use Rattle.translate.specs.Services.{translationOf}
 use Rattle.scan.specs.Services.{AfterStart, startOf, started, AfterScan, refusedScan, finished, runOf, scanCode, testedScan, scanned, scanOf}
+use Rattle.translate.proofs.Kept.{image-stored, stored-image}
 use Rattle.correctness.specs.TraceCorrect.{scansOf, verdictOf, replyOf, repliesOf, StepsIf, StepsAre, begun, found, TraceCorrect, Demand3}
 
 -- ---- one scan
@@ -148,27 +147,6 @@ module _ (p : Program) (t : Translatable p) where
 
 -- ---- texts
 
-record Stored (text buffer : List ℕ) (n : ℕ) : Type 0 where
-  program : Program
-  parsed : programOf text ≡ accepted program
-  image : take n (translationOf text buffer .buffer) ≡ imageOf program
-
-stored-image : (text image buffer : List ℕ) (n : ℕ) → stored text image buffer .answer ≡ accepted n → take n (stored text image buffer .buffer) ≡ image
-stored-image text image buffer n = go (leb (length image) (length buffer))
-  where
-    go : (b : Bool) → cond {A = AfterTranslation} b (record { answer = accepted (length image); buffer = image ++ drop (length image) buffer }) (record { answer = refused 10 (length text); buffer = buffer }) .answer ≡ accepted n
-        → take n (cond {A = AfterTranslation} b (record { answer = accepted (length image); buffer = image ++ drop (length image) buffer }) (record { answer = refused 10 (length text); buffer = buffer }) .buffer) ≡ image
-    go true e = let q : length image ≡ n = cc in rw (← q) (take-append-seam image (drop (length image) buffer))
-    go false e = let z : _≡_ {A = ℕ} 0 1 = cc in let f : ⊥ = omega arith in absurd f
-
-image-stored : (text buffer : List ℕ) (n : ℕ) → translationOf text buffer .answer ≡ accepted n → Stored text buffer n
-unfolding translationOf
-image-stored text buffer n e = go (programOf text) refl e
-  where
-    go : (a : Answer Program) → programOf text ≡ a → translated a text buffer .answer ≡ accepted n → Stored text buffer n
-    go (accepted p) h q = record { program = p; parsed = h; image = rw h (stored-image text (imageOf p) buffer n q) }
-    go (refused number place) h q = let z : _≡_ {A = ℕ} 0 1 = cc in let f : ⊥ = omega arith in absurd f
-
 -- Demand 3, for every text that translation accepts, every buffer, every state lent to start and every list of rows.
 pub trace-correct : (text buffer : List ℕ) (n : ℕ) → translationOf text buffer .answer ≡ accepted n → (lent : State) (rows : List (List ℤ)) → Demand3 text buffer n lent rows
 trace-correct text buffer n e lent rows =
@@ -176,5 +154,5 @@ trace-correct text buffer n e lent rows =
     record {
       program = x .program;
       parsed = x .parsed;
-      correct = λ l. rw (x .image) (image-correct (x .program) (program-translatable text (x .program) (x .parsed)) lent (l ∙ sym (length-map (x .program .names) (λ n. n .range))) rows);
+      correct = λ l. rw (stored-image text buffer n x) (image-correct (x .program) (program-translatable text (x .program) (x .parsed)) lent (l ∙ sym (length-map (x .program .names) (λ n. n .range))) rows);
     }

@@ -1,2 +1,3 @@
 pub mod TraceCorrect
+pub mod Demand2
 pub mod Examples

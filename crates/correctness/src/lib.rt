@@ -1,1 +1,1 @@
-// Demand 3 and the worked examples. Definitions and laws only.
+// Demands 2 and 3 and the worked examples. Definitions and laws only.

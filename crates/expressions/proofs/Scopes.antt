@@ -66,7 +66,7 @@ known-first (suc k) (suc n) =
 pub shifted : (i : ℕ) → i < 64 → 1 * 2 ^ i % 18446744073709551616 ≡ 2 ^ i
 shifted i h = rw (one-mul (2 ^ i)) (mod-eq-of-lt (pow-lt h))
 
-known-length : (known n : ℕ) → length (knownOf known n) ≡ n
+pub known-length : (known n : ℕ) → length (knownOf known n) ≡ n
 unfolding knownOf
 known-length known zero = refl
 known-length known (suc n) = ap suc (known-length (known / 2) n)
@@ -94,7 +94,7 @@ module _ (text : List ℕ) {starts ends : List ℕ} {names : Names} (d : Declare
 
   -- the id of a name w
   module _ (w : List ℕ) {i : ℕ} (e : idOf (scopeOf text starts ends names .names) w ≡ some i) where
-    id-below : i < names .count
+    pub id-below : i < names .count
     id-below = omega (arith, id-of (namesOf text starts ends (names .count)) w i e, names-length text starts ends (names .count))
 
     pub id-few : i < 64

@@ -3,7 +3,7 @@ ghost use mathlib.Core.Path.{_≡_};
 ghost use Prim.Native.Nat.{_<_, _^_};
 ghost use Rattle.bytecode.specs.Check.{checkOf};
 ghost use Rattle.scan.specs.Services.{startOf, scanOf};
-ghost use Rattle.ffi.specs.Packed.{packed, packedClipped, packedTranslation, packedCheck, packedScan};
+ghost use Rattle.ffi.specs.Packed.{packed, packedTranslation, packedCheck, packedScan};
 ghost use Rattle.translate.specs.Services.{translationOf};
 
 fn pack(number: u8, place: usize, count: u64) -> u64
@@ -13,27 +13,14 @@ fn pack(number: u8, place: usize, count: u64) -> u64
     number as u64 * 72057594037927936 + place as u64 * 16777216 + count
 }
 
-// The same without a bound on place and count: beyond what the parts hold (no text or image is so long) they are 0.
-fn pack_clipped(number: u8, place: usize, count: usize) -> u64
-    ensures { λ r. ⌜ r ≡ packedClipped number place count ⌝ }
-{
-    if 4294967295 < place {
-        return pack(number, 0, 0);
-    }
-    if 16777215 < count {
-        return pack(number, 0, 0);
-    }
-    pack(number, place, count as u64)
-}
-
 #[no_mangle]
 pub extern "C" fn rolvenko_translate(text: &[u8], image: &mut [u8]) -> u64
     ensures { λ r. ⌜ r ≡ packedTranslation (translationOf (now (text .entry)) (now (image .entry)) .answer) ⌝ }
     ensures { λ r. ⌜ now (image .exit) ≡ translationOf (now (text .entry)) (now (image .entry)) .buffer ⌝ }
 {
     match translate::translate(text, image) {
-        translate::Translated::Image(length) => pack_clipped(0, 0, length),
-        translate::Translated::Refused(number, place) => pack_clipped(number, place, 0),
+        translate::Translated::Image(length) => pack(0, 0, length as u64),
+        translate::Translated::Refused(number, place) => pack(number, place, 0),
     }
 }
 

@@ -8,8 +8,9 @@ use lib.Seq.{length-take-le}
 use Rattle.limits.specs.Answer.{accepted, refused}
 use Rattle.semantics.specs.Formula.{State}
 use Rattle.translate.specs.Services.{AfterTranslation, translationOf}
-use Rattle.translate.proofs.Kept.{image-inside, refused-kept}
 use Rattle.scan.specs.Services.{startOf}
+use Rattle.translate.proofs.Kept.{image-inside}
+use Rattle.correctness.proofs.Demand2.{demand-2}
 use Rattle.replay.specs.declared.Replayed.{Replayed}
 use Rattle.replay.specs.declared.Replayed.the-variants as R
 use Rattle.replay.specs.Replay.{rowsOf, replayRows, replayOf}
@@ -20,7 +21,7 @@ module _ (text image left : List ℕ) (cells : List ℤ) (lengths : List ℕ) (s
       → afterReplay (R.Refused number place) (lent left s numbers steps trace) ≡ replayOf text cells lengths (lent image s numbers steps trace)
   unfolding replayOf
   text-refused number place e =
-      let k : left ≡ image = ap {A = AfterTranslation} (λ t. t .buffer) e ∙ refused-kept text image number place (sym (ap {A = AfterTranslation} (λ t. t .answer) e)) in
+      let k : left ≡ image = ap {A = AfterTranslation} (λ t. t .buffer) e ∙ demand-2 .untouched text image number place (sym (ap {A = AfterTranslation} (λ t. t .answer) e)) in
       rw (← e, k)
 
   pub text-replayed : (n : ℕ) (r : Replayed) (s₁ : State) (numbers₁ steps₁ : List ℕ) (trace₁ : List ℤ) → record { answer = accepted n; buffer = left } ≡ translationOf text image

@@ -2,20 +2,20 @@
 use mathlib.Core.Path.{_≡_, refl, ap, sym, _∙_, subst}
 use mathlib.Core.List.{List, [], _∷_, _++_, append-assoc}
 use mathlib.Core.Bool.{Bool, true, false}
-use Prim.Native.Nat.{ℕ, zero, suc, _+_, _-_, _*_, _/_, _%_, _^_, _≤_, _<_}
+use Prim.Native.Nat.{ℕ, zero, suc, _+_, _-_, _*_, _≤_, _<_}
 use native.Mathlib.Omega.{arith}
 use lib.Dec.{eqb}
 use lib.ListN.{length, getD, set, length-append}
 use lib.Seq.{sets}
 use borrow.Author.Tests.{eqb-true, eqb-false}
 use Rattle.limits.specs.Limits.{noToken, notAllowed, wrongRule}
-use Rattle.lexer.specs.Token.{Kind, name, ending, is, Read, token, fault}
+use Rattle.lexer.specs.Token.{Kind, name, ending, is, token, fault}
 use Rattle.lexer.specs.Lexer.{tokenAt}
 use Rattle.lexer.specs.Names.{namesOf, Table}
 use Rattle.lexer.specs.Results.{kindOf}
 use Rattle.lexer.proofs.Laws.{pick-prop}
 use Rattle.semantics.specs.Program.{Rule, function, change, target, allTrue}
-use Rattle.grammar.specs.Parsed.{Parsed, accepted, refused, andThen, onToken}
+use Rattle.grammar.specs.Parsed.{accepted, refused}
 use Rattle.grammar.specs.Expressions.{Scope}
 use Rattle.grammar.specs.Rules.{ruleAt, ruled, rulesFrom}
 use Rattle.grammar.specs.Emitted.{codeR}
@@ -23,16 +23,15 @@ use Rattle.grammar.proofs.Size.{Pays, ruleBytes, rule-pays}
 use Rattle.expressions.specs.declared.Names.{Names}
 use Rattle.expressions.specs.Scopes.{knownOf, scopeOf, Declared}
 use Rattle.expressions.specs.Steps.{Room}
-use Rattle.expressions.proofs.Scopes.{known-bit, few-names}
+use Rattle.expressions.proofs.Scopes.{known-length, few-names, scope-ruled}
 use Rattle.phrases.proofs.Laws.{same-kinds, other-kinds}
 use Rattle.cases.specs.declared.Part.{Part}
-use Rattle.cases.specs.declared.Part.the-variants.{Done, Refused}
+use Rattle.cases.specs.declared.Part.the-variants.{Refused}
 use Rattle.cases.specs.Post.{Writes}
 use Rattle.cases.proofs.Parts.{Got, writes, refuses}
 use Rattle.cases.proofs.Ways.{then-bytes}
 use Rattle.cases.proofs.Listing.{Found}
 use Rattle.rules.specs.Post.{codeOfRule, endOf}
-use Rattle.rules.proofs.Bits.{known-length, known-set, set-below, clear-bit, known-all}
 use Rattle.rules.proofs.Ways.{Fresh, rule-fresh}
 
 -- ---- variables without a rule
@@ -119,19 +118,17 @@ pub record Ruling (text starts ends : List ℕ) (count known₀ at to : ℕ) (ou
   pub counted : length rules ≡ done
   pub same : rulesFrom 65 (scopeOf text starts ends (naming count known₀)) [] at ≡ rulesFrom (65 - done) (scopeOf text starts ends (naming count known)) rules a
   pub fuel : missing (knownOf known count) + done ≤ count
-  pub below : known < 2 ^ count
   pub room : Room text a t
   pub ended : t ≡ to + length (codeR rules)
   pub wrote : out ≡ sets out₀ to (codeR rules)
 
-pub ruling-first : (text starts ends : List ℕ) (count known at to : ℕ) (out : List ℕ) → known < 2 ^ count → Room text at to → Ruling text starts ends count known at to out out known at to 0
+pub ruling-first : (text starts ends : List ℕ) (count known at to : ℕ) (out : List ℕ) → Room text at to → Ruling text starts ends count known at to out out known at to 0
 unfolding codeR
-ruling-first text starts ends count known at to out h r = record {
+ruling-first text starts ends count known at to out r = record {
   rules = [];
   counted = refl;
   same = refl;
   fuel = omega (arith, missing-few (knownOf known count), known-length known count);
-  below = h;
   room = r;
   ended = omega arith;
   wrote = refl;
@@ -161,15 +158,15 @@ module _ {text starts ends : List ℕ} {count known₀ at to : ℕ} {out₀ out 
         (pick-prop (Answer out) (eqb k 1) _ _
         (λ y.
         let j = same-kinds k 1 (eqb-true k 1 y) in
-        pick-prop (Answer out) (eqb known (2 ^ count - 1)) _ _
+        pick-prop (Answer out) (allTrue (knownOf known count)) _ _
         (λ z. writes (record {
           tree = x .rules;
-          is = come ∙ rules-end (64 - done) sc (x .rules) a (f .read) i j (known-all count known (x .below) ∙ z);
+          is = come ∙ rules-end (64 - done) sc (x .rules) a (f .read) i j z;
           ended = x .ended;
           told = sym (x .counted);
           wrote = x .wrote;
         }))
-        (λ z. refuses refl (come ∙ rules-missing (64 - done) sc (x .rules) a (f .read) i j (known-all count known (x .below) ∙ z))))
+        (λ z. refuses refl (come ∙ rules-missing (64 - done) sc (x .rules) a (f .read) i j z)))
         (λ y. refuses refl (come ∙ rules-other (64 - done) sc (x .rules) a (f .read) i (other-kinds k 1 (f .lies .known-kind) (omega arith) (eqb-false k 1 y)))))
 
     pub ruling-room : Room text n t
@@ -185,32 +182,26 @@ module _ {text starts ends : List ℕ} {count known₀ at to : ℕ} {out₀ out 
             let y : Fresh sc (accepted (g .tree) m) = subst (Fresh sc) (g .is) (rule-fresh sc s n) in
             (omega (arith, y .0, g .told, names-counted text starts ends count (d .table)), ap (λ (v : ℕ). getD (knownOf known count) v false) (g .told) ∙ y .1)
 
-        -- the variable is declared, and was not known
-        pub ruling-clear : (id < count) × (eqb (known / 2 ^ id % 2) 1 ≡ false)
-        ruling-clear = (fresh .0, sym (known-bit known count id (fresh .0)) ∙ fresh .1)
-
-        clear : known / 2 ^ id % 2 ≡ 0
-        clear = clear-bit (known / 2 ^ id) (ruling-clear .1)
-
-        ruled-scope : ruled sc (target (g .tree)) ≡ scopeOf text starts ends (naming count (known + 2 ^ id))
-        ruled-scope =
-            rw (← g .told) (ap (λ (l : List Bool). record { text = text; names = namesOf text starts ends count; known = l }) (sym (known-set count known id (fresh .0) clear)))
+        -- the variable is declared
+        pub ruling-declared : id < 64
+        ruling-declared = omega (arith, fresh .0, d .few)
 
         paid : (2 * length (codeOfRule (g .tree)) + 3 * n ≤ 3 * m) × (m ≤ length text)
         paid = subst (Pays ruleBytes (length text) n) (g .is)
             (rule-pays sc (few-names text d) (names-counted text starts ends count (d .table) ∙ sym (known-length known count)) s n (ruling-room .within))
 
-        pub ruling-more : {known′ : ℕ} → known′ ≡ known + 2 ^ id → Ruling text starts ends count known₀ at to out₀ out′ known′ m u (done + 1)
-        ruling-more e = rw e (record {
+        pub ruling-more : (more : Names) → knownOf (more .known) count ≡ set (knownOf known count) id true → Ruling text starts ends count known₀ at to out₀ out′ (more .known) m u (done + 1)
+        ruling-more more ek = record {
           rules = x .rules ++ (g .tree ∷ []);
           counted = length-append (x .rules) (g .tree ∷ []) ∙ ap (λ (y : ℕ). y + 1) (x .counted);
           same = come ∙ (rules-more (64 - done) sc (x .rules) a (f .read) i (g .is) ∙ turned);
-          fuel = omega (arith, x .fuel, missing-set (knownOf known count) id (omega (arith, fresh .0, known-length known count)) (fresh .1), ap missing (known-set count known id (fresh .0) clear));
-          below = set-below count known id (fresh .0) (x .below) clear;
+          fuel = omega (arith, x .fuel, missing-set (knownOf known count) id (omega (arith, fresh .0, known-length known count)) (fresh .1), ap missing ek);
           room = record { short = x .room .short; within = paid .1; room = omega (arith, g .ended, paid .0, ruling-room .room) };
           ended = rw (code-append (x .rules) (g .tree)) (simp length-append (omega (arith, g .ended, x .ended)));
           wrote = rw (code-append (x .rules) (g .tree)) (then-bytes out₀ to (codeR (x .rules)) (codeOfRule (g .tree)) (x .ended) (x .wrote) (g .wrote));
-        })
+        }
           where
-            turned : rulesFrom (64 - done) (ruled sc (target (g .tree))) (x .rules ++ (g .tree ∷ [])) m ≡ rulesFrom (65 - (done + 1)) (scopeOf text starts ends (naming count (known + 2 ^ id))) (x .rules ++ (g .tree ∷ [])) m
-            turned = let q : 64 - done ≡ 65 - (done + 1) = omega arith in rw (ruled-scope, q)
+            turned : rulesFrom (64 - done) (ruled sc (target (g .tree))) (x .rules ++ (g .tree ∷ [])) m ≡ rulesFrom (65 - (done + 1)) (scopeOf text starts ends (naming count (more .known))) (x .rules ++ (g .tree ∷ [])) m
+            turned =
+                let q : 64 - done ≡ 65 - (done + 1) = omega arith in
+                rw (← g .told, q) (ap (λ (y : Scope). rulesFrom (65 - (done + 1)) y (x .rules ++ (g .tree ∷ [])) m) (sym (scope-ruled text starts ends (naming count known) (naming count (more .known)) id refl ek)))

@@ -6,21 +6,18 @@ use lexer::Found;
 use lexer::Token;
 use phrases::Expected;
 ghost use mathlib.Core.Path.{_≡_};
-ghost use mathlib.Core.Bool.{false};
 ghost use mathlib.Core.List.{[]};
-ghost use Prim.Native.Nat.{_+_, _-_, _/_, _%_, _^_, _≤_, _<_};
-ghost use lib.Dec.{eqb};
-ghost use lib.ListN.{length, getD};
-ghost use Rattle.limits.specs.Limits.{caseLimit, nameLimit};
+ghost use Prim.Native.Nat.{_≤_, _<_};
+ghost use lib.ListN.{length};
+ghost use Rattle.limits.specs.Limits.{nameLimit};
 ghost use Rattle.lexer.specs.Bytes.{part};
-ghost use Rattle.lexer.specs.Results.{kindOf};
 ghost use Rattle.grammar.specs.Rules.{functionAt, changeAt, formulas as formulasAt, ruleAt, rulesFrom};
 ghost use Rattle.grammar.specs.Emitted.{codeR};
 ghost use Rattle.semantics.specs.Program.{target};
 ghost use Rattle.expressions.specs.Scopes.{scopeOf, Declared};
 ghost use Rattle.expressions.specs.Steps.{Room};
 ghost use Rattle.cases.specs.Post.{Writes};
-ghost use Rattle.rules.specs.Post.{codeOfRule, SpanRoom, Below, endOf};
+ghost use Rattle.rules.specs.Post.{codeOfRule, SpanRoom, endOf};
 
 const LET: u8 = 21;
 
@@ -132,14 +129,6 @@ fn formulas(
     function(text, starts, ends, names, w, a, out, to)
 }
 
-// Whether the current value of the name with this id may be used: it is an input, or its rule stands earlier.
-fn is_known(known: u64, id: usize) -> bool
-    requires { ⌜ id < nameLimit ⌝ }
-    ensures { λ r. ⌜ r ≡ eqb (known / 2 ^ id % 2) 1 ⌝ }
-{
-    (known >> (id as u64)) % 2 == 1
-}
-
 // The rule whose name stands from `start` to `end`. The number told is the variable's id.
 fn rule(
     text: &[u8],
@@ -165,7 +154,7 @@ fn rule(
     let Found::At(id) = found else {
         return Part::Refused(4, start);
     };
-    if is_known(names.known, id) {
+    if expressions::is_known(names, id) {
         return Part::Refused(6, start);
     }
     formulas(
@@ -182,26 +171,6 @@ fn rule(
     )
 }
 
-// The lowest n bits: the names of ids below n.
-pub fn first(n: usize) -> u64
-    requires { ⌜ n ≤ nameLimit ⌝ }
-    ensures { λ r. ⌜ r ≡ 2 ^ n - 1 ⌝ }
-{
-    if n == 64 {
-        return 18446744073709551615;
-    }
-    (1 << (n as u64)) - 1
-}
-
-// A name more.
-fn with(known: u64, id: usize, count: usize) -> u64
-    requires { ⌜ (id < count) × (count ≤ nameLimit) ⌝ }
-    requires { ⌜ (known < 2 ^ count) × (eqb (known / 2 ^ id % 2) 1 ≡ false) ⌝ }
-    ensures { λ r. ⌜ r ≡ known + 2 ^ id ⌝ }
-{
-    known + (1 << (id as u64))
-}
-
 // No rule follows: at the end of the text every variable has one.
 fn finish(kind: u8, start: usize, end: usize, names: Names, t: usize, done: usize) -> Part
     requires { ⌜ names .count ≤ nameLimit ⌝ }
@@ -210,7 +179,7 @@ fn finish(kind: u8, start: usize, end: usize, names: Names, t: usize, done: usiz
     if kind != lexer::END {
         return Part::Refused(2, start);
     }
-    if names.known == first(names.count) {
+    if expressions::all_known(names) {
         return Part::Done(end, t, done);
     }
     Part::Refused(6, start)
@@ -230,7 +199,6 @@ fn rules_in(
 ) -> Part
     requires { ⌜ Declared (now starts) (now ends) names ⌝ }
     requires { ⌜ Room (now text) at to ⌝ }
-    requires { ⌜ Below names ⌝ }
     requires { ⌜ SpanRoom (now from) (now upto) ⌝ }
     ensures { λ r. ⌜ Writes codeR length (rulesFrom 65 (scopeOf (now (text .entry)) (now (starts .entry)) (now (ends .entry)) names) [] at) to (now (out .entry)) (now (out .exit)) r ⌝ }
 {
@@ -262,7 +230,8 @@ fn rules_in(
         let Part::Done(b, u, id) = one else {
             return one;
         };
-        known = with(known, id, count);
+        let more = expressions::ruled(Names { count, known }, id);
+        known = more.known;
         done += 1;
         a = b;
         t = u;
@@ -280,7 +249,6 @@ pub fn rules(
 ) -> Part
     requires { ⌜ Declared (now starts) (now ends) names ⌝ }
     requires { ⌜ Room (now text) at to ⌝ }
-    requires { ⌜ Below names ⌝ }
     ensures { λ r. ⌜ Writes codeR length (rulesFrom 65 (scopeOf (now (text .entry)) (now (starts .entry)) (now (ends .entry)) names) [] at) to (now (out .entry)) (now (out .exit)) r ⌝ }
 {
     let mut from = [0usize; 32];

@@ -1,7 +1,7 @@
 -- The ways through a whole text, once its declarations are read: the rules, then the two counts. Assumes nothing.
 use mathlib.Core.Path.{_≡_, refl, sym, ap, subst, _∙_}
 use mathlib.Core.List.{List, [], _∷_, _++_, append-assoc}
-use Prim.Native.Nat.{ℕ, suc, _+_, _-_, _*_, _^_, _≤_, _<_}
+use Prim.Native.Nat.{ℕ, suc, _+_, _-_, _*_, _≤_, _<_}
 use native.Mathlib.Omega.{arith}
 use lib.ListN.{length, set, length-append}
 use lib.Seq.{sets}
@@ -22,7 +22,6 @@ use Rattle.declarations.specs.Post.{Holds}
 use Rattle.declarations.proofs.Steps.{after, refused-then}
 use Rattle.expressions.specs.declared.Names.{Names}
 use Rattle.expressions.specs.Scopes.{knownOf, scopeOf}
-use Rattle.expressions.proofs.Scopes.{known-first}
 use Rattle.cases.specs.declared.Part.{Part}
 use Rattle.cases.specs.declared.Part.the-variants as P
 use Rattle.cases.specs.Results.{partOf}
@@ -91,10 +90,10 @@ heading-few text short d n e = first (declarations inputWord text [] 0) refl e
 
 -- ---- the rules
 
--- the scope of the rules at their start
-pub scope-is : (text starts ends : List ℕ) (d : Declarations) (c m known : ℕ) → Holds text starts ends m (d .names) → c ≡ d .inputs → m ≡ length (d .names) → known ≡ 2 ^ c - 1
-    → scopeOf text starts ends (record { count = m; known = known }) ≡ scopeAfter text d
-scope-is text starts ends d c m known h ec em ek = rw (h .spelled, ek, known-first, ec, em)
+-- the scope of the rules at their start: all the names, and the inputs among them known
+pub scope-is : (text starts ends : List ℕ) (d : Declarations) (c m : ℕ) (names : Names) → Holds text starts ends m (d .names) → c ≡ d .inputs → m ≡ length (d .names)
+    → (names .count ≡ m) × (knownOf (names .known) m ≡ knownFirst c m) → scopeOf text starts ends names ≡ scopeAfter text d
+scope-is text starts ends d c m names h ec em en = rw (en .0, h .spelled, en .1, ec, em)
 
 module _ (p : Parsed (List Rule)) (t : ℕ) (mid last : List ℕ) {q : Part} (w : Writes codeR length p t mid last q) where
   pub rules-refused : {k x : ℕ} → q ≡ P.Refused k x → p ≡ refused k x

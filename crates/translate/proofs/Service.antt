@@ -8,21 +8,25 @@ use lib.Dec.{leb}
 use lib.ListN.{length, drop}
 use lib.Seq.{sets}
 use borrow.Author.Tests.{lt-ltb, le-ltb, le-leb, lt-leb}
-use Rattle.limits.specs.Limits.{textLimit}
+use Rattle.limits.specs.Limits.{textLimit, imageLimit}
 use Rattle.limits.specs.Answer.{Answer}
 use Rattle.limits.specs.Answer as A
 use Rattle.semantics.specs.Program.{Program}
 use Rattle.bytecode.specs.Translation.{imageOf}
 use Rattle.grammar.specs.Parsed.{Parsed, accepted, refused}
 use Rattle.grammar.specs.Emitted.{image}
-use Rattle.grammar.specs.Parse.{program, parse, programOf}
+use Rattle.grammar.specs.Parse.{program, parse, answerOf, programOf}
 use Rattle.grammar.proofs.Image.{image-emitted}
+use Rattle.grammar.proofs.Accepted.{parse-translatable, parse-short as accepted-short}
+use Rattle.grammar.proofs.Places.{Within}
+use Rattle.grammar.proofs.PlacesText.{parse-limited}
 use Rattle.declarations.specs.Post.{Holds}
 use Rattle.translate.specs.declared.Analysis.{Analysis}
 use Rattle.translate.specs.declared.Analysis.the-variants as N
+use Rattle.translate.specs.declared.Translated.{Translated}
 use Rattle.translate.specs.declared.Translated.the-variants as T
-use Rattle.translate.specs.Services.{translationOf}
-use Rattle.translate.specs.Results.{afterTranslation}
+use Rattle.translate.specs.Services.{AfterTranslation, translated, translationOf}
+use Rattle.translate.specs.Results.{translatedAnswer, afterTranslation, TranslatedWithin}
 use Rattle.translate.specs.Internal.{Counts, analysed, measured, measuresOf, Analyses, Descends}
 use Rattle.translate.proofs.Stores.{sets-front}
 use Rattle.translate.proofs.Ways.{never}
@@ -80,3 +84,29 @@ module _ (text buffer : List ℕ) where
     pub translation-stored : (left : List ℕ) → length (image q) ≤ length buffer → left ≡ sets buffer 0 (image q) → afterTranslation (T.Image (length (image q))) left ≡ translationOf text buffer
     unfolding translationOf programOf
     translation-stored left h w = rw (e, ← image-emitted, le-leb (length (image q)) (length buffer) h, w, sets-front buffer (image q) h)
+
+-- ---- how large the numbers of an answer are
+
+abbrev Small : Answer ℕ → Type 0
+Small (A.accepted n) = n ≤ imageLimit
+Small (A.refused number place) = place ≤ textLimit
+
+translation-small : (text buffer : List ℕ) → Small (translationOf text buffer .answer)
+unfolding translationOf programOf
+translation-small text buffer = go (parse text) refl (parse-limited text)
+  where
+    room : (p : Program) → length (imageOf p) ≤ imageLimit → length text ≤ textLimit → (b : Bool)
+        → Small (cond {A = AfterTranslation} b (record { answer = A.accepted (length (imageOf p)); buffer = imageOf p ++ drop (length (imageOf p)) buffer }) (record { answer = A.refused 10 (length text); buffer = buffer }) .answer)
+    room p h l true = h
+    room p h l false = l
+
+    go : (r : Parsed Program) → parse text ≡ r → Within textLimit r → Small (translated (answerOf r) text buffer .answer)
+    go (accepted p n) e h = room p (parse-translatable text p n e .short) (accepted-short text p n e) (leb (length (imageOf p)) (length buffer))
+    go (refused k q) e h = h .2
+
+pub translation-within : (text buffer : List ℕ) (r : Translated) (left : List ℕ) → afterTranslation r left ≡ translationOf text buffer → TranslatedWithin r
+translation-within text buffer r left e = go r (subst Small (sym (ap {A = AfterTranslation} (λ x. x .answer) e)) (translation-small text buffer))
+  where
+    go : (r : Translated) → Small (translatedAnswer r) → TranslatedWithin r
+    go (T.Image n) h = h
+    go (T.Refused number place) h = h

@@ -1,7 +1,6 @@
 // The translate service: the same descent twice, over an empty buffer to check and measure, then over the lent one.
 use cases::Part;
 use declarations::Declared;
-use expressions::Names;
 ghost use mathlib.Core.Path.{_≡_};
 ghost use Prim.Native.Nat.{_≤_};
 ghost use lib.ListN.{length};
@@ -9,7 +8,7 @@ ghost use Rattle.limits.specs.Limits.{textLimit};
 ghost use Rattle.grammar.specs.Parse.{program, parse};
 ghost use Rattle.declarations.specs.Post.{Room};
 ghost use Rattle.translate.specs.Services.{translationOf};
-ghost use Rattle.translate.specs.Results.{afterTranslation};
+ghost use Rattle.translate.specs.Results.{afterTranslation, TranslatedWithin};
 ghost use Rattle.translate.specs.Internal.{undeclaredOf, unheadedOf, unruledOf, untranslatedOf, Heads, Descends, Analyses};
 
 const TEXT_LIMIT: usize = 32768;
@@ -96,8 +95,8 @@ fn descend(text: &[u8], starts: &mut [usize], ends: &mut [usize], out: &mut [u8]
     let Heading::Until(a, t, inputs, count) = head else {
         return unheaded(head);
     };
-    let known = rules::first(inputs);
-    let read = rules::rules(text, starts, ends, Names { count, known }, a, out, t);
+    let names = expressions::first_names(inputs, count);
+    let read = rules::rules(text, starts, ends, names, a, out, t);
     let Part::Done(_, size, _) = read else {
         return unruled(read);
     };
@@ -126,6 +125,7 @@ fn translate_in(
 ) -> Translated
     requires { ⌜ Room (now starts) (now ends) 0 ⌝ }
     ensures { λ r. ⌜ afterTranslation r (now (image .exit)) ≡ translationOf (now (text .entry)) (now (image .entry)) ⌝ }
+    ensures { λ r. ⌜ TranslatedWithin r ⌝ }
 {
     let analysis = analyse(text, starts, ends);
     let Analysis::Accepted(size, _, _) = analysis else {
@@ -140,6 +140,7 @@ fn translate_in(
 
 pub fn translate(text: &[u8], image: &mut [u8]) -> Translated
     ensures { λ r. ⌜ afterTranslation r (now (image .exit)) ≡ translationOf (now (text .entry)) (now (image .entry)) ⌝ }
+    ensures { λ r. ⌜ TranslatedWithin r ⌝ }
 {
     let mut starts = [0usize; 64];
     let mut ends = [0usize; 64];

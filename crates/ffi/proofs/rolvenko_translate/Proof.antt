@@ -1,18 +1,15 @@
--- `ffi::rolvenko_translate` meets its contract. Assumes nothing.
-use mathlib.Core.Path.{_≡_, sym, ap, _∙_}
+-- `ffi::rolvenko_translate` meets its contract: places are at most the text's limit, lengths the image's, so they fit. Assumes nothing.
+use mathlib.Core.Path.{_≡_, sym, ap, subst, _∙_}
 use mathlib.Core.List.{List}
 use Prim.Native.Nat.{ℕ}
+use native.Mathlib.Omega.{arith}
 use borrow.Author.Needs.{needs}
 use Rattle.translate.specs.declared.Translated.{Translated}
 use Rattle.translate.specs.Services.{AfterTranslation}
-use Rattle.translate.specs.Results.{afterTranslation}
+use Rattle.translate.specs.Results.{afterTranslation, TranslatedWithin}
 use Rattle.ffi.specs.Packed.{packedTranslation}
 use Rattle.ffi.proofs.rolvenko_translate.Statement.{statement}
 use Rattle.ffi.proofs.rolvenko_translate.Tie as tie
-use Rattle.ffi.proofs.rolvenko_translate.Reads as reads
-use Rattle.ffi.proofs.rolvenko_translate.Lts as lts
-use Rattle.ffi.proofs.pack_clipped.Reads as pack-clipped-reads
-use Rattle.translate.proofs.translate.Reads as translate-reads
 
 translate-requires : tie.Need-translate-requires
 translate-requires c κs = search needs
@@ -20,14 +17,18 @@ translate-requires c κs = search needs
 enum-known-length : tie.Need-enum-known-length
 enum-known-length c = search needs
 
-pack-clipped-requires : tie.Need-pack-clipped-requires
-pack-clipped-requires c κs = search needs
+pack-requires : tie.Need-pack-requires
+pack-requires c κs =
+    let l = subst TranslatedWithin (c .before .length .given .1) (c .before .before .before .before .before .translate .ensures .1) in
+    (omega arith, omega (arith, l))
 
 enum-known-number : tie.Need-enum-known-number
 enum-known-number c = search needs
 
-pack-clipped-requires-2 : tie.Need-pack-clipped-requires-2
-pack-clipped-requires-2 c κs = search needs
+pack-requires-2 : tie.Need-pack-requires-2
+pack-requires-2 c κs =
+    let l = subst TranslatedWithin (c .before .number .given .1) (c .before .before .before .before .before .translate .ensures .1) in
+    (omega (arith, l), omega arith)
 
 same-length : tie.Need-same-length
 same-length c = search needs
@@ -38,16 +39,16 @@ answered {left = left} e h = ap (λ (x : Translated). packedTranslation (afterTr
 
 returns : tie.Need-returns
 returns c =
-    let e = c .before .before .before .before .before .before .translate .ensures in
-    (c .pack-clipped .ensures ∙ answered (c .before .before .length .given .1) e, ap {A = AfterTranslation} (λ x. x .buffer) e)
+    let e = c .before .before .before .before .before .before .translate .ensures .0 in
+    (c .pack .ensures ∙ answered (c .before .before .length .given .1) e, ap {A = AfterTranslation} (λ x. x .buffer) e)
 
 same-length-2 : tie.Need-same-length-2
 same-length-2 c = search needs
 
 returns-2 : tie.Need-returns-2
 returns-2 c =
-    let e = c .before .before .before .before .before .before .translate .ensures in
-    (c .pack-clipped2 .ensures ∙ answered (c .before .before .number .given .1) e, ap {A = AfterTranslation} (λ x. x .buffer) e)
+    let e = c .before .before .before .before .before .before .translate .ensures .0 in
+    (c .pack2 .ensures ∙ answered (c .before .before .number .given .1) e, ap {A = AfterTranslation} (λ x. x .buffer) e)
 
 pub rolvenko-translate-spec : {M : Type 1} → statement M
 rolvenko-translate-spec =
@@ -55,9 +56,9 @@ rolvenko-translate-spec =
     (tie.spec
     translate-requires
     enum-known-length
-    pack-clipped-requires
+    pack-requires
     enum-known-number
-    pack-clipped-requires-2
+    pack-requires-2
     same-length
     returns
     same-length-2

@@ -20,10 +20,10 @@ enum-known-translated-2 : tie.Need-enum-known-translated-2
 enum-known-translated-2 c = search needs
 
 slice-reshare-prefix-replay-image : tie.Need-slice-reshare-prefix-replay-image
-slice-reshare-prefix-replay-image c = image-inside _ _ _ _ (ap (λ (r : Translated). afterTranslation r (c .before .before .before .before .before .translate .last .1 .0)) (sym (c .before .translated2 .given .1)) ∙ c .before .before .before .before .before .translate .ensures)
+slice-reshare-prefix-replay-image c = image-inside _ _ _ _ (ap (λ (r : Translated). afterTranslation r (c .before .before .before .before .before .translate .last .1 .0)) (sym (c .before .translated2 .given .1)) ∙ c .before .before .before .before .before .translate .ensures .0)
 
 slice-aggregate-replay-image : tie.Need-slice-aggregate-replay-image
-slice-aggregate-replay-image c = sym (length-take-le _ _ (image-inside _ _ _ _ (ap (λ (r : Translated). afterTranslation r (c .before .before .before .before .before .before .translate .last .1 .0)) (sym (c .before .before .translated2 .given .1)) ∙ c .before .before .before .before .before .before .translate .ensures)))
+slice-aggregate-replay-image c = sym (length-take-le _ _ (image-inside _ _ _ _ (ap (λ (r : Translated). afterTranslation r (c .before .before .before .before .before .before .translate .last .1 .0)) (sym (c .before .before .translated2 .given .1)) ∙ c .before .before .before .before .before .before .translate .ensures .0)))
 
 replay-image-requires : tie.Need-replay-image-requires
 replay-image-requires c κs = search needs
@@ -34,7 +34,7 @@ same-length c = search needs
 returns : tie.Need-returns
 returns c =
     let a = c .before .before .before .before .before .before .before .before .before .before .before .before .args in
-    (text-refused _ _ _ (a .cells .now) (a .lengths .now) _ _ _ _ _ _ (ap (λ (r : Translated). afterTranslation r (c .before .before .before .before .before .translate .last .1 .0)) (sym (c .before .translated .given .1)) ∙ c .before .before .before .before .before .translate .ensures), tt)
+    (text-refused _ _ _ (a .cells .now) (a .lengths .now) _ _ _ _ _ _ (ap (λ (r : Translated). afterTranslation r (c .before .before .before .before .before .translate .last .1 .0)) (sym (c .before .translated .given .1)) ∙ c .before .before .before .before .before .translate .ensures .0), tt)
 
 same-length-2 : tie.Need-same-length-2
 same-length-2 c = search needs
@@ -57,7 +57,7 @@ returns-2 c =
     let r = c .before .before .before .before .before .before .replay-image in
     let image = c .before .before .before .before .before .before .before .before .before .before .before .before .before .before .before .before .before .translate .last .1 .0 in
     let replayed = text-replayed _ _ image (a .cells .now) (a .lengths .now) (a .state .now) (a .numbers .now) (a .steps .now) (a .trace .now) _ (r .result) _ _ _ _
-    (ap (λ (r : Translated). afterTranslation r (c .before .before .before .before .before .before .before .before .before .before .before .before .before .before .before .before .before .translate .last .1 .0)) (sym (c .before .before .before .before .before .before .before .before .before .before .before .before .before .translated2 .given .1)) ∙ c .before .before .before .before .before .before .before .before .before .before .before .before .before .before .before .before .before .translate .ensures) (r .ensures image) in
+    (ap (λ (r : Translated). afterTranslation r (c .before .before .before .before .before .before .before .before .before .before .before .before .before .before .before .before .before .translate .last .1 .0)) (sym (c .before .before .before .before .before .before .before .before .before .before .before .before .before .translated2 .given .1)) ∙ c .before .before .before .before .before .before .before .before .before .before .before .before .before .before .before .before .before .translate .ensures .0) (r .ensures image) in
     (replayed, replay-shown _ _ _ _ (r .result) _ replayed)
 
 pub replay-spec : {M : Type 1} → statement M

@@ -1,6 +1,6 @@
 use mathlib.Core.Path.{_≡_, refl, sym, ap, _∙_}
 use Rattle.lexer.specs.Results.{foundId}
-use Rattle.expressions.proofs.Scopes.{id-few, bit-known}
+use Rattle.expressions.proofs.Scopes.{id-below, id-few}
 use Rattle.cases.proofs.Parts.{refuses, reads-as}
 use Rattle.rules.proofs.Ways.{rule-long, rule-unknown, rule-second, rule-formulas}
 use borrow.Author.Needs.{needs}
@@ -11,7 +11,6 @@ use Rattle.rules.proofs.rule.Lts as lts
 use Rattle.lexer.proofs.find.Reads as find-reads
 use Rattle.lexer.proofs.is_over_long.Reads as is-over-long-reads
 use Rattle.rules.proofs.formulas.Reads as formulas-reads
-use Rattle.rules.proofs.is_known.Reads as is-known-reads
 
 is-over-long-requires : tie.Need-is-over-long-requires
 is-over-long-requires c κs = search needs
@@ -34,12 +33,12 @@ returns-2 c = refuses refl (rule-unknown _ _ _ (sym (c .before .before .before .
 is-known-requires : tie.Need-is-known-requires
 is-known-requires c κs =
     let e = sym (c .before .before .before .find .ensures) ∙ ap foundId (c .before .found .given .1) in
-    id-few _ (c .before .before .before .before .before .before .before .before .before .before .before .before .pre .0) _ e
+    (id-below _ (c .before .before .before .before .before .before .before .before .before .before .before .before .pre .0) _ e, c .before .before .before .before .before .before .before .before .before .before .before .before .pre .0 .few)
 
 returns-3 : tie.Need-returns-3
 returns-3 c =
     let e = sym (c .before .before .before .before .before .find .ensures) ∙ ap foundId (c .before .before .before .found .given .1) in
-    refuses refl (rule-second _ _ _ (sym (c .before .before .before .before .before .before .before .is-over-long .ensures) ∙ c .before .before .before .before .before .before .if1 .left) e (bit-known _ (c .before .before .before .before .before .before .before .before .before .before .before .before .before .before .pre .0) _ e (c .before .is-known .ensures) ∙ c .if2 .taken))
+    refuses refl (rule-second _ _ _ (sym (c .before .before .before .before .before .before .before .is-over-long .ensures) ∙ c .before .before .before .before .before .before .if1 .left) e (sym (c .before .is-known .ensures) ∙ c .if2 .taken))
 
 formulas-requires : tie.Need-formulas-requires
 formulas-requires c κs =
@@ -58,7 +57,7 @@ same-length-3 c = search needs
 returns-4 : tie.Need-returns-4
 returns-4 c =
     let e = sym (c .before .before .before .before .before .before .before .before .before .before .before .before .before .before .before .find .ensures) ∙ ap foundId (c .before .before .before .before .before .before .before .before .before .before .before .before .before .found .given .1) in
-    reads-as (rule-formulas _ _ _ (sym (c .before .before .before .before .before .before .before .before .before .before .before .before .before .before .before .before .before .is-over-long .ensures) ∙ c .before .before .before .before .before .before .before .before .before .before .before .before .before .before .before .before .if1 .left) e (bit-known _ (c .before .before .before .before .before .before .before .before .before .before .before .before .before .before .before .before .before .before .before .before .before .before .before .before .pre .0) _ e (c .before .before .before .before .before .before .before .before .before .before .before .is-known .ensures) ∙ c .before .before .before .before .before .before .before .before .before .before .if2 .left)) (c .before .before .before .before .before .before .formulas .ensures)
+    reads-as (rule-formulas _ _ _ (sym (c .before .before .before .before .before .before .before .before .before .before .before .before .before .before .before .before .before .is-over-long .ensures) ∙ c .before .before .before .before .before .before .before .before .before .before .before .before .before .before .before .before .if1 .left) e (sym (c .before .before .before .before .before .before .before .before .before .before .before .is-known .ensures) ∙ c .before .before .before .before .before .before .before .before .before .before .if2 .left)) (c .before .before .before .before .before .before .formulas .ensures)
 
 pub rule-spec : {M : Type 1} → statement M
 rule-spec =

@@ -9,7 +9,7 @@ use Rattle.phrases.proofs.Laws.{same-kinds, other-kinds}
 use Rattle.cases.proofs.Parts.{got, refused-part}
 use Rattle.cases.proofs.Listing.{found-token}
 use Rattle.rules.specs.Post.{SpanRoom}
-use Rattle.rules.proofs.Ruling.{declared-as, Ruling, ruling-first, ruling-fuel, ruling-fault, ruling-end, ruling-room, ruling-refused, ruling-clear, ruling-more}
+use Rattle.rules.proofs.Ruling.{declared-as, Ruling, ruling-first, ruling-fuel, ruling-fault, ruling-end, ruling-room, ruling-refused, ruling-declared, ruling-more}
 use Rattle.rules.proofs.rules_in.Statement.{statement}
 use Rattle.rules.proofs.rules_in.Tie as tie
 use Rattle.rules.proofs.rules_in.Reads as reads
@@ -19,7 +19,6 @@ use Rattle.lexer.proofs.token_at.Reads as token-at-reads
 use Rattle.phrases.proofs.fault.Reads as fault-reads
 use Rattle.rules.proofs.finish.Reads as finish-reads
 use Rattle.rules.proofs.rule.Reads as rule-reads
-use Rattle.rules.proofs.with.Reads as with-reads
 
 abbrev Inv-loop : tie.InvT-loop
 Inv-loop text starts ends from₀ upto₀ at out₀ to count known₀ a₀ t₀ done₀ from upto out known a t done =
@@ -30,7 +29,7 @@ abbrev μ-loop : tie.MeasureT-loop
 μ-loop text starts ends from₀ upto₀ at out₀ to count known₀ a₀ t₀ done₀ from upto out known a t done = 65 - done
 
 loop-holds : tie.Need-loop-holds Inv-loop μ-loop
-loop-holds c = (ruling-first _ _ _ _ _ _ _ _ (c .before .before .before .before .before .before .pre .1 .1 .0 .below) (c .before .before .before .before .before .before .pre .1 .0), refl, refl, refl)
+loop-holds c = (ruling-first _ _ _ _ _ _ _ _ (c .before .before .before .before .before .before .pre .1 .0), refl, refl, refl)
 
 token-at-requires : tie.Need-token-at-requires Inv-loop μ-loop
 token-at-requires c κs = search needs
@@ -84,7 +83,7 @@ rule-requires : tie.Need-rule-requires Inv-loop μ-loop
 rule-requires c κs =
     let d = declared-as (c .before .before .before .before .before .before .before .before .before .before .before .before .before .before .before .pre .0) (c .before .before .before .before .before .before .before .before .loop .known) in
     let f = found-token _ _ (c .before .before .before .before .before .before .before .token-at .ensures) (c .before .before .before .before .before .read .given .1) in
-    (d, (ruling-room (c .before .before .before .before .before .before .before .before .loop .inv .0) d f, record { in-from = omega (arith, c .before .before .before .before .before .before .before .before .loop .inv .1, c .before .before .before .before .before .before .before .before .before .before .before .before .before .before .before .pre .1 .1 .1 .in-from); in-upto = omega (arith, c .before .before .before .before .before .before .before .before .loop .inv .2, c .before .before .before .before .before .before .before .before .before .before .before .before .before .before .before .pre .1 .1 .1 .in-upto) }))
+    (d, (ruling-room (c .before .before .before .before .before .before .before .before .loop .inv .0) d f, record { in-from = omega (arith, c .before .before .before .before .before .before .before .before .loop .inv .1, c .before .before .before .before .before .before .before .before .before .before .before .before .before .before .before .pre .1 .1 .in-from); in-upto = omega (arith, c .before .before .before .before .before .before .before .before .loop .inv .2, c .before .before .before .before .before .before .before .before .before .before .before .before .before .before .before .pre .1 .1 .in-upto) }))
 
 enum-known-one : tie.Need-enum-known-one Inv-loop μ-loop
 enum-known-one c = search needs
@@ -109,15 +108,13 @@ returns-3 c =
     let i = same-kinds _ 2 (c .before .before .before .before .before .before .before .before .before .before .before .before .if1 .left) in
     ruling-refused (c .before .before .before .before .before .before .before .before .before .before .before .before .before .before .before .before .before .loop .inv .0) d f i (c .enum-told2 .given .1) (refused-part (c .before .before .before .before .before .before .before .before .rule .ensures) (c .enum-told2 .given .1))
 
-with-requires : tie.Need-with-requires Inv-loop μ-loop
+ruled-requires : tie.Need-ruled-requires Inv-loop μ-loop
 unfolding kindOf
-with-requires c κs =
+ruled-requires c κs =
     let d = declared-as (c .before .before .before .before .before .before .before .before .before .before .before .before .before .before .before .before .before .before .before .before .before .before .before .before .before .pre .0) (c .before .before .before .before .before .before .before .before .before .before .before .before .before .before .before .before .before .before .loop .known) in
     let f = found-token _ _ (c .before .before .before .before .before .before .before .before .before .before .before .before .before .before .before .before .before .token-at .ensures) (c .before .before .before .before .before .before .before .before .before .before .before .before .before .before .before .read .given .1) in
     let i = same-kinds _ 2 (c .before .before .before .before .before .before .before .before .before .before .before .before .before .if1 .left) in
-    let g = got (c .before .before .before .before .before .before .before .before .before .rule .ensures) (c .before .one .given .1) in
-    let k = ruling-clear (c .before .before .before .before .before .before .before .before .before .before .before .before .before .before .before .before .before .before .loop .inv .0) d f i g in
-    ((k .0, c .before .before .before .before .before .before .before .before .before .before .before .before .before .before .before .before .before .before .before .before .before .before .before .before .before .pre .0 .few), (c .before .before .before .before .before .before .before .before .before .before .before .before .before .before .before .before .before .before .loop .inv .0 .below, k .1))
+    ruling-declared (c .before .before .before .before .before .before .before .before .before .before .before .before .before .before .before .before .before .before .loop .inv .0) d f i (got (c .before .before .before .before .before .before .before .before .before .rule .ensures) (c .before .one .given .1))
 
 add-done : tie.Need-add-done Inv-loop μ-loop
 add-done c =
@@ -136,7 +133,7 @@ loop-again c =
     let f = found-token _ _ (c .before .before .before .before .before .before .before .before .before .before .before .before .before .before .before .before .before .before .token-at .ensures) (c .before .before .before .before .before .before .before .before .before .before .before .before .before .before .before .before .read .given .1) in
     let i = same-kinds _ 2 (c .before .before .before .before .before .before .before .before .before .before .before .before .before .before .if1 .left) in
     let g = got (c .before .before .before .before .before .before .before .before .before .before .rule .ensures) (c .before .before .one .given .1) in
-    (ruling-more (c .before .before .before .before .before .before .before .before .before .before .before .before .before .before .before .before .before .before .before .loop .inv .0) d f i g (c .with .ensures), c .before .before .before .before .before .before .before .before .before .before .rule .kept .1 .1 .1 .1 .1 .1 .0 ∙ c .before .before .before .before .before .before .before .before .before .before .before .before .before .before .before .before .before .before .before .loop .inv .1, c .before .before .before .before .before .before .before .before .before .before .rule .kept .1 .1 .1 .1 .1 .1 .1 .0 ∙ c .before .before .before .before .before .before .before .before .before .before .before .before .before .before .before .before .before .before .before .loop .inv .2, c .before .before .before .before .before .before .before .before .before .before .rule .kept .1 .1 .1 .1 .1 .1 .1 .1 .0 ∙ c .before .before .before .before .before .before .before .before .before .before .before .before .before .before .before .before .before .before .before .loop .inv .3)
+    (ruling-more (c .before .before .before .before .before .before .before .before .before .before .before .before .before .before .before .before .before .before .before .loop .inv .0) d f i g (c .ruled .result) (c .ruled .ensures .1), c .before .before .before .before .before .before .before .before .before .before .rule .kept .1 .1 .1 .1 .1 .1 .0 ∙ c .before .before .before .before .before .before .before .before .before .before .before .before .before .before .before .before .before .before .before .loop .inv .1, c .before .before .before .before .before .before .before .before .before .before .rule .kept .1 .1 .1 .1 .1 .1 .1 .0 ∙ c .before .before .before .before .before .before .before .before .before .before .before .before .before .before .before .before .before .before .before .loop .inv .2, c .before .before .before .before .before .before .before .before .before .before .rule .kept .1 .1 .1 .1 .1 .1 .1 .1 .0 ∙ c .before .before .before .before .before .before .before .before .before .before .before .before .before .before .before .before .before .before .before .loop .inv .3)
 
 pub rules-in-spec : {M : Type 1} → statement M
 rules-in-spec =
@@ -166,7 +163,7 @@ rules-in-spec =
     same-length-8
     same-length-9
     returns-3
-    with-requires
+    ruled-requires
     add-done
     loop-less
     loop-again)

@@ -59,10 +59,10 @@ slice-aggregate-trace-translated : tie.Need-slice-aggregate-trace-translated
 slice-aggregate-trace-translated c = sym (length-take-le _ _ (c .before .before .before .before .before .before .before .before .before .before .read-text .ensures .0))
 
 array-share-prefix-image : tie.Need-array-share-prefix-image
-array-share-prefix-image c = image-in-buffer _ _ (c .before .before .before .before .before .translate .result) (c .before .before .before .before .before .translate .ensures) (c .before .before .size .given .1)
+array-share-prefix-image c = image-in-buffer _ _ (c .before .before .before .before .before .translate .result) (c .before .before .before .before .before .translate .ensures .0) (c .before .before .size .given .1)
 
 slice-aggregate-trace-translated-2 : tie.Need-slice-aggregate-trace-translated-2
-slice-aggregate-trace-translated-2 c = sym (length-take-le _ _ (image-in-buffer _ _ (c .before .before .before .before .before .before .translate .result) (c .before .before .before .before .before .before .translate .ensures) (c .before .before .before .size .given .1)))
+slice-aggregate-trace-translated-2 c = sym (length-take-le _ _ (image-in-buffer _ _ (c .before .before .before .before .before .before .translate .result) (c .before .before .before .before .before .before .translate .ensures .0) (c .before .before .before .size .given .1)))
 
 slice-aggregate-trace-translated-3 : tie.Need-slice-aggregate-trace-translated-3
 slice-aggregate-trace-translated-3 c = search needs

@@ -1,11 +1,7 @@
 -- `translate::descend` meets its contract: the declarations, the rules, then the two counts. Assumes nothing.
-use mathlib.Core.Path.{_≡_, refl, sym, ap, subst, _∙_}
+use mathlib.Core.Path.{subst}
 use mathlib.Core.List.{List, []}
-use Prim.Native.Nat.{ℕ, _+_, _-_, _*_, _^_, _≤_, _<_}
 use native.Mathlib.Omega.{arith}
-use native.Mathlib.Nat.{pow-le-pow-right}
-use lib.Dec.{lit<}
-use lib.Pow.{pow-pos}
 use lib.ListN.{length, set}
 use borrow.Author.Needs.{needs}
 use Rattle.lexer.specs.Names.{Table}
@@ -22,7 +18,7 @@ use Rattle.translate.proofs.descend.Tie as tie
 use Rattle.translate.proofs.descend.Reads as reads
 use Rattle.translate.proofs.descend.Lts as lts
 use Rattle.leb128.proofs.put_byte.Reads as put-byte-reads
-use Rattle.rules.proofs.first.Reads as first-reads
+use Rattle.expressions.proofs.first_names.Reads as first-names-reads
 use Rattle.rules.proofs.rules.Reads as rules-reads
 use Rattle.translate.proofs.read_heading.Reads as read-heading-reads
 use Rattle.translate.proofs.unheaded.Reads as unheaded-reads
@@ -49,12 +45,6 @@ same-length-2 c = search needs
 same-length-3 : tie.Need-same-length-3
 same-length-3 c = search needs
 
--- the bits of the inputs are among those of the names
-low-bits : {c m i n r : ℕ} → c ≡ i → m ≡ n → i ≤ n → r ≡ 2 ^ c - 1 → r < 2 ^ m
-low-bits {c} {m} ec em h er =
-    let p : 2 ^ c ≤ 2 ^ m = pow-le-pow-right (lit< tt) (omega arith) in
-    omega (arith, pow-pos c)
-
 -- the declarations that were read, and that they are few
 declared : (c : tie.After-head) →
     HeadingRead (c .before .before .before .before .before .before .before .before .before .before .before .before .before .before .before .before .args .text .now) (c .before .before .before .before .before .before .before .before .before .before .before .before .before .before .before .before .args .out .now) (c .before .before .before .before .before .before .before .before .read-heading .last .1 .1 .1 .0) (c .before .before .before .before .before .before .before .before .read-heading .last .1 .0) (c .before .before .before .before .before .before .before .before .read-heading .last .1 .1 .0)
@@ -67,19 +57,17 @@ few c = heading-few (c .before .before .before .before .before .before .before .
 returns : tie.Need-returns
 returns c = let e = c .before .enum-told .given .1 in rw (c .unheaded .ensures, e) (no-heading _ _ _ _ _ _ _ (heading-refused _ _ _ _ _ (c .before .before .before .before .before .before .before .before .before .read-heading .ensures) e))
 
-first-requires : tie.Need-first-requires
-first-requires c κs = let x = declared (c .before) in let f = few (c .before) in omega (arith, x .counted, f .inputs, f .names)
+first-names-requires : tie.Need-first-names-requires
+first-names-requires c κs = let x = declared (c .before) in let f = few (c .before) in omega (arith, x .counted, f .inputs, f .names)
 
 rules-requires : tie.Need-rules-requires
 rules-requires c κs =
     let x = declared (c .before .before .before .before .before) in
     let f = few (c .before .before .before .before .before) in
+    let e = c .before .before .before .first-names .ensures .0 in
     let r = c .before .before .before .before .before .before .before .before .before .before .before .before .before .before .before .before .before .before .before .before .before .pre .1 in (
-      record { table = record { in-starts = omega (arith, x .named, f .names, r .in-starts); in-ends = omega (arith, x .named, f .names, r .in-ends) }; few = omega (arith, x .named, f .names) },
-      (
-        record { short = c .before .before .before .before .before .before .before .before .before .before .before .before .before .before .before .before .before .before .before .before .before .pre .0; within = f .within; room = omega (arith, x .ended, f .room) },
-        record { below = low-bits (x .counted) (x .named) (f .inputs) (c .before .before .before .first .ensures) },
-      ),
+      record { table = record { in-starts = omega (arith, e, x .named, f .names, r .in-starts); in-ends = omega (arith, e, x .named, f .names, r .in-ends) }; few = omega (arith, e, x .named, f .names) },
+      record { short = c .before .before .before .before .before .before .before .before .before .before .before .before .before .before .before .before .before .before .before .before .before .pre .0; within = f .within; room = omega (arith, x .ended, f .room) },
     )
 
 -- the rules, in the scope of the names declared
@@ -89,7 +77,7 @@ ruled : (c : tie.After-rules) →
 ruled c =
     let x = declared (c .before .before .before .before .before .before) in
     subst (λ (sc : Scope). Writes codeR length (rulesFrom 65 sc [] (c .before .before .before .before .before .before .head .given .0 .0)) (c .before .before .before .before .before .before .head .given .0 .1 .0) (c .before .before .before .before .before .before .before .before .before .before .before .before .before .before .read-heading .last .1 .1 .1 .0) (c .rules .last .1 .1 .1 .1 .1 .0) (c .rules .result))
-    (scope-is _ _ _ (x .read) _ _ _ (x .held) (x .counted) (x .named) (c .before .before .before .before .first .ensures)) (c .rules .ensures)
+    (scope-is _ _ _ (x .read) _ _ _ (x .held) (x .counted) (x .named) (c .before .before .before .before .first-names .ensures)) (c .rules .ensures)
 
 enum-known-read : tie.Need-enum-known-read
 enum-known-read c = search needs
@@ -131,7 +119,7 @@ put-byte-requires-2 : tie.Need-put-byte-requires-2
 put-byte-requires-2 c κs = search needs
 
 same-length-7 : tie.Need-same-length-7
-same-length-7 c = search needs
+same-length-7 c = c .before .before .before .before .before .before .before .before .before .before .before .before .before .before .before .before .before .before .before .before .before .before .before .before .before .before .before .read-heading .kept .1 .0
 
 same-length-8 : tie.Need-same-length-8
 same-length-8 c = search needs
@@ -157,7 +145,7 @@ descend-spec =
     same-length-2
     same-length-3
     returns
-    first-requires
+    first-names-requires
     rules-requires
     enum-known-read
     enum-told-2

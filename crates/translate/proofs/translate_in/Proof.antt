@@ -1,5 +1,6 @@
 -- `translate::translate_in` meets its contract: the analysis, the room, then the descent over the lent buffer. Assumes nothing.
 use mathlib.Core.Path.{_≡_, refl, sym, ap, subst, _∙_}
+use mathlib.Core.List.{List}
 use Prim.Native.Nat.{ℕ, _≤_, _<_}
 use native.Mathlib.Omega.{arith}
 use lib.ListN.{length}
@@ -9,8 +10,12 @@ use Rattle.grammar.specs.Parsed.{accepted}
 use Rattle.grammar.specs.Parse.{parse}
 use Rattle.grammar.specs.Emitted.{image}
 use Rattle.grammar.proofs.Accepted.{parse-short as accepted-short}
+use Rattle.translate.specs.declared.Translated.{Translated}
+use Rattle.translate.specs.declared.Translated.the-variants as T
+use Rattle.translate.specs.Services.{translationOf}
+use Rattle.translate.specs.Results.{afterTranslation, TranslatedWithin}
 use Rattle.translate.specs.Internal.{analysed}
-use Rattle.translate.proofs.Service.{parse-short, measured-refused, measured-accepted, translation-refused, translation-short, translation-stored}
+use Rattle.translate.proofs.Service.{parse-short, measured-refused, measured-accepted, translation-refused, translation-short, translation-stored, translation-within}
 use Rattle.translate.proofs.translate_in.Statement.{statement}
 use Rattle.translate.proofs.translate_in.Tie as tie
 use Rattle.translate.proofs.translate_in.Reads as reads
@@ -37,10 +42,14 @@ same-length c = search needs
 same-length-2 : tie.Need-same-length-2
 same-length-2 c = search needs
 
+-- what is the definition's answer is as small as that
+bounded : (text buffer : List ℕ) (r : Translated) (left : List ℕ) → afterTranslation r left ≡ translationOf text buffer → (afterTranslation r left ≡ translationOf text buffer) × TranslatedWithin r
+bounded text buffer r left e = (e, translation-within text buffer r left e)
+
 returns : tie.Need-returns
 returns c =
     let e = c .before .enum-told .given .1 in
-    rw (c .untranslated .ensures, e) (translation-refused _ _ _ _ (measured-refused _ _ _ (sym (c .before .before .before .before .before .before .before .analyse .ensures .answer) ∙ ap analysed e)))
+    rw (c .untranslated .ensures, e) (bounded _ _ (T.Refused _ _) _ (translation-refused _ _ _ _ (measured-refused _ _ _ (sym (c .before .before .before .before .before .before .before .analyse .ensures .answer) ∙ ap analysed e))))
 
 same-length-3 : tie.Need-same-length-3
 same-length-3 c = search needs
@@ -53,7 +62,7 @@ read : (c : tie.After-analysis) → (q : Program) × (n : ℕ) × (parse (c .bef
 read c = measured-accepted _ _ _ _ (sym (c .before .before .before .before .before .before .analyse .ensures .answer) ∙ ap analysed (c .analysis .given .1))
 
 returns-2 : tie.Need-returns-2
-returns-2 c = let x = read (c .before .before) in translation-short _ _ (x .0) (x .1) (x .2) (omega (arith, x .3, c .if1 .taken))
+returns-2 c = let x = read (c .before .before) in bounded _ _ (T.Refused _ _) _ (translation-short _ _ (x .0) (x .1) (x .2) (omega (arith, x .3, c .if1 .taken)))
 
 descend-requires : tie.Need-descend-requires
 descend-requires c κs =
@@ -75,7 +84,7 @@ returns-3 c =
     let x = read (c .before .before .before .before .before .before .before .before .before .before .before .before) in
     let short = accepted-short _ (x .0) (x .1) (x .2) in
     let w = c .before .before .before .before .before .before .descend .ensures .wrote (x .0) (x .1) (sym (parse-short _ short) ∙ x .2) in
-    rw (x .3) (translation-stored _ _ (x .0) (x .1) (x .2) _ (omega (arith, x .3, c .before .before .before .before .before .before .before .before .before .before .if1 .left)) w)
+    rw (x .3) (bounded _ _ (T.Image _) _ (translation-stored _ _ (x .0) (x .1) (x .2) _ (omega (arith, x .3, c .before .before .before .before .before .before .before .before .before .before .if1 .left)) w))
 
 pub translate-in-spec : {M : Type 1} → statement M
 translate-in-spec =

@@ -1,0 +1,245 @@
+-- Where a refusal of declarations, of rules and of a whole text stands: its place is within the text, and its number is one of 1 to 9.
+-- Assumes nothing.
+use mathlib.Core.Path.{_≡_}
+use mathlib.Core.List.{List, [], _∷_, _++_}
+use mathlib.Core.Bool.{Bool, true, false, _&&_}
+use Prim.Native.Nat.{ℕ, zero, suc, _+_, _≤_}
+use native.Mathlib.Omega.{arith}
+use lib.ListN.{length, getD}
+use lib.Dec.{ltb, leb, eqb}
+use lib.IntN.{ℤ, pos, negℤ}
+use lib.Signed.{leZ}
+use borrow.Author.Tests.{ltb-false}
+use Rattle.limits.specs.Limits.{caseLimit, textLimit, nameLimit}
+use Rattle.limits.specs.Answer as A
+use Rattle.arith.specs.Values.{isInt32}
+use Rattle.lexer.specs.Bytes.{part}
+use Rattle.lexer.specs.Token.{Kind, name, ending, digits, openSquare, tilde, bar, minus, initWord, semicolon, closeRound, is, Read, token, fault, inputWord, varWord}
+use Rattle.lexer.specs.Lexer.{tokenAt, sameToken, overLong, valueOf}
+use Rattle.lexer.specs.Names.{idOf}
+use Rattle.lexer.proofs.Laws.{pick-prop, Moved, token-moved, Faulted, token-faulted}
+use Rattle.semantics.specs.Program.{Name, Condition, Rule, Program, target, allTrue}
+use Rattle.grammar.specs.Parsed.{Parsed, accepted, refused, phrase}
+use Rattle.grammar.specs.Expressions.{Scope, wholeExpression}
+use Rattle.grammar.specs.Conditions.{listed}
+use Rattle.grammar.specs.Declarations.{inRange, signedAt, boundAt, spellings, newName, startAt, declaration, declarationsFrom, declarations}
+use Rattle.grammar.specs.Rules.{Spanned, caseAt, casesFrom, listFrom, plainList, Compared, agrees, differs, onCompared, onFound, onWanted, partFrom, kindAt, partsFrom, settled, agreeingList, functionAt, changeAt, formulas, ruleAt, ruled, rulesFrom}
+use Rattle.grammar.specs.Parse.{program, parse, answerOf, programOf}
+use Rattle.grammar.proofs.Places.{Within, then-within, pick-within, option-within, token-within, phrase-within, followed-within, id-within, whole-expression-within, listed-within}
+
+-- ---- declarations
+
+module _ (text : List ℕ) where
+  signed-within : (test : ℤ → Bool) (signed : ℤ → ℤ) (k : Kind) (s n : ℕ) → s ≤ length text → n ≤ length text → Within (length text) (signedAt test signed text k s n)
+  unfolding signedAt
+  signed-within test signed k s n l m =
+      let z = signed (pos (valueOf (part text s n))) in
+      pick-within (length text) (is k digits) _ _ (pick-within (length text) (isInt32 z && test z) _ _ m (omega arith, omega arith, l)) (omega arith, omega arith, l)
+
+  bound-within : (test : ℤ → Bool) (at : ℕ) → at ≤ length text → Within (length text) (boundAt test text at)
+  unfolding boundAt
+  bound-within test at h =
+      token-within text at _ h
+      (λ k s n l m. pick-within (length text) (is k minus) _ _ (token-within text n _ m (λ k s n l m. signed-within test negℤ k s n l m)) (signed-within test (λ z. z) k s n l m))
+
+  name-within : (names : List Name) (at : ℕ) → at ≤ length text → Within (length text) (newName text names at)
+  unfolding newName
+  name-within names at h =
+      token-within text at _ h
+      (λ k s n l m.
+      pick-within (length text) (is k name) _ _
+      (option-within (length text) (idOf (spellings names) (part text s n)) _ _
+      (pick-within (length text) (overLong s n) _ _ (omega arith, omega arith, l) (pick-within (length text) (ltb (length names) nameLimit) _ _ m (omega arith, omega arith, l)))
+      (λ i. (omega arith, omega arith, l)))
+      (omega arith, omega arith, l))
+
+  start-within : (low high : ℤ) (at : ℕ) → at ≤ length text → Within (length text) (startAt text low high at)
+  unfolding startAt
+  start-within low high at h =
+      token-within text at _ h
+      (λ k s n l m.
+      pick-within (length text) (is k initWord) _ _
+      (then-within (length text) (boundAt (inRange low high) text n) _ (bound-within (inRange low high) n m) (λ z e i. followed-within text _ z e i))
+      (pick-within (length text) (is k semicolon) _ _ (pick-within (length text) (inRange low high (pos 0)) _ _ m (omega arith, omega arith, l)) (omega arith, omega arith, l)))
+
+  declaration-within : (names : List Name) (at : ℕ) → at ≤ length text → Within (length text) (declaration text names at)
+  unfolding declaration
+  declaration-within names at h =
+      then-within (length text) (newName text names at) _ (name-within names at h)
+      (λ w n1 h1. then-within (length text) (boundAt (λ z. true) text n1) _ (bound-within (λ z. true) n1 h1)
+      (λ low n2 h2. then-within (length text) (phrase text _ n2) _ (phrase-within text _ n2 h2)
+      (λ u n3 h3. then-within (length text) (boundAt (leZ low) text n3) _ (bound-within (leZ low) n3 h3)
+      (λ high n4 h4. then-within (length text) (startAt text low high n4) _ (start-within low high n4 h4) (λ start n5 h5. h5)))))
+
+  declarations-within : (f : ℕ) (word : Kind) (names : List Name) (at : ℕ) → at ≤ length text → Within (length text) (declarationsFrom f word text names at)
+  unfolding declarationsFrom
+  declarations-within zero word names at h = h
+  declarations-within (suc f) word names at h =
+      token-within text at _ h
+      (λ k s n l m.
+      pick-within (length text) (is k word) _ _
+      (then-within (length text) (declaration text names n) _ (declaration-within names n m) (λ x e i. declarations-within f word (names ++ (x ∷ [])) e i))
+      h)
+
+  -- ---- the comparison of the two lists
+
+  -- the place of what agrees, or differs, is within the text
+  abbrev Near : Compared → Type 0
+  Near (agrees n) = n ≤ length text
+  Near (differs p) = p ≤ length text
+
+  compared-near : (c : Compared) (f : ℕ → Compared) → Near c → ((n : ℕ) → n ≤ length text → Near (f n)) → Near (onCompared c f)
+  compared-near (agrees n) f h g = g n h
+  compared-near (differs p) f h g = h
+
+  found-near : (at : ℕ) (test : Kind → ℕ → ℕ → Bool) (next : ℕ → Compared) → at ≤ length text → ((n : ℕ) → n ≤ length text → Near (next n)) → Near (onFound (tokenAt text at) test next)
+  found-near at test next h g = go (tokenAt text at) (token-moved text at h) (token-faulted text at)
+    where
+      go : (r : Read) → Moved at (length text) r → Faulted (length text) r → Near (onFound r test next)
+      go (token k s n) m e = pick-prop Near (test k s n) _ _ (λ t. g n (m .2)) (λ t. omega (arith, m .1, m .2))
+      go (fault p) m e = omega arith
+
+  -- the wanted token may be read anywhere: what is no token stands within the text
+  wanted-near : (from : ℕ) (f : Kind → ℕ → ℕ → Compared) → ((k : Kind) (s n : ℕ) → Near (f k s n)) → Near (onWanted (tokenAt text from) f)
+  wanted-near from f g = go (tokenAt text from) (token-faulted text from)
+    where
+      go : (r : Read) → Faulted (length text) r → Near (onWanted r f)
+      go (token k s n) e = g k s n
+      go (fault p) e = omega arith
+
+  part-near : (f from to at : ℕ) → at ≤ length text → Near (partFrom f text from to at)
+  unfolding partFrom
+  part-near zero from to at h = h
+  part-near (suc f) from to at h =
+      pick-prop Near (ltb from to) _ _ (λ t. wanted-near from _ (λ k s n. found-near at (sameToken text k s n) _ h (λ m i. part-near f n to m i))) (λ t. h)
+
+  kind-near : (w : Kind) (at : ℕ) → at ≤ length text → Near (kindAt text w at)
+  unfolding kindAt
+  kind-near w at h = found-near at _ _ h (λ n m. m)
+
+  parts-near : (cases : List Spanned) (at : ℕ) → at ≤ length text → Near (partsFrom text cases at)
+  unfolding partsFrom
+  parts-near [] at h = h
+  parts-near (c ∷ []) at h =
+      compared-near (partFrom (length text) text (c .span .from) (c .span .to) at) _ (part-near (length text) (c .span .from) (c .span .to) at h) (λ n m. kind-near closeRound n m)
+  parts-near (c ∷ d ∷ cs) at h =
+      compared-near (partFrom (length text) text (c .span .from) (c .span .to) at) _ (part-near (length text) (c .span .from) (c .span .to) at h)
+      (λ n m. compared-near (kindAt text bar n) _ (kind-near bar n m) (λ e i. parts-near (d ∷ cs) e i))
+
+  settled-within : {A : Type 0} (r : Parsed A) (d : Compared) → Within (length text) r → Near d → Within (length text) (settled r d)
+  unfolding settled
+  settled-within r (agrees n) h g = h
+  settled-within (accepted a n) (differs m) h g = (omega arith, omega arith, g)
+  settled-within (refused k q) (differs m) h g =
+      pick-within (length text) (ltb q m) _ _ h
+      (pick-within (length text) (eqb q m) _ _ (pick-within (length text) (leb k 5) _ _ h (omega arith, omega arith, g)) (omega arith, omega arith, g))
+
+-- ---- rules
+
+module _ (sc : Scope) where
+  case-within : (w : List ℕ) (at n : ℕ) → n ≤ length (sc .text) → Within (length (sc .text)) (caseAt sc w at n)
+  unfolding caseAt
+  case-within w at n h =
+      then-within (length (sc .text)) (listed sc n) _ (listed-within sc n h)
+      (λ c n1 h1. then-within (length (sc .text)) (phrase (sc .text) _ n1) _ (phrase-within (sc .text) _ n1 h1)
+      (λ u n2 h2. then-within (length (sc .text)) (wholeExpression sc n2) _ (whole-expression-within sc n2 h2) (λ e n3 h3. followed-within (sc .text) _ _ n3 h3)))
+
+  cases-within : (left : ℕ) (w : List ℕ) (done : List Spanned) (at : ℕ) → at ≤ length (sc .text) → Within (length (sc .text)) (casesFrom left sc w done at)
+  unfolding casesFrom
+  cases-within zero w done at h =
+      token-within (sc .text) at _ h (λ k s n l m. pick-within (length (sc .text)) (is k openSquare) _ _ (omega arith, omega arith, l) (omega arith, omega arith, l))
+  cases-within (suc left) w done at h =
+      token-within (sc .text) at _ h
+      (λ k s n l m.
+      pick-within (length (sc .text)) (is k openSquare) _ _
+      (then-within (length (sc .text)) (caseAt sc w at n) _ (case-within w at n m)
+      (λ c n1 h1. token-within (sc .text) n1 _ h1 (λ k2 s2 n2 l2 m2. pick-within (length (sc .text)) (is k2 bar) _ _ (cases-within left w (done ++ (c ∷ [])) n2 m2) h1)))
+      (omega arith, omega arith, l))
+
+  list-within : (left : ℕ) (done : List Condition) (at : ℕ) → at ≤ length (sc .text) → Within (length (sc .text)) (listFrom left sc done at)
+  unfolding listFrom
+  list-within zero done at h = token-within (sc .text) at _ h (λ k s n l m. (omega arith, omega arith, l))
+  list-within (suc left) done at h =
+      token-within (sc .text) at _ h
+      (λ k s n l m.
+      pick-within (length (sc .text)) (is k openSquare) _ _
+      (then-within (length (sc .text)) (listed sc n) _ (listed-within sc n m)
+      (λ c n1 h1. token-within (sc .text) n1 _ h1 (λ k2 s2 n2 l2 m2. pick-within (length (sc .text)) (is k2 bar) _ _ (list-within left (done ++ (c ∷ [])) n2 m2) h1)))
+      (omega arith, omega arith, l))
+
+  agreeing-within : (cases : List Spanned) (at : ℕ) → at ≤ length (sc .text) → Within (length (sc .text)) (agreeingList sc cases at)
+  unfolding agreeingList plainList
+  agreeing-within cases at h =
+      settled-within (sc .text) (plainList sc at) (partsFrom (sc .text) cases at)
+      (then-within (length (sc .text)) (listFrom caseLimit sc [] at) _ (list-within caseLimit [] at h) (λ cs n m. followed-within (sc .text) _ cs n m))
+      (parts-near (sc .text) cases at h)
+
+  function-within : (w : List ℕ) (v at : ℕ) → at ≤ length (sc .text) → Within (length (sc .text)) (functionAt sc w v at)
+  unfolding functionAt
+  function-within w v at h =
+      then-within (length (sc .text)) (phrase (sc .text) _ at) _ (phrase-within (sc .text) _ at h)
+      (λ u n1 h1. then-within (length (sc .text)) (wholeExpression sc n1) _ (whole-expression-within sc n1 h1) (λ e n2 h2. followed-within (sc .text) _ _ n2 h2))
+
+  change-within : (w : List ℕ) (v at : ℕ) → at ≤ length (sc .text) → Within (length (sc .text)) (changeAt sc w v at)
+  unfolding changeAt
+  change-within w v at h =
+      then-within (length (sc .text)) (phrase (sc .text) _ at) _ (phrase-within (sc .text) _ at h)
+      (λ u n1 h1. then-within (length (sc .text)) (casesFrom caseLimit sc w [] n1) _ (cases-within caseLimit w [] n1 h1)
+      (λ cases n2 h2. then-within (length (sc .text)) (phrase (sc .text) _ n2) _ (phrase-within (sc .text) _ n2 h2)
+      (λ u n3 h3. then-within (length (sc .text)) (agreeingList sc cases n3) _ (agreeing-within cases n3 h3) (λ ds n4 h4. followed-within (sc .text) _ _ n4 h4))))
+
+  formulas-within : (w : List ℕ) (v at : ℕ) → at ≤ length (sc .text) → Within (length (sc .text)) (formulas sc w v at)
+  unfolding formulas
+  formulas-within w v at h =
+      then-within (length (sc .text)) (phrase (sc .text) _ at) _ (phrase-within (sc .text) _ at h)
+      (λ u n m. token-within (sc .text) n _ m (λ k s e l i. pick-within (length (sc .text)) (is k tilde) _ _ (change-within w v e i) (function-within w v n m)))
+
+  rule-within : (s n : ℕ) → s ≤ length (sc .text) → n ≤ length (sc .text) → Within (length (sc .text)) (ruleAt sc s n)
+  unfolding ruleAt
+  rule-within s n l m =
+      id-within sc s s n _ l
+      (λ v. pick-within (length (sc .text)) (getD (sc .known) v false) _ _ (omega arith, omega arith, l) (formulas-within (part (sc .text) s n) v n m))
+
+rules-within : (f : ℕ) (sc : Scope) (done : List Rule) (at : ℕ) → at ≤ length (sc .text) → Within (length (sc .text)) (rulesFrom f sc done at)
+unfolding rulesFrom
+rules-within zero sc done at h = (omega arith, omega arith, h)
+rules-within (suc f) sc done at h =
+    token-within (sc .text) at _ h
+    (λ k s n l m.
+    pick-within (length (sc .text)) (is k name) _ _
+    (then-within (length (sc .text)) (ruleAt sc s n) _ (rule-within sc s n l m) (λ r e i. rules-within f (ruled sc (target r)) (done ++ (r ∷ [])) e i))
+    (pick-within (length (sc .text)) (is k ending) _ _ (pick-within (length (sc .text)) (allTrue (sc .known)) _ _ m (omega arith, omega arith, l)) (omega arith, omega arith, l)))
+
+-- ---- the whole text
+
+program-within : (text : List ℕ) → Within (length text) (program text)
+unfolding program declarations
+program-within text =
+    then-within (length text) (declarations inputWord text [] 0) _ (declarations-within text 65 inputWord [] 0 (omega arith))
+    (λ inputs n1 h1. then-within (length text) (declarations varWord text inputs n1) _ (declarations-within text 65 varWord inputs n1 h1)
+    (λ names n2 h2. then-within (length text) (rulesFrom 65 _ [] n2) _ (rules-within 65 _ [] n2 h2) (λ rules n3 h3. h3)))
+
+-- what is accepted ends within the text; a refusal has a number of 1 to 9 and its place is within the text, or at its end
+pub parse-within : (text : List ℕ) → Within (length text) (parse text)
+unfolding parse
+parse-within text = pick-within (length text) (ltb textLimit (length text)) _ _ (omega arith, omega arith, omega arith) (program-within text)
+
+-- and so within the limit of texts, since a longer text is refused at 0
+pub parse-limited : (text : List ℕ) → Within textLimit (parse text)
+unfolding parse
+parse-limited text =
+    pick-prop (Within textLimit) (ltb textLimit (length text)) _ _ (λ t. (omega arith, omega arith, omega arith))
+    (λ t. wider (ltb-false textLimit (length text) t) (program text) (program-within text))
+  where
+    wider : length text ≤ textLimit → (p : Parsed Program) → Within (length text) p → Within textLimit p
+    wider l (accepted q n) h = omega arith
+    wider l (refused k q) h = (h .0, h .1, omega (arith, h .2))
+
+-- the same of the answer that a service cites
+pub program-refused : (text : List ℕ) (number place : ℕ) → programOf text ≡ A.refused number place → (1 ≤ number) × (number ≤ 9) × (place ≤ length text)
+unfolding programOf
+program-refused text number place = go (parse text) (parse-within text)
+  where
+    go : (r : Parsed Program) → Within (length text) r → answerOf r ≡ A.refused number place → (1 ≤ number) × (number ≤ 9) × (place ≤ length text)
+    go (accepted p n) h e = let z : _≡_ {A = ℕ} 0 1 = cc in absurd (omega arith)
+    go (refused k q) h e = let i : k ≡ number = cc in let j : q ≡ place = cc in rw (← i, ← j) h
