@@ -1,7 +1,19 @@
-/* Rolvenko: the services as C functions.
+/* Rolvenko: launch rules translated, checked, started and scanned, as four C functions.
  *
- * Each answers one 64-bit number: number * 2^56 + place * 2^24 + count. number is the refusal (0 for a success), place the byte
- * place of the refusal, or 0 where the refusal has none.
+ * Link target/staticlib/libffi.a, which `rt staticlib ffi` writes (x86-64 Linux; it needs memcpy and memset, allocates nothing and keeps
+ * nothing between calls, so calls from several threads on memory of their own do not meet).
+ *
+ * The answer. Each function answers one 64-bit number, number * 2^56 + place * 2^24 + count:
+ *
+ *     number   0 for a success, else the refusal, 1 to 18
+ *     place    the byte place of a refusal in the text or image; 0 for a success and for the refusals 9 and 12 to 18
+ *     count    of a success of rolvenko_translate the image's length, of rolvenko_scan (refused or not) the steps; else 0
+ *
+ * Memory. What is lent as const is only read. A refusal leaves all lent memory as it was; what a success writes stands at each function.
+ * Nothing outside the lengths given is touched. The caller owes what C cannot say: each pointer has its length's elements behind it,
+ * int32_t ones are aligned, and what is written overlaps nothing else that is lent to the same call. With a length of 0 nothing is read
+ * or written: pass any pointer that is not NULL. (NULL with 0 works in the archive as compiled, and the tests try it, but the proofs
+ * are about slices and do not speak of it.) Every length and every content is allowed; nothing else is asked of the caller.
  */
 #ifndef ROLVENKO_H
 #define ROLVENKO_H
@@ -13,12 +25,47 @@
 extern "C" {
 #endif
 
-/* Whether an image is sound. 0 as a whole: sound. Else number is
- *   9  the image is longer than 65,536 bytes (place 0), or
- *   11 the image breaks soundness: place is that of the first header number or instruction that breaks it, or image_len where
- *      something is only missing at the end;
- * count is 0. image is not written. image may be any non-null pointer where image_len is 0. */
+#define ROLVENKO_TEXT_LIMIT 32768  /* bytes of a text */
+#define ROLVENKO_IMAGE_LIMIT 65536 /* bytes of an image */
+#define ROLVENKO_IMAGE_ROOM 49154  /* bytes that the image of any accepted text fits in */
+#define ROLVENKO_NAMES 64          /* inputs and variables together */
+
+/* The parts of an answer. */
+static inline unsigned rolvenko_number(uint64_t answer) { return (unsigned)(answer >> 56); }
+static inline uint32_t rolvenko_place(uint64_t answer) { return (uint32_t)(answer >> 24); }
+static inline uint32_t rolvenko_count(uint64_t answer) { return (uint32_t)(answer & 0xffffff); }
+
+/* Translates a rule text and writes its image to the first bytes of `image`; count is the image's length. The bytes behind it stay.
+ *   9         the text is longer than 32,768 bytes; place 0
+ *   1 to 8    the first fault of the text; place is that of its token, or text_len for the end of the text
+ *   10        the text has no fault, but its image is longer than image_len; place is text_len
+ */
+uint64_t rolvenko_translate(const uint8_t *text, size_t text_len, uint8_t *image, size_t image_len);
+
+/* Whether an image is sound: 0 as a whole, or
+ *   9         the image is longer than 65,536 bytes; place 0
+ *   11        it is not sound; place is that of the first header number or instruction that breaks soundness, or image_len where
+ *             something is only missing at the end
+ */
 uint64_t rolvenko_check(const uint8_t *image, size_t image_len);
+
+/* Writes the starting values to `state`, one for each name in declared order; state_len is the count of names. 0 as a whole, or
+ *   9, 11     as rolvenko_check
+ *   12        state_len is not the count of names
+ */
+uint64_t rolvenko_start(const uint8_t *image, size_t image_len, int32_t *state, size_t state_len);
+
+/* One scan: `state` becomes the next state; count is the steps, as many as the code has instructions. `row` has one number for each
+ * input, in declared order. A refused scan counts the steps up to and including the refusing instruction, 0 before the code.
+ *   9, 11     as rolvenko_check
+ *   12        state_len is not the count of names, or row_len not that of inputs
+ *   18, 13    a number of the state, of the row, is outside its declared range
+ *   14        a result outside 32 bits, or a zero divisor
+ *   15        a second condition of a rule holds
+ *   16        a case's value equals the previous value
+ *   17        a new value is outside its declared range
+ */
+uint64_t rolvenko_scan(const uint8_t *image, size_t image_len, int32_t *state, size_t state_len, const int32_t *row, size_t row_len);
 
 #ifdef __cplusplus
 }

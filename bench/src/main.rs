@@ -1,59 +1,128 @@
-//! Times each service of the archive and of the reference model on the same input, in turn, in one run, and prints the ratio
-//! (above 1: the archive is faster). Both are built for release; buffers are not cleared between calls.
+//! Times each service of the archive beside the reference model and, for scan, beside C that was generated from the same rules and
+//! compiled by `gcc -O2`: same input, all optimized, in turn, in one run. A ratio above 1 means that the archive is faster than the model.
+//! Buffers are not cleared between calls. A scan is timed over the rows of its trace, from the declared starts.
+//!
+//!     bench [--rounds N]                            the tables
+//!     bench --once WHO SERVICE INPUT CALLS          just so many calls, for bench/instructions
 
 mod input;
+mod native;
+mod once;
 mod timing;
 
 use input::{inputs, Input};
+use once::{archive, model, Memory, Work};
 use std::hint::black_box;
-use timing::{ratio_of, Unit};
+use timing::Least;
 
-/// A buffer for any text.
-const ROOM: usize = 49_154;
+/// A service on an input, with the least time of each who can do it.
+struct Line<'i> {
+    input: &'i Input,
+    work: Work<'i>,
+    rules: native::Scan,
+    memory: Memory,
+    archive: Least,
+    model: Least,
+    native: Option<Least>,
+}
 
 fn main() {
-    let inputs = inputs();
-    println!("{:<10} {:<16} {:>9} {:>12} {:>12} {:>7}", "service", "input", "size", "archive", "model", "ratio");
-    for service in [translate, check, scan] {
-        for input in &inputs {
-            service(input);
+    let words: Vec<String> = std::env::args().skip(1).collect();
+    let words: Vec<&str> = words.iter().map(String::as_str).collect();
+    match words[..] {
+        [] => tables(30),
+        ["--rounds", rounds] => tables(rounds.parse().expect("a number of rounds")),
+        ["--once", who, service, input, calls] => once::run(who, service, input, calls.parse().expect("a number of calls")),
+        _ => {
+            eprintln!("usage: bench [--rounds N] | --once WHO SERVICE INPUT CALLS");
+            std::process::exit(2);
         }
     }
 }
 
-fn translate(input: &Input) {
-    let (mut mine, mut theirs) = (vec![0; ROOM], vec![0; ROOM]);
-    let timing = ratio_of(
-        || rolvenko::translate(black_box(&input.text), black_box(&mut mine)).is_ok(),
-        || rolvenko_model::translate(black_box(&input.text), black_box(&mut theirs)).is_ok(),
-    );
-    timing.print("translate", &input.name, input.text.len(), Unit::MegabytesPerSecond);
+fn tables(rounds: u32) {
+    let inputs = inputs();
+    let programs: Vec<_> = inputs.iter().map(Input::program).collect();
+    let natives = native::compiled(&programs);
+    let mut lines = Vec::new();
+    for service in ["translate", "check", "scan"] {
+        lines.extend(inputs.iter().zip(&natives).map(|(input, rules)| Line::new(service, input, *rules)));
+    }
+    // The rounds of a line are spread over the whole run, so that a busy while of the machine spoils few of them.
+    for _ in 0..rounds {
+        lines.iter_mut().for_each(Line::round);
+    }
+    println!("{:<10} {:<14} {:>7} {:>11} {:>11} {:>7} {:>9}", "service", "input", "units", "archive", "model", "ratio", "gcc -O2");
+    lines.iter().for_each(Line::print);
+    growth(&lines);
 }
 
-fn check(input: &Input) {
-    let image = &input.image;
-    let timing = ratio_of(
-        || black_box(rolvenko::check(black_box(image))).is_ok(),
-        || black_box(rolvenko_model::check(black_box(image))).is_ok(),
-    );
-    timing.print("check", &input.name, input.instructions, Unit::NanosecondsEach);
+impl<'i> Line<'i> {
+    fn new(service: &'static str, input: &'i Input, rules: native::Scan) -> Line<'i> {
+        let work = Work::new(service, input);
+        work.agree(rules);
+        Line {
+            input,
+            memory: work.memory(),
+            work,
+            rules,
+            archive: Least::default(),
+            model: Least::default(),
+            native: (service == "scan").then(Least::default),
+        }
+    }
+
+    fn round(&mut self) {
+        let (work, memory) = (&self.work, &mut self.memory);
+        self.archive.round(&mut || archive(work, black_box(memory)));
+        self.model.round(&mut || model(work, black_box(memory)));
+        if let Some(native) = &mut self.native {
+            native.round(&mut || once::native(work, self.rules, black_box(memory)));
+        }
+    }
+
+    /// Nanoseconds a unit: a byte of text, or an instruction of one scan.
+    fn each(&self, time: &Least) -> f64 {
+        time.seconds * 1e9 / self.work.units() as f64
+    }
+
+    fn show(&self, time: &Least) -> String {
+        if self.work.service == "translate" {
+            return format!("{:.1} MB/s", 1e3 / self.each(time));
+        }
+        format!("{:.2} ns", self.each(time))
+    }
+
+    fn print(&self) {
+        println!(
+            "{:<10} {:<14} {:>7} {:>11} {:>11} {:>7.2} {:>9}",
+            self.work.service,
+            self.input.name,
+            self.work.units(),
+            self.show(&self.archive),
+            self.show(&self.model),
+            self.model.seconds / self.archive.seconds,
+            self.native.as_ref().map_or(String::new(), |time| self.show(time))
+        );
+    }
 }
 
-/// One scan from the declared starts; every row of zeros is in range for these inputs.
-fn scan(input: &Input) {
-    let image = &input.image;
-    let starts = &input.starts;
-    let row = vec![0; input.inputs];
-    let (mut mine, mut theirs) = (starts.clone(), starts.clone());
-    let timing = ratio_of(
-        || {
-            mine.copy_from_slice(starts);
-            rolvenko::scan(black_box(image), black_box(&mut mine), black_box(&row)).is_ok()
-        },
-        || {
-            theirs.copy_from_slice(starts);
-            rolvenko_model::scan(black_box(image), black_box(&mut theirs), black_box(&row)).is_ok()
-        },
-    );
-    timing.print("scan", &input.name, input.instructions, Unit::NanosecondsEach);
+/// Time against size on the generated texts: nanoseconds a unit at each size, and the slope of log time over log size (1: linear).
+fn growth(lines: &[Line]) {
+    println!("\ngrowth of the archive's time with size, generated texts of 1 to 32 KiB: ns a byte (translate) or instruction, slope of log time");
+    for service in ["translate", "check", "scan"] {
+        let of: Vec<&Line> = lines.iter().filter(|line| line.input.generated && line.work.service == service).collect();
+        let points: Vec<(f64, f64)> = of.iter().map(|line| (line.work.units() as f64, line.archive.seconds)).collect();
+        let each: Vec<String> = of.iter().map(|line| format!("{:>7.2}", line.each(&line.archive))).collect();
+        println!("{service:<10} {}  slope {:.2}", each.join(" "), slope(&points));
+    }
+}
+
+/// Least squares over the logarithms.
+fn slope(points: &[(f64, f64)]) -> f64 {
+    let logs: Vec<(f64, f64)> = points.iter().map(|(x, y)| (x.ln(), y.ln())).collect();
+    let count = logs.len() as f64;
+    let (mean_x, mean_y) = (logs.iter().map(|p| p.0).sum::<f64>() / count, logs.iter().map(|p| p.1).sum::<f64>() / count);
+    let rise: f64 = logs.iter().map(|(x, y)| (x - mean_x) * (y - mean_y)).sum();
+    rise / logs.iter().map(|(x, _)| (x - mean_x).powi(2)).sum::<f64>()
 }

@@ -1,63 +1,54 @@
-//! Two functions timed in turn.
+//! Processor time of this thread, so that what else the machine does counts little.
 
-use std::time::Instant;
+use std::ffi::c_int;
 
-/// Seconds a call of each function, the least of several rounds.
-pub struct Timing {
-    archive: f64,
-    model: f64,
+#[repr(C)]
+struct Time {
+    seconds: i64,
+    nanoseconds: i64,
 }
 
-/// How a time is shown for an input of some size.
-pub enum Unit {
-    NanosecondsEach,
-    MegabytesPerSecond,
+extern "C" {
+    fn clock_gettime(clock: c_int, time: *mut Time) -> c_int;
+}
+
+/// In seconds.
+fn now() -> f64 {
+    let mut time = Time {
+        seconds: 0,
+        nanoseconds: 0,
+    };
+    // 3 is CLOCK_THREAD_CPUTIME_ID on Linux.
+    assert_eq!(unsafe { clock_gettime(3, &mut time) }, 0);
+    time.seconds as f64 + time.nanoseconds as f64 * 1e-9
+}
+
+/// The least time of a call over the rounds so far.
+#[derive(Default)]
+pub struct Least {
+    calls: u32,
+    pub seconds: f64,
+}
+
+impl Least {
+    /// One round of calls, of about 5 ms; the first one finds how many these are.
+    pub fn round(&mut self, run: &mut dyn FnMut()) {
+        if self.calls == 0 {
+            self.calls = 1;
+            while seconds(self.calls, run) < 0.005 {
+                self.calls *= 2;
+            }
+            self.seconds = f64::MAX;
+        }
+        self.seconds = self.seconds.min(seconds(self.calls, run) / f64::from(self.calls));
+    }
 }
 
 /// Seconds that `calls` calls take.
-fn seconds(calls: u32, run: &mut impl FnMut() -> bool) -> f64 {
-    let start = Instant::now();
+fn seconds(calls: u32, run: &mut dyn FnMut()) -> f64 {
+    let start = now();
     for _ in 0..calls {
-        assert!(run());
+        run();
     }
-    start.elapsed().as_secs_f64()
-}
-
-/// Calls that take about 20 ms.
-fn calls_for(run: &mut impl FnMut() -> bool) -> u32 {
-    let mut calls = 1;
-    while seconds(calls, run) < 0.02 {
-        calls *= 2;
-    }
-    calls
-}
-
-/// Times both in turn, so that what else the machine does falls on both alike.
-pub fn ratio_of(mut archive: impl FnMut() -> bool, mut model: impl FnMut() -> bool) -> Timing {
-    let a = calls_for(&mut archive);
-    let m = calls_for(&mut model);
-    let mut best = Timing {
-        archive: f64::MAX,
-        model: f64::MAX,
-    };
-    for _ in 0..15 {
-        best.archive = best.archive.min(seconds(a, &mut archive) / f64::from(a));
-        best.model = best.model.min(seconds(m, &mut model) / f64::from(m));
-    }
-    best
-}
-
-impl Timing {
-    pub fn print(&self, service: &str, input: &str, size: usize, unit: Unit) {
-        let show = |time: f64| match unit {
-            Unit::NanosecondsEach => format!("{:.2} ns", time * 1e9 / size.max(1) as f64),
-            Unit::MegabytesPerSecond => format!("{:.1} MB/s", size as f64 / time / 1e6),
-        };
-        println!(
-            "{service:<10} {input:<16} {size:>9} {:>12} {:>12} {:>7.2}",
-            show(self.archive),
-            show(self.model),
-            self.model / self.archive
-        );
-    }
+    now() - start
 }

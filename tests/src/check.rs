@@ -1,6 +1,7 @@
 //! The image check against the model's.
 
-use crate::compare::{hex, shrink, smaller_bytes, Options, Table};
+use crate::compare::{deep_image, fence, hex, inside, Options, Table};
+use crate::shrink::{shrink, smaller_bytes};
 use rolvenko_model::generate::{damaged_image, random_bytes, random_image, text, unsound_images, Rng, Shape};
 use rolvenko_model::{check_detail, read_text, write_image, IMAGE_LIMIT};
 
@@ -17,7 +18,9 @@ fn differs(image: &[u8]) -> bool {
         let refusal = f.refusal();
         (refusal.number, refusal.place)
     });
-    rolvenko::check(image).map_err(|r| (r.number, r.place)) != wanted
+    let lent = fence(image, 0x5A);
+    let found = rolvenko::check(inside(&lent, image.len())).map_err(|r| (r.number, r.place));
+    found != wanted || lent != fence(image, 0x5A)
 }
 
 fn compare(image: &[u8], table: &mut Table) -> Result<(), String> {
@@ -30,7 +33,7 @@ fn compare(image: &[u8], table: &mut Table) -> Result<(), String> {
             check_detail(&small).map(|_| ())
         ));
     }
-    table.count(&name(image));
+    table.count(name(image));
     Ok(())
 }
 
@@ -88,6 +91,11 @@ pub fn run(options: &Options, table: &mut Table) -> Result<(), String> {
         }
         for _ in 0..200 {
             compare(&damaged_image(&mut rng, &image), table)?;
+        }
+        for _ in 0..10 {
+            let deep = deep_image(&mut rng);
+            compare(&deep, table)?;
+            compare(&damaged_image(&mut rng, &deep), table)?;
         }
         for _ in 0..50 {
             compare(&random_image(&mut rng), table)?;

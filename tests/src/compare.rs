@@ -1,6 +1,8 @@
-//! Options, the table of answers, and shrinking.
+//! Options, the table of answers, fences around lent memory, and an image that the model's generators lack.
 
+use rolvenko_model::generate::Rng;
 use std::collections::BTreeMap;
+use std::path::PathBuf;
 use std::time::{Duration, Instant};
 
 /// What the command line asks for.
@@ -9,6 +11,8 @@ pub struct Options {
     pub seconds: u64,
     /// At least so many calls of each service, however long they take.
     pub least: u64,
+    /// A trace program to compare with the model's.
+    pub program: Option<PathBuf>,
     services: Vec<String>,
 }
 
@@ -18,6 +22,7 @@ impl Options {
             seed: 1,
             seconds: 10,
             least: 0,
+            program: None,
             services: Vec::new(),
         };
         let mut words = words;
@@ -30,6 +35,7 @@ impl Options {
                 "--seed" => options.seed = number()?,
                 "--seconds" => options.seconds = number()?,
                 "--least" => options.least = number()?,
+                "--program" => options.program = Some(words.next().ok_or("--program wants a path")?.into()),
                 _ if word.starts_with('-') => return Err(format!("unknown option {word}")),
                 _ => options.services.push(word),
             }
@@ -69,14 +75,9 @@ impl Table {
         self.started
     }
 
-    pub fn count(&mut self, answer: &str) {
+    pub fn count(&mut self, answer: String) {
         self.calls += 1;
-        match self.rows.get_mut(answer) {
-            Some(count) => *count += 1,
-            None => {
-                self.rows.insert(answer.to_owned(), 1);
-            }
-        }
+        *self.rows.entry(answer).or_insert(0) += 1;
     }
 
     pub fn print(&self) {
@@ -88,39 +89,40 @@ impl Table {
     }
 }
 
-/// The smallest input that still differs, reached by steps that `smaller` offers.
-pub fn shrink<I: Clone>(start: &I, smaller: impl Fn(&I) -> Vec<I>, differs: impl Fn(&I) -> bool) -> I {
-    let mut best = start.clone();
-    'again: loop {
-        for candidate in smaller(&best) {
-            if differs(&candidate) {
-                best = candidate;
-                continue 'again;
-            }
-        }
-        return best;
+/// Memory with cells around it that nobody may write.
+#[derive(Clone, PartialEq)]
+pub struct Fenced<T>(Vec<T>);
+
+const MARGIN: usize = 16;
+
+/// `cells` between two margins of `mark`.
+pub fn fence<T: Copy>(cells: &[T], mark: T) -> Fenced<T> {
+    Fenced([&[mark; MARGIN], cells, &[mark; MARGIN]].concat())
+}
+
+/// The `length` cells within the fence.
+pub fn inside<T>(fenced: &Fenced<T>, length: usize) -> &[T] {
+    &fenced.0[MARGIN..MARGIN + length]
+}
+
+impl<T> Fenced<T> {
+    pub fn inside(&mut self, length: usize) -> &mut [T] {
+        &mut self.0[MARGIN..MARGIN + length]
     }
 }
 
-/// A byte list with a run or a single byte left out, or a byte made 0.
-pub fn smaller_bytes(bytes: &[u8]) -> Vec<Vec<u8>> {
-    let mut list = Vec::new();
-    let mut run = bytes.len() / 2;
-    while run > 0 {
-        for at in (0..bytes.len()).step_by(run) {
-            let end = (at + run).min(bytes.len());
-            list.push([&bytes[..at], &bytes[end..]].concat());
-        }
-        run /= 2;
+/// An image of one function that holds 30 to 44 values at once: sound up to 40.
+pub fn deep_image(rng: &mut Rng) -> Vec<u8> {
+    let held = 30 + rng.below(15);
+    let mut image = vec![1, 1, 0, 2, 0, 127, 126, 0];
+    for _ in 0..held {
+        image.extend(*rng.choose(&[[1, 2], [1, 1], [2, 0], [3, 0], [3, 1]]));
     }
-    for at in 0..bytes.len() {
-        if bytes[at] != 0 {
-            let mut next = bytes.to_vec();
-            next[at] = 0;
-            list.push(next);
-        }
+    for _ in 1..held {
+        image.push(*rng.choose(&[4, 5, 6]));
     }
-    list
+    image.extend([21, 1]);
+    image
 }
 
 /// Bytes as hexadecimal digits.

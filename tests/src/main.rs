@@ -1,17 +1,24 @@
 //! Compares every service of the archive with the reference model on generated, mutated, damaged and random input.
 //!
-//!     compare [--seed N] [--seconds S] [--least N] [SERVICE ..]
+//!     compare [--seed N] [--seconds S] [--least N] [--program PATH] [SERVICE ..]
 //!
-//! Prints how often each answer was met. A difference is shrunk to a small input and printed, and the exit status is 1.
+//! Services: translate, check, scan (and start), trace (lists of rows), and program, a trace program at PATH; all by default, S seconds
+//! and at least N calls each. Prints how often each answer was met. A difference is shrunk to a small input and printed, and the
+//! exit status is 1.
 
 mod check;
 mod compare;
+mod program;
 mod scan;
+mod shrink;
 mod trace;
 mod translate;
 
 use compare::{Options, Table};
 use std::process::ExitCode;
+
+/// Compares one service until its time is spent, or answers a difference.
+type Run = fn(&Options, &mut Table) -> Result<(), String>;
 
 fn main() -> ExitCode {
     let options = match Options::read(std::env::args().skip(1)) {
@@ -21,10 +28,15 @@ fn main() -> ExitCode {
             return ExitCode::from(2);
         }
     };
-    let services: [(&str, fn(&Options, &mut Table) -> Result<(), String>); 4] =
-        [("translate", translate::run), ("check", check::run), ("scan", scan::run), ("trace", trace::run)];
+    let services: [(&str, Run); 5] = [
+        ("translate", translate::run),
+        ("check", check::run),
+        ("scan", scan::run),
+        ("trace", trace::run),
+        ("program", program::run),
+    ];
     for (name, run) in services {
-        if !options.wants(name) {
+        if !options.wants(name) || name == "program" && options.program.is_none() {
             continue;
         }
         let mut table = Table::new(name);

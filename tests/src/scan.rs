@@ -1,7 +1,8 @@
-//! Start and scan against the model's, on sound and damaged images, states and rows of any length and any numbers.
+//! Start and scan against the model's, on sound, damaged and random images, states and rows of any length and any numbers.
 
-use crate::compare::{hex, Options, Table};
-use rolvenko_model::generate::{damaged_image, row, state, text, unsound_images, Rng, Shape};
+use crate::compare::{deep_image, fence, hex, inside, Options, Table};
+use crate::shrink::{shrink, smaller_bytes, smaller_numbers};
+use rolvenko_model::generate::{any_number, damaged_image, random_bytes, random_image, row, state, text, unsound_images, Rng, Shape};
 use rolvenko_model::{check_detail, read_text, write_image, Range};
 
 /// An image with the ranges of its names (of its undamaged form).
@@ -12,7 +13,7 @@ struct Subject {
 }
 
 fn subject(rng: &mut Rng) -> Subject {
-    let shape = Shape::any(rng);
+    let shape = if rng.chance(5) { Shape::MANY } else { Shape::any(rng) };
     let source = text(rng, shape);
     let program = read_text(&source).expect("a generated text is accepted");
     let image = write_image(&program);
@@ -24,47 +25,114 @@ fn subject(rng: &mut Rng) -> Subject {
     }
 }
 
-fn start(image: &[u8], found: &[i32], table: &mut Table) -> Result<(), String> {
-    let mut left = found.to_vec();
-    let mut wanted = found.to_vec();
-    let archive = rolvenko::start(image, &mut left).map_err(|r| (r.number, r.place));
-    let model = rolvenko_model::start(image, &mut wanted).map_err(|r| (r.number, r.place));
-    if archive != model || left != wanted {
+/// What is lent to a call. A start has no row.
+#[derive(Clone)]
+struct Call {
+    image: Vec<u8>,
+    state: Vec<i32>,
+    row: Option<Vec<i32>>,
+}
+
+/// Number, place and steps of a refusal, or the steps; and the state left.
+#[derive(PartialEq, Debug)]
+struct Left {
+    answer: Result<u32, (u8, usize, u32)>,
+    state: Vec<i32>,
+    lent_stays: bool,
+}
+
+const FENCE: i32 = 0x5A5A_5A5A;
+
+impl Call {
+    fn by_archive(&self) -> Left {
+        let image = fence(&self.image, 0x5A);
+        let mut state = fence(&self.state, FENCE);
+        let row = fence(self.row.as_deref().unwrap_or(&[]), FENCE);
+        let lent = inside(&image, self.image.len());
+        let answer = match &self.row {
+            None => rolvenko::start(lent, state.inside(self.state.len())).map(|()| 0).map_err(|r| (r.number, r.place, 0)),
+            Some(line) => rolvenko::scan(lent, state.inside(self.state.len()), inside(&row, line.len()))
+                .map_err(|r| (r.number, r.place, r.steps)),
+        };
+        let left = state.inside(self.state.len()).to_vec();
+        let row_stays = row == fence(self.row.as_deref().unwrap_or(&[]), FENCE);
+        Left {
+            answer,
+            lent_stays: row_stays && image == fence(&self.image, 0x5A) && state == fence(&left, FENCE),
+            state: left,
+        }
+    }
+
+    fn by_model(&self) -> Left {
+        let mut state = self.state.clone();
+        let answer = match &self.row {
+            None => rolvenko_model::start(&self.image, &mut state).map(|()| 0).map_err(|r| (r.number, r.place, 0)),
+            Some(line) => rolvenko_model::scan(&self.image, &mut state, line).map_err(|r| (r.number, r.place, r.steps)),
+        };
+        Left {
+            answer,
+            state,
+            lent_stays: true,
+        }
+    }
+
+    fn differs(&self) -> bool {
+        self.by_archive() != self.by_model()
+    }
+
+    fn smaller(&self) -> Vec<Call> {
+        let images = smaller_bytes(&self.image).into_iter().map(|image| Call { image, ..self.clone() });
+        let states = smaller_numbers(&self.state).into_iter().map(|state| Call { state, ..self.clone() });
+        let rows = self.row.iter().flat_map(|row| smaller_numbers(row)).map(|row| Call {
+            row: Some(row),
+            ..self.clone()
+        });
+        images.chain(states).chain(rows).collect()
+    }
+}
+
+fn compare(call: Call, table: &mut Table) -> Result<(), String> {
+    let wanted = call.by_model();
+    if call.by_archive() != wanted {
+        let small = shrink(&call, Call::smaller, Call::differs);
         return Err(format!(
-            "start of image {}\nstate found {found:?}\narchive {archive:?} leaves {left:?}\nmodel   {model:?} leaves {wanted:?}",
-            hex(image)
+            "image {}\nstate found {:?}, row {:?}\narchive {:?}\nmodel   {:?}",
+            hex(&small.image),
+            small.state,
+            small.row,
+            small.by_archive(),
+            small.by_model()
         ));
     }
-    table.count(&match model {
-        Ok(()) => "start  0".to_owned(),
-        Err((number, _)) => format!("start {number:>2}"),
-    });
+    let service = if call.row.is_some() { "scan" } else { "start" };
+    let number = wanted.answer.err().map_or(0, |(number, _, _)| number);
+    table.count(format!("{service:<5} {number:>2}"));
     Ok(())
 }
 
-fn scan(image: &[u8], found: &[i32], line: &[i32], table: &mut Table) -> Result<(), String> {
-    let mut left = found.to_vec();
-    let mut wanted = found.to_vec();
-    let archive = rolvenko::scan(image, &mut left, line).map_err(|r| (r.number, r.place, r.steps));
-    let model = rolvenko_model::scan(image, &mut wanted, line).map_err(|r| (r.number, r.place, r.steps));
-    if archive != model || left != wanted {
-        return Err(format!(
-            "scan of image {}\nstate found {found:?}, row {line:?}\narchive {archive:?} leaves {left:?}\nmodel   {model:?} leaves {wanted:?}",
-            hex(image)
-        ));
+/// A start and a scan.
+fn both(image: &[u8], state: &[i32], row: &[i32], table: &mut Table) -> Result<(), String> {
+    for row in [None, Some(row.to_vec())] {
+        compare(
+            Call {
+                image: image.to_vec(),
+                state: state.to_vec(),
+                row,
+            },
+            table,
+        )?;
     }
-    table.count(&match model {
-        Ok(_) => "scan  0".to_owned(),
-        Err((number, _, _)) => format!("scan {number:>2}"),
-    });
     Ok(())
+}
+
+fn any_numbers(rng: &mut Rng, most: usize) -> Vec<i32> {
+    (0..rng.below(most + 1)).map(|_| any_number(rng)).collect()
 }
 
 pub fn run(options: &Options, table: &mut Table) -> Result<(), String> {
     let mut rng = Rng::new(options.seed);
     for unsound in unsound_images() {
-        start(&unsound.image, &[7; 3], table)?;
-        scan(&unsound.image, &[0; 3], &[0], table)?;
+        both(&unsound.image, &[7; 3], &[0], table)?;
     }
     let since = table.started();
     while !options.spent(since, table.calls) {
@@ -72,11 +140,15 @@ pub fn run(options: &Options, table: &mut Table) -> Result<(), String> {
         for _ in 0..20 {
             let found = state(&mut rng, &subject.ranges);
             let line = row(&mut rng, &subject.ranges[..subject.inputs]);
-            start(&subject.image, &found, table)?;
-            scan(&subject.image, &found, &line, table)?;
-            let damaged = damaged_image(&mut rng, &subject.image);
-            start(&damaged, &found, table)?;
-            scan(&damaged, &found, &line, table)?;
+            both(&subject.image, &found, &line, table)?;
+            both(&damaged_image(&mut rng, &subject.image), &found, &line, table)?;
+        }
+        for _ in 0..5 {
+            let (found, line) = (any_numbers(&mut rng, 5), any_numbers(&mut rng, 3));
+            both(&random_image(&mut rng), &found, &line, table)?;
+            both(&random_bytes(&mut rng, 40), &found, &line, table)?;
+            let number = any_number(&mut rng);
+            both(&deep_image(&mut rng), &[1, number % 9], &[1], table)?;
         }
     }
     Ok(())

@@ -1,7 +1,8 @@
-//! Translation against the model's: answer, place, every byte of the buffer.
+//! Translation against the model's: answer, place, every byte of the buffer and around it.
 
-use crate::compare::{hex, shrink, smaller_bytes, Options, Table};
-use rolvenko_model::generate::{limit_texts, mutated_text, random_bytes, text, token_soup, Rng, Shape};
+use crate::compare::{fence, hex, inside, Options, Table};
+use crate::shrink::{shrink, smaller_bytes};
+use rolvenko_model::generate::{limit_texts, mutate_bytes, mutated_text, random_bytes, text, token_soup, Rng, Shape};
 use rolvenko_model::{read_text, write_image};
 
 /// What both leave in buffers of the same length and contents.
@@ -11,30 +12,33 @@ struct Both {
     same_memory: bool,
 }
 
-/// Translates into a buffer of `room` bytes, filled with a byte that tells untouched places.
-fn both(source: &[u8], room: usize) -> Both {
-    let mut written = vec![0xA5; room];
-    let mut wanted = vec![0xA5; room];
-    let archive = rolvenko::translate(source, &mut written).map_err(|r| (r.number, r.place));
-    let model = rolvenko_model::translate(source, &mut wanted).map_err(|r| (r.number, r.place));
-    Both {
-        archive,
-        model,
-        same_memory: written == wanted,
+impl Both {
+    fn differ(&self) -> bool {
+        self.archive != self.model || !self.same_memory
     }
 }
 
-fn differs(source: &[u8], room: usize) -> bool {
-    let b = both(source, room);
-    b.archive != b.model || !b.same_memory
+/// Translates into a buffer of `room` bytes, filled with a byte that tells untouched places. The text must stay as it is too.
+fn both(source: &[u8], room: usize) -> Both {
+    let lent = fence(source, 0x5A);
+    let mut written = fence(&vec![0xA5; room], 0x5A);
+    let mut wanted = written.clone();
+    let archive = rolvenko::translate(inside(&lent, source.len()), written.inside(room)).map_err(|r| (r.number, r.place));
+    let model = rolvenko_model::translate(source, wanted.inside(room)).map_err(|r| (r.number, r.place));
+    Both {
+        archive,
+        model,
+        same_memory: written == wanted && lent == fence(source, 0x5A),
+    }
 }
 
 /// A buffer for any text.
 const ROOM: usize = 49_154;
 
 fn compare(source: &[u8], room: usize, table: &mut Table) -> Result<(), String> {
-    if differs(source, room) {
-        let small = shrink(&source.to_vec(), |t| smaller_bytes(t), |t| differs(t, room));
+    let found = both(source, room);
+    if found.differ() {
+        let small = shrink(&source.to_vec(), |t| smaller_bytes(t), |t| both(t, room).differ());
         let b = both(&small, room);
         return Err(format!(
             "text {:?}\nbytes {}\nbuffer of {room} bytes, same memory: {}\narchive {:?}\nmodel   {:?}",
@@ -45,7 +49,7 @@ fn compare(source: &[u8], room: usize, table: &mut Table) -> Result<(), String> 
             b.model
         ));
     }
-    table.count(&match both(source, room).model {
+    table.count(match found.model {
         Ok(_) => " 0".to_owned(),
         Err((number, _)) => format!("{number:>2}"),
     });
@@ -77,10 +81,13 @@ pub fn run(options: &Options, table: &mut Table) -> Result<(), String> {
     for limit in limit_texts() {
         compare(&limit.text, ROOM, table)?;
         around(&limit.text, table)?;
+        let mut edited = limit.text.clone();
+        mutate_bytes(&mut rng, &mut edited);
+        compare(&edited, ROOM, table)?;
     }
     let since = table.started();
     while !options.spent(since, table.calls) {
-        let shape = Shape::any(&mut rng);
+        let shape = if rng.chance(3) { Shape::MANY } else { Shape::any(&mut rng) };
         let source = text(&mut rng, shape);
         around(&source, table)?;
         if source.len() < 400 {

@@ -1,7 +1,19 @@
 //! Rolvenko's services for Rust: slices in, results out. Each call is one call of the archive's C function
 //! (include/rolvenko.h), whose contract is proved for every input, so nothing is asked of the caller.
 
-/// A refusal: its number in document 01 and its byte place.
+use std::error::Error;
+use std::fmt::{self, Display, Formatter};
+
+/// Bytes of a text.
+pub const TEXT_LIMIT: usize = 32_768;
+/// Bytes of an image.
+pub const IMAGE_LIMIT: usize = 65_536;
+/// Bytes that the image of any accepted text fits in.
+pub const IMAGE_ROOM: usize = 49_154;
+/// Inputs and variables together.
+pub const NAMES: usize = 64;
+
+/// A refusal: its number in document 01 and its byte place (0 for 9 and 12).
 #[derive(Clone, Copy, Debug, PartialEq, Eq)]
 pub struct Refusal {
     pub number: u8,
@@ -15,6 +27,55 @@ pub struct ScanRefusal {
     pub place: usize,
     pub steps: u32,
 }
+
+impl Display for Refusal {
+    fn fmt(&self, f: &mut Formatter) -> fmt::Result {
+        write!(f, "refused {} at {}: {}", self.number, self.place, meaning(self.number))
+    }
+}
+
+impl Display for ScanRefusal {
+    fn fmt(&self, f: &mut Formatter) -> fmt::Result {
+        match self.number {
+            9 | 11 => write!(f, "refused {} at {}: {}", self.number, self.place, meaning(self.number)),
+            _ => write!(f, "refused {} after {} steps: {}", self.number, self.steps, meaning(self.number)),
+        }
+    }
+}
+
+impl Error for Refusal {}
+impl Error for ScanRefusal {}
+
+/// A refusal's meaning in a few words.
+pub fn meaning(number: u8) -> &'static str {
+    match number {
+        0 => "no refusal",
+        1 => "a byte of no token, or a lone `_` or `.`",
+        2 => "a token that the grammar does not allow there, or an early end",
+        3 => "a number out of its limit, low over high, or a start outside them",
+        4 => "an unknown name, or one declared twice",
+        5 => "a current value used before its rule",
+        6 => "a rule for an input, a second rule, or a variable without rule",
+        7 => "the no-change formula has another list of conditions",
+        8 => "over 16 brackets, 32 cases, 64 names or 16 bytes of a name",
+        9 => "the text or image is over its limit",
+        10 => "the image buffer is too short",
+        11 => "the image is not sound",
+        12 => "the state or row has the wrong length",
+        13 => "an input of the row is outside its range",
+        14 => "a result outside 32 bits, or a zero divisor",
+        15 => "two conditions of one rule hold",
+        16 => "a case gives the previous value again",
+        17 => "a new value is outside its range",
+        18 => "a value of the state is outside its range",
+        _ => "no refusal of document 01",
+    }
+}
+
+/// README's program, as a test.
+#[cfg(doctest)]
+#[doc = include_str!("../../../README.md")]
+pub struct Readme;
 
 mod archive {
     extern "C" {

@@ -29,7 +29,7 @@ use Rattle.machine.proofs.Translated.{exec, exec-rules, run-exec}
 use Rattle.grammar.proofs.Accepted.{program-translatable}
 use Rattle.translate.specs.Services.{translationOf}
 use Rattle.scan.specs.Services.{AfterStart, startOf, started, AfterScan, refusedScan, finished, runOf, scanCode, testedScan, scanned, scanOf}
-use Rattle.correctness.proofs.Demand2.{image-stored, stored-image}
+use Rattle.translate.proofs.Kept.{image-stored, stored-image}
 use Rattle.correctness.specs.TraceCorrect.{scansOf, verdictOf, replyOf, repliesOf, StepsIf, StepsAre, begun, found, TraceCorrect, Demand3}
 
 -- ---- one scan

@@ -8,3 +8,4 @@ pub mod Printing
 pub mod Lengths
 pub mod Examples
 pub mod Handed
+pub mod Within

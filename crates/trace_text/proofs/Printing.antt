@@ -13,7 +13,8 @@ use borrow.Author.Tests.{lt-ltb, le-ltb, le-leb, ltb-true, ltb-false}
 use Rattle.lexer.specs.Bytes.{pick, bytes, part}
 use Rattle.lexer.specs.Lexer.{isDigit, valueOf, valueOn}
 use Rattle.trace_text.specs.Row.{allDigits, within32, numberOf}
-use Rattle.trace_text.specs.Output.{digitsUpTo, unsignedDecimal, decimalOf, spaced, headLine, rowLine, refusedLine, spelledBy}
+use Rattle.trace_text.specs.Output.{digitsUpTo, unsignedDecimal, decimalOf, spaced, headLine, rowLine, refusedLine}
+use Rattle.lexer.specs.Names.{namesOf}
 use Rattle.trace_text.specs.Internal.{signed}
 use Rattle.trace_text.proofs.Decimals.{all-append, value-append, signs, number-signs}
 
@@ -108,25 +109,25 @@ refused-is number place = simp (append-assoc, append-nil)
 
 -- ---- a table of names
 
-pub no-names : (text starts ends : List ℕ) → spelledBy text starts ends 0 ≡ []
-unfolding spelledBy
+pub no-names : (text starts ends : List ℕ) → namesOf text starts ends 0 ≡ []
+unfolding namesOf
 no-names text [] ends = refl
 no-names text (s ∷ starts) [] = refl
 no-names text (s ∷ starts) (e ∷ ends) = refl
 
-pub no-starts : (text ends : List ℕ) (n : ℕ) → spelledBy text [] ends n ≡ []
-unfolding spelledBy
+pub no-starts : (text ends : List ℕ) (n : ℕ) → namesOf text [] ends n ≡ []
+unfolding namesOf
 no-starts text ends n = refl
 
-pub no-ends : (text starts : List ℕ) (n : ℕ) → spelledBy text starts [] n ≡ []
-unfolding spelledBy
+pub no-ends : (text starts : List ℕ) (n : ℕ) → namesOf text starts [] n ≡ []
+unfolding namesOf
 no-ends text [] n = refl
 no-ends text (s ∷ starts) n = refl
 
 pub spelled-next : (text starts ends : List ℕ) (n i : ℕ) → i < n → i < length starts → i < length ends
-    → spelledBy text (drop i starts) (drop i ends) (n - i)
-    ≡ part text (getD starts i 0) (getD ends i 0) ∷ spelledBy text (drop (i + 1) starts) (drop (i + 1) ends) (n - (i + 1))
-unfolding spelledBy
+    → namesOf text (drop i starts) (drop i ends) (n - i)
+    ≡ part text (getD starts i 0) (getD ends i 0) ∷ namesOf text (drop (i + 1) starts) (drop (i + 1) ends) (n - (i + 1))
+unfolding namesOf
 spelled-next text starts ends n i h s e =
     let k : n - i ≡ suc (n - (i + 1)) = omega arith in
     rw (drop-cons starts i 0 s, drop-cons ends i 0 e, k, add-one)

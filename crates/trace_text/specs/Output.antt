@@ -6,7 +6,7 @@ use lib.Dec.{ltb}
 use lib.IntN.{ℤ, pos, negsuc}
 use lib.ListN.{length}
 use lib.Seq.{sets}
-use Rattle.lexer.specs.Bytes.{pick, bytes, part}
+use Rattle.lexer.specs.Bytes.{pick, bytes}
 
 -- ---- decimals, the shortest, `-` for negative numbers
 
@@ -46,13 +46,6 @@ headLine names = lineOf (bytes "scan") (names ++ (bytes "result" ∷ []))
 -- refusal or 0.
 unfoldable pub rowLine : ℕ → List ℤ → ℕ → List ℕ
 rowLine number values refusal = lineOf (unsignedDecimal number) (map decimalOf values ++ (unsignedDecimal refusal ∷ []))
-
--- the names that the first n entries of a table spell: each is the part of the text from its start to its end
-unfoldable pub spelledBy : List ℕ → List ℕ → List ℕ → ℕ → List (List ℕ)
-spelledBy text [] ends n = []
-spelledBy text (s ∷ starts) [] n = []
-spelledBy text (s ∷ starts) (e ∷ ends) zero = []
-spelledBy text (s ∷ starts) (e ∷ ends) (suc n) = part text s e ∷ spelledBy text starts ends n
 
 -- ---- a buffer into which bytes were put from a place on: as far as there is room, and the place behind them, at most its end
 pub record Put (before : List ℕ) (at : ℕ) (put : List ℕ) (after : List ℕ) (behind : ℕ) : Type 0 where

@@ -4,7 +4,8 @@ ghost use mathlib.Core.Path.{_≡_};
 ghost use mathlib.Core.List.{[], _∷_, map};
 ghost use Prim.Native.Nat.{min};
 ghost use Rattle.lexer.specs.Bytes.{part};
-ghost use Rattle.trace_text.specs.Output.{Put, unsignedDecimal, decimalOf, spaced, refusedLine, headLine, rowLine, spelledBy};
+ghost use Rattle.lexer.specs.Names.{namesOf};
+ghost use Rattle.trace_text.specs.Output.{Put, unsignedDecimal, decimalOf, spaced, refusedLine, headLine, rowLine};
 
 // The place, or the end where the place is past it.
 pub fn clip(end: usize, at: usize) -> usize
@@ -86,7 +87,7 @@ fn put_names(
     ends: &[usize],
     count: usize,
 ) -> usize
-    ensures { λ r. ⌜ Put (now (out .entry)) at (spaced (spelledBy (now (text .entry)) (now (starts .entry)) (now (ends .entry)) count)) (now (out .exit)) r ⌝ }
+    ensures { λ r. ⌜ Put (now (out .entry)) at (spaced (namesOf (now (text .entry)) (now (starts .entry)) (now (ends .entry)) count)) (now (out .exit)) r ⌝ }
 {
     let mut place = clip(out.len(), at);
     let mut i = 0;
@@ -114,7 +115,7 @@ pub fn put_head(
     ends: &[usize],
     count: usize,
 ) -> usize
-    ensures { λ r. ⌜ Put (now (out .entry)) at (headLine (spelledBy (now (text .entry)) (now (starts .entry)) (now (ends .entry)) count)) (now (out .exit)) r ⌝ }
+    ensures { λ r. ⌜ Put (now (out .entry)) at (headLine (namesOf (now (text .entry)) (now (starts .entry)) (now (ends .entry)) count)) (now (out .exit)) r ⌝ }
 {
     let first = put_bytes(out, at, b"scan");
     let second = put_names(out, first, text, starts, ends, count);

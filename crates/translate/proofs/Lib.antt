@@ -2,3 +2,4 @@ pub mod Stores
 pub mod Ways
 pub mod Descent
 pub mod Service
+pub mod Kept

@@ -2,7 +2,8 @@
 use mathlib.Core.Path.{_≡_, sym, ap, _∙_}
 use Rattle.translate.specs.declared.Translated.{Translated}
 use Rattle.translate.specs.Results.{afterTranslation}
-use Rattle.replay.proofs.Texts.{image-inside, text-refused, text-replayed}
+use Rattle.translate.proofs.Kept.{image-inside}
+use Rattle.replay.proofs.Texts.{text-refused, text-replayed}
 use Rattle.replay.proofs.Showing.{replay-shown}
 use lib.Seq.{length-take-le}
 use borrow.Author.Needs.{needs}

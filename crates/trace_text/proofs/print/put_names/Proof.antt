@@ -6,7 +6,8 @@ use native.Mathlib.Omega.{arith}
 use lib.ListN.{getD, drop, drop-of-length-le}
 use borrow.Author.Needs.{needs}
 use Rattle.lexer.specs.Bytes.{part}
-use Rattle.trace_text.specs.Output.{spaced, spelledBy}
+use Rattle.lexer.specs.Names.{namesOf}
+use Rattle.trace_text.specs.Output.{spaced}
 use Rattle.trace_text.proofs.Puts.{put-clip, Putting, putting, putting-next, putting-done}
 use Rattle.trace_text.proofs.Printing.{no-names, no-starts, no-ends, spelled-next}
 use Rattle.trace_text.proofs.print.put_names.Statement.{statement}
@@ -14,7 +15,7 @@ use Rattle.trace_text.proofs.print.put_names.Tie as tie
 
 abbrev Inv-loop : tie.InvT-loop
 Inv-loop out₀ at text starts ends count place₀ i₀ out place i =
-    Putting out₀ place₀ (spaced (spelledBy text starts ends count)) out place (spaced (spelledBy text (drop i starts) (drop i ends) (count - i)))
+    Putting out₀ place₀ (spaced (namesOf text starts ends count)) out place (spaced (namesOf text (drop i starts) (drop i ends) (count - i)))
 
 abbrev μ-loop : tie.MeasureT-loop
 μ-loop out₀ at text starts ends count place₀ i₀ out place i = count - i

@@ -1,0 +1,166 @@
+/* libFuzzer's entry. The first byte of an input says what the rest is:
+ *   T  an input of the trace program: a text, a line `#`, rows of decimals
+ *   M  the same, but what follows `#` are changes of the image: triples of bytes, a place (two) and a value
+ *   I  a count k, k bytes that stand for numbers of states and rows, then an image
+ * A byte of lower case does the same with lent memory at the start of its pages and not at their end. */
+#include "blocks.h"
+#include "rolvenko.h"
+#include "services.h"
+
+#include <ctype.h>
+#include <stdio.h>
+#include <stdlib.h>
+#include <string.h>
+
+static uint8_t image[IMAGE_MOST], again[IMAGE_MOST];
+
+static void promise(int fact) {
+    if (!fact)
+        abort();
+}
+
+int LLVMFuzzerInitialize(int *argc, char ***argv);
+int LLVMFuzzerTestOneInput(const uint8_t *data, size_t size);
+
+int LLVMFuzzerInitialize(int *argc, char ***argv) {
+    (void)argc;
+    char file[4096];
+    snprintf(file, sizeof file, "%s.blocks", (*argv)[0]);
+    services_begin();
+    blocks_watch(file);
+    return 0;
+}
+
+/* The bytes before the line `#` and those after it. */
+static size_t before_mark(const uint8_t *data, size_t size, size_t *after) {
+    for (size_t i = 0; i + 2 < size; i++)
+        if (data[i] == '\n' && data[i + 1] == '#' && data[i + 2] == '\n') {
+            *after = i + 3;
+            return i + 1;
+        }
+    *after = size;
+    return size;
+}
+
+/* The next row of decimals; numbers wrap, other bytes separate. */
+static size_t next_row(const uint8_t **at, const uint8_t *end, int32_t *row) {
+    size_t inputs = 0;
+    while (*at < end && **at != '\n' && inputs < CELLS_MOST - 1) {
+        int negative = **at == '-';
+        *at += negative;
+        uint32_t value = 0;
+        const uint8_t *first = *at;
+        while (*at < end && isdigit(**at))
+            value = value * 10 + (uint32_t)(*(*at)++ - '0');
+        if (*at > first)
+            row[inputs++] = (int32_t)(negative ? 0 - value : value);
+        else if (*at < end && **at != '\n')
+            ++*at;
+    }
+    if (*at < end)
+        ++*at;
+    return inputs;
+}
+
+/* A scan, and the same scan again from the same state: all is the same. */
+static struct parts scan_twice(size_t length, int32_t *state, size_t cells, const int32_t *row, size_t inputs) {
+    int32_t before[CELLS_MOST];
+    memcpy(before, state, sizeof before);
+    struct parts first = scan(image, length, state, cells, row, inputs);
+    struct parts second = scan(image, length, before, cells, row, inputs);
+    promise(first.number == second.number && first.count == second.count && memcmp(state, before, sizeof before) == 0);
+    return first;
+}
+
+/* Rows from the starting state of a sound image: never 18, and every accepted scan has the same steps. */
+static void scan_rows(size_t length, const uint8_t *at, const uint8_t *end) {
+    int32_t state[CELLS_MOST] = {7, -7}, row[CELLS_MOST] = {0};
+    size_t cells = (size_t)image[0] + image[1], inputs;
+    uint32_t steps = UINT32_MAX;
+    promise(start(image, length, state, cells).number == 0);
+    promise(start(image, length, state, cells + 1).number == 12);
+    for (int rows = 0; rows < 20 && at < end; rows++) {
+        inputs = next_row(&at, end, row);
+        struct parts p = scan_twice(length, state, cells, row, rows % 4 ? image[0] : inputs);
+        promise(p.number != 18);
+        if (p.number == 0) {
+            promise(steps == UINT32_MAX || steps == p.count);
+            steps = p.count;
+        }
+    }
+}
+
+/* Every answer of a text does not depend on the room but for 10, and the image not at all. Answers the image's length, or 0. */
+static size_t translated(const uint8_t *text, size_t length) {
+    size_t enough = length < ROLVENKO_TEXT_LIMIT ? 3 * length / 2 + 2 : ROLVENKO_IMAGE_ROOM;
+    struct parts p = translate(text, length, enough, image);
+    struct parts none = translate(text, length, 0, again);
+    if (p.number != 0) {
+        promise(none.number == p.number && none.place == p.place && p.number != 10);
+        return 0;
+    }
+    promise(none.number == 10);
+    struct parts exact = translate(text, length, p.count, again);
+    promise(exact.number == 0 && exact.count == p.count && memcmp(image, again, p.count) == 0);
+    promise(translate(text, length, p.count - 1, again).number == 10);
+    promise(check(image, p.count).number == 0);
+    promise(check(image, p.count - 1).number == 11);
+    return p.count;
+}
+
+static void changed_image(size_t length, const uint8_t *at, const uint8_t *end) {
+    for (; end - at >= 3; at += 3)
+        image[((size_t)at[0] << 8 | at[1]) % length] = at[2];
+    struct parts c = check(image, length);
+    int32_t state[CELLS_MOST] = {0}, row[CELLS_MOST] = {0};
+    if (c.number == 0) {
+        static const uint8_t rows[] = "1 0\n\n0 1 2\n3\n";
+        scan_rows(length, rows, rows + sizeof rows - 1);
+        start(image, length, state, (size_t)image[0] + image[1]);
+        scan_twice(length, state, (size_t)image[0] + image[1], row, image[0]);
+    } else {
+        start(image, length, state, 3);
+        scan_twice(length, state, 3, row, 1);
+    }
+}
+
+/* States and rows of small and great numbers over any image. */
+static void any_image(const uint8_t *data, size_t size) {
+    size_t k = size > 0 ? data[0] % CELLS_MOST : 0;
+    if (size < 1 + k || size - 1 - k > IMAGE_MOST)
+        return;
+    int32_t state[CELLS_MOST] = {0}, row[CELLS_MOST] = {0};
+    for (size_t i = 0; i < k; i++)
+        state[i] = (int32_t)(int8_t)data[1 + i] * (data[1 + i] % 8 == 7 ? 16777216 : 1);
+    memcpy(row, state, k * sizeof *row);
+    size_t length = size - 1 - k;
+    memcpy(image, data + 1 + k, length);
+    struct parts c = check(image, length);
+    size_t cells = c.number == 0 ? (size_t)image[0] + image[1] : k;
+    size_t inputs = c.number == 0 ? image[0] : k / 2;
+    scan_twice(length, state, cells, row, inputs);
+    if (start(image, length, state, cells).number == 0)
+        for (int rows = 0; rows < 4; rows++)
+            promise(scan_twice(length, state, cells, row + rows, inputs).number != 18);
+}
+
+int LLVMFuzzerTestOneInput(const uint8_t *data, size_t size) {
+    if (size == 0 || size > TEXT_MOST)
+        return 0;
+    services_side(isupper(data[0]) != 0);
+    size_t after, length;
+    switch (toupper(data[0])) {
+    case 'T':
+    case 'M':
+        length = translated(data + 1, before_mark(data + 1, size - 1, &after));
+        if (length > 0 && toupper(data[0]) == 'T')
+            scan_rows(length, data + 1 + after, data + size);
+        else if (length > 0)
+            changed_image(length, data + 1 + after, data + size);
+        return 0;
+    case 'I':
+        any_image(data + 1, size - 1);
+        return 0;
+    }
+    return 0;
+}

@@ -1,0 +1,160 @@
+#include "services.h"
+#include "memory.h"
+#include "rolvenko.h"
+
+#include <stdlib.h>
+#include <string.h>
+
+#define PROMISE(fact)      \
+    do {                   \
+        if (!(fact))       \
+            abort();       \
+    } while (0)
+
+static struct region text_pages, image_pages, room_pages, state_pages, row_pages;
+static enum side side;
+
+enum { FEATURES = 65536 };
+__attribute__((section("__libfuzzer_extra_counters"))) static uint8_t features[FEATURES];
+
+void services_begin(void) {
+    text_pages = region(TEXT_MOST, READ_ONLY);
+    image_pages = region(IMAGE_MOST, READ_ONLY);
+    room_pages = region(IMAGE_MOST, WRITABLE);
+    state_pages = region(CELLS_MOST * sizeof(int32_t), WRITABLE);
+    row_pages = region(CELLS_MOST * sizeof(int32_t), READ_ONLY);
+}
+
+void services_side(int at_end) { side = at_end ? AT_END : AT_START; }
+
+void feature(unsigned service, struct parts answer, const uint8_t *bytes, size_t length) {
+    unsigned at = answer.place < length ? bytes[answer.place] : 256;
+    unsigned steps = 0;
+    for (uint32_t count = answer.count; count > 0; count /= 2)
+        steps++;
+    unsigned known = ((service * 32 + answer.number) * 257 + at) * 32 + steps;
+    features[known * 2654435761u >> 16] = 1;
+}
+
+/* The answer in its parts; they make up the whole. */
+static struct parts parts(uint64_t answer) {
+    struct parts p = {rolvenko_number(answer), rolvenko_place(answer), rolvenko_count(answer)};
+    PROMISE(answer == ((uint64_t)p.number << 56 | (uint64_t)p.place << 24 | p.count));
+    return p;
+}
+
+static struct part lend(struct region pages, const void *contents, size_t bytes) {
+    struct part p = part(pages, bytes, side);
+    if (bytes > 0)
+        memcpy(p.own, contents, bytes);
+    return p;
+}
+
+static int equal(const void *a, const void *b, size_t bytes) { return bytes == 0 || memcmp(a, b, bytes) == 0; }
+
+static int filled(const uint8_t *at, uint8_t with, size_t bytes) {
+    return bytes == 0 || (at[0] == with && memcmp(at, at + 1, bytes - 1) == 0);
+}
+
+static void translation_promises(struct parts p, size_t length, size_t room) {
+    PROMISE(p.number <= 10);
+    PROMISE((p.number == 9) == (length > ROLVENKO_TEXT_LIMIT));
+    if (p.number == 0) {
+        PROMISE(p.place == 0 && p.count >= 2 && p.count <= room);
+        PROMISE(p.count <= ROLVENKO_IMAGE_ROOM && 2 * p.count <= 3 * length + 4);
+    } else {
+        PROMISE(p.count == 0 && p.place <= length);
+        PROMISE(p.number != 9 || p.place == 0);
+        PROMISE(p.number != 10 || p.place == length);
+    }
+}
+
+struct parts translate(const uint8_t *text, size_t length, size_t room, uint8_t *image) {
+    struct part lent = lend(text_pages, text, length);
+    struct part buffer = part(room_pages, room, side);
+    uint8_t fill = (uint8_t)(length * 7 + room);
+    memset(buffer.own, fill, room);
+    struct parts p = parts(rolvenko_translate(lent.lent, length, buffer.lent, room));
+    part_intact(lent);
+    part_intact(buffer);
+    PROMISE(equal(lent.own, text, length));
+    translation_promises(p, length, room);
+    PROMISE(filled(buffer.own + p.count, fill, room - p.count));
+    if (p.number == 0)
+        memcpy(image, buffer.own, p.count);
+    feature(0, p, text, length);
+    return p;
+}
+
+struct parts check(const uint8_t *image, size_t length) {
+    struct part lent = lend(image_pages, image, length);
+    struct parts p = parts(rolvenko_check(lent.lent, length));
+    part_intact(lent);
+    PROMISE(equal(lent.own, image, length));
+    PROMISE(p.number == 0 || p.number == 9 || p.number == 11);
+    PROMISE(p.count == 0 && p.place <= length);
+    PROMISE((p.number == 9) == (length > ROLVENKO_IMAGE_LIMIT));
+    PROMISE(p.number == 11 || p.place == 0);
+    feature(1, p, image, length);
+    return p;
+}
+
+/* Whether start or scan may answer p where check answers c. */
+static void check_comes_first(struct parts c, struct parts p) {
+    if (c.number != 0)
+        PROMISE(p.number == c.number && p.place == c.place && p.count == 0);
+    else
+        PROMISE(p.place == 0 && p.number != 9 && p.number != 11);
+}
+
+struct parts start(const uint8_t *image, size_t length, int32_t *state, size_t cells) {
+    struct parts c = check(image, length);
+    struct part lent = lend(image_pages, image, length);
+    struct part buffer = lend(state_pages, state, cells * sizeof *state);
+    struct parts p = parts(rolvenko_start(lent.lent, length, (int32_t *)buffer.lent, cells));
+    part_intact(lent);
+    part_intact(buffer);
+    PROMISE(equal(lent.own, image, length));
+    check_comes_first(c, p);
+    PROMISE(p.count == 0);
+    if (c.number == 0) /* the counts of a sound image's header have one byte each */
+        PROMISE(p.number == ((size_t)image[0] + image[1] == cells ? 0 : 12));
+    if (p.number != 0)
+        PROMISE(equal(buffer.own, state, cells * sizeof *state));
+    else if (cells > 0)
+        memcpy(state, buffer.own, cells * sizeof *state);
+    feature(2, p, image, length);
+    return p;
+}
+
+static void scan_promises(struct parts p, const uint8_t *image, size_t cells, size_t inputs) {
+    int lengths = (size_t)image[0] + image[1] == cells && image[0] == inputs;
+    PROMISE((p.number == 12) == !lengths);
+    PROMISE(p.number == 0 || (p.number >= 12 && p.number <= 18));
+    PROMISE(p.count == 0 || p.number == 0 || (p.number >= 14 && p.number <= 17));
+    PROMISE(p.count > 0 || p.number == 0 || p.number == 12 || p.number == 13 || p.number == 18);
+}
+
+struct parts scan(const uint8_t *image, size_t length, int32_t *state, size_t cells, const int32_t *row, size_t inputs) {
+    struct parts c = check(image, length);
+    struct part lent = lend(image_pages, image, length);
+    struct part buffer = lend(state_pages, state, cells * sizeof *state);
+    struct part line = lend(row_pages, row, inputs * sizeof *row);
+    struct parts p =
+        parts(rolvenko_scan(lent.lent, length, (int32_t *)buffer.lent, cells, (const int32_t *)line.lent, inputs));
+    part_intact(lent);
+    part_intact(buffer);
+    part_intact(line);
+    PROMISE(equal(lent.own, image, length) && equal(line.own, row, inputs * sizeof *row));
+    check_comes_first(c, p);
+    if (c.number == 0)
+        scan_promises(p, image, cells, inputs);
+    if (p.number != 0)
+        PROMISE(equal(buffer.own, state, cells * sizeof *state));
+    else if (cells > 0)
+        memcpy(state, buffer.own, cells * sizeof *state);
+    if (p.number == 0)
+        PROMISE(equal(state, row, inputs * sizeof *row)); /* the row's inputs are the state's */
+    feature(3, p, image, length);
+    return p;
+}

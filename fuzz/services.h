@@ -1,0 +1,31 @@
+/* The four services with what their contracts promise tested at each call; a broken promise aborts. */
+#ifndef SERVICES_H
+#define SERVICES_H
+
+#include <stddef.h>
+#include <stdint.h>
+
+enum { TEXT_MOST = 40000, IMAGE_MOST = 70000, CELLS_MOST = 80 };
+
+struct parts {
+    unsigned number;
+    uint32_t place;
+    uint32_t count;
+};
+
+/* Maps the memory; once. */
+void services_begin(void);
+
+/* Puts lent memory at the end of its pages, or at their start. */
+void services_side(int at_end);
+
+/* Translates `text` with `room` bytes lent; an accepted image is copied to `image` (IMAGE_MOST bytes). */
+struct parts translate(const uint8_t *text, size_t length, size_t room, uint8_t *image);
+struct parts check(const uint8_t *image, size_t length);
+struct parts start(const uint8_t *image, size_t length, int32_t *state, size_t cells);
+struct parts scan(const uint8_t *image, size_t length, int32_t *state, size_t cells, const int32_t *row, size_t inputs);
+
+/* Tells libFuzzer which answer was met: number, the byte at its place, and the size of its count. */
+void feature(unsigned service, struct parts answer, const uint8_t *bytes, size_t length);
+
+#endif

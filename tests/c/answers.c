@@ -1,0 +1,103 @@
+/* Every function of include/rolvenko.h once for each kind of answer: number, place, count, and the memory left. */
+#include "rolvenko.h"
+
+#include <stdio.h>
+#include <string.h>
+
+static int failures;
+
+static void expect(const char *what, uint64_t answer, unsigned number, uint32_t place, uint32_t count) {
+    if (answer == ((uint64_t)number << 56 | (uint64_t)place << 24 | count) && rolvenko_number(answer) == number &&
+        rolvenko_place(answer) == place && rolvenko_count(answer) == count)
+        return;
+    printf("%s: %u at %u, count %u\n", what, rolvenko_number(answer), rolvenko_place(answer), rolvenko_count(answer));
+    failures++;
+}
+
+static void same(const char *what, const void *found, const void *wanted, size_t bytes) {
+    if (memcmp(found, wanted, bytes) != 0) {
+        printf("%s: other memory\n", what);
+        failures++;
+    }
+}
+
+/* L2 of document 01, and its image. */
+static const char L2[] = "var v 0..1; v: GX(~(v = _v) -> [_v = 0] & v = (1)); v: GX(v = _v -> ~([_v = 0]));";
+static const uint8_t L2_IMAGE[17] = {0, 1, 0, 2, 0, 3, 0, 1, 0, 10, 19, 1, 2, 20, 0, 22, 0};
+
+static uint64_t translate(const char *text, uint8_t *image, size_t room) {
+    return rolvenko_translate((const uint8_t *)text, strlen(text), image, room);
+}
+
+static void translations(void) {
+    uint8_t image[24], filled[24];
+    memset(filled, 0xA5, sizeof filled);
+    memcpy(image, filled, sizeof image);
+    expect("L2", translate(L2, image, sizeof image), 0, 0, 17);
+    same("L2's image", image, L2_IMAGE, 17);
+    same("behind L2's image", image + 17, filled, sizeof image - 17);
+    memcpy(image, filled, sizeof image);
+    expect("no room", translate(L2, image, 16), 10, sizeof L2 - 1, 0);
+    expect("bad byte", translate("var $", image, sizeof image), 1, 4, 0);
+    expect("early end", translate("var v", image, sizeof image), 2, 5, 0);
+    expect("no rule", translate("var v 0..1;", image, sizeof image), 6, 11, 0);
+    static uint8_t spaces[ROLVENKO_TEXT_LIMIT + 1];
+    memset(spaces, ' ', sizeof spaces);
+    expect("text over the limit", rolvenko_translate(spaces, sizeof spaces, image, sizeof image), 9, 0, 0);
+    same("a refused translation", image, filled, sizeof image);
+    expect("spaces", rolvenko_translate(spaces, sizeof spaces - 1, image, sizeof image), 0, 0, 2);
+}
+
+static void checks(void) {
+    static const uint8_t held[] = {0, 0, 1, 0};
+    static uint8_t zeros[ROLVENKO_IMAGE_LIMIT + 1];
+    expect("sound", rolvenko_check(L2_IMAGE, 17), 0, 0, 0);
+    expect("cut", rolvenko_check(L2_IMAGE, 15), 11, 15, 0);
+    expect("a value held", rolvenko_check(held, sizeof held), 11, 4, 0);
+    expect("image over the limit", rolvenko_check(zeros, sizeof zeros), 9, 0, 0);
+}
+
+static void starts_and_scans(void) {
+    static const uint8_t counter[] = {1, 1, 0, 2, 0, 0, 4, 2, 3, 1, 2, 0, 4, 21, 1}; /* input i 0..1; var v 0..2 init 1; v = _v + i */
+    int32_t state[2] = {7, 7}, found[2] = {7, 7}, row[1] = {1}, outside[1] = {2};
+    expect("start of a wrong length", rolvenko_start(counter, sizeof counter, state, 1), 12, 0, 0);
+    expect("start of an unsound image", rolvenko_start(counter, 14, state, 2), 11, 13, 0);
+    expect("state outside", rolvenko_scan(counter, sizeof counter, state, 2, row, 1), 18, 0, 0);
+    same("a refused start", state, found, sizeof state);
+    expect("start", rolvenko_start(counter, sizeof counter, state, 2), 0, 0, 0);
+    expect("row of a wrong length", rolvenko_scan(counter, sizeof counter, state, 2, row, 0), 12, 0, 0);
+    expect("input outside", rolvenko_scan(counter, sizeof counter, state, 2, outside, 1), 13, 0, 0);
+    expect("scan", rolvenko_scan(counter, sizeof counter, state, 2, row, 1), 0, 0, 4);
+    int32_t after[2] = {1, 2};
+    same("a scan", state, after, sizeof state);
+    expect("value outside", rolvenko_scan(counter, sizeof counter, state, 2, row, 1), 17, 0, 4);
+    same("a refused scan", state, after, sizeof state);
+}
+
+/* Lengths of 0, with a pointer to nothing and with none. */
+static void empty(void) {
+    static const uint8_t none[] = {0, 0};
+    uint8_t byte = 9;
+    int32_t number = 9;
+    expect("empty text, no room", rolvenko_translate(&byte, 0, &byte, 0), 10, 0, 0);
+    expect("NULL text, no room", rolvenko_translate(NULL, 0, NULL, 0), 10, 0, 0);
+    expect("empty image", rolvenko_check(&byte, 0), 11, 0, 0);
+    expect("NULL image", rolvenko_check(NULL, 0), 11, 0, 0);
+    expect("no names", rolvenko_start(none, 2, &number, 0), 0, 0, 0);
+    expect("no names, NULL", rolvenko_start(none, 2, NULL, 0), 0, 0, 0);
+    expect("no inputs", rolvenko_scan(none, 2, &number, 0, &number, 0), 0, 0, 0);
+    expect("no inputs, NULL", rolvenko_scan(none, 2, NULL, 0, NULL, 0), 0, 0, 0);
+    if (byte != 9 || number != 9) {
+        puts("an empty slice was written");
+        failures++;
+    }
+}
+
+int main(void) {
+    translations();
+    checks();
+    starts_and_scans();
+    empty();
+    printf("%d failures\n", failures);
+    return failures != 0;
+}

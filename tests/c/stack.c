@@ -1,0 +1,96 @@
+/* Stack that each function takes at most, on texts with the deepest brackets and on their images: each call runs in a thread on a stack
+ * of known contents. The proofs speak of a machine without a stack, so this is measured. */
+#include "rolvenko.h"
+
+#include <pthread.h>
+#include <stdio.h>
+#include <stdlib.h>
+#include <string.h>
+
+enum { STACK = 1 << 18, FILL = 0xA5, BOUND = 32768 };
+
+static uint8_t text[4096], image[ROLVENKO_IMAGE_ROOM];
+static size_t text_len, image_len;
+static int32_t state[2], row[1];
+static uint64_t answer;
+
+static void *nothing(void *p) { return p; }
+
+static void *translate(void *p) {
+    answer = rolvenko_translate(text, text_len, image, sizeof image);
+    return p;
+}
+
+static void *check(void *p) {
+    answer = rolvenko_check(image, image_len);
+    return p;
+}
+
+static void *start(void *p) {
+    answer = rolvenko_start(image, image_len, state, 2);
+    return p;
+}
+
+static void *scan(void *p) {
+    answer = rolvenko_scan(image, image_len, state, 2, row, 1);
+    return p;
+}
+
+/* Bytes of the thread's stack that were written. */
+static size_t used(void *(*call)(void *)) {
+    uint8_t *stack = aligned_alloc(4096, STACK);
+    pthread_attr_t attributes;
+    pthread_t thread;
+    memset(stack, FILL, STACK);
+    if (pthread_attr_init(&attributes) != 0 || pthread_attr_setstack(&attributes, stack, STACK) != 0 ||
+        pthread_create(&thread, &attributes, call, NULL) != 0 || pthread_join(thread, NULL) != 0)
+        exit(2);
+    size_t untouched = 0;
+    while (untouched < STACK && stack[untouched] == FILL)
+        untouched++;
+    free(stack);
+    return STACK - untouched;
+}
+
+/* A change rule with 16 brackets open at once, `square` of them of conditions, each with its `~` or `-` before it. */
+static void nested(int square) {
+    char condition[160] = "";
+    for (int i = 0; i < 16; i++)
+        strcat(condition, i < square ? "~[" : "-(");
+    strcat(condition, "1");
+    for (int i = 16; i > square; i--)
+        strcat(condition, ")");
+    strcat(condition, "=_v");
+    for (int i = square; i > 0; i--)
+        strcat(condition, "]");
+    text_len = (size_t)snprintf((char *)text, sizeof text,
+                                "input i 0..1;var v 0..1;v:GX(~(v=_v)->[%s&_v=2]&v=(1-_v)|[_v=0]&v=(1));v:GX(v=_v->~([%s&_v=2]|[_v=0]));",
+                                condition, condition);
+}
+
+static void measure(const char *name, void *(*call)(void *), size_t idle, size_t *most) {
+    size_t bytes = used(call) - idle;
+    if (rolvenko_number(answer) != 0) {
+        printf("%s: refused %u at %u\n", name, rolvenko_number(answer), rolvenko_place(answer));
+        exit(1);
+    }
+    if (bytes > *most)
+        *most = bytes;
+}
+
+int main(void) {
+    size_t idle = used(nothing), most[4] = {0};
+    for (int square = 0; square <= 16; square++) {
+        nested(square);
+        measure("translate", translate, idle, &most[0]);
+        image_len = rolvenko_count(answer);
+        measure("check", check, idle, &most[1]);
+        measure("start", start, idle, &most[2]);
+        measure("scan", scan, idle, &most[3]);
+    }
+    printf("stack, bytes at most: translate %zu, check %zu, start %zu, scan %zu\n", most[0], most[1], most[2], most[3]);
+    for (int i = 0; i < 4; i++)
+        if (most[i] > BOUND)
+            return 1;
+    return 0;
+}
