@@ -23,7 +23,7 @@ use Rattle.correctness.specs.Demand2.{Translates, Declines, faulty, shor
 module _ (text buffer : List ℕ) where
   -- why a translation was refused, and that it left the buffer
   refusal-declines : (number place : ℕ) → translationOf text buffer .answer ≡ refused number place → Declines text buffer number place × (translationOf text buffer .buffer ≡ buffer)
-  refusal-declines number place = go (translationOf text buffer) way text buffer
+  refusal-declines number place = go (translationOf text buffer) (way text buffer)
     where
       go : (r : AfterTranslation) → Way text buffer r → r .answer ≡ refused number place → Declines text buffer number place × (r .buffer ≡ buffer)
       go r (image p e h) a = never (length (imageOf p)) number place a
