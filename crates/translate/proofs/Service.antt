@@ -2,11 +2,11 @@
 use mathlib.Core.Path.{_≡_, refl, sym, ap, subst, _∙_}
 use mathlib.Core.Bool.{Bool, true, false, cond}
 use mathlib.Core.List.{List, [], _∷_, _++_}
-use Prim.Native.Nat.{ℕ, _≤_, _<_}
+use Prim.Native.Nat.{ℕ, _+_, _*_, _≤_, _<_}
 use native.Mathlib.Omega.{arith}
 use lib.Dec.{leb}
-use lib.ListN.{length, drop}
-use lib.Seq.{sets}
+use lib.ListN.{length, take, drop}
+use lib.Seq.{sets, length-sets}
 use borrow.Author.Tests.{lt-ltb, le-ltb, le-leb, lt-leb}
 use Rattle.limits.specs.Limits.{textLimit, imageLimit}
 use Rattle.limits.specs.Answer.{Answer}
@@ -17,7 +17,7 @@ use Rattle.grammar.specs.Parsed.{Parsed, accepted, refused}
 use Rattle.grammar.specs.Emitted.{image}
 use Rattle.grammar.specs.Parse.{program, parse, answerOf, programOf}
 use Rattle.grammar.proofs.Image.{image-emitted}
-use Rattle.grammar.proofs.Accepted.{parse-translatable, parse-short as accepted-short}
+use Rattle.grammar.proofs.Accepted.{parse-translatable, parse-growth, parse-short as accepted-short}
 use Rattle.grammar.proofs.Places.{Within}
 use Rattle.grammar.proofs.PlacesText.{parse-limited}
 use Rattle.declarations.specs.Post.{Holds}
@@ -28,7 +28,7 @@ use Rattle.translate.specs.declared.Translated.the-variants as T
 use Rattle.translate.specs.Services.{AfterTranslation, translated, translationOf}
 use Rattle.translate.specs.Results.{translatedAnswer, afterTranslation, TranslatedWithin}
 use Rattle.translate.specs.Internal.{Counts, analysed, measured, measuresOf, Analyses, Descends}
-use Rattle.translate.proofs.Stores.{sets-front}
+use Rattle.translate.proofs.Stores.{front-taken}
 use Rattle.translate.proofs.Ways.{never}
 
 -- ---- the limit of texts
@@ -81,9 +81,9 @@ module _ (text buffer : List ℕ) where
     unfolding translationOf programOf
     translation-short h = rw (e, ← image-emitted, lt-leb (length (image q)) (length buffer) h)
 
-    pub translation-stored : (left : List ℕ) → length (image q) ≤ length buffer → left ≡ sets buffer 0 (image q) → afterTranslation (T.Image (length (image q))) left ≡ translationOf text buffer
+    pub translation-stored : (left : List ℕ) → length (image q) ≤ length buffer → left ≡ image q ++ drop (length (image q)) buffer → afterTranslation (T.Image (length (image q))) left ≡ translationOf text buffer
     unfolding translationOf programOf
-    translation-stored left h w = rw (e, ← image-emitted, le-leb (length (image q)) (length buffer) h, w, sets-front buffer (image q) h)
+    translation-stored left h w = rw (e, ← image-emitted, le-leb (length (image q)) (length buffer) h, w)
 
 -- ---- how large the numbers of an answer are
 
@@ -110,3 +110,54 @@ translation-within text buffer r left e = go r (subst Small (sym (ap {A = AfterT
     go : (r : Translated) → Small (translatedAnswer r) → TranslatedWithin r
     go (T.Image n) h = h
     go (T.Refused number place) h = h
+
+-- what is the definition's answer is as small as that
+bounded : (text buffer : List ℕ) (r : Translated) (left : List ℕ) → afterTranslation r left ≡ translationOf text buffer → (afterTranslation r left ≡ translationOf text buffer) × TranslatedWithin r
+bounded text buffer r left e = (e, translation-within text buffer r left e)
+
+-- ---- the service's ways
+
+pub long-refused : (text buffer : List ℕ) → textLimit < length text → (afterTranslation (T.Refused 9 0) buffer ≡ translationOf text buffer) × TranslatedWithin (T.Refused 9 0)
+long-refused text buffer h = bounded text buffer (T.Refused 9 0) buffer (translation-refused text buffer 9 0 (parse-long text h))
+
+-- a descent over memory with room for the image: the image stands in front
+pub record Made (text scratch : List ℕ) (size : ℕ) : Type 0 where
+  pub read : Program
+  pub end : ℕ
+  pub parsed : parse text ≡ accepted read end
+  pub measure : size ≡ length (image read)
+  pub room : size ≤ length scratch
+  pub there : take size scratch ≡ image read
+
+module _ (text before after starts ends : List ℕ) (r : Analysis) (short : length text ≤ textLimit) (d : Descends text (program text) before after starts ends r) where
+  pub fault-passed : (k x : ℕ) (buffer : List ℕ) → r ≡ N.Refused k x → (afterTranslation (T.Refused k x) buffer ≡ translationOf text buffer) × TranslatedWithin (T.Refused k x)
+  fault-passed k x buffer e = bounded text buffer (T.Refused k x) buffer (translation-refused text buffer k x (parse-short text short ∙ measured-refused (program text) k x (sym (d .answer) ∙ ap analysed e)))
+
+  made-of : (q : Program) (n size : ℕ) → program text ≡ accepted q n → size ≡ length (image q) → 3 * length text + 4 ≤ 2 * length before → Made text after size
+  made-of q n size e m h =
+      let p : parse text ≡ accepted q n = parse-short text short ∙ e in
+      let w = d .wrote q n e in
+      let l : length (image q) ≡ length (imageOf q) = ap {A = List ℕ} length (image-emitted q) in
+      let f : length (image q) ≤ length before = omega (arith, parse-growth text q n p) in
+      record {
+        read = q;
+        end = n;
+        parsed = p;
+        measure = m;
+        room = rw (w, length-sets before 0 (image q)) (omega arith);
+        there = rw (m, w) (front-taken before (image q) f);
+      }
+
+  pub image-made : (size inputs names : ℕ) → 3 * length text + 4 ≤ 2 * length before → r ≡ N.Accepted size inputs names → Made text after size
+  image-made size inputs names h e =
+      let x = measured-accepted (program text) size inputs names (sym (d .answer) ∙ ap analysed e) in
+      made-of (x .0) (x .1) size (x .2) (x .3) h
+
+module _ {text scratch : List ℕ} {size : ℕ} (m : Made text scratch size) (buffer : List ℕ) where
+  pub made-short : length buffer < size → (afterTranslation (T.Refused 10 (length text)) buffer ≡ translationOf text buffer) × TranslatedWithin (T.Refused 10 (length text))
+  made-short h = bounded text buffer (T.Refused 10 (length text)) buffer (translation-short text buffer (m .read) (m .end) (m .parsed) (omega (arith, m .measure)))
+
+  pub made-stored : (left : List ℕ) → size ≤ length buffer → left ≡ take size scratch ++ drop (length (take size scratch)) buffer
+      → (afterTranslation (T.Image size) left ≡ translationOf text buffer) × TranslatedWithin (T.Image size)
+  made-stored left h w =
+      rw (m .measure) (bounded text buffer (T.Image (length (image (m .read)))) left (translation-stored text buffer (m .read) (m .end) (m .parsed) left (omega (arith, m .measure)) (w ∙ rw (m .there))))
