@@ -55,7 +55,7 @@ fn all_in_range(low: &[i32], high: &[i32], values: &[i32]) -> bool
 {
     let mut i = 0;
     while i < values.len() {
-        if !machine::in_range(low[i], high[i], values[i]) {
+        if !machine::values::in_range(low[i], high[i], values[i]) {
             return false;
         }
         i += 1;

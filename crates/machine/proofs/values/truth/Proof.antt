@@ -4,8 +4,8 @@ use borrow.Author.Tests.{ne-eqb}
 use borrow.Author.Needs.{needs}
 use Rattle.machine.specs.Internal.{truthOf}
 use Rattle.arith.proofs.Laws.{same32}
-use Rattle.machine.proofs.truth.Statement.{statement}
-use Rattle.machine.proofs.truth.Tie as tie
+use Rattle.machine.proofs.values.truth.Statement.{statement}
+use Rattle.machine.proofs.values.truth.Tie as tie
 
 is-equal-requires : tie.Need-is-equal-requires
 is-equal-requires c κs = search needs

@@ -3,8 +3,8 @@ use mathlib.Core.Path.{_∙_}
 use borrow.Author.Tests.{ne-eqb}
 use borrow.Author.Needs.{needs}
 use Rattle.arith.proofs.Laws.{same32}
-use Rattle.machine.proofs.calculated.Statement.{statement}
-use Rattle.machine.proofs.calculated.Tie as tie
+use Rattle.machine.proofs.values.calculated.Statement.{statement}
+use Rattle.machine.proofs.values.calculated.Tie as tie
 
 sum-requires : tie.Need-sum-requires
 sum-requires c κs = search needs

@@ -3,8 +3,8 @@ use mathlib.Core.Path.{_≡_}
 use mathlib.Core.Bool.{true, false}
 use lib.Signed.{leZ}
 use Rattle.arith.proofs.Laws.{same32}
-use Rattle.machine.proofs.in_range.Statement.{statement}
-use Rattle.machine.proofs.in_range.Tie as tie
+use Rattle.machine.proofs.values.in_range.Statement.{statement}
+use Rattle.machine.proofs.values.in_range.Tie as tie
 
 returns : tie.Need-returns
 returns c =

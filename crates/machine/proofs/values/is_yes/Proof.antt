@@ -3,8 +3,8 @@ use borrow.Author.Needs.{needs}
 use mir.Facts.{toZ-ofZ}
 use Rattle.machine.specs.Step.{yes}
 use Rattle.arith.specs.Values.{compares}
-use Rattle.machine.proofs.is_yes.Statement.{statement}
-use Rattle.machine.proofs.is_yes.Tie as tie
+use Rattle.machine.proofs.values.is_yes.Statement.{statement}
+use Rattle.machine.proofs.values.is_yes.Tie as tie
 
 is-not-equal-requires : tie.Need-is-not-equal-requires
 is-not-equal-requires c κs = search needs

@@ -4,8 +4,8 @@ use mathlib.Core.Path.{_≡_, sym, _∙_}
 use borrow.Author.Needs.{needs}
 use mir.Facts.{toZ-ofZ}
 use Rattle.machine.specs.Step.{yes}
-use Rattle.machine.proofs.both_yes.Statement.{statement}
-use Rattle.machine.proofs.both_yes.Tie as tie
+use Rattle.machine.proofs.values.both_yes.Statement.{statement}
+use Rattle.machine.proofs.values.both_yes.Tie as tie
 
 is-yes-requires : tie.Need-is-yes-requires
 is-yes-requires c κs = search needs

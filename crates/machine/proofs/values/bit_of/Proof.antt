@@ -1,8 +1,8 @@
 -- `machine::bit_of` meets its contract. Assumes nothing.
 use mathlib.Core.Path.{ap, sym}
 use Rattle.machine.specs.Step.{bit}
-use Rattle.machine.proofs.bit_of.Statement.{statement}
-use Rattle.machine.proofs.bit_of.Tie as tie
+use Rattle.machine.proofs.values.bit_of.Statement.{statement}
+use Rattle.machine.proofs.values.bit_of.Tie as tie
 
 returns : tie.Need-returns
 unfolding bit
