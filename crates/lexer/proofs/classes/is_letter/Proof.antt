@@ -2,8 +2,8 @@
 use native.Mathlib.Omega.{arith}
 use borrow.Author.Tests.{lt-ltb, le-ltb, lt-leb, le-leb}
 use Rattle.lexer.specs.Lexer.{isLetter}
-use Rattle.lexer.proofs.is_letter.Statement.{statement}
-use Rattle.lexer.proofs.is_letter.Tie as tie
+use Rattle.lexer.proofs.classes.is_letter.Statement.{statement}
+use Rattle.lexer.proofs.classes.is_letter.Tie as tie
 
 returns : tie.Need-returns
 unfolding isLetter

@@ -5,8 +5,8 @@ use native.Mathlib.Omega.{arith}
 use lib.ListN.{length, drop}
 use Rattle.lexer.specs.Bytes.{sameBytes}
 use Rattle.lexer.proofs.Same.{same-step, same-stop, same-end, same-length}
-use Rattle.lexer.proofs.same_bytes.Statement.{statement}
-use Rattle.lexer.proofs.same_bytes.Tie as tie
+use Rattle.lexer.proofs.classes.same_bytes.Statement.{statement}
+use Rattle.lexer.proofs.classes.same_bytes.Tie as tie
 
 abbrev Inv-loop : tie.InvT-loop
 Inv-loop a b i₀ i = (i ≤ length a) × (sameBytes (drop i a) (drop i b) ≡ sameBytes a b)

@@ -7,8 +7,8 @@ use lib.ListN.{length}
 use Rattle.lexer.specs.Lexer.{runEnd}
 use Rattle.lexer.specs.Internal.{member}
 use Rattle.lexer.proofs.Laws.{run-out, run-stop, run-step}
-use Rattle.lexer.proofs.run.Statement.{statement}
-use Rattle.lexer.proofs.run.Tie as tie
+use Rattle.lexer.proofs.classes.run.Statement.{statement}
+use Rattle.lexer.proofs.classes.run.Tie as tie
 
 abbrev Inv-loop : tie.InvT-loop
 Inv-loop text at class i₀ i = runEnd (member class) text i ≡ runEnd (member class) text at

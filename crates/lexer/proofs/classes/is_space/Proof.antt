@@ -1,8 +1,8 @@
 -- `lexer::is_space` meets its contract. Assumes nothing.
 use borrow.Author.Tests.{eq-eqb, ne-eqb}
 use Rattle.lexer.specs.Lexer.{isSpace}
-use Rattle.lexer.proofs.is_space.Statement.{statement}
-use Rattle.lexer.proofs.is_space.Tie as tie
+use Rattle.lexer.proofs.classes.is_space.Statement.{statement}
+use Rattle.lexer.proofs.classes.is_space.Tie as tie
 
 returns : tie.Need-returns
 unfolding isSpace

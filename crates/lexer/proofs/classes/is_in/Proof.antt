@@ -3,8 +3,8 @@ use borrow.Author.Needs.{needs}
 use mathlib.Core.Path.{sym, _∙_}
 use borrow.Author.Tests.{ne-eqb}
 use Rattle.lexer.specs.Lexer.{isAlphanumeric}
-use Rattle.lexer.proofs.is_in.Statement.{statement}
-use Rattle.lexer.proofs.is_in.Tie as tie
+use Rattle.lexer.proofs.classes.is_in.Statement.{statement}
+use Rattle.lexer.proofs.classes.is_in.Tie as tie
 
 is-space-requires : tie.Need-is-space-requires
 is-space-requires c κs = search needs

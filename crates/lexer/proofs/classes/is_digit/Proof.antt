@@ -1,8 +1,8 @@
 -- `lexer::is_digit` meets its contract. Assumes nothing.
 use borrow.Author.Tests.{lt-leb, le-leb}
 use Rattle.lexer.specs.Lexer.{isDigit}
-use Rattle.lexer.proofs.is_digit.Statement.{statement}
-use Rattle.lexer.proofs.is_digit.Tie as tie
+use Rattle.lexer.proofs.classes.is_digit.Statement.{statement}
+use Rattle.lexer.proofs.classes.is_digit.Tie as tie
 
 returns : tie.Need-returns
 unfolding isDigit

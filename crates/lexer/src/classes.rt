@@ -1,0 +1,113 @@
+// Classes of bytes, the runs that they make, and bytes compared.
+ghost use mathlib.Core.Path.{_≡_};
+ghost use lib.ListN.{getD};
+ghost use Rattle.lexer.specs.Bytes.{sameBytes};
+ghost use Rattle.lexer.specs.Lexer.{isSpace, isDigit, isLetter, runEnd};
+ghost use Rattle.lexer.specs.Internal.{member};
+
+// Classes of bytes that make runs.
+pub const SPACE: u8 = 0;
+
+pub const DIGIT: u8 = 1;
+
+pub const ALPHANUMERIC: u8 = 2;
+
+pub fn wide(x: u8) -> u64
+    ensures { λ r. ⌜ r ≡ x ⌝ }
+{
+    x as u64
+}
+
+pub fn is_space(b: u8) -> bool
+    ensures { λ r. ⌜ r ≡ isSpace b ⌝ }
+{
+    if b == 32 {
+        return true;
+    }
+    if b == 9 {
+        return true;
+    }
+    if b == 10 {
+        return true;
+    }
+    b == 13
+}
+
+pub fn is_digit(b: u8) -> bool
+    ensures { λ r. ⌜ r ≡ isDigit b ⌝ }
+{
+    if b < 48 {
+        return false;
+    }
+    b < 58
+}
+
+pub fn is_letter(b: u8) -> bool
+    ensures { λ r. ⌜ r ≡ isLetter b ⌝ }
+{
+    if b < 65 {
+        return false;
+    }
+    if b < 91 {
+        return true;
+    }
+    if b < 97 {
+        return false;
+    }
+    b < 123
+}
+
+pub fn is_in(class: u8, b: u8) -> bool
+    ensures { λ r. ⌜ r ≡ member class b ⌝ }
+{
+    if class == SPACE {
+        return is_space(b);
+    }
+    if class == DIGIT {
+        return is_digit(b);
+    }
+    if is_letter(b) {
+        return true;
+    }
+    is_digit(b)
+}
+
+// The end of the run of bytes of a class from `at`.
+pub fn run(text: &[u8], at: usize, class: u8) -> usize
+    ensures { λ r. ⌜ r ≡ runEnd (member class) (now (text .entry)) at ⌝ }
+{
+    let mut i = at;
+    while i < text.len() {
+        if is_in(class, text[i]) {
+            i += 1;
+        } else {
+            return i;
+        }
+    }
+    i
+}
+
+pub fn byte_at(text: &[u8], at: usize) -> u8
+    ensures { λ r. ⌜ r ≡ getD (now (text .entry)) at 0 ⌝ }
+{
+    if at < text.len() {
+        return text[at];
+    }
+    0
+}
+
+pub fn same_bytes(a: &[u8], b: &[u8]) -> bool
+    ensures { λ r. ⌜ r ≡ sameBytes (now (a .entry)) (now (b .entry)) ⌝ }
+{
+    if a.len() != b.len() {
+        return false;
+    }
+    let mut i = 0;
+    while i < a.len() {
+        if a[i] != b[i] {
+            return false;
+        }
+        i += 1;
+    }
+    true
+}
