@@ -1,6 +1,6 @@
 // The cases of a change formula and the conditions of its no-change formula. A case is written as it is read.
 use agreement::Compared;
-use expressions::Names;
+use expressions::scope::Names;
 use lexer::Token;
 use phrases::Expected;
 ghost use mathlib.Core.Path.{_≡_};

@@ -18,7 +18,7 @@ use Rattle.grammar.specs.Conditions.{comparisonOf, compared, comparisonAt, oppo
 use Rattle.grammar.specs.Emitted.{codeE, codeC}
 use Rattle.grammar.proofs.Growth.{Grown, not-end, ands-end, ors-end, comparisons-end, bracket-grown, atom-grown, conjunction-grown, square-grown}
 use Rattle.expressions.specs.declared.Lookahead.{Lookahead}
-use Rattle.expressions.specs.declared.Names.{Names}
+use Rattle.expressions.specs.declared.scope.Names.{Names}
 use Rattle.expressions.specs.Scopes.{scopeOf, Declared}
 use Rattle.expressions.specs.Steps.{Room}
 use Rattle.expressions.specs.Internal.{Codes}

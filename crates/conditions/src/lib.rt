@@ -1,7 +1,7 @@
 // Conditions, over the expressions of `expressions` and in the same way: each function takes the place where its part starts, writes
 // the part's code, and answers with the token behind it.
-use expressions::Names;
 use expressions::Step;
+use expressions::scope::Names;
 ghost use mathlib.Core.Path.{_≡_};
 ghost use Rattle.bytecode.specs.Instructions.{comparisonCode};
 ghost use Rattle.grammar.specs.Conditions.{comparisonOf, andOf, orOf, square, wholeCondition, listed};

@@ -17,7 +17,7 @@ use Rattle.lexer.specs.Names.{idOf, namesOf}
 use Rattle.grammar.specs.Rules.{ruled}
 use Rattle.grammar.proofs.Bytes.{id-of}
 use Rattle.expressions.specs.Scopes.{knownOf, scopeOf, Declared}
-use Rattle.expressions.specs.declared.Names.{Names}
+use Rattle.expressions.specs.declared.scope.Names.{Names}
 
 pub names-length : (text starts ends : List ℕ) (n : ℕ) → length (namesOf text starts ends n) ≤ n
 unfolding namesOf

@@ -26,7 +26,7 @@ use Rattle.grammar.specs.Emitted.{codeE}
 use Rattle.grammar.proofs.Growth.{Grown, products-end, sums-end, primary-grown, factor-grown, term-grown, expression-grown, bracket-grown}
 use Rattle.expressions.specs.declared.Lookahead.{Lookahead}
 use Rattle.expressions.specs.declared.Step.{Step}
-use Rattle.expressions.specs.declared.Names.{Names}
+use Rattle.expressions.specs.declared.scope.Names.{Names}
 use Rattle.expressions.specs.Scopes.{scopeOf, Declared}
 use Rattle.expressions.specs.Steps.{stepAt, Parses, Room}
 use Rattle.expressions.specs.Internal.{textOnly, primaryIn, factorIn, termIn, expressionIn}

@@ -7,7 +7,7 @@ use lib.Dec.{eqb}
 use Rattle.limits.specs.Limits.{nameLimit}
 use Rattle.lexer.specs.Names.{namesOf, Table}
 use Rattle.grammar.specs.Expressions.{Scope}
-use Rattle.expressions.specs.declared.Names.{Names}
+use Rattle.expressions.specs.declared.scope.Names.{Names}
 
 -- whether the current value of each of n names may be used: bit i for the name with id i
 unfoldable pub knownOf : ℕ → ℕ → List Bool

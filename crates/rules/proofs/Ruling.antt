@@ -20,7 +20,7 @@ use Rattle.grammar.specs.Expressions.{Scope}
 use Rattle.grammar.specs.Rules.{ruleAt, ruled, rulesFrom}
 use Rattle.grammar.specs.Emitted.{codeR}
 use Rattle.grammar.proofs.Size.{Pays, ruleBytes, rule-pays}
-use Rattle.expressions.specs.declared.Names.{Names}
+use Rattle.expressions.specs.declared.scope.Names.{Names}
 use Rattle.expressions.specs.Scopes.{knownOf, scopeOf, Declared}
 use Rattle.expressions.specs.Steps.{Room}
 use Rattle.expressions.proofs.Scopes.{known-length, few-names, scope-ruled}

@@ -7,7 +7,7 @@ use Rattle.limits.specs.Limits.{caseLimit, notAllowed, wrongRule}
 use Rattle.lexer.specs.Bytes.{pick}
 use Rattle.semantics.specs.Program.{Rule, allTrue}
 use Rattle.grammar.specs.Emitted.{codeR}
-use Rattle.expressions.specs.declared.Names.{Names}
+use Rattle.expressions.specs.declared.scope.Names.{Names}
 use Rattle.expressions.specs.Scopes.{knownOf}
 use Rattle.cases.specs.declared.Part.{Part}
 use Rattle.cases.specs.declared.Part.the-variants.{Done, Refused}

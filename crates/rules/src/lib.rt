@@ -1,7 +1,7 @@
 // The rules of a text: functions, and change formulas with their no-change formulas. A rule is written as it is read.
 use cases::Part;
 use cases::Variable;
-use expressions::Names;
+use expressions::scope::Names;
 use lexer::Found;
 use lexer::Token;
 use phrases::Expected;
@@ -154,7 +154,7 @@ fn rule(
     let Found::At(id) = found else {
         return Part::Refused(4, start);
     };
-    if expressions::is_known(names, id) {
+    if expressions::scope::is_known(names, id) {
         return Part::Refused(6, start);
     }
     formulas(
@@ -179,7 +179,7 @@ fn finish(kind: u8, start: usize, end: usize, names: Names, t: usize, done: usiz
     if kind != lexer::END {
         return Part::Refused(2, start);
     }
-    if expressions::all_known(names) {
+    if expressions::scope::all_known(names) {
         return Part::Done(end, t, done);
     }
     Part::Refused(6, start)
@@ -230,7 +230,7 @@ fn rules_in(
         let Part::Done(b, u, id) = one else {
             return one;
         };
-        let more = expressions::ruled(Names { count, known }, id);
+        let more = expressions::scope::ruled(Names { count, known }, id);
         known = more.known;
         done += 1;
         a = b;

@@ -20,7 +20,7 @@ use Rattle.grammar.specs.Emitted.{header, codeR, image}
 use Rattle.grammar.specs.Parse.{program}
 use Rattle.declarations.specs.Post.{Holds}
 use Rattle.declarations.proofs.Steps.{after, refused-then}
-use Rattle.expressions.specs.declared.Names.{Names}
+use Rattle.expressions.specs.declared.scope.Names.{Names}
 use Rattle.expressions.specs.Scopes.{knownOf, scopeOf}
 use Rattle.cases.specs.declared.Part.{Part}
 use Rattle.cases.specs.declared.Part.the-variants as P

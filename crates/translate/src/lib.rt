@@ -97,7 +97,7 @@ fn descend(text: &[u8], starts: &mut [usize], ends: &mut [usize], out: &mut [u8]
     let Heading::Until(a, t, inputs, count) = head else {
         return unheaded(head);
     };
-    let names = expressions::first_names(inputs, count);
+    let names = expressions::scope::first_names(inputs, count);
     let read = rules::rules(text, starts, ends, names, a, out, t);
     let Part::Done(_, size, _) = read else {
         return unruled(read);

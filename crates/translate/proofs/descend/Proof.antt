@@ -18,7 +18,7 @@ use Rattle.translate.proofs.descend.Tie as tie
 use Rattle.translate.proofs.descend.Reads as reads
 use Rattle.translate.proofs.descend.Lts as lts
 use Rattle.leb128.proofs.put_byte.Reads as put-byte-reads
-use Rattle.expressions.proofs.first_names.Reads as first-names-reads
+use Rattle.expressions.proofs.scope.first_names.Reads as first-names-reads
 use Rattle.rules.proofs.rules.Reads as rules-reads
 use Rattle.translate.proofs.read_heading.Reads as read-heading-reads
 use Rattle.translate.proofs.unheaded.Reads as unheaded-reads

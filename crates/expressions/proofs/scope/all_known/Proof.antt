@@ -6,8 +6,8 @@ use lib.ListN.{drop}
 use Rattle.semantics.specs.Program.{allTrue}
 use Rattle.expressions.specs.Scopes.{knownOf}
 use Rattle.expressions.proofs.Scopes.{all-next, all-stop, all-end}
-use Rattle.expressions.proofs.all_known.Statement.{statement}
-use Rattle.expressions.proofs.all_known.Tie as tie
+use Rattle.expressions.proofs.scope.all_known.Statement.{statement}
+use Rattle.expressions.proofs.scope.all_known.Tie as tie
 
 abbrev Inv-loop : tie.InvT-loop
 Inv-loop names i₀ i =

@@ -2,8 +2,8 @@
 use mathlib.Core.Path.{sym, _∙_}
 use borrow.Author.Needs.{needs}
 use Rattle.expressions.proofs.Scopes.{known-bit}
-use Rattle.expressions.proofs.is_known.Statement.{statement}
-use Rattle.expressions.proofs.is_known.Tie as tie
+use Rattle.expressions.proofs.scope.is_known.Statement.{statement}
+use Rattle.expressions.proofs.scope.is_known.Tie as tie
 
 returns : tie.Need-returns
 returns c = c .bit .ensures ∙ sym (known-bit _ _ _ (c .before .pre .0))

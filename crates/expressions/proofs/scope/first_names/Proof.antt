@@ -4,8 +4,8 @@ use native.Mathlib.Omega.{arith}
 use lib.Pow.{pow-pos}
 use borrow.Author.Needs.{needs}
 use Rattle.expressions.proofs.Scopes.{shifted, known-first}
-use Rattle.expressions.proofs.first_names.Statement.{statement}
-use Rattle.expressions.proofs.first_names.Tie as tie
+use Rattle.expressions.proofs.scope.first_names.Statement.{statement}
+use Rattle.expressions.proofs.scope.first_names.Tie as tie
 
 returns : tie.Need-returns
 returns c = (refl, rw (c .if1 .taken) (known-first 64 _))

@@ -2,8 +2,8 @@
 use mathlib.Core.Path.{refl}
 use borrow.Author.Needs.{needs}
 use Rattle.expressions.proofs.Scopes.{shifted, known-set}
-use Rattle.expressions.proofs.ruled.Statement.{statement}
-use Rattle.expressions.proofs.ruled.Tie as tie
+use Rattle.expressions.proofs.scope.ruled.Statement.{statement}
+use Rattle.expressions.proofs.scope.ruled.Tie as tie
 
 returns : tie.Need-returns
 returns c = (refl, rw (shifted _ (c .before .pre)) (known-set _ _ _))
