@@ -11,7 +11,7 @@ ghost use Prim.Native.Nat.{_≤_};
 ghost use mathlib.Core.Path.{_≡_};
 ghost use lib.ListN.{length};
 ghost use Rattle.io.specs.Counts.{Counts};
-ghost use Rattle.scan.specs.Services.{startOf, scanOf};
+ghost use Rattle.scan.specs.Services.{scanOf};
 ghost use Rattle.scan.specs.Results.{startAnswer, scanAnswer};
 ghost use Rattle.trace_text.specs.Output.{Put, rowLine};
 ghost use Rattle.trace.specs.Printed.{refusalOf, handedRow};
