@@ -183,11 +183,11 @@ pub fn translate(text: &[u8], image: &mut [u8]) -> Translated
     ensures { λ r. ⌜ afterTranslation r (now (image .exit)) ≡ translationOf (now (text .entry)) (now (image .entry)) ⌝ }
     ensures { λ r. ⌜ TranslatedWithin r ⌝ }
 {
-    if TEXT_LIMIT < text.len() {
-        return Translated::Refused(9, 0);
-    }
     if text.len() <= 1024 {
         return translate_short(text, image);
     }
-    translate_any(text, image)
+    if text.len() <= TEXT_LIMIT {
+        return translate_any(text, image);
+    }
+    Translated::Refused(9, 0)
 }

@@ -1,4 +1,4 @@
--- `translate::translate` meets its contract: the limit of texts, then a scratch memory by the text's length. Assumes nothing.
+-- `translate::translate` meets its contract: scratch memory by the text's length, the limit of texts. Assumes nothing.
 use Rattle.translate.proofs.Service.{long-refused}
 use borrow.Author.Needs.{needs}
 use Rattle.translate.proofs.translate.Statement.{statement}
@@ -8,17 +8,14 @@ use Rattle.translate.proofs.translate.Lts as lts
 use Rattle.translate.proofs.translate_any.Reads as translate-any-reads
 use Rattle.translate.proofs.translate_short.Reads as translate-short-reads
 
-returns : tie.Need-returns
-returns c = long-refused _ _ (c .if1 .taken)
-
 translate-short-requires : tie.Need-translate-short-requires
 translate-short-requires c κs = search needs
 
 same-length : tie.Need-same-length
 same-length c = search needs
 
-returns-2 : tie.Need-returns-2
-returns-2 c = search needs
+returns : tie.Need-returns
+returns c = search needs
 
 translate-any-requires : tie.Need-translate-any-requires
 translate-any-requires c κs = search needs
@@ -26,17 +23,20 @@ translate-any-requires c κs = search needs
 same-length-2 : tie.Need-same-length-2
 same-length-2 c = search needs
 
+returns-2 : tie.Need-returns-2
+returns-2 c = search needs
+
 returns-3 : tie.Need-returns-3
-returns-3 c = search needs
+returns-3 c = long-refused _ _ (c .if2 .left)
 
 pub translate-spec : {M : Type 1} → statement M
 translate-spec =
     tie.close
     (tie.spec
-    returns
     translate-short-requires
     same-length
-    returns-2
+    returns
     translate-any-requires
     same-length-2
+    returns-2
     returns-3)
