@@ -12,6 +12,7 @@ use Rattle.semantics.specs.Program.{Expression, Condition, comparison, negated,
 use Rattle.grammar.specs.Parsed.{Parsed, accepted, refused, andThen, onToken, onOption, sign, phrase, followed, chain}
 use Rattle.grammar.specs.Expressions.{Scope, expression, bracket}
 
+-- `=` `<>` `<` `<=` `>` `>=`
 unfoldable pub comparisonOf : Kind → Option Comparison
 comparisonOf k =
     pick (is k T.equals) (some equal)
@@ -38,7 +39,8 @@ unfoldable pub inverted : (ℕ → ℕ → Parsed Condition) → Scope → ℕ �
 inverted inside sc at =
     onToken (tokenAt (sc .text) at) (λ k s n. let more = opposite (inside s n) in pick (is k openSquare) more (refused notAllowed s))
 
--- `~[c]`, `[c]` or a comparison. `inside` reads the rest of `[c]`, from the bracket at s, that ends at n
+-- An atom is a comparison of two expressions or `[c]`, the latter with at most one `~` before it. `inside` reads the rest of `[c]`,
+-- from the bracket at s, that ends at n
 unfoldable pub atom : (ℕ → ℕ → Parsed Expression) → (ℕ → ℕ → Parsed Condition) → Scope → ℕ → Parsed Condition
 atom inner inside sc at =
     onToken (tokenAt (sc .text) at)
@@ -62,6 +64,7 @@ andOf k = pick (is k ampersand) (some andAlso) none
 unfoldable pub orOf : Kind → Option Connective
 orOf k = pick (is k bar) (some orElse) none
 
+-- A condition is `|` over `&` over atoms.
 unfoldable pub conjunction : (ℕ → ℕ → Parsed Expression) → (ℕ → ℕ → Parsed Condition) → Scope → ℕ → Parsed Condition
 conjunction inner inside sc at = chain connect andOf (atom inner inside sc) (sc .text) at
 

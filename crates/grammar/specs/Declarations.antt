@@ -61,6 +61,7 @@ startAt text low high at =
     let absent = pick (inRange low high (pos 0)) (accepted (pos 0) n) (refused outOfLimit s) in
     pick (is k initWord) given (pick (is k semicolon) absent (refused notAllowed s)))
 
+-- `go 0..1 init 0;` after `input` or `var`
 unfoldable pub declaration : List ℕ → List Name → ℕ → Parsed Name
 declaration text names at =
     andThen (newName text names at) (λ w n1.

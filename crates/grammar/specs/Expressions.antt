@@ -69,6 +69,7 @@ factor inner sc at =
     let plain = primary inner sc at in
     pick (is k minus) opposite plain)
 
+-- An expression is `+ -` over `* / mod` over factors, left to right (`chain`).
 unfoldable pub productOf : Kind → Option Operation
 productOf k = pick (is k star) (some multiply) (pick (is k slash) (some divide) (pick (is k modWord) (some modulo) none))
 

@@ -1,4 +1,4 @@
--- Numbers in the bytes of an image: unsigned LEB128 in its shortest form. Document 01, "The image", first three sentences.
+-- Numbers in the bytes of an image: unsigned LEB128 in its shortest form. Document 01, "The image", first two sentences.
 -- Assumes nothing.
 use Prim.Native.Nat.{ℕ, zero, suc, _+_, _-_, _*_, _/_, _%_, _^_}
 use mathlib.Core.Bool.{cond}

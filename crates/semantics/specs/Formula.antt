@@ -96,6 +96,7 @@ HoldsAfter f s (t ∷ ts) = Holds f s t × HoldsAfter f t ts
 
 -- A trace satisfies `GX(f)` exactly if f holds at each of its places after the start, with the values of the place before
 -- as previous values; the start alone satisfies every such formula.
+-- (At the start every previous value equals the current one: no formula looks before it.)
 abbrev pub GX : Formula → Trace → Type 0
 GX f [] = Unit {0}
 GX f (s ∷ ts) = HoldsAfter f s ts
