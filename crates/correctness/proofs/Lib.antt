@@ -1,4 +1,3 @@
 pub mod Demand2
 pub mod Correct
-pub mod SoundScans
 pub mod Table
