@@ -1,3 +1,4 @@
 pub mod TwoGroups
 pub mod Joining
 pub mod Passing
+pub mod Fusing

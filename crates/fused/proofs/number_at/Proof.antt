@@ -20,7 +20,7 @@ add-behind : tie.Need-add-behind
 add-behind c = search needs
 
 returns-2 : tie.Need-returns-2
-returns-2 c = 
+returns-2 c =
     let e = c .before .wide .ensures in
     rw e (sym (number-one _ _ (c .before .before .before .if1 .left) (omega (arith, e, c .if2 .taken))))
 
@@ -40,7 +40,7 @@ mul-t12 : tie.Need-mul-t12
 mul-t12 c = search needs
 
 add-t13 : tie.Need-add-t13
-add-t13 c = 
+add-t13 c =
     let s = c .before .before .before .before .before .before .before .before .before .before .args .s .now in
     let i = c .before .before .before .before .before .before .before .before .before .before .args .at in
     omega (arith, c .before .before .before .before .before .before .wide .ensures, c .before .before .wide2 .ensures, c .if5 .taken, c .before .before .before .before .before .before .before .before .before .shared-slice-known .given i)
@@ -49,7 +49,7 @@ add-t14 : tie.Need-add-t14
 add-t14 c = search needs
 
 returns-5 : tie.Need-returns-5
-returns-5 c = 
+returns-5 c =
     let i = c .before .before .before .before .before .before .before .before .before .before .args .at in
     rw (c .before .before .before .before .before .before .wide .ensures, c .before .before .wide2 .ensures)
     (two-groups _ _ (c .before .before .before .before .before .before .before .before .if1 .left) (omega (arith, c .before .before .before .before .before .before .wide .ensures, c .before .before .before .before .before .if2 .left)) (c .before .before .before .before .if3 .left) (omega (arith, c .before .before .wide2 .ensures, c .before .if4 .left)) (omega (arith, c .before .before .wide2 .ensures, c .if5 .taken)) (omega (arith, c .before .before .before .before .before .before .before .before .before .shared-slice-known .given i)))

@@ -18,7 +18,7 @@ returns : tie.Need-returns
 returns c = search needs
 
 returns-2 : tie.Need-returns-2
-returns-2 c = 
+returns-2 c =
     record {
       placed = refl;
       advanced = sym (c .before .before .before .advance .ensures .0) ∙ ap advancedKnown (c .before .k .given .1);

@@ -95,61 +95,61 @@ over-requires-10 c κs = (c .before .before .before .before .before .before .bef
 
 returns-5 : tie.Need-returns-5
 unfolding instructionOf hasOperand
-returns-5 c = 
+returns-5 c =
     let a = c .before .before .before .before .before .before .before .before .args in
     passes-number (a .code .now) (a .b) 1 true (c .before .before .before .before .before .before .before .before .pre .1) (c .before .before .before .before .before .match .keys1) (c .before .before .n .given .0 .0) (c .before .before .n .given .0 .1 .0) refl refl (sym (c .before .before .before .before .number-at .ensures) ∙ ap unsignedRead (c .before .before .n .given .1)) (c .over .result) (c .over .ensures)
 
 returns-6 : tie.Need-returns-6
 unfolding instructionOf hasOperand
-returns-6 c = 
+returns-6 c =
     let a = c .before .before .before .before .before .before .before .before .args in
     passes-number (a .code .now) (a .b) 2 true (c .before .before .before .before .before .before .before .before .pre .1) (c .before .before .before .before .before .match .keys2) (c .before .before .n2 .given .0 .0) (c .before .before .n2 .given .0 .1 .0) refl refl (sym (c .before .before .before .before .number-at2 .ensures) ∙ ap unsignedRead (c .before .before .n2 .given .1)) (c .over2 .result) (c .over2 .ensures)
 
 returns-7 : tie.Need-returns-7
 unfolding instructionOf hasOperand
-returns-7 c = 
+returns-7 c =
     let a = c .before .before .before .before .before .before .before .before .args in
     passes-number (a .code .now) (a .b) 3 true (c .before .before .before .before .before .before .before .before .pre .1) (c .before .before .before .before .before .match .keys3) (c .before .before .n3 .given .0 .0) (c .before .before .n3 .given .0 .1 .0) refl refl (sym (c .before .before .before .before .number-at3 .ensures) ∙ ap unsignedRead (c .before .before .n3 .given .1)) (c .over3 .result) (c .over3 .ensures)
 
 returns-8 : tie.Need-returns-8
 unfolding instructionOf hasOperand
-returns-8 c = 
+returns-8 c =
     let a = c .before .before .before .before .args in
     passes-alone (a .code .now) (a .b) 4 true (c .before .before .before .before .pre .1) (c .before .match .keys4) refl refl (c .over4 .result) (c .over4 .ensures)
 
 returns-9 : tie.Need-returns-9
 unfolding instructionOf hasOperand
-returns-9 c = 
+returns-9 c =
     let a = c .before .before .before .before .args in
     passes-alone (a .code .now) (a .b) 5 true (c .before .before .before .before .pre .1) (c .before .match .keys5) refl refl (c .over5 .result) (c .over5 .ensures)
 
 returns-10 : tie.Need-returns-10
 unfolding instructionOf hasOperand
-returns-10 c = 
+returns-10 c =
     let a = c .before .before .before .before .args in
     passes-alone (a .code .now) (a .b) 6 true (c .before .before .before .before .pre .1) (c .before .match .keys6) refl refl (c .over6 .result) (c .over6 .ensures)
 
 returns-11 : tie.Need-returns-11
 unfolding instructionOf hasOperand
-returns-11 c = 
+returns-11 c =
     let a = c .before .before .before .before .args in
     passes-alone (a .code .now) (a .b) 7 true (c .before .before .before .before .pre .1) (c .before .match .keys7) refl refl (c .over7 .result) (c .over7 .ensures)
 
 returns-12 : tie.Need-returns-12
 unfolding instructionOf hasOperand
-returns-12 c = 
+returns-12 c =
     let a = c .before .before .before .before .args in
     passes-alone (a .code .now) (a .b) 8 true (c .before .before .before .before .pre .1) (c .before .match .keys8) refl refl (c .over8 .result) (c .over8 .ensures)
 
 returns-13 : tie.Need-returns-13
 unfolding instructionOf hasOperand
-returns-13 c = 
+returns-13 c =
     let a = c .before .before .before .before .args in
     passes-alone (a .code .now) (a .b) 9 true (c .before .before .before .before .pre .1) (c .before .match .keys9) refl refl (c .over9 .result) (c .over9 .ensures)
 
 returns-14 : tie.Need-returns-14
 unfolding instructionOf hasOperand
-returns-14 c = 
+returns-14 c =
     let a = c .before .before .before .before .before .before .before .before .args in
     passes-number (a .code .now) (a .b) 20 false (c .before .before .before .before .before .before .before .before .pre .1) (c .before .before .before .before .before .match .keys10) (c .before .before .n4 .given .0 .0) (c .before .before .n4 .given .0 .1 .0) refl refl (sym (c .before .before .before .before .number-at4 .ensures) ∙ ap unsignedRead (c .before .before .n4 .given .1)) (c .over10 .result) (c .over10 .ensures)
 

@@ -1,88 +1,80 @@
+-- `fused::run` meets its contract. The loop's invariant is Fusing; the measure is the code that is left. Assumes nothing.
+use Prim.Native.Nat.{_-_}
+use mathlib.Core.Path.{sym, _∙_}
+use native.Mathlib.Omega.{arith}
+use borrow.Author.Needs.{needs}
+use lib.ListN.{length}
+use Rattle.bytecode.proofs.RoundTrip.{fetch-next}
+use Rattle.fused.proofs.Fusing.{Fusing, moved, fusing-begins, fusing-goes, fusing-ends}
 use Rattle.fused.proofs.run.Statement.{statement}
 use Rattle.fused.proofs.run.Tie as tie
-use Rattle.fused.proofs.run.Reads as reads
-use Rattle.fused.proofs.run.Lts as lts
-use Rattle.checker.proofs.complete.Reads as complete-reads
-use Rattle.checker.proofs.ones.Reads as ones-reads
-use Rattle.fused.proofs.advance_one.Reads as advance-one-reads
 
 abbrev Inv-loop : tie.InvT-loop
-Inv-loop code low high prev cur₀ vals₀ inputs b₀ steps₀ cur vals b steps = ?
+Inv-loop code low high prev cur₀ vals₀ inputs b₀ steps₀ cur vals b steps = Fusing code low high prev inputs cur₀ vals₀ cur vals b steps
 
 abbrev μ-loop : tie.MeasureT-loop
-μ-loop code low high prev cur₀ vals₀ inputs b₀ steps₀ cur vals b steps = ?
+μ-loop code low high prev cur₀ vals₀ inputs b₀ steps₀ cur vals b steps = length code - b .at
 
--- src/lib.rt:259:16
 ones-requires : tie.Need-ones-requires Inv-loop μ-loop
-ones-requires c κs = ?
+ones-requires c κs = omega (arith, c .before .pre .1 .0, c .before .pre .1 .1)
 
--- src/lib.rt:269:5
 loop-holds : tie.Need-loop-holds Inv-loop μ-loop
-loop-holds c = ?
+loop-holds c =
+    let a = c .before .before .args in
+    let p = c .before .before .pre in
+    rw (c .ones .ensures) (fusing-begins (a .code .now) (a .low .now) (a .high .now) (a .prev .now) (a .inputs) (a .cur .now) (a .vals .now) (p .0) (p .1 .0) (p .1 .1) (p .1 .2))
 
--- src/lib.rt:270:28
 advance-one-requires : tie.Need-advance-one-requires Inv-loop μ-loop
-advance-one-requires c κs = ?
+advance-one-requires c κs = (c .before .before .before .before .loop .inv .ready, c .before .before .if1 .taken)
 
--- src/lib.rt:270:23
 enum-known-k : tie.Need-enum-known-k Inv-loop μ-loop
-enum-known-k c = ?
+enum-known-k c = search needs
 
--- src/lib.rt:271:13
 enum-told : tie.Need-enum-told Inv-loop μ-loop
-enum-told c = ?
+enum-told c = search needs
 
--- src/lib.rt:271:13
 same-length : tie.Need-same-length Inv-loop μ-loop
-same-length c = ?
+same-length c = search needs
 
--- src/lib.rt:271:13
 same-length-2 : tie.Need-same-length-2 Inv-loop μ-loop
-same-length-2 c = ?
+same-length-2 c = search needs
 
--- src/lib.rt:271:13
 returns : tie.Need-returns Inv-loop μ-loop
-returns c = ?
+returns c = tt
 
--- src/lib.rt:274:9
 add-steps : tie.Need-add-steps Inv-loop μ-loop
-add-steps c = ?
+add-steps c = omega (arith, c .before .before .before .before .before .before .before .before .before .before .loop .inv .few, c .before .before .before .before .before .before .before .before .if1 .taken)
 
--- src/lib.rt:269:5
 loop-less : tie.Need-loop-less Inv-loop μ-loop
-loop-less c = ?
+loop-less c =
+    let m = (moved (c .before .before .before .before .before .before .before .before .before .before .loop .inv) (c .before .before .before .before .before .advance-one .last .1 .1 .1 .1 .1 .0) (c .before .before .before .before .before .advance-one .last .1 .1 .1 .1 .0) (c .before .before .before .before .before .advance-one .result) (c .before .k .given .0 .0) (c .before .before .before .before .before .advance-one .ensures) (c .before .k .given .1)) in
+    omega (arith, fetch-next _ _ _ _ (m .fetched) .1, c .before .before .before .before .before .before .before .before .if1 .taken)
 
--- src/lib.rt:269:5
 loop-again : tie.Need-loop-again Inv-loop μ-loop
-loop-again c = ?
+loop-again c =
+    let m = (moved (c .before .before .before .before .before .before .before .before .before .before .loop .inv) (c .before .before .before .before .before .advance-one .last .1 .1 .1 .1 .1 .0) (c .before .before .before .before .before .advance-one .last .1 .1 .1 .1 .0) (c .before .before .before .before .before .advance-one .result) (c .before .k .given .0 .0) (c .before .before .before .before .before .advance-one .ensures) (c .before .k .given .1)) in
+    fusing-goes (c .before .before .before .before .before .before .before .before .before .before .loop .inv) (c .before .before .before .before .before .advance-one .last .1 .1 .1 .1 .1 .0) (c .before .before .before .before .before .advance-one .last .1 .1 .1 .1 .0) (c .before .k .given .0 .0) (c .before .before .before .before .before .before .before .before .if1 .taken) m (c .before .before .before .before .before .advance-one .kept .1 .1 .1 .1 .1 .0) (c .before .before .before .before .before .advance-one .kept .1 .1 .1 .1 .0)
 
--- src/lib.rt:277:8
 complete-requires : tie.Need-complete-requires Inv-loop μ-loop
-complete-requires c κs = ?
+complete-requires c κs = c .before .before .before .loop .inv .ready .small
 
--- src/lib.rt:278:9
 same-length-3 : tie.Need-same-length-3 Inv-loop μ-loop
-same-length-3 c = ?
+same-length-3 c = search needs
 
--- src/lib.rt:278:9
 same-length-4 : tie.Need-same-length-4 Inv-loop μ-loop
-same-length-4 c = ?
+same-length-4 c = search needs
 
--- src/lib.rt:278:9
 returns-2 : tie.Need-returns-2 Inv-loop μ-loop
-returns-2 c = ?
+returns-2 c = fusing-ends (c .before .before .before .before .before .loop .inv) (c .before .before .before .if1 .left) (sym (c .if2 .taken) ∙ c .before .complete .ensures)
 
--- src/lib.rt:241:1
 same-length-5 : tie.Need-same-length-5 Inv-loop μ-loop
-same-length-5 c = ?
+same-length-5 c = search needs
 
--- src/lib.rt:241:1
 same-length-6 : tie.Need-same-length-6 Inv-loop μ-loop
-same-length-6 c = ?
+same-length-6 c = search needs
 
--- src/lib.rt:241:1
 returns-3 : tie.Need-returns-3 Inv-loop μ-loop
-returns-3 c = ?
+returns-3 c = tt
 
 pub run-spec : {M : Type 1} → statement M
 run-spec =
