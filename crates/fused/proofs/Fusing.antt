@@ -16,13 +16,13 @@ use Rattle.checker.specs.Represented.{knownOf, flagsOf}
 use Rattle.checker.proofs.Bits.{length-flags}
 use Rattle.checker.proofs.Walking.{Walking, walking-begins, walking-goes, walking-ends}
 use Rattle.machine.specs.declared.Registers.{Registers}
-use Rattle.machine.specs.declared.Stepped.the-variants.{Next}
+use Rattle.machine.specs.declared.Stepped.the-variants.{Next, Refused}
 use Rattle.machine.specs.Memory.{heldOf, Named}
-use Rattle.machine.proofs.Loop.{Going, ended, again}
+use Rattle.machine.proofs.Loop.{Going, ended, again, refused}
 use Rattle.fused.specs.declared.Progress.{Progress}
 use Rattle.fused.specs.declared.Moved.{Moved}
 use Rattle.fused.specs.declared.Moved.the-variants as M
-use Rattle.fused.specs.Together.{registersOf, Ready, Moves, MovesBy, Succeeds}
+use Rattle.fused.specs.Together.{registersOf, Ready, Moves, Refuses, MovesBy, SoundFrom, Succeeds, Fails}
 
 -- nothing held, nothing picked, nothing passed over
 abbrev idle : Registers
@@ -54,6 +54,10 @@ few-held false n h = h
 
 module _ {code : List ℕ} {low high prev : List ℤ} {inputs : ℕ} {cur₀ vals₀ cur vals : List ℤ} {b : Progress} {steps : ℕ}
     (f : Fusing code low high prev inputs cur₀ vals₀ cur vals b steps) where
+  pub moved-refused : (vals₁ cur₁ : List ℤ) (r : Moved) (k : Progress) (number : ℕ) → MovesBy code low high prev b vals cur vals₁ cur₁ r → r ≡ M.Refused k number
+      → Refuses code low high prev b vals cur k number
+  moved-refused vals₁ cur₁ r k number m e = subst (λ x. MovesBy code low high prev b vals cur vals₁ cur₁ x) e m
+
   pub moved : (vals₁ cur₁ : List ℤ) (r : Moved) (k : Progress) → MovesBy code low high prev b vals cur vals₁ cur₁ r → r ≡ M.On k → Moves code low high prev b vals cur vals₁ cur₁ k
   moved vals₁ cur₁ r k m e = subst (λ x. MovesBy code low high prev b vals cur vals₁ cur₁ x) e m
 
@@ -75,6 +79,21 @@ module _ {code : List ℕ} {low high prev : List ℤ} {inputs : ℕ} {cur₀ val
         going = again (f .going) (omega (arith, f .few)) l (some i) (k .at) (sym (m .fetched)) (Next (registersOf k)) vals₁ cur₁ (λ ns q. sym (m .acted ns q))
             (registersOf k) refl (few-held (k .passing) (k .walk .held) (m .small .few-held)) deeper wider;
         few = omega (arith, f .few);
+      }
+
+  pub fusing-refused : (k : Progress) (number : ℕ) → b .at < length code → Refuses code low high prev b vals cur k number → SoundFrom code (k .at) (k .walk)
+      → Fails code low high prev inputs cur₀ number (steps + 1)
+  unfolding heldOf
+  fusing-refused k number l m rest =
+      let i = m .instruction in
+      let behind : b .at < k .at = fetch-next code (b .at) i (k .at) (m .fetched) .1 in
+      let on : (base : ℕ) → Walking code base inputs (length low) (k .at) (k .walk) = λ base.
+      walking-goes (f .walking base) (some i) (k .at) l (m .fetched) (k .walk) (m .advanced) (m .small) behind (m .inside) in
+      record {
+        sound = λ base. on base .goes ∙ rest base (on base .fuel) (on base .enough);
+        place = b .at;
+        went = λ ns q. sym (refused (f .going) (omega (arith, f .few)) l (some i) (k .at) (sym (m .fetched)) (Refused number) vals cur (λ ns₁ q₁. sym (m .acted ns₁ q₁)) number refl ns q);
+        within = omega (arith, f .few);
       }
 
   pub fusing-ends : length code ≤ b .at → true ≡ complete (knownOf (b .walk)) → Succeeds code low high prev inputs cur₀ cur steps

@@ -7,7 +7,7 @@ use mathlib.Core.List.{List, []}
 use mathlib.Core.Option.{Option, none, some}
 use lib.IntN.{ℤ}
 use lib.ListN.{length, getD}
-use Rattle.arith.specs.Values.{ok}
+use Rattle.arith.specs.Values.{ok, refusal}
 use Rattle.semantics.specs.Program.{Range}
 use Rattle.leb128.specs.Numbers.{got, numberAt}
 use Rattle.bytecode.specs.Instructions.{Instruction, instructionOf, hasOperand, decoded, fetch}
@@ -26,7 +26,7 @@ use Rattle.machine.proofs.Stack.{length-held}
 use Rattle.fused.specs.declared.Progress.{Progress}
 use Rattle.fused.specs.declared.Moved.{Moved}
 use Rattle.fused.specs.declared.Moved.the-variants as M
-use Rattle.fused.specs.Together.{registersOf, Ready, Over, OverBy, Passes, PassesBy, Takes, TakesBy, Moves, MovesBy}
+use Rattle.fused.specs.Together.{registersOf, Ready, Over, OverBy, Passes, PassesBy, Takes, Stops, TakesBy, Moves, Refuses, MovesBy}
 
 -- ---- as many values are held
 
@@ -55,18 +55,15 @@ module _ {low high prev cur vals : List ℤ} {b : Progress} (r : Ready low high 
 
   -- ---- an instruction that is not passed over
 
-  module _ (go : b .passing ≡ false) (next : ℕ) (k : Walk) (t : Registers) (vals₁ cur₁ : List ℤ) where
+  module _ (go : b .passing ≡ false) (next : ℕ) (k : Walk) where
     not-passing : machineOf (record { held = b .walk .held; picked = b .picked; passing = false }) vals cur ≡ machineOf (registersOf b) vals cur
     not-passing = rw go
 
-    abbrev after : Progress
-    after = record { walk = k; at = next; picked = t .picked; passing = t .passing }
-
-    pub takes : (o : Option Instruction) → advanceBy o (knownOf (b .walk)) ≡ some (knownOf k) → Small k
+    pub takes : (t : Registers) (vals₁ cur₁ : List ℤ) (o : Option Instruction) → advanceBy o (knownOf (b .walk)) ≡ some (knownOf k) → Small k
         → ((ns : List Range) → RangesIn ns low high → ok (machineOf t vals₁ cur₁) ≡ stepped ns prev o (machineOf (record { held = b .walk .held; picked = b .picked; passing = false }) vals cur))
-        → Takes low high prev o next b vals cur vals₁ cur₁ after
-    takes none e s a = none≢some _ e
-    takes (some i) e s a =
+        → Takes low high prev o next b vals cur vals₁ cur₁ (record { walk = k; at = next; picked = t .picked; passing = t .passing })
+    takes t vals₁ cur₁ none e s a = none≢some _ e
+    takes t vals₁ cur₁ (some i) e s a =
         record {
           placed = refl;
           advanced = e;
@@ -81,6 +78,11 @@ module _ {low high prev cur vals : List ℤ} {b : Progress} (r : Ready low high 
         matched : (ns : List Range) → RangesIn ns low high → Matches (knownOf k) (machineOf t vals₁ cur₁)
         matched ns q = subst (λ o. Kept (knownOf k) o) (sym (acts ns q)) (kept i k ns q e)
 
+    pub stops : (o : Option Instruction) (number : ℕ) → advanceBy o (knownOf (b .walk)) ≡ some (knownOf k) → Small k
+        → ((ns : List Range) → RangesIn ns low high → refusal number ≡ stepped ns prev o (machineOf (record { held = b .walk .held; picked = b .picked; passing = false }) vals cur))
+        → Stops low high prev o next b vals cur (record { walk = k; at = next; picked = false; passing = false }) number
+    stops o number e s a = record { placed = refl; advanced = e; small = s; acted = λ ns q. sym (a ns q ∙ ap (λ (m : Machine). stepped ns prev o m) not-passing) }
+
 -- ---- the instruction at hand
 
 module _ (code : List ℕ) (low high prev : List ℤ) (b : Progress) (vals cur vals₁ cur₁ : List ℤ) where
@@ -90,14 +92,24 @@ module _ (code : List ℕ) (low high prev : List ℤ) (b : Progress) (vals cur v
   from-takes (some x) next k f i t =
       record { instruction = x; fetched = rw (t .placed) f; inside = rw (t .placed) i; advanced = t .advanced; small = t .small; acted = t .acted; opened = t .opened }
 
+  from-stops : (o : Option Instruction) (next : ℕ) (k : Progress) (number : ℕ) → fetch code (b .at) ≡ decoded o next → next ≤ length code → Stops low high prev o next b vals cur k number
+      → Refuses code low high prev b vals cur k number
+  from-stops none next k number f i t = none≢some _ (t .advanced)
+  from-stops (some x) next k number f i t =
+      record { instruction = x; fetched = rw (t .placed) f; inside = rw (t .placed) i; advanced = t .advanced; small = t .small; acted = t .acted }
+
+  -- read as this instruction, with this place behind it
+  from-read : (o : Option Instruction) (next : ℕ) → fetch code (b .at) ≡ decoded o next → next ≤ length code → (r : Moved) → TakesBy low high prev o next b vals cur vals₁ cur₁ r
+      → MovesBy code low high prev b vals cur vals₁ cur₁ r
+  from-read o next f i M.Doubt t = tt
+  from-read o next f i (M.On k) t = from-takes o next k f i t
+  from-read o next f i (M.Refused k number) t = from-stops o next k number f i t
+
   module _ (byte : ℕ) (l : b .at < length code) (is : getD code (b .at) 0 ≡ byte) where
     pub moves-alone : hasOperand byte ≡ false → (r : Moved) → TakesBy low high prev (instructionOf byte 0) (b .at + 1) b vals cur vals₁ cur₁ r → MovesBy code low high prev b vals cur vals₁ cur₁ r
-    moves-alone h M.Doubt t = tt
-    moves-alone h (M.On k) t =
-        from-takes (instructionOf byte 0) (b .at + 1) k (fetch-alone code (b .at) l (ap hasOperand is ∙ h) ∙ rw is) (omega (arith, l)) t
+    moves-alone h r t = from-read (instructionOf byte 0) (b .at + 1) (fetch-alone code (b .at) l (ap hasOperand is ∙ h) ∙ rw is) (omega (arith, l)) r t
 
     pub moves-number : (n next : ℕ) → hasOperand byte ≡ true → numberAt code (b .at + 1) ≡ got n next → (r : Moved)
         → TakesBy low high prev (instructionOf byte n) next b vals cur vals₁ cur₁ r → MovesBy code low high prev b vals cur vals₁ cur₁ r
-    moves-number n next h e M.Doubt t = tt
-    moves-number n next h e (M.On k) t =
-        from-takes (instructionOf byte n) next k (fetch-number code (b .at) n next l (ap hasOperand is ∙ h) e ∙ rw is) (number-within code (b .at + 1) n next e .inside) t
+    moves-number n next h e r t =
+        from-read (instructionOf byte n) next (fetch-number code (b .at) n next l (ap hasOperand is ∙ h) e ∙ rw is) (number-within code (b .at + 1) n next e .inside) r t

@@ -1,4 +1,5 @@
 pub mod TwoGroups
 pub mod Joining
 pub mod Passing
+pub mod Resting
 pub mod Fusing

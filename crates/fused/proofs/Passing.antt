@@ -37,12 +37,14 @@ module _ (code : List ℕ) (b : Progress) where
   module _ (byte : ℕ) (p : Bool) (l : b .at < length code) (is : getD code (b .at) 0 ≡ byte) where
     pub passes-alone : hasOperand byte ≡ false → GoesOn (instructionOf byte 0) p → (r : Moved) → OverBy b (instructionOf byte 0) (b .at + 1) p r → PassesBy code b r
     passes-alone h g M.Doubt t = tt
+    passes-alone h g (M.Refused k number) t = absurd t
     passes-alone h g (M.On k) t =
         from-over (instructionOf byte 0) (b .at + 1) p k (fetch-alone code (b .at) l (ap hasOperand is ∙ h) ∙ rw is) (omega (arith, l)) g t
 
     pub passes-number : (n next : ℕ) → hasOperand byte ≡ true → GoesOn (instructionOf byte n) p → numberAt code (b .at + 1) ≡ got n next → (r : Moved)
         → OverBy b (instructionOf byte n) next p r → PassesBy code b r
     passes-number n next h g e M.Doubt t = tt
+    passes-number n next h g e (M.Refused k number) t = absurd t
     passes-number n next h g e (M.On k) t =
         from-over (instructionOf byte n) next p k (fetch-number code (b .at) n next l (ap hasOperand is ∙ h) e ∙ rw is) (number-within code (b .at + 1) n next e .inside) g t
 
@@ -71,4 +73,5 @@ module _ (code : List ℕ) {low high prev cur vals : List ℤ} {b : Progress} (r
 
   pub over-moves-by : (m : Moved) → PassesBy code b m → MovesBy code low high prev b vals cur vals cur m
   over-moves-by M.Doubt p = tt
+  over-moves-by (M.Refused k number) p = absurd p
   over-moves-by (M.On k) p = over-moves k p

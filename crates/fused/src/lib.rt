@@ -1,5 +1,5 @@
-// Check and run in one pass over the code: each instruction is read once, moves the walk and is done. It speaks only of sound code
-// whose run succeeds; of anything else it answers Doubt, and who asks takes the plain way.
+// Check and run in one pass over the code: each instruction is read once, moves the walk and is done. It speaks only of sound code;
+// of anything else it answers Doubt, and who asks takes the plain way.
 use checker::advance::Advanced;
 use checker::advance::Walk;
 use machine::Registers;
@@ -14,7 +14,7 @@ ghost use Rattle.leb128.specs.Results.{unsignedRead};
 ghost use Rattle.bytecode.specs.Instructions.{instructionOf};
 ghost use Rattle.checker.specs.Represented.{Small};
 ghost use Rattle.machine.specs.Memory.{Named};
-ghost use Rattle.fused.specs.Together.{OverBy, PassesBy, Ready, TakesBy, MovesBy, RunBy};
+ghost use Rattle.fused.specs.Together.{OverBy, PassesBy, Ready, TakesBy, MovesBy, SoundFrom, RunBy};
 
 // The walk before an instruction, and the place of that instruction; whether the variable at hand was picked, and whether
 // instructions are passed over. As many values are held as the walk knows of, none while instructions are passed over.
@@ -25,14 +25,17 @@ pub struct Progress {
     pub passing: bool,
 }
 
+// The progress behind an instruction, or the number of the machine's refusal.
 pub enum Moved {
     On(Progress),
+    Refused(Progress, u8),
     Doubt,
 }
 
-// The steps of a run to the end of sound code.
+// The steps of a run to the end of sound code, or the number of its refusal and the steps.
 pub enum Attempt {
     Done(usize),
+    Refused(u8, usize),
     Doubt,
 }
 
@@ -153,15 +156,24 @@ fn both(
         picked: b.picked,
         passing: false,
     };
-    let Stepped::Next(t) = machine::step(low, high, prev, cur, vals, m, code, n) else {
-        return Moved::Doubt;
-    };
-    Moved::On(Progress {
-        walk: k,
-        at: next,
-        picked: t.picked,
-        passing: t.passing,
-    })
+    let s = machine::step(low, high, prev, cur, vals, m, code, n);
+    match s {
+        Stepped::Next(t) => Moved::On(Progress {
+            walk: k,
+            at: next,
+            picked: t.picked,
+            passing: t.passing,
+        }),
+        Stepped::Refused(number) => Moved::Refused(
+            Progress {
+                walk: k,
+                at: next,
+                picked: false,
+                passing: false,
+            },
+            number,
+        ),
+    }
 }
 
 // The instruction at hand: one match on its code byte, so that each arm's call is of a fixed code.
@@ -241,7 +253,28 @@ fn advance_one(
     }
 }
 
-// The whole code, from nothing held, on current values that hold the row.
+// Whether the walk finds the rest of the code sound, from a place on.
+fn rest_is_sound(code: &[u8], from: usize, first: Walk) -> bool
+    requires { ⌜ Small first ⌝ }
+    ensures { λ r. ⌜ (r ≡ true → SoundFrom (now (code .entry)) from first) ⌝ }
+{
+    let mut at = from;
+    let mut w = first;
+    while at < code.len() {
+        let bytecode::Fetched::Instruction(byte, n, next) = bytecode::fetch(code, at) else {
+            return false;
+        };
+        let Advanced::Kept(k) = checker::advance::advance(byte, n, w) else {
+            return false;
+        };
+        w = k;
+        at = next;
+    }
+    checker::complete(w)
+}
+
+// The whole code, from nothing held, on current values that hold the row. Where the machine refuses, the walk alone goes on: an
+// instruction behind that breaks soundness comes first.
 pub fn run(
     code: &[u8],
     low: &[i32],
@@ -271,11 +304,25 @@ pub fn run(
     };
     let mut steps = 0;
     while b.at < code.len() {
-        let Moved::On(k) = advance_one(code, low, high, prev, cur, vals, b) else {
-            return Attempt::Doubt;
-        };
-        b = k;
-        steps += 1;
+        let m = advance_one(code, low, high, prev, cur, vals, b);
+        match m {
+            Moved::On(k) => {
+                b = k;
+                steps += 1;
+            }
+            Moved::Refused(k, number) => {
+                let done = steps + 1;
+                let at = k.at;
+                let w = k.walk;
+                if rest_is_sound(code, at, w) {
+                    return Attempt::Refused(number, done);
+                }
+                return Attempt::Doubt;
+            }
+            Moved::Doubt => {
+                return Attempt::Doubt;
+            }
+        }
     }
     let w = b.walk;
     if checker::complete(w) {

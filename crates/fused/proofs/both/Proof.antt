@@ -4,7 +4,7 @@ use Rattle.bytecode.specs.Instructions.{instructionOf}
 use Rattle.checker.specs.Represented.{advancedKnown, SmallAfter}
 use Rattle.machine.specs.declared.Stepped.{Stepped}
 use Rattle.machine.specs.Memory.{stepOutcome}
-use Rattle.fused.proofs.Joining.{takes}
+use Rattle.fused.proofs.Joining.{takes, stops}
 use borrow.Author.Needs.{needs}
 use Rattle.fused.proofs.both.Statement.{statement}
 use Rattle.fused.proofs.both.Tie as tie
@@ -24,11 +24,11 @@ returns c = search needs
 step-requires : tie.Need-step-requires
 step-requires c κs = search needs
 
-enum-known-t : tie.Need-enum-known-t
-enum-known-t c = search needs
+enum-known-s : tie.Need-enum-known-s
+enum-known-s c = search needs
 
-enum-told-2 : tie.Need-enum-told-2
-enum-told-2 c = search needs
+enum-known-s-2 : tie.Need-enum-known-s-2
+enum-known-s-2 c = search needs
 
 same-length : tie.Need-same-length
 same-length c = search needs
@@ -37,7 +37,12 @@ same-length-2 : tie.Need-same-length-2
 same-length-2 c = search needs
 
 returns-2 : tie.Need-returns-2
-returns-2 c = search needs
+returns-2 c =
+    let a = c .before .before .before .before .before .before .before .before .before .before .before .before .before .args in
+    let st = c .before .before .before .before .before .step in
+    takes (c .before .before .before .before .before .before .before .before .before .before .before .before .before .pre .0) (c .before .before .before .before .before .before .before .before .before .before .before .before .before .pre .1 .0) (a .next) (c .before .before .before .before .before .before .before .before .before .k .given .0 .0) (c .before .s .given .0 .0) (st .last .1 .1 .1 .1 .0) (st .last .1 .1 .1 .0)
+    (instructionOf (a .code) (a .n)) (sym (c .before .before .before .before .before .before .before .before .before .before .before .advance .ensures .0) ∙ ap advancedKnown (c .before .before .before .before .before .before .before .before .before .k .given .1)) (subst SmallAfter (c .before .before .before .before .before .before .before .before .before .k .given .1) (c .before .before .before .before .before .before .before .before .before .before .before .advance .ensures .1))
+    λ ns q. ap (λ (r : Stepped). stepOutcome r (st .last .1 .1 .1 .1 .0) (st .last .1 .1 .1 .0)) (sym (c .before .s .given .1)) ∙ st .ensures .0 ns q
 
 same-length-3 : tie.Need-same-length-3
 same-length-3 c = search needs
@@ -49,9 +54,9 @@ returns-3 : tie.Need-returns-3
 returns-3 c =
     let a = c .before .before .before .before .before .before .before .before .before .before .before .before .before .args in
     let st = c .before .before .before .before .before .step in
-    takes (c .before .before .before .before .before .before .before .before .before .before .before .before .before .pre .0) (c .before .before .before .before .before .before .before .before .before .before .before .before .before .pre .1 .0) (a .next) (c .before .before .before .before .before .before .before .before .before .k .given .0 .0) (c .before .t .given .0 .0) (st .last .1 .1 .1 .1 .0) (st .last .1 .1 .1 .0)
-    (instructionOf (a .code) (a .n)) (sym (c .before .before .before .before .before .before .before .before .before .before .before .advance .ensures .0) ∙ ap advancedKnown (c .before .before .before .before .before .before .before .before .before .k .given .1)) (subst SmallAfter (c .before .before .before .before .before .before .before .before .before .k .given .1) (c .before .before .before .before .before .before .before .before .before .before .before .advance .ensures .1))
-    λ ns q. ap (λ (r : Stepped). stepOutcome r (st .last .1 .1 .1 .1 .0) (st .last .1 .1 .1 .0)) (sym (c .before .t .given .1)) ∙ st .ensures .0 ns q
+    stops (c .before .before .before .before .before .before .before .before .before .before .before .before .before .pre .0) (c .before .before .before .before .before .before .before .before .before .before .before .before .before .pre .1 .0) (a .next) (c .before .before .before .before .before .before .before .before .before .k .given .0 .0)
+    (instructionOf (a .code) (a .n)) (c .before .s2 .given .0 .0) (sym (c .before .before .before .before .before .before .before .before .before .before .before .advance .ensures .0) ∙ ap advancedKnown (c .before .before .before .before .before .before .before .before .before .k .given .1)) (subst SmallAfter (c .before .before .before .before .before .before .before .before .before .k .given .1) (c .before .before .before .before .before .before .before .before .before .before .before .advance .ensures .1))
+    λ ns q. ap (λ (r : Stepped). stepOutcome r (st .last .1 .1 .1 .1 .0) (st .last .1 .1 .1 .0)) (sym (c .before .s2 .given .1)) ∙ st .ensures .0 ns q
 
 pub both-spec : {M : Type 1} → statement M
 both-spec =
@@ -62,8 +67,8 @@ both-spec =
     enum-told
     returns
     step-requires
-    enum-known-t
-    enum-told-2
+    enum-known-s
+    enum-known-s-2
     same-length
     same-length-2
     returns-2

@@ -5,7 +5,7 @@ use native.Mathlib.Omega.{arith}
 use borrow.Author.Needs.{needs}
 use lib.ListN.{length}
 use Rattle.bytecode.proofs.RoundTrip.{fetch-next}
-use Rattle.fused.proofs.Fusing.{Fusing, moved, fusing-begins, fusing-goes, fusing-ends}
+use Rattle.fused.proofs.Fusing.{Fusing, moved, moved-refused, fusing-begins, fusing-goes, fusing-refused, fusing-ends}
 use Rattle.fused.proofs.run.Statement.{statement}
 use Rattle.fused.proofs.run.Tie as tie
 
@@ -27,11 +27,30 @@ loop-holds c =
 advance-one-requires : tie.Need-advance-one-requires Inv-loop μ-loop
 advance-one-requires c κs = (c .before .before .before .before .loop .inv .ready, c .before .before .if1 .taken)
 
-enum-known-k : tie.Need-enum-known-k Inv-loop μ-loop
-enum-known-k c = search needs
+enum-known-m : tie.Need-enum-known-m Inv-loop μ-loop
+enum-known-m c = search needs
 
-enum-told : tie.Need-enum-told Inv-loop μ-loop
-enum-told c = search needs
+add-steps : tie.Need-add-steps Inv-loop μ-loop
+add-steps c = omega (arith, c .before .before .before .before .before .before .before .before .before .before .loop .inv .few, c .before .before .before .before .before .before .before .before .if1 .taken)
+
+loop-less : tie.Need-loop-less Inv-loop μ-loop
+loop-less c =
+    let m = (moved (c .before .before .before .before .before .before .before .before .before .before .loop .inv) (c .before .before .before .before .before .advance-one .last .1 .1 .1 .1 .1 .0) (c .before .before .before .before .before .advance-one .last .1 .1 .1 .1 .0) (c .before .before .before .before .before .advance-one .result) (c .before .m .given .0 .0) (c .before .before .before .before .before .advance-one .ensures) (c .before .m .given .1)) in
+    omega (arith, fetch-next _ _ _ _ (m .fetched) .1, c .before .before .before .before .before .before .before .before .if1 .taken)
+
+loop-again : tie.Need-loop-again Inv-loop μ-loop
+loop-again c =
+    let m = (moved (c .before .before .before .before .before .before .before .before .before .before .loop .inv) (c .before .before .before .before .before .advance-one .last .1 .1 .1 .1 .1 .0) (c .before .before .before .before .before .advance-one .last .1 .1 .1 .1 .0) (c .before .before .before .before .before .advance-one .result) (c .before .m .given .0 .0) (c .before .before .before .before .before .advance-one .ensures) (c .before .m .given .1)) in
+    fusing-goes (c .before .before .before .before .before .before .before .before .before .before .loop .inv) (c .before .before .before .before .before .advance-one .last .1 .1 .1 .1 .1 .0) (c .before .before .before .before .before .advance-one .last .1 .1 .1 .1 .0) (c .before .m .given .0 .0) (c .before .before .before .before .before .before .before .before .if1 .taken) m (c .before .before .before .before .before .advance-one .kept .1 .1 .1 .1 .1 .0) (c .before .before .before .before .before .advance-one .kept .1 .1 .1 .1 .0)
+
+enum-known-m-2 : tie.Need-enum-known-m-2 Inv-loop μ-loop
+enum-known-m-2 c = search needs
+
+add-done : tie.Need-add-done Inv-loop μ-loop
+add-done c = omega (arith, c .before .before .before .before .before .before .before .before .before .before .loop .inv .few, c .before .before .before .before .before .before .before .before .if1 .taken)
+
+rest-is-sound-requires : tie.Need-rest-is-sound-requires Inv-loop μ-loop
+rest-is-sound-requires c κs = (moved-refused (c .before .before .before .before .before .before .before .before .before .before .before .loop .inv) (c .before .before .before .before .before .before .advance-one .last .1 .1 .1 .1 .1 .0) (c .before .before .before .before .before .before .advance-one .last .1 .1 .1 .1 .0) (c .before .before .before .before .before .before .advance-one .result) (c .before .before .m2 .given .0 .0) (c .before .before .m2 .given .0 .1 .0) (c .before .before .before .before .before .before .advance-one .ensures) (c .before .before .m2 .given .1)) .small
 
 same-length : tie.Need-same-length Inv-loop μ-loop
 same-length c = search needs
@@ -40,23 +59,7 @@ same-length-2 : tie.Need-same-length-2 Inv-loop μ-loop
 same-length-2 c = search needs
 
 returns : tie.Need-returns Inv-loop μ-loop
-returns c = tt
-
-add-steps : tie.Need-add-steps Inv-loop μ-loop
-add-steps c = omega (arith, c .before .before .before .before .before .before .before .before .before .before .loop .inv .few, c .before .before .before .before .before .before .before .before .if1 .taken)
-
-loop-less : tie.Need-loop-less Inv-loop μ-loop
-loop-less c =
-    let m = (moved (c .before .before .before .before .before .before .before .before .before .before .loop .inv) (c .before .before .before .before .before .advance-one .last .1 .1 .1 .1 .1 .0) (c .before .before .before .before .before .advance-one .last .1 .1 .1 .1 .0) (c .before .before .before .before .before .advance-one .result) (c .before .k .given .0 .0) (c .before .before .before .before .before .advance-one .ensures) (c .before .k .given .1)) in
-    omega (arith, fetch-next _ _ _ _ (m .fetched) .1, c .before .before .before .before .before .before .before .before .if1 .taken)
-
-loop-again : tie.Need-loop-again Inv-loop μ-loop
-loop-again c =
-    let m = (moved (c .before .before .before .before .before .before .before .before .before .before .loop .inv) (c .before .before .before .before .before .advance-one .last .1 .1 .1 .1 .1 .0) (c .before .before .before .before .before .advance-one .last .1 .1 .1 .1 .0) (c .before .before .before .before .before .advance-one .result) (c .before .k .given .0 .0) (c .before .before .before .before .before .advance-one .ensures) (c .before .k .given .1)) in
-    fusing-goes (c .before .before .before .before .before .before .before .before .before .before .loop .inv) (c .before .before .before .before .before .advance-one .last .1 .1 .1 .1 .1 .0) (c .before .before .before .before .before .advance-one .last .1 .1 .1 .1 .0) (c .before .k .given .0 .0) (c .before .before .before .before .before .before .before .before .if1 .taken) m (c .before .before .before .before .before .advance-one .kept .1 .1 .1 .1 .1 .0) (c .before .before .before .before .before .advance-one .kept .1 .1 .1 .1 .0)
-
-complete-requires : tie.Need-complete-requires Inv-loop μ-loop
-complete-requires c κs = c .before .before .before .loop .inv .ready .small
+returns c = fusing-refused (c .before .before .before .before .before .before .before .before .before .before .before .before .before .loop .inv) (c .before .before .before .before .m2 .given .0 .0) (c .before .before .before .before .m2 .given .0 .1 .0) (c .before .before .before .before .before .before .before .before .before .before .before .if1 .taken) (moved-refused (c .before .before .before .before .before .before .before .before .before .before .before .before .before .loop .inv) (c .before .before .before .before .before .before .before .before .advance-one .last .1 .1 .1 .1 .1 .0) (c .before .before .before .before .before .before .before .before .advance-one .last .1 .1 .1 .1 .0) (c .before .before .before .before .before .before .before .before .advance-one .result) (c .before .before .before .before .m2 .given .0 .0) (c .before .before .before .before .m2 .given .0 .1 .0) (c .before .before .before .before .before .before .before .before .advance-one .ensures) (c .before .before .before .before .m2 .given .1)) (c .before .rest-is-sound .ensures (c .if2 .taken))
 
 same-length-3 : tie.Need-same-length-3 Inv-loop μ-loop
 same-length-3 c = search needs
@@ -65,7 +68,10 @@ same-length-4 : tie.Need-same-length-4 Inv-loop μ-loop
 same-length-4 c = search needs
 
 returns-2 : tie.Need-returns-2 Inv-loop μ-loop
-returns-2 c = fusing-ends (c .before .before .before .before .before .loop .inv) (c .before .before .before .if1 .left) (sym (c .if2 .taken) ∙ c .before .complete .ensures)
+returns-2 c = tt
+
+enum-told : tie.Need-enum-told Inv-loop μ-loop
+enum-told c = search needs
 
 same-length-5 : tie.Need-same-length-5 Inv-loop μ-loop
 same-length-5 c = search needs
@@ -76,6 +82,27 @@ same-length-6 c = search needs
 returns-3 : tie.Need-returns-3 Inv-loop μ-loop
 returns-3 c = tt
 
+complete-requires : tie.Need-complete-requires Inv-loop μ-loop
+complete-requires c κs = c .before .before .before .loop .inv .ready .small
+
+same-length-7 : tie.Need-same-length-7 Inv-loop μ-loop
+same-length-7 c = search needs
+
+same-length-8 : tie.Need-same-length-8 Inv-loop μ-loop
+same-length-8 c = search needs
+
+returns-4 : tie.Need-returns-4 Inv-loop μ-loop
+returns-4 c = fusing-ends (c .before .before .before .before .before .loop .inv) (c .before .before .before .if1 .left) (sym (c .if3 .taken) ∙ c .before .complete .ensures)
+
+same-length-9 : tie.Need-same-length-9 Inv-loop μ-loop
+same-length-9 c = search needs
+
+same-length-10 : tie.Need-same-length-10 Inv-loop μ-loop
+same-length-10 c = search needs
+
+returns-5 : tie.Need-returns-5 Inv-loop μ-loop
+returns-5 c = tt
+
 pub run-spec : {M : Type 1} → statement M
 run-spec =
     tie.close
@@ -85,18 +112,27 @@ run-spec =
     ones-requires
     loop-holds
     advance-one-requires
-    enum-known-k
-    enum-told
-    same-length
-    same-length-2
-    returns
+    enum-known-m
     add-steps
     loop-less
     loop-again
-    complete-requires
+    enum-known-m-2
+    add-done
+    rest-is-sound-requires
+    same-length
+    same-length-2
+    returns
     same-length-3
     same-length-4
     returns-2
+    enum-told
     same-length-5
     same-length-6
-    returns-3)
+    returns-3
+    complete-requires
+    same-length-7
+    same-length-8
+    returns-4
+    same-length-9
+    same-length-10
+    returns-5)
