@@ -16,6 +16,8 @@ ghost use Rattle.checker.specs.Represented.{Small};
 ghost use Rattle.machine.specs.Memory.{Named};
 ghost use Rattle.fused.specs.Together.{OverBy, PassesBy, Ready, TakesBy, MovesBy, SoundFrom, RunBy};
 
+pub mod header;
+
 // The walk before an instruction, and the place of that instruction; whether the variable at hand was picked, and whether
 // instructions are passed over. As many values are held as the walk knows of, none while instructions are passed over.
 pub struct Progress {
