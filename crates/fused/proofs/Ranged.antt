@@ -1,5 +1,5 @@
 -- Ranges that are read and tested fit, and go into two lists. Assumes nothing.
-use Prim.Native.Nat.{ℕ, _+_, _≤_, _<_}
+use Prim.Native.Nat.{ℕ, suc, _+_, _-_, _≤_, _<_}
 use native.Mathlib.Omega.{arith}
 use mathlib.Core.Path.{_≡_, refl, sym, ap, _∙_}
 use mathlib.Core.Bool.{false}
@@ -13,7 +13,7 @@ use Rattle.limits.specs.Answer.{accepted, _andThen_}
 use Rattle.semantics.specs.Program.{Range}
 use Rattle.leb128.specs.Numbers.{Read, got, nothing, _then_, signedAt}
 use Rattle.bytecode.specs.Check.{checkRange}
-use Rattle.bytecode.specs.Counting.{rangeAt}
+use Rattle.bytecode.specs.Counting.{rangeAt, rangesFrom}
 use Rattle.bytecode.proofs.Heading.{signed-within, range-fits, Heading, heading-begins, heading-goes, heading-ends, Filling, filling-begins, filling-goes, filling-ends}
 use Rattle.fused.specs.Header.{Stands}
 
@@ -53,15 +53,26 @@ read-three bytes at n next e = low (signedAt bytes at) refl e
     low nothing a q = none q
     low (got l at₁) a q = high l at₁ a (signedAt bytes at₁) refl q
 
+-- the ranges that are left, one by one
+left-none : (bytes : List ℕ) (m at : ℕ) → m ≡ 0 → length (rangesFrom bytes m at) ≡ 0
+unfolding rangesFrom
+left-none bytes m at e = rw e
+
+left-one : (bytes : List ℕ) (m k at : ℕ) (n : Range) (next : ℕ) → m ≡ suc k → rangeAt bytes at ≡ got n next → length (rangesFrom bytes m at) ≡ suc (length (rangesFrom bytes k next))
+unfolding rangesFrom
+left-one bytes m k at n next e f = rw (e, f)
+
 -- what is left of the ranges makes the whole header, and the whole of both lists
 pub record Ranging (image : List ℕ) (names first i place : ℕ) (low₀ high₀ low high : List ℤ) : Type 0 where
   pub heading : (inputs : ℕ) → Heading image inputs names first i place
+  pub many : length (rangesFrom image names first) ≡ i + length (rangesFrom image (names - i) place)
   pub lower : Filling (λ (n : Range). n .low) image names first i place low₀ low
   pub upper : Filling (λ (n : Range). n .high) image names first i place high₀ high
 
 pub ranging-begins : (image : List ℕ) (names first : ℕ) (low high : List ℤ) → first ≤ length image → Ranging image names first 0 first low high low high
 ranging-begins image names first low high h =
-    record { heading = λ inputs. heading-begins image inputs names first h; lower = filling-begins _ image names first low; upper = filling-begins _ image names first high }
+    let e : names - 0 ≡ names = omega arith in
+    record { heading = λ inputs. heading-begins image inputs names first h; many = rw e (omega arith); lower = filling-begins _ image names first low; upper = filling-begins _ image names first high }
 
 module _ {image : List ℕ} {names first i place : ℕ} {low₀ high₀ low high : List ℤ} (r : Ranging image names first i place low₀ high₀ low high) where
   pub ranging-goes : (n : Range) (next : ℕ) (low₁ high₁ : List ℤ) → i < names → rangeAt image place ≡ got n next
@@ -73,6 +84,7 @@ module _ {image : List ℕ} {names first i place : ℕ} {low₀ high₀ low high
       let k : next ≤ length image = signed-within image (x .at₂) (n .start) next (x .start-at) .inside in
       record {
         heading = λ inputs. heading-goes (r .heading inputs) next l k (rw f);
+        many = omega (arith, r .many, left-one image (names - i) (names - (i + 1)) place n next (omega arith) e);
         lower = filling-goes (r .lower) n next low₁ l e a;
         upper = filling-goes (r .upper) n next high₁ l e b;
       }
@@ -80,4 +92,5 @@ module _ {image : List ℕ} {names first i place : ℕ} {low₀ high₀ low high
   pub ranging-ends : names ≤ i → Stands image names first low₀ high₀ low high place
   ranging-ends l =
       let x = filling-ends (r .lower) l in
-      record { fits = λ inputs. heading-ends (r .heading inputs) l; end = x .end; inside = r .heading 0 .inside; lower = x .all; upper = filling-ends (r .upper) l .all }
+      let m : length (rangesFrom image names first) ≡ names = omega (arith, r .many, left-none image (names - i) place (omega arith), r .heading 0 .among) in
+      record { fits = λ inputs. heading-ends (r .heading inputs) l; many = m; end = x .end; inside = r .heading 0 .inside; lower = x .all; upper = filling-ends (r .upper) l .all }

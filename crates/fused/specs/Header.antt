@@ -14,6 +14,7 @@ use Rattle.fused.specs.declared.header.Placed.the-variants as P
 -- as many ranges as names fit, and the code begins behind them; lows and highs stand at the front of the memory lent for them
 pub record Stands (image : List ℕ) (names first : ℕ) (low high low₁ high₁ : List ℤ) (place : ℕ) : Type 0 where
   pub fits : (inputs : ℕ) → accepted (record { inputs = inputs; names = names; place = place }) ≡ (checkRanges image names first (withInputs inputs) andThen extentOf)
+  pub many : length (rangesFrom image names first) ≡ names
   pub end : place ≡ rangesEnd image names first
   pub inside : place ≤ length image
   pub lower : low₁ ≡ sets low 0 (lows (rangesFrom image names first))
