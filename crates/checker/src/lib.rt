@@ -69,7 +69,7 @@ fn check_code(code: &[u8], base: usize, inputs: usize, names: usize) -> Checked
         let bytecode::Fetched::Instruction(byte, n, next) = bytecode::fetch(code, at) else {
             return Checked::Refused(11, place);
         };
-        let Advanced::Kept(k) = advance::advance(byte, n, w) else {
+        let Advanced::Kept(k) = advance::advance_fixed(byte, n, w) else {
             return Checked::Refused(11, place);
         };
         w = k;
