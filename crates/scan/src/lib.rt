@@ -191,10 +191,10 @@ fn scan_fused(
     row: &[i32],
     low: &[i32],
     high: &[i32],
-    work: &mut [i32],
+    copy: &mut [i32],
     vals: &mut [i32],
 ) -> Attempt
-    requires { ⌜ Fitting (now state) (now row) (now low) (now high) (now work) (now vals) ⌝ }
+    requires { ⌜ Fitting (now state) (now row) (now low) (now high) (now copy) (now vals) ⌝ }
     requires { ⌜ length (now low) ≤ nameLimit ⌝ }
     ensures { λ r. ⌜ ((ns : List Range) → RangesIn ns (now (low .entry)) (now (high .entry))
         → Tried (now (state .entry)) (now (state .exit)) (scannedIn ns (now (code .entry)) (now (state .entry)) (now (row .entry))) r) ⌝ }
@@ -207,12 +207,12 @@ fn scan_fused(
     if !all_in_range(low, high, row) {
         return Attempt::Doubt;
     }
-    fill(work, state);
-    fill(work, row);
-    let ran = fused::run(code, low, high, state, work, vals, row.len());
+    fill(copy, state);
+    fill(copy, row);
+    let ran = fused::run(code, low, high, state, copy, vals, row.len());
     match ran {
         Attempt::Done(n) => {
-            fill(state, work);
+            fill(state, copy);
             Attempt::Done(n)
         }
         Attempt::Refused(number, n) => Attempt::Refused(number, n),

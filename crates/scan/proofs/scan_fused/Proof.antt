@@ -59,8 +59,8 @@ returns-3 c =
     let a = c .before .before .before .before .before .before .before .before .before .before .before .before .before .before .before .before .before .before .before .before .before .before .before .before .before .before .args in
     let p = c .before .before .before .before .before .before .before .before .before .before .before .before .before .before .before .before .before .before .before .before .before .before .before .before .before .before .pre in
     let k = c .before .before .before .before .before .ran .given in
-    let s = succeeds (a .code .now) (a .low .now) (a .high .now) (a .state .now) (a .row .now) (a .work .now) (c .before .before .before .before .before .before .before .before .before .before .before .before .before .before .before .before .before .fill .last .0) (c .before .before .before .before .before .before .before .before .before .before .before .before .before .before .fill2 .last .0) (c .before .before .before .before .before .before .before .before .before .run .last .1 .1 .1 .1 .0) (c .before .before .before .before .before .before .before .before .before .run .result) (p .0 .copy) (c .before .before .before .before .before .before .before .before .before .before .before .before .before .before .before .before .before .fill .ensures) (c .before .before .before .before .before .before .before .before .before .before .before .before .before .before .fill2 .ensures) (c .before .before .before .before .before .before .before .before .before .run .ensures) (k .0 .0) (k .1) in (
-      λ ns q. fused-done (a .code .now) (a .low .now) (a .high .now) (a .state .now) (a .row .now) (a .work .now) (c .before .before .before .before .before .before .before .before .before .before .before .before .before .before .before .before .before .fill .last .0) (c .before .before .before .before .before .before .before .before .before .before .before .before .before .before .fill2 .last .0) (c .before .before .before .before .before .before .before .before .before .run .last .1 .1 .1 .1 .0) (c .before .before .before .before .before .before .before .before .before .run .result) (p .0 .copy) (c .before .before .before .before .before .before .before .before .before .before .before .before .before .before .before .before .before .fill .ensures) (c .before .before .before .before .before .before .before .before .before .before .before .before .before .before .fill2 .ensures) (c .before .before .before .before .before .before .before .before .before .run .ensures) ns q (sym (c .before .before .before .before .before .before .before .before .before .before .before .before .before .before .before .before .before .before .before .before .before .before .before .all-in-range .ensures ns q) ∙ not-false _ (c .before .before .before .before .before .before .before .before .before .before .before .before .before .before .before .before .before .before .before .before .before .before .if1 .left)) (sym (c .before .before .before .before .before .before .before .before .before .before .before .before .before .before .before .before .before .before .before .before .before .all-in-range2 .ensures ns q) ∙ not-false _ (c .before .before .before .before .before .before .before .before .before .before .before .before .before .before .before .before .before .before .before .before .if2 .left)) (k .0 .0) (k .1) (c .before .fill3 .last .0) (p .0 .rows) (c .before .before .before .before .before .before .before .before .before .run .kept .1 .1 .1 .1 .0) (c .before .fill3 .ensures),
+    let s = succeeds (a .code .now) (a .low .now) (a .high .now) (a .state .now) (a .row .now) (a .copy .now) (c .before .before .before .before .before .before .before .before .before .before .before .before .before .before .before .before .before .fill .last .0) (c .before .before .before .before .before .before .before .before .before .before .before .before .before .before .fill2 .last .0) (c .before .before .before .before .before .before .before .before .before .run .last .1 .1 .1 .1 .0) (c .before .before .before .before .before .before .before .before .before .run .result) (p .0 .copy) (c .before .before .before .before .before .before .before .before .before .before .before .before .before .before .before .before .before .fill .ensures) (c .before .before .before .before .before .before .before .before .before .before .before .before .before .before .fill2 .ensures) (c .before .before .before .before .before .before .before .before .before .run .ensures) (k .0 .0) (k .1) in (
+      λ ns q. fused-done (a .code .now) (a .low .now) (a .high .now) (a .state .now) (a .row .now) (a .copy .now) (c .before .before .before .before .before .before .before .before .before .before .before .before .before .before .before .before .before .fill .last .0) (c .before .before .before .before .before .before .before .before .before .before .before .before .before .before .fill2 .last .0) (c .before .before .before .before .before .before .before .before .before .run .last .1 .1 .1 .1 .0) (c .before .before .before .before .before .before .before .before .before .run .result) (p .0 .copy) (c .before .before .before .before .before .before .before .before .before .before .before .before .before .before .before .before .before .fill .ensures) (c .before .before .before .before .before .before .before .before .before .before .before .before .before .before .fill2 .ensures) (c .before .before .before .before .before .before .before .before .before .run .ensures) ns q (sym (c .before .before .before .before .before .before .before .before .before .before .before .before .before .before .before .before .before .before .before .before .before .before .before .all-in-range .ensures ns q) ∙ not-false _ (c .before .before .before .before .before .before .before .before .before .before .before .before .before .before .before .before .before .before .before .before .before .before .if1 .left)) (sym (c .before .before .before .before .before .before .before .before .before .before .before .before .before .before .before .before .before .before .before .before .before .all-in-range2 .ensures ns q) ∙ not-false _ (c .before .before .before .before .before .before .before .before .before .before .before .before .before .before .before .before .before .before .before .before .if2 .left)) (k .0 .0) (k .1) (c .before .fill3 .last .0) (p .0 .rows) (c .before .before .before .before .before .before .before .before .before .run .kept .1 .1 .1 .1 .0) (c .before .fill3 .ensures),
       (s .sound, s .within),
     )
 
@@ -78,8 +78,8 @@ returns-4 c =
     let a = c .before .before .before .before .before .before .before .before .before .before .before .before .before .before .before .before .before .before .before .before .before .before .args in
     let p = c .before .before .before .before .before .before .before .before .before .before .before .before .before .before .before .before .before .before .before .before .before .before .pre in
     let k = c .before .ran2 .given in
-    let s = fails (a .code .now) (a .low .now) (a .high .now) (a .state .now) (a .row .now) (a .work .now) (c .before .before .before .before .before .before .before .before .before .before .before .before .before .fill .last .0) (c .before .before .before .before .before .before .before .before .before .before .fill2 .last .0) (c .before .before .before .before .before .run .last .1 .1 .1 .1 .0) (c .before .before .before .before .before .run .result) (p .0 .copy) (c .before .before .before .before .before .before .before .before .before .before .before .before .before .fill .ensures) (c .before .before .before .before .before .before .before .before .before .before .fill2 .ensures) (c .before .before .before .before .before .run .ensures) (k .0 .0) (k .0 .1 .0) (k .1) in (
-      λ ns q. fused-refused (a .code .now) (a .low .now) (a .high .now) (a .state .now) (a .row .now) (a .work .now) (c .before .before .before .before .before .before .before .before .before .before .before .before .before .fill .last .0) (c .before .before .before .before .before .before .before .before .before .before .fill2 .last .0) (c .before .before .before .before .before .run .last .1 .1 .1 .1 .0) (c .before .before .before .before .before .run .result) (p .0 .copy) (c .before .before .before .before .before .before .before .before .before .before .before .before .before .fill .ensures) (c .before .before .before .before .before .before .before .before .before .before .fill2 .ensures) (c .before .before .before .before .before .run .ensures) ns q (sym (c .before .before .before .before .before .before .before .before .before .before .before .before .before .before .before .before .before .before .before .all-in-range .ensures ns q) ∙ not-false _ (c .before .before .before .before .before .before .before .before .before .before .before .before .before .before .before .before .before .before .if1 .left)) (sym (c .before .before .before .before .before .before .before .before .before .before .before .before .before .before .before .before .before .all-in-range2 .ensures ns q) ∙ not-false _ (c .before .before .before .before .before .before .before .before .before .before .before .before .before .before .before .before .if2 .left)) (k .0 .0) (k .0 .1 .0) (k .1),
+    let s = fails (a .code .now) (a .low .now) (a .high .now) (a .state .now) (a .row .now) (a .copy .now) (c .before .before .before .before .before .before .before .before .before .before .before .before .before .fill .last .0) (c .before .before .before .before .before .before .before .before .before .before .fill2 .last .0) (c .before .before .before .before .before .run .last .1 .1 .1 .1 .0) (c .before .before .before .before .before .run .result) (p .0 .copy) (c .before .before .before .before .before .before .before .before .before .before .before .before .before .fill .ensures) (c .before .before .before .before .before .before .before .before .before .before .fill2 .ensures) (c .before .before .before .before .before .run .ensures) (k .0 .0) (k .0 .1 .0) (k .1) in (
+      λ ns q. fused-refused (a .code .now) (a .low .now) (a .high .now) (a .state .now) (a .row .now) (a .copy .now) (c .before .before .before .before .before .before .before .before .before .before .before .before .before .fill .last .0) (c .before .before .before .before .before .before .before .before .before .before .fill2 .last .0) (c .before .before .before .before .before .run .last .1 .1 .1 .1 .0) (c .before .before .before .before .before .run .result) (p .0 .copy) (c .before .before .before .before .before .before .before .before .before .before .before .before .before .fill .ensures) (c .before .before .before .before .before .before .before .before .before .before .fill2 .ensures) (c .before .before .before .before .before .run .ensures) ns q (sym (c .before .before .before .before .before .before .before .before .before .before .before .before .before .before .before .before .before .before .before .all-in-range .ensures ns q) ∙ not-false _ (c .before .before .before .before .before .before .before .before .before .before .before .before .before .before .before .before .before .before .if1 .left)) (sym (c .before .before .before .before .before .before .before .before .before .before .before .before .before .before .before .before .before .all-in-range2 .ensures ns q) ∙ not-false _ (c .before .before .before .before .before .before .before .before .before .before .before .before .before .before .before .before .if2 .left)) (k .0 .0) (k .0 .1 .0) (k .1),
       (s .sound, s .within),
     )
 
