@@ -42,7 +42,7 @@ walking-begins code base inputs names l m =
     }
 
 -- one instruction
-step-is : (base : ℕ) (code : List ℕ) (f at next : ℕ) (o : Option Instruction) (c : Known) → at < length code → fetch code at ≡ decoded o next
+pub step-is : (base : ℕ) (code : List ℕ) (f at next : ℕ) (o : Option Instruction) (c : Known) → at < length code → fetch code at ≡ decoded o next
     → checkCode base code (suc f) at c ≡ ifSome (advanceBy o c) (base + at) λ c₁. checkCode base code f next c₁
 step-is base code f at next none c l e = rw (lt-ltb at (length code) l, e)
 step-is base code f at next (some i) c l e = rw (lt-ltb at (length code) l, e)

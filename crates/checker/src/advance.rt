@@ -300,3 +300,36 @@ pub fn advance(code: u8, n: u64, w: Walk) -> Advanced
         _ => Advanced::Broken,
     }
 }
+
+// The same with a fixed code in each arm, so that each call is compiled for its code.
+pub fn advance_fixed(code: u8, n: u64, w: Walk) -> Advanced
+    requires { ⌜ (Small w) × (n < 2 ^ 32) ⌝ }
+    ensures { λ r. ⌜ advancedKnown r ≡ advanceBy (instructionOf code n) (knownOf w) ⌝ }
+    ensures { λ r. ⌜ SmallAfter r ⌝ }
+{
+    match code {
+        1 => advance(1, n, w),
+        2 => advance(2, n, w),
+        3 => advance(3, n, w),
+        4 => advance(4, n, w),
+        5 => advance(5, n, w),
+        6 => advance(6, n, w),
+        7 => advance(7, n, w),
+        8 => advance(8, n, w),
+        9 => advance(9, n, w),
+        10 => advance(10, n, w),
+        11 => advance(11, n, w),
+        12 => advance(12, n, w),
+        13 => advance(13, n, w),
+        14 => advance(14, n, w),
+        15 => advance(15, n, w),
+        16 => advance(16, n, w),
+        17 => advance(17, n, w),
+        18 => advance(18, n, w),
+        19 => advance(19, n, w),
+        20 => advance(20, n, w),
+        21 => advance(21, n, w),
+        22 => advance(22, n, w),
+        _ => advance(code, n, w),
+    }
+}

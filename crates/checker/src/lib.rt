@@ -22,7 +22,7 @@ pub enum Checked {
 }
 
 // The lowest k bits set.
-fn ones(k: u64) -> u64
+pub fn ones(k: u64) -> u64
     requires { ⌜ k ≤ 64 ⌝ }
     ensures { λ r. ⌜ r ≡ 2 ^ k - 1 ⌝ }
 {
@@ -33,7 +33,7 @@ fn ones(k: u64) -> u64
 }
 
 // Nothing is missing at the end: no value held, no gate without its pick, no pick without its settle, each variable with its rule.
-fn complete(w: Walk) -> bool
+pub fn complete(w: Walk) -> bool
     requires { ⌜ Small w ⌝ }
     ensures { λ r. ⌜ r ≡ completeOf (knownOf w) ⌝ }
 {
@@ -69,7 +69,7 @@ fn check_code(code: &[u8], base: usize, inputs: usize, names: usize) -> Checked
         let bytecode::Fetched::Instruction(byte, n, next) = bytecode::fetch(code, at) else {
             return Checked::Refused(11, place);
         };
-        let Advanced::Kept(k) = advance::advance(byte, n, w) else {
+        let Advanced::Kept(k) = advance::advance_fixed(byte, n, w) else {
             return Checked::Refused(11, place);
         };
         w = k;

@@ -41,7 +41,7 @@ abbrev pub Matches : Known → Machine → Type 0
 Matches (known vs g o ids) (machine false c ms t) = length ms ≡ length vs
 Matches (known vs g o ids) (machine true c ms t) = (g ≡ true) × (ms ≡ [])
 
-abbrev Kept : Known → Outcome Machine → Type 0
+abbrev pub Kept : Known → Outcome Machine → Type 0
 Kept d (ok m) = Matches d m
 Kept d (refusal k) = ByRules k
 
@@ -230,7 +230,7 @@ module _ (ns : List Range) (s : State) where
         declared-kept v _ d (unset-declared v (third (not g) (empty vs) (unset ids v) (opened o v) (q .0)))
         (settled-kept v (at s v) c ms t d none (set ids v true) (q .1) nil)
 
-  step-keeps : (i : Instruction) (c d : Known) (m : Machine) → length (idsOf c) ≡ length ns → advance i c ≡ some d → Matches c m → Kept d (step ns s i m)
+  pub step-keeps : (i : Instruction) (c d : Known) (m : Machine) → length (idsOf c) ≡ length ns → advance i c ≡ some d → Matches c m → Kept d (step ns s i m)
   step-keeps i (known vs g o ids) d (machine false c ms t) l e h = perform-keeps ids l i vs g o d c ms t h e
   step-keeps i (known vs g o ids) d (machine true c ms t) l e h = over-keeps i vs o ids d c ms t (subst (λ b. advance i (known vs b o ids) ≡ some d) (h .0) e) (h .1)
 

@@ -2,4 +2,5 @@ pub mod Copies
 pub mod InRange
 pub mod Scanning
 pub mod Images
+pub mod Attempting
 pub mod SoundScans

@@ -23,25 +23,27 @@ use Rattle.scan.specs.declared.Scanned.the-variants as R
 abbrev pub first : Registers
 first = record { held = 0; picked = false; passing = false }
 
--- the copy: the state found, then the row over its front; and the run on it
+-- the copy: the state found, then the row over its front
+module _ (found row w₀ w₁ w₂ : List ℤ) (long : length w₀ ≡ length found) (one : w₁ ≡ withInputs w₀ found) (two : w₂ ≡ withInputs w₁ row) where
+  pub copied : w₂ ≡ withInputs found row
+  copied = two ∙ ap (λ w. withInputs w row) (one ∙ over-all found w₀ (sym long))
+
+  pub length-copied : length row ≤ length found → length w₂ ≡ length found
+  length-copied rows = ap length copied ∙ length-over row found rows
+
+-- the run on it
 module _ (code : List ℕ) (low high found row w₀ w₁ w₂ vals vs ws : List ℤ) (e : Executed)
     (long : length w₀ ≡ length found) (rows : length row ≤ length found)
     (one : w₁ ≡ withInputs w₀ found) (two : w₂ ≡ withInputs w₁ row)
     (went : (ns : List Range) → RangesIn ns low high → ranOf e vs ws ≡ run ns found code (length code) 0 0 (machineOf first vals w₂)) where
-  copied : w₂ ≡ withInputs found row
-  copied = two ∙ ap (λ w. withInputs w row) (one ∙ over-all found w₀ (sym long))
-
-  length-copied : length w₂ ≡ length found
-  length-copied = ap length copied ∙ length-over row found rows
-
   run-was : (ns : List Range) → RangesIn ns low high → ranOf e vs ws ≡ ranOn ns code found row
   unfolding heldOf
-  run-was ns r = went ns r ∙ rw copied
+  run-was ns r = went ns r ∙ rw (copied found row w₀ w₁ w₂ long one two)
 
   -- the state is written at success
   pub code-done : (t : Registers) (left : List ℤ) → e .last ≡ Next t → length ws ≡ length w₂ → left ≡ withInputs found ws
       → (ns : List Range) → RangesIn ns low high → afterScan (R.Done (e .steps)) left ≡ scannedCode ns code found row
-  code-done t left l k o ns r = rw (← run-was ns r, l, o, over-all ws found (k ∙ length-copied))
+  code-done t left l k o ns r = rw (← run-was ns r, l, o, over-all ws found (k ∙ length-copied found row w₀ w₁ w₂ long one two rows))
 
   pub code-refused : (k : ℕ) → e .last ≡ Refused k → (ns : List Range) → RangesIn ns low high → afterScan (R.Refused k 0 (e .steps)) found ≡ scannedCode ns code found row
   code-refused k l ns r = rw (← run-was ns r, l)

@@ -1,3 +1,4 @@
 pub mod Services
 pub mod Results
 pub mod Internal
+pub mod Attempts

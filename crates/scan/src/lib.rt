@@ -1,19 +1,21 @@
 // Starting and scanning an image: the services start and scan.
 use bytecode::Counted;
 use checker::Checked;
+use fused::Attempt;
 use machine::Registers;
 use machine::Stepped;
 ghost use mathlib.Core.Path.{_≡_};
 ghost use mathlib.Core.List.{List, _++_};
 ghost use Prim.Native.Nat.{_≤_};
 ghost use lib.ListN.{length, drop};
-ghost use Rattle.limits.specs.Limits.{imageLimit};
+ghost use Rattle.limits.specs.Limits.{imageLimit, nameLimit};
 ghost use Rattle.semantics.specs.Program.{Range};
 ghost use Rattle.semantics.specs.ReferenceScan.{allWithin};
 ghost use Rattle.machine.specs.Memory.{RangesIn};
 ghost use Rattle.scan.specs.Services.{startOf, scanOf};
 ghost use Rattle.scan.specs.Results.{afterStart, StartedWithin, afterScan, ScannedWithin};
 ghost use Rattle.scan.specs.Internal.{scannedCode, scannedIn, scannedFrom, Fitting, Scratch, Announced};
+ghost use Rattle.scan.specs.Attempts.{Tried, SoundCodeBy, SoundFromBy, AttemptWithin, Beginning};
 
 // The refusals before the code.
 const BROKEN_IMAGE: u8 = 11;
@@ -149,8 +151,8 @@ fn scan_names(
     )
 }
 
-// The image, the lengths of state and row, then their values and the code. A sound image always has its counts.
-fn scan_in(
+// The plain way: the image, the lengths of state and row, then their values and the code. A sound image always has its counts.
+fn scan_plain(
     image: &[u8],
     state: &mut [i32],
     row: &[i32],
@@ -179,6 +181,127 @@ fn scan_in(
             }
             scan_names(image, first, state, row, low, high, work, vals)
         }
+    }
+}
+
+// On a copy of the state: check and run in one pass. A value out of range is left to the plain way, since the code is tested before it.
+fn scan_fused(
+    code: &[u8],
+    state: &mut [i32],
+    row: &[i32],
+    low: &[i32],
+    high: &[i32],
+    copy: &mut [i32],
+    vals: &mut [i32],
+) -> Attempt
+    requires { ⌜ Fitting (now state) (now row) (now low) (now high) (now copy) (now vals) ⌝ }
+    requires { ⌜ length (now low) ≤ nameLimit ⌝ }
+    ensures { λ r. ⌜ ((ns : List Range) → RangesIn ns (now (low .entry)) (now (high .entry))
+        → Tried (now (state .entry)) (now (state .exit)) (scannedIn ns (now (code .entry)) (now (state .entry)) (now (row .entry))) r) ⌝ }
+    ensures { λ r. ⌜ SoundCodeBy (now (code .entry)) (length (now (row .entry))) (length (now (low .entry))) r ⌝ }
+    ensures { λ r. ⌜ AttemptWithin (length (now (code .entry))) r ⌝ }
+{
+    if !all_in_range(low, high, state) {
+        return Attempt::Doubt;
+    }
+    if !all_in_range(low, high, row) {
+        return Attempt::Doubt;
+    }
+    fill(copy, state);
+    fill(copy, row);
+    let ran = fused::run(code, low, high, state, copy, vals, row.len());
+    match ran {
+        Attempt::Done(n) => {
+            fill(state, copy);
+            Attempt::Done(n)
+        }
+        Attempt::Refused(number, n) => Attempt::Refused(number, n),
+        Attempt::Doubt => Attempt::Doubt,
+    }
+}
+
+// The ranges of as many names as the state has values, from a place of the image on; then the values and the code behind them.
+fn scan_from_fused(
+    image: &[u8],
+    first: usize,
+    state: &mut [i32],
+    row: &[i32],
+    low: &mut [i32],
+    high: &mut [i32],
+    work: &mut [i32],
+    vals: &mut [i32],
+) -> Attempt
+    requires { ⌜ Beginning (now image) first (now state) (now row) ⌝ }
+    requires { ⌜ Scratch (now low) (now high) (now work) (now vals) ⌝ }
+    ensures { λ r. ⌜ Tried (now (state .entry)) (now (state .exit)) (scannedFrom (now (image .entry)) first (now (state .entry)) (now (row .entry))) r ⌝ }
+    ensures { λ r. ⌜ SoundFromBy (now (image .entry)) first (length (now (row .entry))) (length (now (state .entry))) r ⌝ }
+    ensures { λ r. ⌜ AttemptWithin (length (now (image .entry))) r ⌝ }
+{
+    let names = state.len();
+    let fused::header::Placed::Code(place) = fused::header::ranges(image, first, names, low, high)
+    else {
+        return Attempt::Doubt;
+    };
+    scan_fused(
+        &image[place..],
+        state,
+        row,
+        &low[..names],
+        &high[..names],
+        &mut work[..names],
+        vals,
+    )
+}
+
+// The fast way: each number and each instruction is read once.
+fn scan_once(
+    image: &[u8],
+    state: &mut [i32],
+    row: &[i32],
+    low: &mut [i32],
+    high: &mut [i32],
+    work: &mut [i32],
+    vals: &mut [i32],
+) -> Attempt
+    requires { ⌜ Scratch (now low) (now high) (now work) (now vals) ⌝ }
+    ensures { λ r. ⌜ Tried (now (state .entry)) (now (state .exit)) (scanOf (now (image .entry)) (now (state .entry)) (now (row .entry))) r ⌝ }
+    ensures { λ r. ⌜ AttemptWithin imageLimit r ⌝ }
+{
+    if 65536 < image.len() {
+        return Attempt::Doubt;
+    }
+    let counted = bytecode::counts(image);
+    let Counted::Counts(inputs, names, first) = counted else {
+        return Attempt::Doubt;
+    };
+    if state.len() != names {
+        return Attempt::Doubt;
+    }
+    if row.len() != inputs {
+        return Attempt::Doubt;
+    }
+    scan_from_fused(image, first, state, row, low, high, work, vals)
+}
+
+// The fast way, and the plain one where it leaves a doubt.
+fn scan_in(
+    image: &[u8],
+    state: &mut [i32],
+    row: &[i32],
+    low: &mut [i32],
+    high: &mut [i32],
+    work: &mut [i32],
+    vals: &mut [i32],
+) -> Scanned
+    requires { ⌜ Scratch (now low) (now high) (now work) (now vals) ⌝ }
+    ensures { λ r. ⌜ afterScan r (now (state .exit)) ≡ scanOf (now (image .entry)) (now (state .entry)) (now (row .entry)) ⌝ }
+    ensures { λ r. ⌜ ScannedWithin imageLimit r ⌝ }
+{
+    let tried = scan_once(image, state, row, low, high, work, vals);
+    match tried {
+        Attempt::Done(n) => Scanned::Done(n),
+        Attempt::Refused(number, n) => Scanned::Refused(number, 0, n),
+        Attempt::Doubt => scan_plain(image, state, row, low, high, work, vals),
     }
 }
 

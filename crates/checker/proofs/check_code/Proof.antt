@@ -40,8 +40,8 @@ enum-told c = search needs
 returns : tie.Need-returns Inv-loop μ-loop
 returns c = (walking-malformed (c .before .before .before .before .loop .inv) (c .before .before .before .loop-test .taken) (sym (c .before .before .fetch .ensures .0) ∙ ap fetchedRead (c .enum-told .given .1)), omega (arith, c .before .before .before .before .loop .inv .inside, c .before .before .before .before .before .before .before .pre .2))
 
-advance-requires : tie.Need-advance-requires Inv-loop μ-loop
-advance-requires c κs = (c .before .before .before .before .before .loop .inv .small, subst (FetchedWithin (length (c .before .before .before .before .before .before .before .before .args .code .now)) (c .before .before .before .before .before .loop .at)) (c .before .byte .given .1) (c .before .before .before .fetch .ensures .1) .operand)
+advance-fixed-requires : tie.Need-advance-fixed-requires Inv-loop μ-loop
+advance-fixed-requires c κs = (c .before .before .before .before .before .loop .inv .small, subst (FetchedWithin (length (c .before .before .before .before .before .before .before .before .args .code .now)) (c .before .before .before .before .before .loop .at)) (c .before .byte .given .1) (c .before .before .before .fetch .ensures .1) .operand)
 
 enum-known-k : tie.Need-enum-known-k Inv-loop μ-loop
 enum-known-k c = search needs
@@ -52,7 +52,7 @@ enum-told-2 c = search needs
 returns-2 : tie.Need-returns-2 Inv-loop μ-loop
 returns-2 c = (
   walking-broken (c .before .before .before .before .before .before .before .before .loop .inv) (instructionOf (c .before .before .before .before .byte .given .0 .0) (c .before .before .before .before .byte .given .0 .1 .0)) (c .before .before .before .before .byte .given .0 .1 .1 .0) (c .before .before .before .before .before .before .before .loop-test .taken) (sym (c .before .before .before .before .before .before .fetch .ensures .0) ∙ ap fetchedRead (c .before .before .before .before .byte .given .1))
-      (sym (c .before .before .advance .ensures .0) ∙ ap advancedKnown (c .enum-told2 .given .1)),
+      (sym (c .before .before .advance-fixed .ensures .0) ∙ ap advancedKnown (c .enum-told2 .given .1)),
   omega (arith, c .before .before .before .before .before .before .before .before .loop .inv .inside, c .before .before .before .before .before .before .before .before .before .before .before .pre .2),
 )
 
@@ -65,7 +65,7 @@ loop-again : tie.Need-loop-again Inv-loop μ-loop
 loop-again c =
     let b = subst (FetchedWithin (length (c .before .before .before .before .before .before .before .before .before .before .before .before .args .code .now)) (c .before .before .before .before .before .before .before .before .before .loop .at)) (c .before .before .before .before .before .byte .given .1) (c .before .before .before .before .before .before .before .fetch .ensures .1) in
     walking-goes (c .before .before .before .before .before .before .before .before .before .loop .inv) (instructionOf (c .before .before .before .before .before .byte .given .0 .0) (c .before .before .before .before .before .byte .given .0 .1 .0)) (c .before .before .before .before .before .byte .given .0 .1 .1 .0) (c .before .before .before .before .before .before .before .before .loop-test .taken) (sym (c .before .before .before .before .before .before .before .fetch .ensures .0) ∙ ap fetchedRead (c .before .before .before .before .before .byte .given .1))
-    _ (sym (c .before .before .before .advance .ensures .0) ∙ ap advancedKnown (c .before .k .given .1)) (subst SmallAfter (c .before .k .given .1) (c .before .before .before .advance .ensures .1)) (b .behind) (b .inside)
+    _ (sym (c .before .before .before .advance-fixed .ensures .0) ∙ ap advancedKnown (c .before .k .given .1)) (subst SmallAfter (c .before .k .given .1) (c .before .before .before .advance-fixed .ensures .1)) (b .behind) (b .inside)
 
 complete-requires : tie.Need-complete-requires Inv-loop μ-loop
 complete-requires c κs = c .before .loop .inv .small
@@ -92,7 +92,7 @@ check-code-spec =
     enum-known-byte
     enum-told
     returns
-    advance-requires
+    advance-fixed-requires
     enum-known-k
     enum-told-2
     returns-2

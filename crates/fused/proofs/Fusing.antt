@@ -1,0 +1,110 @@
+-- What holds at each turn of the loop over the code: what is left of the walk makes the whole check, what is left to do makes the
+-- whole run. Assumes nothing.
+use Prim.Native.Nat.{ℕ, _+_, _-_, _≤_, _<_, _^_}
+use native.Mathlib.Omega.{arith}
+use mathlib.Core.Path.{_≡_, refl, sym, subst, _∙_}
+use mathlib.Core.Bool.{Bool, true, false, cond, false≢true}
+use mathlib.Core.List.{List}
+use mathlib.Core.Option.{some}
+use lib.IntN.{ℤ}
+use lib.ListN.{length}
+use Rattle.bytecode.specs.Check.{complete}
+use Rattle.bytecode.proofs.RoundTrip.{fetch-next}
+use Rattle.bytecode.proofs.Soundness.{advance-small}
+use Rattle.checker.specs.declared.advance.Walk.{Walk}
+use Rattle.checker.specs.Represented.{knownOf, flagsOf}
+use Rattle.checker.proofs.Bits.{length-flags}
+use Rattle.checker.proofs.Walking.{Walking, walking-begins, walking-goes, walking-ends}
+use Rattle.machine.specs.declared.Registers.{Registers}
+use Rattle.machine.specs.declared.Stepped.the-variants.{Next, Refused}
+use Rattle.machine.specs.Memory.{heldOf, Named}
+use Rattle.machine.proofs.Loop.{Going, ended, again, refused}
+use Rattle.fused.specs.declared.Progress.{Progress}
+use Rattle.fused.specs.declared.Moved.{Moved}
+use Rattle.fused.specs.declared.Moved.the-variants as M
+use Rattle.fused.specs.Together.{registersOf, Ready, Moves, Refuses, MovesBy, SoundFrom, Succeeds, Fails}
+
+-- nothing held, nothing picked, nothing passed over
+abbrev idle : Registers
+idle = record { held = 0; picked = false; passing = false }
+
+pub record Fusing (code : List ℕ) (low high prev : List ℤ) (inputs : ℕ) (cur₀ vals₀ cur vals : List ℤ) (b : Progress) (steps : ℕ) : Type 0 where
+  pub ready : Ready low high prev cur vals b
+  pub walking : (base : ℕ) → Walking code base inputs (length low) (b .at) (b .walk)
+  pub going : Going code low high prev cur₀ vals₀ 0 (length code) idle cur vals (registersOf b) (b .at) steps
+  pub few : steps ≤ b .at
+
+abbrev first : ℕ → ℕ → Walk
+first inputs names = record { held = 0; sorts = 0; gate = 0; picking = 0; known = 2 ^ inputs - 1; names = names }
+
+pub fusing-begins : (code : List ℕ) (low high prev : List ℤ) (inputs : ℕ) (cur vals : List ℤ) → Named low high prev cur → inputs ≤ length low → length low ≤ 64 → 40 ≤ length vals
+    → Fusing code low high prev inputs cur vals cur vals (record { walk = first inputs (length low); at = 0; picked = false; passing = false }) 0
+fusing-begins code low high prev inputs cur vals named l m room =
+    let e : length code - 0 ≡ length code = omega arith in
+    record {
+      ready = record { small = walking-begins code 0 inputs (length low) l m .small; sized = refl; room = room; named = named; opened = λ ns q t. absurd (false≢true t) };
+      walking = λ base. walking-begins code base inputs (length low) l m;
+      going = record { stack = record { few = omega arith; room = room }; named = named; wide = refl; deep = refl; within = omega arith; goes = λ ns r. rw e };
+      few = omega arith;
+    }
+
+few-held : (p : Bool) (n : ℕ) → n ≤ 40 → cond p 0 n ≤ 40
+few-held true n h = omega arith
+few-held false n h = h
+
+module _ {code : List ℕ} {low high prev : List ℤ} {inputs : ℕ} {cur₀ vals₀ cur vals : List ℤ} {b : Progress} {steps : ℕ}
+    (f : Fusing code low high prev inputs cur₀ vals₀ cur vals b steps) where
+  pub moved-refused : (vals₁ cur₁ : List ℤ) (r : Moved) (k : Progress) (number : ℕ) → MovesBy code low high prev b vals cur vals₁ cur₁ r → r ≡ M.Refused k number
+      → Refuses code low high prev b vals cur k number
+  moved-refused vals₁ cur₁ r k number m e = subst (λ x. MovesBy code low high prev b vals cur vals₁ cur₁ x) e m
+
+  pub moved : (vals₁ cur₁ : List ℤ) (r : Moved) (k : Progress) → MovesBy code low high prev b vals cur vals₁ cur₁ r → r ≡ M.On k → Moves code low high prev b vals cur vals₁ cur₁ k
+  moved vals₁ cur₁ r k m e = subst (λ x. MovesBy code low high prev b vals cur vals₁ cur₁ x) e m
+
+  pub fusing-goes : (vals₁ cur₁ : List ℤ) (k : Progress) → b .at < length code → Moves code low high prev b vals cur vals₁ cur₁ k → length vals₁ ≡ length vals → length cur₁ ≡ length cur
+      → Fusing code low high prev inputs cur₀ vals₀ cur₁ vals₁ k (steps + 1)
+  fusing-goes vals₁ cur₁ k l m deeper wider =
+      let i = m .instruction in
+      let behind : b .at < k .at = fetch-next code (b .at) i (k .at) (m .fetched) .1 in
+      let names : length (flagsOf (k .walk .names) (k .walk .known)) ≡ length (flagsOf (b .walk .names) (b .walk .known)) = advance-small i (knownOf (b .walk)) (knownOf (k .walk)) (omega (arith, length-flags (b .walk .names) (b .walk .known), f .ready .small .few-names)) (m .advanced) .1 in
+      record {
+        ready = record {
+          small = m .small;
+          sized = sym (length-flags (k .walk .names) (k .walk .known)) ∙ names ∙ length-flags (b .walk .names) (b .walk .known) ∙ f .ready .sized;
+          room = omega (arith, f .ready .room);
+          named = record { highs = f .ready .named .highs; previous = f .ready .named .previous; current = wider ∙ f .ready .named .current };
+          opened = m .opened;
+        };
+        walking = λ base. walking-goes (f .walking base) (some i) (k .at) l (m .fetched) (k .walk) (m .advanced) (m .small) behind (m .inside);
+        going = again (f .going) (omega (arith, f .few)) l (some i) (k .at) (sym (m .fetched)) (Next (registersOf k)) vals₁ cur₁ (λ ns q. sym (m .acted ns q))
+            (registersOf k) refl (few-held (k .passing) (k .walk .held) (m .small .few-held)) deeper wider;
+        few = omega (arith, f .few);
+      }
+
+  pub fusing-refused : (k : Progress) (number : ℕ) → b .at < length code → Refuses code low high prev b vals cur k number → SoundFrom code (k .at) (k .walk)
+      → Fails code low high prev inputs cur₀ number (steps + 1)
+  unfolding heldOf
+  fusing-refused k number l m rest =
+      let i = m .instruction in
+      let behind : b .at < k .at = fetch-next code (b .at) i (k .at) (m .fetched) .1 in
+      let on : (base : ℕ) → Walking code base inputs (length low) (k .at) (k .walk) = λ base.
+      walking-goes (f .walking base) (some i) (k .at) l (m .fetched) (k .walk) (m .advanced) (m .small) behind (m .inside) in
+      record {
+        sound = λ base. on base .goes ∙ rest base (on base .fuel) (on base .enough);
+        place = b .at;
+        went = λ ns q. sym (refused (f .going) (omega (arith, f .few)) l (some i) (k .at) (sym (m .fetched)) (Refused number) vals cur (λ ns₁ q₁. sym (m .acted ns₁ q₁)) number refl ns q);
+        within = omega (arith, f .few);
+      }
+
+  pub fusing-ends : length code ≤ b .at → true ≡ complete (knownOf (b .walk)) → Succeeds code low high prev inputs cur₀ cur steps
+  unfolding heldOf
+  fusing-ends l done =
+      record {
+        sound = λ base. walking-ends (f .walking base) l ∙ rw (← done);
+        place = b .at;
+        passing = b .passing;
+        picked = b .picked;
+        held = heldOf vals (registersOf b .held);
+        went = λ ns q. sym (ended (f .going) l ns q);
+        within = f .going .within;
+      }

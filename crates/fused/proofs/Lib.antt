@@ -1,0 +1,6 @@
+pub mod TwoGroups
+pub mod Joining
+pub mod Passing
+pub mod Resting
+pub mod Fusing
+pub mod Ranged
