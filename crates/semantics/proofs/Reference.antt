@@ -19,6 +19,10 @@ use Rattle.semantics.proofs.Unique.{Agree, HoldsRule, HoldsAll, scan-ho
 
 -- ---- every formula at a place, and along a trace
 
+-- A formula that needs a value refused by 14 isn't satisfied.
+pub refused-unsatisfied : (f : Formula) (s t : State) (k : ℕ) → f s t ≡ refusal k → Holds f s t → ⊥
+refused-unsatisfied f s t k e h = ok≢refusal true k (sym h ∙ e)
+
 all-append : (P : Formula → Type 0) (fs gs : List Formula) → All P fs → All P gs → All P (fs ++ gs)
 all-append P [] gs a b = b
 all-append P (f ∷ fs) gs a b = (a .0, all-append P fs gs (a .1) b)
