@@ -26,8 +26,8 @@ use Rattle.grammar.specs.Conditions.{comparisonOf, compared, comparisonA
 use Rattle.grammar.specs.Derivation.{Stands, Spells, IsName, IsDigits, ProductSign, SumSign, ComparisonSign, Level, SpellsE, a-number, a-current, a-previous, brackets, plain, opposite, one-factor, product, one-term, sum, LevelC, SpellsC, not-square, one-atom, conjoined, one-conjunction, disjoined}
 use Rattle.grammar.specs.Derivation as D
 use Rattle.grammar.specs.Spelled.{Distinct}
-use Rattle.grammar.proofs.Bytes.{part-length}
-use Rattle.grammar.proofs.Agree.{part-cons, tails, one-sign, never}
+use Rattle.grammar.proofs.Combine.{one-sign, never}
+use Rattle.grammar.proofs.Bytes.{part-length, part-cons, tails}
 use Rattle.grammar.proofs.Spellings.{Spelling}
 use Rattle.grammar.proofs.Distinct.{place-id}
 use Rattle.grammar.proofs.Standing.{at-kind, split, stands-in, spells-in}

@@ -25,10 +25,9 @@ use Rattle.grammar.specs.Conditions.{comparisonOf, compared, comparisonA
 use Rattle.grammar.specs.Derivation.{Stands, Spells, SpellsE, a-number, a-current, a-previous, brackets, plain, opposite, one-factor, product, one-term, sum, SpellsC, not-square, one-atom, conjoined, one-conjunction, disjoined}
 use Rattle.grammar.specs.Derivation as D
 use Rattle.grammar.specs.Emitted.{codeE, codeC}
-use Rattle.grammar.proofs.Combine.{token-prop, then-prop, option-prop}
-use Rattle.grammar.proofs.Bytes.{part-length}
+use Rattle.grammar.proofs.Combine.{token-prop, then-prop, option-prop, one-sign}
+use Rattle.grammar.proofs.Bytes.{part-length, part-cons}
 use Rattle.grammar.proofs.Growth.{Grown, Reads, Inside, factor-grown, term-grown, expression-grown, bracket-grown, square-grown, atom-grown, conjunction-grown, condition-grown, whole-condition-grown, not-end, products-end, sums-end, comparisons-end, ands-end, ors-end}
-use Rattle.grammar.proofs.Agree.{part-cons, one-sign}
 use Rattle.grammar.proofs.Spellings.{Spelling}
 use Rattle.grammar.proofs.Standing.{stands, stands-spelled, spells-append, id-names, product-sign, sum-sign, comparison-sign}
 

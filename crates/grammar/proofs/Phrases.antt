@@ -13,7 +13,8 @@ use Rattle.lexer.proofs.Laws.{token-at-moved}
 use Rattle.lexer.proofs.Same.{same-kind, same-name, both-true}
 use Rattle.grammar.specs.Parsed.{Parsed, accepted, refused, andThen, onToken, Wanted, sign, own, ownPrevious, isWanted, expected, phrase, followed}
 use Rattle.grammar.specs.Derivation.{Stands, Spells, IsName}
-use Rattle.grammar.proofs.Agree.{part-cons, tails, never}
+use Rattle.grammar.proofs.Combine.{never}
+use Rattle.grammar.proofs.Bytes.{part-cons, tails}
 use Rattle.grammar.proofs.Distinct.{same-itself}
 use Rattle.grammar.proofs.Spellings.{Spelling, spellingOf, isFixed, fixed-spelling}
 use Rattle.grammar.proofs.Standing.{stands, stands-spelled, at-kind, stands-in}
