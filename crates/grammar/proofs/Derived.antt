@@ -26,14 +26,10 @@ use Rattle.grammar.specs.Derivation.{Stands, Spells, SpellsE, a-number, 
 use Rattle.grammar.specs.Derivation as D
 use Rattle.grammar.specs.Emitted.{codeE, codeC}
 use Rattle.grammar.proofs.Combine.{token-prop, then-prop, option-prop, one-sign}
-use Rattle.grammar.proofs.Bytes.{part-length, part-cons}
-use Rattle.grammar.proofs.Growth.{Grown, Reads, Inside, factor-grown, term-grown, expression-grown, bracket-grown, square-grown, atom-grown, conjunction-grown, condition-grown, whole-condition-grown, not-end, products-end, sums-end, comparisons-end, ands-end, ors-end}
+use Rattle.grammar.proofs.Bytes.{part-cons, heads}
+use Rattle.grammar.proofs.Growth.{Grown, Reads, Inside, factor-grown, term-grown, expression-grown, bracket-grown, square-grown, atom-grown, conjunction-grown, condition-grown, not-end, operator-end, products-end, sums-end, comparisons-end, ands-end, ors-end}
 use Rattle.grammar.proofs.Spellings.{Spelling}
 use Rattle.grammar.proofs.Standing.{stands, stands-spelled, spells-append, id-names, product-sign, sum-sign, comparison-sign}
-
--- an operator is not the end
-pub operator-end : {O : Type 0} (operator : Kind → Option O) → operator ending ≡ none → (k : Kind) (o : O) → operator k ≡ some o → k ≡ ending → ⊥
-operator-end operator h k o e f = let g : operator ending ≡ some o = ap operator (sym f) ∙ e in let z : _≡_ {A = ℕ} 0 1 = cc in omega arith
 
 module _ (text : List ℕ) where
   -- tokens that spell e stand from `at` up to n
@@ -187,9 +183,6 @@ module _ (sc : Scope) (few : length (sc .names) ≤ 64) where
         let mv = token-at-moved (sc .text) at k s n h et in
         before (sc .text) (ClosedE l) (SpellsE (sc .names) D.primary l) (bytes "(") (bracketed l) at n (sign-is (sc .text) openRound (bytes "(") (λ x q. q) refl at k s n h et e) (inner s n) (hi s n (mv .2)))
         (λ n4. tt)))))
-      where
-        heads : (x y : ℕ) (k l : List ℕ) → x ∷ k ≡ y ∷ l → x ≡ y
-        heads x y k l e = cc
 
     factor-derives : (at : ℕ) → at ≤ length (sc .text) → Derives (sc .text) (SpellsE (sc .names) D.factor l) at (factor inner sc at)
     unfolding factor negative is kindNumber
@@ -344,17 +337,7 @@ module _ (sc : Scope) (few : length (sc .names) ≤ 64) where
       let g = subst (Grown codeC (length (sc .text)) n) es (condition-grown sc few inner (bracket-grown sc few l) inside (square-grown sc few l) n h) in
       rw (one-sign (sc .text) closeSquare c m) (sign-derives (sc .text) (SpellsC (sc .names) D.condition l) closeSquare (bytes "]") (λ x q. q) refl n c m (g .1) d))
 
-  pub whole-condition-derives : (at : ℕ) → at ≤ length (sc .text) → Derives (sc .text) (SpellsC (sc .names) D.condition bracketLimit) at (wholeCondition sc at)
-  unfolding wholeCondition
-  whole-condition-derives at h =
-      condition-derives bracketLimit (λ s n. bracket bracketLimit sc s n) (bracket-grown sc few bracketLimit) (bracket-derives bracketLimit) (λ s n. square bracketLimit sc s n) (square-grown sc few bracketLimit) (square-derives bracketLimit) at h
-
   -- `[c]` of a rule form, after its bracket
   pub listed-derives : (at : ℕ) → at ≤ length (sc .text) → Derives (sc .text) (Closed (sc .text) (SpellsC (sc .names) D.condition bracketLimit) (bytes "]")) at (listed sc at)
-  unfolding listed is kindNumber
-  listed-derives at h =
-      then-prop (Derives (sc .text) (Closed (sc .text) (SpellsC (sc .names) D.condition bracketLimit) (bytes "]")) at) (wholeCondition sc at) _ (λ k q. tt)
-      (λ c m es.
-      let d = subst (Derives (sc .text) (SpellsC (sc .names) D.condition bracketLimit) at) es (whole-condition-derives at h) in
-      let g = subst (Grown codeC (length (sc .text)) at) es (whole-condition-grown sc few at h) in
-      rw (one-sign (sc .text) closeSquare c m) (sign-derives (sc .text) (SpellsC (sc .names) D.condition bracketLimit) closeSquare (bytes "]") (λ x q. q) refl at c m (g .1) d))
+  unfolding listed wholeCondition square
+  listed-derives at h = square-derives (suc bracketLimit) 0 at h

@@ -193,11 +193,8 @@ module _ (sc : Scope) (lengths : length (sc .names) ≡ length (sc .known)) wher
       followed-holds (FitC (sc .known) (suc (suc (suc (1 + 2 * suc left))))) (sc .text) _ c m (g .0, omega (arith, g .1)))
 
   pub listed-fits : (at : ℕ) → Holds (FitC (sc .known) 38) (listed sc at)
-  unfolding listed wholeCondition
-  listed-fits at =
-      then-prop (Holds (FitC (sc .known) 38)) (wholeCondition sc at) _ (λ k q. tt)
-      (λ c m es. followed-holds (FitC (sc .known) 38) (sc .text) _ c m (subst (Holds (FitC (sc .known) 38)) es
-      (condition-fits 33 (omega arith) (λ s n. bracket bracketLimit sc s n) (bracket-fits bracketLimit) (λ s n. square bracketLimit sc s n) (square-fits bracketLimit) at)))
+  unfolding listed wholeCondition square
+  listed-fits at = square-fits (suc bracketLimit) 0 at
 
 -- ---- cases
 

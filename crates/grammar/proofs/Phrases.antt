@@ -14,7 +14,7 @@ use Rattle.lexer.proofs.Same.{same-kind, same-name, both-true}
 use Rattle.grammar.specs.Parsed.{Parsed, accepted, refused, andThen, onToken, Wanted, sign, own, ownPrevious, isWanted, expected, phrase, followed}
 use Rattle.grammar.specs.Derivation.{Stands, Spells, IsName}
 use Rattle.grammar.proofs.Combine.{never}
-use Rattle.grammar.proofs.Bytes.{part-cons, tails}
+use Rattle.grammar.proofs.Bytes.{part-cons, heads, tails}
 use Rattle.grammar.proofs.Distinct.{same-itself}
 use Rattle.grammar.proofs.Spellings.{Spelling, spellingOf, isFixed, fixed-spelling}
 use Rattle.grammar.proofs.Standing.{stands, stands-spelled, at-kind, stands-in}
@@ -36,10 +36,7 @@ signs (sign k ∷ ws) = isFixed k && signs ws
 signs (own w ∷ ws) = signs ws
 signs (ownPrevious w ∷ ws) = signs ws
 
-pub heads : (x y : ℕ) (k l : List ℕ) → x ∷ k ≡ y ∷ l → x ≡ y
-heads x y k l e = cc
-
-and-both : (a b : Bool) → a && b ≡ true → (a ≡ true) × (b ≡ true)
+pub and-both : (a b : Bool) → a && b ≡ true → (a ≡ true) × (b ≡ true)
 and-both true b e = (refl, e)
 and-both false b e = let z : _≡_ {A = ℕ} 0 1 = cc in absurd (omega arith)
 

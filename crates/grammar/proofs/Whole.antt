@@ -1,6 +1,6 @@
 -- The program of an accepted text is as Shape says. Assumes nothing.
 use mathlib.Core.Path.{_≡_, refl, ap, sym, _∙_, subst}
-use mathlib.Core.List.{List, [], _∷_, _++_, append-assoc, append-nil}
+use mathlib.Core.List.{List, [], _∷_, _++_, append-assoc, append-nil, map-append}
 use mathlib.Core.Bool.{Bool, true, false, _&&_}
 use mathlib.Core.Option.{some}
 use Prim.Native.Nat.{ℕ, zero, suc, _+_, _-_, _≤_, _<_}
@@ -31,11 +31,12 @@ use Rattle.grammar.specs.Spelled.{Apart, Distinct}
 use Rattle.grammar.proofs.Shape.{RuleFits, RulesFit, NameFits, NamesFit, Fitting}
 use Rattle.grammar.proofs.Combine.{token-prop, then-prop, option-prop}
 use Rattle.grammar.proofs.Bytes.{part-length, id-of}
-use Rattle.grammar.proofs.Growth.{Grown, Kept, phrase-kept, whole-expression-grown, listed-grown}
+use Rattle.grammar.proofs.Growth.{Grown, Kept, kept-later, phrase-kept, whole-expression-grown, listed-grown}
 use Rattle.grammar.proofs.Lists.{cases-in, agreeing-same}
 use Rattle.grammar.proofs.Distinct.{new-apart, distinct-snoc}
 use Rattle.grammar.proofs.Derived.{sign-stands}
 use Rattle.grammar.proofs.Converse.{Named}
+use Rattle.grammar.proofs.Phrases.{and-both}
 use Rattle.grammar.proofs.Fits.{Holds, FitE, whole-expression-fits}
 use Rattle.bytecode.specs.Translation.{RangeFits}
 use Rattle.limits.specs.Limits.{nameLimit, caseLimit, textLimit}
@@ -69,10 +70,6 @@ module _ (sc : Scope) (few : length (sc .names) ≤ 64) (lengths : length (sc .n
       let f = subst (Holds (FitE (sc .known) 35)) e2 (whole-expression-fits sc lengths n1) in
       followed-ends (Ruled v) (sc .text) _ (function v e) n2 (g .1) (f, refl)))
 
-  later : {A : Type 0} (at n : ℕ) (p : Parsed A) → at ≤ n → Kept (length (sc .text)) n p → Kept (length (sc .text)) at p
-  later at n (accepted a m) h g = (omega arith, g .1)
-  later at n (refused k q) h g = tt
-
   list-kept : (left : ℕ) (done : List Condition) (at : ℕ) → at ≤ length (sc .text) → Kept (length (sc .text)) at (listFrom left sc done at)
   unfolding listFrom
   list-kept zero done at h = token-prop (Kept (length (sc .text)) at) (tokenAt (sc .text) at) _ (λ k q. tt) (λ k s n et. tt)
@@ -88,7 +85,7 @@ module _ (sc : Scope) (few : length (sc .names) ≤ 64) (lengths : length (sc .n
       (λ k2 s2 n2 et2.
       let mw = token-at-moved (sc .text) n1 k2 s2 n2 (g .1) et2 in
       pick-prop (Kept (length (sc .text)) at) (is k2 bar) _ _
-      (λ e. later at n2 (listFrom left sc (done ++ (c ∷ [])) n2) (omega arith) (list-kept left (done ++ (c ∷ [])) n2 (mw .2)))
+      (λ e. kept-later (length (sc .text)) at n2 (listFrom left sc (done ++ (c ∷ [])) n2) (omega arith) (list-kept left (done ++ (c ∷ [])) n2 (mw .2)))
       (λ e. (omega arith, g .1)))))
       (λ e. tt))
 
@@ -184,10 +181,6 @@ rules-fit (suc f) sc few lengths good done at h =
 
 -- ---- declarations
 
-both-hold : (a b : Bool) → a && b ≡ true → (a ≡ true) × (b ≡ true)
-both-hold true b e = (refl, e)
-both-hold false b e = let z : _≡_ {A = ℕ} 0 1 = cc in let f : ⊥ = omega arith in absurd f
-
 module _ (text : List ℕ) where
   abbrev Bound : (ℤ → Bool) → ℤ → Type 0
   Bound test z = (isInt32 z ≡ true) × (test z ≡ true)
@@ -197,7 +190,7 @@ module _ (text : List ℕ) where
   signed-fits test signed k s n h =
       let z = signed (pos (valueOf (part text s n))) in
       pick-prop (Ends (length text) (Bound test)) (is k digits) _ _
-      (λ e. pick-prop (Ends (length text) (Bound test)) (isInt32 z && test z) _ _ (λ t. (both-hold (isInt32 z) (test z) t, h)) (λ t. tt))
+      (λ e. pick-prop (Ends (length text) (Bound test)) (isInt32 z && test z) _ _ (λ t. (and-both (isInt32 z) (test z) t, h)) (λ t. tt))
       (λ e. tt)
 
   bound-fits : (test : ℤ → Bool) (at : ℕ) → at ≤ length text → Ends (length text) (Bound test) (boundAt test text at)
@@ -264,7 +257,7 @@ module _ (text : List ℕ) where
   range-fits : (low high start : ℤ) → Bound (λ z. true) low → Bound (leZ low) high → Bound (inRange low high) start → RangeFits (record { low = low; high = high; start = start })
   unfolding inRange
   range-fits low high start l h s =
-      let b = both-hold (leZ low start) (leZ start high) (s .1) in (
+      let b = and-both (leZ low start) (leZ start high) (s .1) in (
         true-T (isInt32 low) (l .0),
         both-T (isInt32 high) (leZ low high) (h .0) (h .1),
         and-T (isInt32 start && leZ low start) (leZ start high) (both-T (isInt32 start) (leZ low start) (s .0) (b .0)) (true-T (leZ start high) (b .1)),
@@ -303,10 +296,6 @@ module _ (text : List ℕ) where
   names-append [] x h g = (g, tt)
   names-append (y ∷ names) x h g = (h .0, names-append names x (h .1) g)
 
-  spellings-append : (names : List Name) (x : Name) → spellings (names ++ (x ∷ [])) ≡ spellings names ++ (x .spelling ∷ [])
-  spellings-append [] x = refl
-  spellings-append (y ∷ names) x = ap (λ (l : List (List ℕ)). y .spelling ∷ l) (spellings-append names x)
-
   abbrev pub Names : ℕ → List Name → Type 0
   Names count l = NamesFit l × (length l ≤ 64) × (count ≤ length l) × Distinct (spellings l)
 
@@ -322,7 +311,7 @@ module _ (text : List ℕ) where
       (λ x m es.
       let d = subst (Ends (length text) (Declared names)) es (declaration-fits names n (mv .2)) in
       let l : length (names ++ (x ∷ [])) ≡ length names + 1 = length-append names (x ∷ []) in
-      declarations-fit f word (names ++ (x ∷ [])) m count (d .1) (names-append names x (g .0) (d .0 .fits), omega (arith, d .0 .room), omega (arith, g .2), rw (spellings-append names x) (distinct-snoc (spellings names) (x .spelling) (g .3) (d .0 .apart)))))
+      declarations-fit f word (names ++ (x ∷ [])) m count (d .1) (names-append names x (g .0) (d .0 .fits), omega (arith, d .0 .room), omega (arith, g .2), rw (map-append (λ x. x .spelling) names (x ∷ [])) (distinct-snoc (spellings names) (x .spelling) (g .3) (d .0 .apart)))))
       (λ e. (g, h)))
 
 -- ---- the whole text
