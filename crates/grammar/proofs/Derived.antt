@@ -29,7 +29,7 @@ use Rattle.grammar.proofs.Combine.{token-prop, then-prop, option-prop, 
 use Rattle.grammar.proofs.Bytes.{part-cons, heads}
 use Rattle.grammar.proofs.Growth.{Grown, Reads, Inside, factor-grown, term-grown, expression-grown, bracket-grown, square-grown, atom-grown, conjunction-grown, condition-grown, not-end, operator-end, products-end, sums-end, comparisons-end, ands-end, ors-end}
 use Rattle.grammar.proofs.Spellings.{Spelling}
-use Rattle.grammar.proofs.Standing.{stands, stands-spelled, spells-append, id-names, product-sign, sum-sign, comparison-sign}
+use Rattle.grammar.proofs.Standing.{stands, stands-spelled, spells-append, id-names, product-sign, sum-sign, comparison-sign, only-sign}
 
 module _ (text : List ℕ) where
   -- tokens that spell e stand from `at` up to n
@@ -235,27 +235,14 @@ module _ (sc : Scope) (few : length (sc .names) ≤ 64) where
   not-squared zero ts c h = absurd h
   not-squared (suc l) ts c h = rw (h .is-closed) (not-square (h .inner) c (h .derives))
 
+  -- `&` and `|`
   and-derives : (l : ℕ) (k : Kind) (w : List ℕ) (o : Connective) (ts us : List (List ℕ)) (a b : Condition) → andOf k ≡ some o → Spelling k w → SpellsC (sc .names) D.conjunction l ts a → SpellsC (sc .names) D.atom l us b → SpellsC (sc .names) D.conjunction l (ts ++ w ∷ us) (connect o a b)
   unfolding andOf connect
-  and-derives l k w o ts us a b e sp d f = go (is k ampersand) refl e
-    where
-      go : (t : Bool) → is k ampersand ≡ t → pick t (some andAlso) none ≡ some o → SpellsC (sc .names) D.conjunction l (ts ++ w ∷ us) (connect o a b)
-      go true t q =
-          let i : andAlso ≡ o = cc in
-          let j : w ≡ bytes "&" = subst (λ (x : Kind). Spelling x w) (same-kind k ampersand t) sp in
-          subst (λ (o : Connective). SpellsC (sc .names) D.conjunction l (ts ++ w ∷ us) (connect o a b)) i (rw j (conjoined ts us a b d f))
-      go false t q = let z : _≡_ {A = ℕ} 0 1 = cc in let g : ⊥ = omega arith in absurd g
+  and-derives l k w o ts us a b e sp d f = let r = only-sign k w sp ampersand andAlso o e in rw (r .0, ← r .1) (conjoined ts us a b d f)
 
   or-derives : (l : ℕ) (k : Kind) (w : List ℕ) (o : Connective) (ts us : List (List ℕ)) (a b : Condition) → orOf k ≡ some o → Spelling k w → SpellsC (sc .names) D.condition l ts a → SpellsC (sc .names) D.conjunction l us b → SpellsC (sc .names) D.condition l (ts ++ w ∷ us) (connect o a b)
   unfolding orOf connect
-  or-derives l k w o ts us a b e sp d f = go (is k bar) refl e
-    where
-      go : (t : Bool) → is k bar ≡ t → pick t (some orElse) none ≡ some o → SpellsC (sc .names) D.condition l (ts ++ w ∷ us) (connect o a b)
-      go true t q =
-          let i : orElse ≡ o = cc in
-          let j : w ≡ bytes "|" = subst (λ (x : Kind). Spelling x w) (same-kind k bar t) sp in
-          subst (λ (o : Connective). SpellsC (sc .names) D.condition l (ts ++ w ∷ us) (connect o a b)) i (rw j (disjoined ts us a b d f))
-      go false t q = let z : _≡_ {A = ℕ} 0 1 = cc in let g : ⊥ = omega arith in absurd g
+  or-derives l k w o ts us a b e sp d f = let r = only-sign k w sp bar orElse o e in rw (r .0, ← r .1) (disjoined ts us a b d f)
 
   module _ (l : ℕ) (inner : ℕ → ℕ → Parsed Expression) (hg : Inside (sc .text) codeE inner) (hi : (s n : ℕ) → n ≤ length (sc .text) → Derives (sc .text) (ClosedE l) n (inner s n)) (inside : ℕ → ℕ → Parsed Condition) (hc : Inside (sc .text) codeC inside) (hd : (s n : ℕ) → n ≤ length (sc .text) → Derives (sc .text) (ClosedC l) n (inside s n)) where
     abbrev A : ℕ → Parsed Condition → Type 0

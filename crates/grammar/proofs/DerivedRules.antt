@@ -7,13 +7,13 @@ use Prim.Native.Nat.{ℕ, zero, suc, _≤_}
 use lib.ListN.{length, getD, getElem?, length-set}
 use Rattle.limits.specs.Limits.{caseLimit, bracketLimit}
 use Rattle.lexer.specs.Bytes.{bytes, part}
-use Rattle.lexer.specs.Token.{Kind, kindNumber, ending, name, nextWord, arrow, semicolon, colon, openRound, closeRound, tilde, equals, is, token}
+use Rattle.lexer.specs.Token.{Kind, kindNumber, ending, name, nextWord, semicolon, colon, openRound, closeRound, tilde, equals, is, token}
 use Rattle.lexer.specs.Lexer.{tokenAt, overLong}
 use Rattle.lexer.specs.Names.{idOf}
 use Rattle.lexer.proofs.Laws.{pick-prop, token-at-moved}
 use Rattle.lexer.proofs.Same.{same-kind}
 use Rattle.semantics.specs.Program.{Condition, Case, Rule, change, target, allTrue}
-use Rattle.grammar.specs.Parsed.{Parsed, accepted, refused, Wanted, sign, own, ownPrevious, phrase, followed}
+use Rattle.grammar.specs.Parsed.{Parsed, accepted, refused, sign, own, phrase, followed}
 use Rattle.grammar.specs.Expressions.{Scope, withId, wholeExpression}
 use Rattle.grammar.specs.Rules.{casesFrom, agreeingList, casesOf, functionAt, changeAt, formulas, ruleAt, ruled, rulesFrom}
 use Rattle.grammar.specs.Derivation.{Stands, Spells, SpellsE}
@@ -23,7 +23,7 @@ use Rattle.grammar.specs.Spelled as S
 use Rattle.grammar.proofs.Combine.{token-prop, then-prop, option-prop}
 use Rattle.grammar.proofs.Spellings.{isFixed, end-place}
 use Rattle.grammar.proofs.Standing.{spells-in, split, spells-append, id-names}
-use Rattle.grammar.proofs.Phrases.{signs, fixed-stands, phrase-spells}
+use Rattle.grammar.proofs.Phrases.{signs, fixed-stands, phrase-spells, head, middle, headTokens, middleTokens}
 use Rattle.grammar.proofs.Converse.{Named}
 use Rattle.grammar.proofs.DerivedCases.{cases-list}
 use Rattle.grammar.proofs.Lists.{cases-in, agreeing-same}
@@ -62,44 +62,32 @@ module _ (sc : Scope) (few : length (sc .names) ≤ 64) (lengths : length (sc .n
     abbrev Changing : List (List ℕ) → Rule → Type 0
     Changing ts r = SpellsR (sc .names) (w ∷ bytes ":" ∷ bytes "GX" ∷ bytes "(" ∷ bytes "~" ∷ ts) r
 
-    abbrev head : List Wanted
-    head = sign openRound ∷ own w ∷ sign equals ∷ ownPrevious w ∷ sign closeRound ∷ sign arrow ∷ []
-
-    abbrev middle : List Wanted
-    middle = sign closeRound ∷ sign semicolon ∷ own w ∷ sign colon ∷ sign nextWord ∷ sign openRound ∷ own w ∷ sign equals ∷ ownPrevious w ∷ sign arrow ∷ sign tilde ∷ sign openRound ∷ []
-
-    abbrev headTokens : List (List ℕ)
-    headTokens = bytes "(" ∷ w ∷ bytes "=" ∷ (bytes "_" ++ w) ∷ bytes ")" ∷ bytes "->" ∷ []
-
-    abbrev middleTokens : List (List ℕ)
-    middleTokens = bytes ")" ∷ bytes ";" ∷ w ∷ bytes ":" ∷ bytes "GX" ∷ bytes "(" ∷ w ∷ bytes "=" ∷ (bytes "_" ++ w) ∷ bytes "->" ∷ bytes "~" ∷ bytes "(" ∷ []
-
     -- the tokens from after `v: GX(~` on
-    change-spells : (a b c d e f : ℕ) (ts ls : List (List ℕ)) → Spells (sc .text) a b headTokens → Spells (sc .text) b c ts → Spells (sc .text) c d middleTokens → Spells (sc .text) d e (ls ++ bytes ")" ∷ []) → Spells (sc .text) e f (bytes ")" ∷ bytes ";" ∷ []) → Spells (sc .text) a f ((headTokens ++ ts) ++ (middleTokens ++ ls) ++ bytes ")" ∷ bytes ")" ∷ bytes ";" ∷ [])
+    change-spells : (a b c d e f : ℕ) (ts ls : List (List ℕ)) → Spells (sc .text) a b (headTokens w) → Spells (sc .text) b c ts → Spells (sc .text) c d (middleTokens w) → Spells (sc .text) d e (ls ++ bytes ")" ∷ []) → Spells (sc .text) e f (bytes ")" ∷ bytes ";" ∷ []) → Spells (sc .text) a f ((headTokens w ++ ts) ++ (middleTokens w ++ ls) ++ bytes ")" ∷ bytes ")" ∷ bytes ";" ∷ [])
     change-spells a b c d e f ts ls s1 s2 s3 s4 s5 =
         let p = split (sc .text) d e ls (bytes ")" ∷ []) s4 in
-        let front = spells-append (sc .text) a b c headTokens ts s1 s2 in
-        let back = spells-append (sc .text) c d (p .place) middleTokens ls s3 (p .first) in
+        let front = spells-append (sc .text) a b c (headTokens w) ts s1 s2 in
+        let back = spells-append (sc .text) c d (p .place) (middleTokens w) ls s3 (p .first) in
         let tail = spells-append (sc .text) (p .place) e f (bytes ")" ∷ []) (bytes ")" ∷ bytes ";" ∷ []) (p .second) s5 in
-        spells-append (sc .text) a (p .place) f ((headTokens ++ ts) ++ (middleTokens ++ ls)) (bytes ")" ∷ bytes ")" ∷ bytes ";" ∷ []) (spells-append (sc .text) a c (p .place) (headTokens ++ ts) (middleTokens ++ ls) front back) tail
+        spells-append (sc .text) a (p .place) f ((headTokens w ++ ts) ++ (middleTokens w ++ ls)) (bytes ")" ∷ bytes ")" ∷ bytes ";" ∷ []) (spells-append (sc .text) a c (p .place) (headTokens w ++ ts) (middleTokens w ++ ls) front back) tail
 
-    change-is : (ts ls : List (List ℕ)) (ks : List Case) (ds : List Condition) → SpellsCases (sc .names) w ts ls ks → length ks ≤ caseLimit → ds ≡ map (λ k. k .condition) ks → Changing ((headTokens ++ ts) ++ (middleTokens ++ ls) ++ bytes ")" ∷ bytes ")" ∷ bytes ";" ∷ []) (change v ks ds)
+    change-is : (ts ls : List (List ℕ)) (ks : List Case) (ds : List Condition) → SpellsCases (sc .names) w ts ls ks → length ks ≤ caseLimit → ds ≡ map (λ k. k .condition) ks → Changing ((headTokens w ++ ts) ++ (middleTokens w ++ ls) ++ bytes ")" ∷ bytes ")" ∷ bytes ";" ∷ []) (change v ks ds)
     change-is ts ls ks ds d l e = a-change w v ts ls ks ds ev d l (subst (SpellsList (sc .names) ls) (sym e) (cases-list (sc .names) w ts ls ks d))
 
     change-derives : (at : ℕ) → at ≤ length (sc .text) → Derives (sc .text) Changing at (changeAt sc w v at)
     unfolding changeAt followed signs isFixed kindNumber
     change-derives at h =
-        then-prop (Derives (sc .text) Changing at) (phrase (sc .text) head at) _ (λ k q. tt)
+        then-prop (Derives (sc .text) Changing at) (phrase (sc .text) (head w) at) _ (λ k q. tt)
         (λ u n1 e1.
-        let s1 = phrase-spells (sc .text) head refl at u n1 h e1 in
-        let i1 = spells-in (sc .text) at n1 headTokens h s1 .1 in
+        let s1 = phrase-spells (sc .text) (head w) refl at u n1 h e1 in
+        let i1 = spells-in (sc .text) at n1 (headTokens w) h s1 .1 in
         then-prop (Derives (sc .text) Changing at) (casesFrom caseLimit sc w [] n1) _ (λ k q. tt)
         (λ cases n2 e2.
         let r = cases-in sc few lengths w n1 n2 cases i1 e2 in
-        then-prop (Derives (sc .text) Changing at) (phrase (sc .text) middle n2) _ (λ k q. tt)
+        then-prop (Derives (sc .text) Changing at) (phrase (sc .text) (middle w) n2) _ (λ k q. tt)
         (λ u2 n3 e3.
-        let s3 = phrase-spells (sc .text) middle refl n2 u2 n3 (r .within) e3 in
-        let i3 = spells-in (sc .text) n2 n3 middleTokens (r .within) s3 .1 in
+        let s3 = phrase-spells (sc .text) (middle w) refl n2 u2 n3 (r .within) e3 in
+        let i3 = spells-in (sc .text) n2 n3 (middleTokens w) (r .within) s3 .1 in
         then-prop (Derives (sc .text) Changing at) (agreeingList sc cases n3) _ (λ k q. tt)
         (λ ds n4 e4.
         let ag = agreeing-same sc few lengths good w n1 n2 cases r n3 n4 ds i3 e4 in
@@ -108,7 +96,7 @@ module _ (sc : Scope) (few : length (sc .names) ≤ 64) (lengths : length (sc .n
         (λ u3 n5 e5.
         let s5 = phrase-spells (sc .text) (sign closeRound ∷ sign semicolon ∷ []) refl n4 u3 n5 i4 e5 in
         record {
-          tokens = (headTokens ++ r .tokens) ++ (middleTokens ++ r .list) ++ bytes ")" ∷ bytes ")" ∷ bytes ";" ∷ [];
+          tokens = (headTokens w ++ r .tokens) ++ (middleTokens w ++ r .list) ++ bytes ")" ∷ bytes ")" ∷ bytes ";" ∷ [];
           spells = change-spells at n1 n2 n3 n4 n5 (r .tokens) (r .list) s1 (r .spells) s3 (ag .spells) s5;
           derives = change-is (r .tokens) (r .list) (casesOf cases) ds (r .derives) (r .fine .1) (ag .same);
         })))))

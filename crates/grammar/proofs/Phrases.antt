@@ -7,7 +7,7 @@ use native.Mathlib.Omega.{arith}
 use lib.ListN.{length, getD}
 use borrow.Author.Tests.{eq-eqb}
 use Rattle.lexer.specs.Bytes.{bytes, pick, part}
-use Rattle.lexer.specs.Token.{Kind, kindNumber, ending, name, previous, is, Read, token, fault}
+use Rattle.lexer.specs.Token.{Kind, kindNumber, ending, name, previous, nextWord, arrow, semicolon, colon, openRound, closeRound, tilde, equals, is, Read, token, fault}
 use Rattle.lexer.specs.Lexer.{tokenAt, sameName}
 use Rattle.lexer.proofs.Laws.{token-at-moved}
 use Rattle.lexer.proofs.Same.{same-kind, same-name, both-true}
@@ -35,6 +35,19 @@ signs [] = true
 signs (sign k ∷ ws) = isFixed k && signs ws
 signs (own w ∷ ws) = signs ws
 signs (ownPrevious w ∷ ws) = signs ws
+
+-- the fixed tokens of a change formula after `w: GX(~`, and between its cases and the list of its no-change formula
+abbrev pub head : List ℕ → List Wanted
+head w = sign openRound ∷ own w ∷ sign equals ∷ ownPrevious w ∷ sign closeRound ∷ sign arrow ∷ []
+
+abbrev pub middle : List ℕ → List Wanted
+middle w = sign closeRound ∷ sign semicolon ∷ own w ∷ sign colon ∷ sign nextWord ∷ sign openRound ∷ own w ∷ sign equals ∷ ownPrevious w ∷ sign arrow ∷ sign tilde ∷ sign openRound ∷ []
+
+abbrev pub headTokens : List ℕ → List (List ℕ)
+headTokens w = bytes "(" ∷ w ∷ bytes "=" ∷ (bytes "_" ++ w) ∷ bytes ")" ∷ bytes "->" ∷ []
+
+abbrev pub middleTokens : List ℕ → List (List ℕ)
+middleTokens w = bytes ")" ∷ bytes ";" ∷ w ∷ bytes ":" ∷ bytes "GX" ∷ bytes "(" ∷ w ∷ bytes "=" ∷ (bytes "_" ++ w) ∷ bytes "->" ∷ bytes "~" ∷ bytes "(" ∷ []
 
 pub and-both : (a b : Bool) → a && b ≡ true → (a ≡ true) × (b ≡ true)
 and-both true b e = (refl, e)
