@@ -22,11 +22,11 @@ use Rattle.grammar.specs.Parse.{program, parse, answerOf, programOf}
 use Rattle.grammar.specs.Derivation.{IsWord, IsName}
 use Rattle.grammar.specs.Spelled.{namesOf}
 use Rattle.grammar.specs.Emitted.{image}
+use Rattle.grammar.proofs.Combine.{never}
 use Rattle.grammar.proofs.Shape.{CaseFits, CasesFit, RuleFits, RulesFit, NameFits, NamesFit, Fitting}
-use Rattle.grammar.proofs.Agree.{never}
-use Rattle.grammar.proofs.Fits.{Holds}
+use Rattle.grammar.proofs.Fits.{Holds, cases-usable}
 use Rattle.grammar.proofs.Converse.{Named}
-use Rattle.grammar.proofs.Whole.{parse-fits}
+use Rattle.grammar.proofs.Whole.{named, parse-fits}
 use Rattle.grammar.proofs.Size.{Small, parse-small}
 use Rattle.grammar.proofs.Image.{image-emitted}
 
@@ -47,11 +47,6 @@ starts-within : (l : List Range) → RangesFit l → StartsWithin l
 starts-within [] h = tt
 starts-within (r ∷ l) h = (start-within r (h .0), starts-within l (h .1))
 
-pub each-name : (l : List Name) → NamesFit l → (i : ℕ) (w : List ℕ) → getElem? (map (λ x. x .spelling) l) i ≡ some w → IsName w
-each-name [] h i w e = let z : _≡_ {A = ℕ} 0 1 = cc in absurd (omega arith)
-each-name (x ∷ l) h zero w e = let q : x .spelling ≡ w = cc in subst IsName q (h .0 .is-name)
-each-name (x ∷ l) h (suc i) w e = each-name l (h .1) i w e
-
 -- a name has 1 to 16 bytes
 pub name-length : (w : List ℕ) → IsName w → (1 ≤ length w) × (length w ≤ 16)
 name-length w h = (some-letter w (h .is-word), h .short)
@@ -61,10 +56,6 @@ name-length w h = (some-letter w (h .is-word), h .short)
     some-letter (b ∷ l) h = omega arith
 
 -- ---- rules
-
-cases-usable : (known : List Bool) (ks : List Case) → CasesFit known ks → UsableK known ks
-cases-usable known [] h = tt
-cases-usable known (k ∷ ks) h = (h .0 .usable-condition, h .0 .usable-value, cases-usable known ks (h .1))
 
 rule-usable : (known : List Bool) (r : Rule) → RuleFits known r → UsableR known r
 rule-usable known (function v e) h = h .0
@@ -143,7 +134,7 @@ module _ (text : List ℕ) (p : Program) (n : ℕ) (e : parse text ≡ accepted 
 
   -- the names are pairwise distinct, and each is a name
   pub parse-named : Named (namesOf p)
-  parse-named = record { distinct = fitting .distinct; each = each-name (p .names) (fitting .names-fit) }
+  parse-named = named (p .names) (fitting .names-fit) (fitting .distinct)
 
   -- at most 64 names in all
   pub parse-few : length (p .names) ≤ nameLimit

@@ -1,11 +1,12 @@
--- How many bytes numbers and ids take. Assumes nothing.
+-- Parts of a text, and how many bytes numbers and ids take. Assumes nothing.
 use mathlib.Core.Path.{_≡_, refl, ap, sym, _∙_, subst}
 use mathlib.Core.List.{List, [], _∷_, _++_}
 use mathlib.Core.Bool.{Bool, true, false, cond}
 use mathlib.Core.Option.{Option, none, some}
 use Prim.Native.Nat.{ℕ, zero, suc, _+_, _-_, _*_, _/_, _%_, _≤_, _<_}
 use native.Mathlib.Omega.{arith}
-use lib.ListN.{length, take, drop, length-take, length-drop}
+use lib.ListN.{length, getD, take, drop, length-take, length-drop}
+use lib.Seq.{drop-cons}
 use lib.Dec.{ltb}
 use lib.IntN.{ℤ, pos}
 use borrow.Author.Tests.{ltb-true, ltb-false, lt-ltb}
@@ -84,3 +85,16 @@ id-of l w j e = omega (arith, id-from l w 0 j e)
 
 pub part-length : (text : List ℕ) (s n : ℕ) → s ≤ n → n ≤ length text → length (part text s n) ≡ n - s
 part-length text s n h l = simp (length-take, length-drop) (omega arith)
+
+-- a part that has a byte is that byte and the rest
+pub part-cons : (text : List ℕ) (s n : ℕ) → s < n → n ≤ length text → part text s n ≡ getD text s 0 ∷ part text (s + 1) n
+part-cons text s n h l =
+    let e : n - s ≡ suc (n - (s + 1)) = omega arith in
+    let f : suc s ≡ s + 1 = omega arith in
+    rw (e, drop-cons text s 0 (omega arith), f)
+
+pub heads : (x y : ℕ) (k l : List ℕ) → x ∷ k ≡ y ∷ l → x ≡ y
+heads x y k l e = cc
+
+pub tails : (x y : ℕ) (k l : List ℕ) → x ∷ k ≡ y ∷ l → k ≡ l
+tails x y k l e = cc

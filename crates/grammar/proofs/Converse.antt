@@ -26,8 +26,8 @@ use Rattle.grammar.specs.Conditions.{comparisonOf, compared, comparisonA
 use Rattle.grammar.specs.Derivation.{Stands, Spells, IsName, IsDigits, ProductSign, SumSign, ComparisonSign, Level, SpellsE, a-number, a-current, a-previous, brackets, plain, opposite, one-factor, product, one-term, sum, LevelC, SpellsC, not-square, one-atom, conjoined, one-conjunction, disjoined}
 use Rattle.grammar.specs.Derivation as D
 use Rattle.grammar.specs.Spelled.{Distinct}
-use Rattle.grammar.proofs.Bytes.{part-length}
-use Rattle.grammar.proofs.Agree.{part-cons, tails, one-sign, never}
+use Rattle.grammar.proofs.Combine.{one-sign, never}
+use Rattle.grammar.proofs.Bytes.{part-length, part-cons, tails}
 use Rattle.grammar.proofs.Spellings.{Spelling}
 use Rattle.grammar.proofs.Distinct.{place-id}
 use Rattle.grammar.proofs.Standing.{at-kind, split, stands-in, spells-in}
@@ -42,7 +42,7 @@ pub record Named (names : List (List ℕ)) : Type 0 where
 -- ---- loops
 
 module _ {O A : Type 0} (join : O → A → A → A) (operator : Kind → Option O) (operand : ℕ → Parsed A) (text : List ℕ) where
-  pub rest-stops : (f : ℕ) (e : A) (n : ℕ) (k : Kind) (s m : ℕ) → tokenAt text n ≡ token k s m → operator k ≡ none → rest join operator operand text f e n ≡ accepted e n
+  rest-stops : (f : ℕ) (e : A) (n : ℕ) (k : Kind) (s m : ℕ) → tokenAt text n ≡ token k s m → operator k ≡ none → rest join operator operand text f e n ≡ accepted e n
   unfolding rest
   rest-stops zero e n k s m et ek = refl
   rest-stops (suc f) e n k s m et ek = rw (et, ek)
@@ -52,10 +52,19 @@ module _ {O A : Type 0} (join : O → A → A → A) (operator : Kind → Option
   rest-goes f e n k s m o b l et ek eb = rw (et, ek, eb)
 
   -- a chain that has come to n with e
-  pub record Loops (p : Parsed A) (e : A) (a n : ℕ) : Type 0 where
-    pub fuel : ℕ
-    pub enough : suc (length text) + a ≤ fuel + n
-    pub is-rest : p ≡ rest join operator operand text fuel e n
+  record Loops (p : Parsed A) (e : A) (a n : ℕ) : Type 0 where
+    fuel : ℕ
+    enough : suc (length text) + a ≤ fuel + n
+    is-rest : p ≡ rest join operator operand text fuel e n
+
+  -- ... stops where no operator follows
+  loops-stop : (p : Parsed A) (e : A) (a n : ℕ) → Loops p e a n → (k : Kind) (s m : ℕ) → tokenAt text n ≡ token k s m → operator k ≡ none → p ≡ accepted e n
+  loops-stop p e a n x k s m et ek = x .is-rest ∙ rest-stops (x .fuel) e n k s m et ek
+
+  -- ... begins with an operand
+  chain-begins : (e : A) (a n : ℕ) → a ≤ n → operand a ≡ accepted e n → Loops (chain join operator operand text a) e a n
+  unfolding chain
+  chain-begins e a n h r = record { fuel = suc (length text); enough = omega arith; is-rest = rw r }
 
   loops-goes : (p : Parsed A) (e : A) (a n : ℕ) → n ≤ length text → Loops p e a n → (k : Kind) (s m : ℕ) (o : O) (b : A) (l : ℕ) → n < l → tokenAt text n ≡ token k s m → operator k ≡ some o → operand m ≡ accepted b l → Loops p (join o e b) a l
   loops-goes p e a n i x k s m o b l j et ek eb = go (x .fuel) (x .enough) (x .is-rest)
@@ -71,6 +80,19 @@ pub record SignKind {O : Type 0} (operator : Kind → Option O) (w : List ℕ) (
   pub kind : Kind
   pub spelling : Spelling kind w
   pub is-operator : operator kind ≡ some o
+
+-- ... and goes on with a sign and an operand
+chain-joins : {O A : Type 0} (join : O → A → A → A) (operator : Kind → Option O) (operand : ℕ → Parsed A) (text : List ℕ) (p : Parsed A) (w : List ℕ) (o : O) (ts us : List (List ℕ)) (x y : A) (c : SignKind operator w o) (a n : ℕ) → a ≤ length text → Spells text a n (ts ++ w ∷ us) → ((i s m : ℕ) → Spells text a i ts → tokenAt text i ≡ token (c .kind) s m → Loops join operator operand text p x a i) → ((m : ℕ) → m ≤ length text → Spells text m n us → operand m ≡ accepted y n) → Loops join operator operand text p (join o x y) a n
+chain-joins join operator operand text p w o ts us x y c a n h g first second =
+    let q = split text a n ts (w ∷ us) g in
+    let i = q .place in
+    let m = q .second .0 in
+    let st = q .second .1 in
+    let sp = spells-in text a i ts h (q .first) in
+    let mv = stands-in text i m w (sp .1) st in
+    let sq = spells-in text m n us (mv .1) (q .second .2) in
+    let et = at-kind text (c .kind) w (c .spelling) i m (sp .1) st in
+    loops-goes join operator operand text p x a i (sp .1) (first i (st .start) m (q .first) et) (c .kind) (st .start) m o y n (omega (arith, mv .0, sq .0)) et (c .is-operator) (second m (mv .1) (q .second .2))
 
 product-kind : (w : List ℕ) (o : Operation) → ProductSign w o → SignKind productOf w o
 unfolding productOf is kindNumber
@@ -144,9 +166,7 @@ module _ (sc : Scope) (good : Named (sc .names)) where
 
   -- an expression and what follows it
   read-expression : (l : ℕ) (ts : List (List ℕ)) (e : Expression) → Reader D.expression l ts e → (a n : ℕ) → a ≤ length (sc .text) → Spells (sc .text) a n ts → (k : Kind) (s m : ℕ) → tokenAt (sc .text) n ≡ token k s m → Stop k → expression (In l) sc a ≡ accepted e n
-  read-expression l ts e r a n i g k s m et st =
-      let x = r a n i g k s m et (st .0) in
-      x .is-rest ∙ rest-stops operation sumOf (term (In l) sc) (sc .text) (x .fuel) e n k s m et (st .1)
+  read-expression l ts e r a n i g k s m et st = loops-stop operation sumOf (term (In l) sc) (sc .text) (expression (In l) sc a) e a n (r a n i g k s m et (st .0)) k s m et (st .1)
 
   bracket-reads : (l : ℕ) (ts : List (List ℕ)) (e : Expression) → Reader D.expression l ts e → Reader D.primary (suc l) (bytes "(" ∷ ts ++ bytes ")" ∷ []) e
   unfolding primary bracket expected is kindNumber productOf sumOf
@@ -187,46 +207,23 @@ module _ (sc : Scope) (good : Named (sc .names)) where
       rw (at-kind (sc .text) minus (bytes "-") refl a (g .0) i (g .1), r (g .0) n (mv .1) (g .2))
 
   factor-reads : (l : ℕ) (ts : List (List ℕ)) (e : Expression) → Reader D.factor l ts e → Reader D.term l ts e
-  unfolding term chain
-  factor-reads l ts e r a n i g =
-      let sp = spells-in (sc .text) a n ts i g in
-      record { fuel = suc (length (sc .text)); enough = omega (arith, sp .0); is-rest = rw (r a n i g) }
+  unfolding term
+  factor-reads l ts e r a n i g = chain-begins operation productOf (factor (In l) sc) (sc .text) e a n (spells-in (sc .text) a n ts i g .0) (r a n i g)
 
   product-reads : (l : ℕ) (w : List ℕ) (o : Operation) (ts us : List (List ℕ)) (x y : Expression) → ProductSign w o → Reader D.term l ts x → Reader D.factor l us y → Reader D.term l (ts ++ w ∷ us) (operation o x y)
   product-reads l w o ts us x y ps r q a n i g =
-      let c = product-kind w o ps in
-      let p = split (sc .text) a n ts (w ∷ us) g in
-      let m = p .second .0 in
-      let st = p .second .1 in
-      let sp = spells-in (sc .text) a (p .place) ts i (p .first) in
-      let mv = stands-in (sc .text) (p .place) m w (sp .1) st in
-      let sq = spells-in (sc .text) m n us (mv .1) (p .second .2) in
-      loops-goes operation productOf (factor (In l) sc) (sc .text) (term (In l) sc a) x a (p .place) (sp .1) (r a (p .place) i (p .first))
-      (c .kind) (st .start) m o y n (omega (arith, mv .0, sq .0)) (at-kind (sc .text) (c .kind) w (c .spelling) (p .place) m (sp .1) st) (c .is-operator) (q m n (mv .1) (p .second .2))
+      chain-joins operation productOf (factor (In l) sc) (sc .text) (term (In l) sc a) w o ts us x y (product-kind w o ps) a n i g (λ j s m h et. r a j i h) (λ m j h. q m n j h)
 
   term-reads : (l : ℕ) (ts : List (List ℕ)) (e : Expression) → Reader D.term l ts e → Reader D.expression l ts e
-  unfolding expression chain
+  unfolding expression
   term-reads l ts e r a n i g k s m et ek =
-      let sp = spells-in (sc .text) a n ts i g in
-      let x = r a n i g in
-      let y = x .is-rest ∙ rest-stops operation productOf (factor (In l) sc) (sc .text) (x .fuel) e n k s m et ek in
-      record { fuel = suc (length (sc .text)); enough = omega (arith, sp .0); is-rest = rw y }
+      chain-begins operation sumOf (term (In l) sc) (sc .text) e a n (spells-in (sc .text) a n ts i g .0) (loops-stop operation productOf (factor (In l) sc) (sc .text) (term (In l) sc a) e a n (r a n i g) k s m et ek)
 
   sum-reads : (l : ℕ) (w : List ℕ) (o : Operation) (ts us : List (List ℕ)) (x y : Expression) → SumSign w o → Reader D.expression l ts x → Reader D.term l us y → Reader D.expression l (ts ++ w ∷ us) (operation o x y)
   sum-reads l w o ts us x y ps r q a n i g k2 s2 m2 et2 ek2 =
-      let c = sum-kind w o ps .0 in
-      let p = split (sc .text) a n ts (w ∷ us) g in
-      let m = p .second .0 in
-      let st = p .second .1 in
-      let sp = spells-in (sc .text) a (p .place) ts i (p .first) in
-      let mv = stands-in (sc .text) (p .place) m w (sp .1) st in
-      let sq = spells-in (sc .text) m n us (mv .1) (p .second .2) in
-      let et = at-kind (sc .text) (c .kind) w (c .spelling) (p .place) m (sp .1) st in
-      let t = q m n (mv .1) (p .second .2) in
-      loops-goes operation sumOf (term (In l) sc) (sc .text) (expression (In l) sc a) x a (p .place) (sp .1)
-      (r a (p .place) i (p .first) (c .kind) (st .start) m et (sum-kind w o ps .1))
-      (c .kind) (st .start) m o y n (omega (arith, mv .0, sq .0)) et (c .is-operator)
-      (t .is-rest ∙ rest-stops operation productOf (factor (In l) sc) (sc .text) (t .fuel) y n k2 s2 m2 et2 ek2)
+      chain-joins operation sumOf (term (In l) sc) (sc .text) (expression (In l) sc a) w o ts us x y (sum-kind w o ps .0) a n i g
+      (λ j s m h et. r a j i h (sum-kind w o ps .0 .kind) s m et (sum-kind w o ps .1))
+      (λ m j h. loops-stop operation productOf (factor (In l) sc) (sc .text) (term (In l) sc m) y m n (q m n j h) k2 s2 m2 et2 ek2)
 
   reads : (v : Level) (l : ℕ) (ts : List (List ℕ)) (e : Expression) → SpellsE (sc .names) v l ts e → UsableE (sc .known) e → Reader v l ts e
   reads v l ts e (a-number w d h) u = number-reads _ w d h
@@ -305,7 +302,7 @@ module _ (sc : Scope) (good : Named (sc .names)) where
       let sp = spells-in (sc .text) a (p .place) ts i (p .first) in
       let close = at-kind (sc .text) closeSquare (bytes "]") refl (p .place) (p .second .0) (sp .1) st in
       let x = r a (p .place) i (p .first) closeSquare (st .start) (p .second .0) close (refl, refl) refl in
-      let y = x .is-rest ∙ rest-stops connect orOf (conjunction (In l) (Sq l) sc) (sc .text) (x .fuel) c (p .place) closeSquare (st .start) (p .second .0) close refl in
+      let y = loops-stop connect orOf (conjunction (In l) (Sq l) sc) (sc .text) (condition (In l) (Sq l) sc a) c a (p .place) x closeSquare (st .start) (p .second .0) close refl in
       rw (y, one-sign (sc .text) closeSquare c (p .place), close, p .second .2)
 
   square-reads : (l : ℕ) (ts : List (List ℕ)) (c : Condition) → ReaderC D.condition l ts c → ReaderC D.atom (suc l) (bytes "[" ∷ ts ++ bytes "]" ∷ []) c
@@ -323,48 +320,26 @@ module _ (sc : Scope) (good : Named (sc .names)) where
       rw (at-kind (sc .text) tilde (bytes "~") refl a (g .0) i (g .1), at-kind (sc .text) openSquare (bytes "[") refl (g .0) (h .0) (mv .1) (h .1), closing-reads l ts c r (h .1 .start) (h .0) n (mw .1) (h .2))
 
   atom-reads : (l : ℕ) (ts : List (List ℕ)) (c : Condition) → ReaderC D.atom l ts c → ReaderC D.conjunction l ts c
-  unfolding conjunction chain
-  atom-reads l ts c r a n i g k s m et st =
-      let sp = spells-in (sc .text) a n ts i g in
-      record { fuel = suc (length (sc .text)); enough = omega (arith, sp .0); is-rest = rw (r a n i g k s m et st) }
+  unfolding conjunction
+  atom-reads l ts c r a n i g k s m et st = chain-begins connect andOf (atom (In l) (Sq l) sc) (sc .text) c a n (spells-in (sc .text) a n ts i g .0) (r a n i g k s m et st)
 
   conjoined-reads : (l : ℕ) (ts us : List (List ℕ)) (x y : Condition) → ReaderC D.conjunction l ts x → ReaderC D.atom l us y → ReaderC D.conjunction l (ts ++ bytes "&" ∷ us) (both x y)
   unfolding andOf productOf sumOf is kindNumber connect
   conjoined-reads l ts us x y r q a n i g k2 s2 m2 et2 st2 =
-      let p = split (sc .text) a n ts (bytes "&" ∷ us) g in
-      let m = p .second .0 in
-      let st = p .second .1 in
-      let sp = spells-in (sc .text) a (p .place) ts i (p .first) in
-      let mv = stands-in (sc .text) (p .place) m (bytes "&") (sp .1) st in
-      let sq = spells-in (sc .text) m n us (mv .1) (p .second .2) in
-      let et = at-kind (sc .text) ampersand (bytes "&") refl (p .place) m (sp .1) st in
-      loops-goes connect andOf (atom (In l) (Sq l) sc) (sc .text) (conjunction (In l) (Sq l) sc a) x a (p .place) (sp .1)
-      (r a (p .place) i (p .first) ampersand (st .start) m et (refl, refl))
-      ampersand (st .start) m andAlso y n (omega (arith, mv .0, sq .0)) et refl (q m n (mv .1) (p .second .2) k2 s2 m2 et2 st2)
+      chain-joins connect andOf (atom (In l) (Sq l) sc) (sc .text) (conjunction (In l) (Sq l) sc a) (bytes "&") andAlso ts us x y (record { kind = ampersand; spelling = refl; is-operator = refl }) a n i g
+      (λ j s m h et. r a j i h ampersand s m et (refl, refl)) (λ m j h. q m n j h k2 s2 m2 et2 st2)
 
   conjunction-reads : (l : ℕ) (ts : List (List ℕ)) (c : Condition) → ReaderC D.conjunction l ts c → ReaderC D.condition l ts c
-  unfolding condition chain
+  unfolding condition
   conjunction-reads l ts c r a n i g k s m et st ea =
-      let sp = spells-in (sc .text) a n ts i g in
-      let x = r a n i g k s m et st in
-      let y = x .is-rest ∙ rest-stops connect andOf (atom (In l) (Sq l) sc) (sc .text) (x .fuel) c n k s m et ea in
-      record { fuel = suc (length (sc .text)); enough = omega (arith, sp .0); is-rest = rw y }
+      chain-begins connect orOf (conjunction (In l) (Sq l) sc) (sc .text) c a n (spells-in (sc .text) a n ts i g .0) (loops-stop connect andOf (atom (In l) (Sq l) sc) (sc .text) (conjunction (In l) (Sq l) sc a) c a n (r a n i g k s m et st) k s m et ea)
 
   disjoined-reads : (l : ℕ) (ts us : List (List ℕ)) (x y : Condition) → ReaderC D.condition l ts x → ReaderC D.conjunction l us y → ReaderC D.condition l (ts ++ bytes "|" ∷ us) (either x y)
   unfolding andOf orOf productOf sumOf is kindNumber connect
   disjoined-reads l ts us x y r q a n i g k2 s2 m2 et2 st2 ea2 =
-      let p = split (sc .text) a n ts (bytes "|" ∷ us) g in
-      let m = p .second .0 in
-      let st = p .second .1 in
-      let sp = spells-in (sc .text) a (p .place) ts i (p .first) in
-      let mv = stands-in (sc .text) (p .place) m (bytes "|") (sp .1) st in
-      let sq = spells-in (sc .text) m n us (mv .1) (p .second .2) in
-      let et = at-kind (sc .text) bar (bytes "|") refl (p .place) m (sp .1) st in
-      let t = q m n (mv .1) (p .second .2) k2 s2 m2 et2 st2 in
-      loops-goes connect orOf (conjunction (In l) (Sq l) sc) (sc .text) (condition (In l) (Sq l) sc a) x a (p .place) (sp .1)
-      (r a (p .place) i (p .first) bar (st .start) m et (refl, refl) refl)
-      bar (st .start) m orElse y n (omega (arith, mv .0, sq .0)) et refl
-      (t .is-rest ∙ rest-stops connect andOf (atom (In l) (Sq l) sc) (sc .text) (t .fuel) y n k2 s2 m2 et2 ea2)
+      chain-joins connect orOf (conjunction (In l) (Sq l) sc) (sc .text) (condition (In l) (Sq l) sc a) (bytes "|") orElse ts us x y (record { kind = bar; spelling = refl; is-operator = refl }) a n i g
+      (λ j s m h et. r a j i h bar s m et (refl, refl) refl)
+      (λ m j h. loops-stop connect andOf (atom (In l) (Sq l) sc) (sc .text) (conjunction (In l) (Sq l) sc m) y m n (q m n j h k2 s2 m2 et2 st2) k2 s2 m2 et2 ea2)
 
   readsC : (v : LevelC) (l : ℕ) (ts : List (List ℕ)) (c : Condition) → SpellsC (sc .names) v l ts c → UsableC (sc .known) c → ReaderC v l ts c
   readsC v l ts c (D.SpellsC.compared w o us ws x y ps d f) u = compared-reads _ w o us ws x y ps (reads D.expression _ us x d (u .0)) (reads D.expression _ ws y f (u .1))
@@ -377,12 +352,5 @@ module _ (sc : Scope) (good : Named (sc .names)) where
 
   -- tokens that spell a condition and a `]` after it are read as a `[c]` of a rule form
   pub spelled-listed : (ts : List (List ℕ)) (c : Condition) → SpellsC (sc .names) D.condition bracketLimit ts c → UsableC (sc .known) c → (a n : ℕ) → a ≤ length (sc .text) → Spells (sc .text) a n (ts ++ bytes "]" ∷ []) → listed sc a ≡ accepted c n
-  unfolding listed wholeCondition expected is kindNumber productOf sumOf andOf orOf
-  spelled-listed ts c d u a n i g =
-      let p = split (sc .text) a n ts (bytes "]" ∷ []) g in
-      let st = p .second .1 in
-      let sp = spells-in (sc .text) a (p .place) ts i (p .first) in
-      let close = at-kind (sc .text) closeSquare (bytes "]") refl (p .place) (p .second .0) (sp .1) st in
-      let x = readsC D.condition bracketLimit ts c d u a (p .place) i (p .first) closeSquare (st .start) (p .second .0) close (refl, refl) refl in
-      let y = x .is-rest ∙ rest-stops connect orOf (conjunction (In bracketLimit) (Sq bracketLimit) sc) (sc .text) (x .fuel) c (p .place) closeSquare (st .start) (p .second .0) close refl in
-      rw (y, one-sign (sc .text) closeSquare c (p .place), close, p .second .2)
+  unfolding listed wholeCondition square
+  spelled-listed ts c d u a n i g = closing-reads bracketLimit ts c (readsC D.condition bracketLimit ts c d u) 0 a n i g

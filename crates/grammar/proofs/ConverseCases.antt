@@ -26,7 +26,7 @@ use Rattle.grammar.proofs.Standing.{split, stands-in, spells-in}
 use Rattle.grammar.proofs.Phrases.{signs, fixed-at, phrase-reads, followed-reads}
 use Rattle.grammar.proofs.Listed.{Listed, last, next}
 use Rattle.grammar.proofs.Converse.{Named, Stop, spelled-expression, spelled-listed}
-use Rattle.grammar.proofs.DerivedRules.{cases-list}
+use Rattle.grammar.proofs.DerivedCases.{cases-list}
 
 -- ---- values that may be used where every name is known
 

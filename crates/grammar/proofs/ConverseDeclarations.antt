@@ -1,6 +1,6 @@
 -- Tokens that spell declarations are read as them. Assumes nothing.
 use mathlib.Core.Path.{_≡_, refl, ap, sym, _∙_, subst}
-use mathlib.Core.List.{List, [], _∷_, _++_, append-assoc, append-nil}
+use mathlib.Core.List.{List, [], _∷_, _++_, append-assoc, append-nil, map-append}
 use mathlib.Core.Bool.{Bool, true, false, _&&_}
 use mathlib.Core.Option.{Option, none, some}
 use Prim.Native.Nat.{ℕ, zero, suc, _+_, _-_, _≤_, _<_}
@@ -122,10 +122,6 @@ module _ (text : List ℕ) where
 
   -- ---- all declarations that begin with a word
 
-  spellings-append : (k l : List Name) → spellings (k ++ l) ≡ spellings k ++ spellings l
-  spellings-append [] l = refl
-  spellings-append (x ∷ k) l = ap (λ (ws : List (List ℕ)). x .spelling ∷ ws) (spellings-append k l)
-
   declarations-on : (word : Kind) (f a s n m : ℕ) (names : List Name) (x : Name) → tokenAt text a ≡ token word s n → declaration text names n ≡ accepted x m → declarationsFrom (suc f) word text names a ≡ declarationsFrom f word text (names ++ (x ∷ [])) m
   unfolding declarationsFrom is
   declarations-on word f a s n m names x et e = rw (et, eq-eqb (kindNumber word) (kindNumber word) refl, e)
@@ -143,7 +139,7 @@ module _ (text : List ℕ) where
   declarations-read word fx (suc f) names ts l (S.DeclareAll.more us vs x k d r) di few fuel a n h g w s m et nw =
       let p = split text a n us vs g in
       let i = spells-in text a (p .place) us h (p .first) .1 in
-      let apart : Apart (x .spelling) (spellings names) = distinct-at (spellings names) (x .spelling) (spellings k) (subst Distinct (spellings-append names (x ∷ k)) di) in
+      let apart : Apart (x .spelling) (spellings names) = distinct-at (spellings names) (x .spelling) (spellings k) (subst Distinct (map-append (λ (x : Name). x .spelling) names (x ∷ k)) di) in
       let c = declaration-reads word fx names us x d apart (omega arith) a (p .place) h (p .first) in
       let one : length (names ++ (x ∷ [])) ≡ length names + 1 = length-append names (x ∷ []) in
       let same : (names ++ (x ∷ [])) ++ k ≡ names ++ (x ∷ k) = append-assoc names (x ∷ []) k in

@@ -10,11 +10,11 @@ use lib.Dec.{T, ltb, ltb→lt}
 use Rattle.limits.specs.Limits.{caseLimit, bracketLimit}
 use Rattle.arith.proofs.Basics.{T-true}
 use Rattle.lexer.specs.Bytes.{bytes, pick, part}
-use Rattle.lexer.specs.Token.{Kind, kindNumber, ending, name, nextWord, arrow, semicolon, colon, openRound, closeRound, openSquare, tilde, bar, equals, is, Read, token, fault}
+use Rattle.lexer.specs.Token.{Kind, kindNumber, ending, name, nextWord, semicolon, colon, openRound, closeRound, openSquare, tilde, bar, equals, is, Read, token, fault}
 use Rattle.lexer.specs.Lexer.{tokenAt}
 use Rattle.lexer.proofs.Laws.{token-at-moved}
 use Rattle.semantics.specs.Program.{Expression, Condition, Case, Rule, function, change, target, allTrue, UsableE, UsableK, UsableR, OrderedRules}
-use Rattle.grammar.specs.Parsed.{Parsed, accepted, refused, andThen, Wanted, sign, own, ownPrevious, phrase, followed}
+use Rattle.grammar.specs.Parsed.{Parsed, accepted, refused, andThen, sign, own, phrase, followed}
 use Rattle.grammar.specs.Expressions.{Scope, productOf, sumOf, withId, wholeExpression}
 use Rattle.grammar.specs.Rules.{Spanned, casesFrom, plainList, Compared, agrees, partsFrom, settled, agreeingList, casesOf, functionAt, changeAt, formulas, ruleAt, ruled, rulesFrom}
 use Rattle.grammar.specs.Derivation.{Stands, Spells, IsName, SpellsE}
@@ -23,7 +23,7 @@ use Rattle.grammar.specs.Spelled.{changeForm, functionForm, SpellsCases,
 use Rattle.grammar.specs.Spelled as S
 use Rattle.grammar.proofs.Spellings.{isFixed}
 use Rattle.grammar.proofs.Standing.{split, stands-in, spells-in, spells-append}
-use Rattle.grammar.proofs.Phrases.{signs, fixed-at, name-at, phrase-reads, followed-reads}
+use Rattle.grammar.proofs.Phrases.{signs, fixed-at, name-at, phrase-reads, followed-reads, head, middle, headTokens, middleTokens}
 use Rattle.grammar.proofs.Listed.{Listed, spells-parts}
 use Rattle.grammar.proofs.Converse.{Named, named-id, spelled-expression}
 use Rattle.grammar.proofs.ConverseCases.{CasesReads, cases-read, no-change-reads}
@@ -50,37 +50,25 @@ module _ (sc : Scope) (good : Named (sc .names)) (w : List ℕ) (nm : IsName w) 
 
   -- ---- a change formula and its no-change formula, after `v: GX(~`
 
-  abbrev head : List Wanted
-  head = sign openRound ∷ own w ∷ sign equals ∷ ownPrevious w ∷ sign closeRound ∷ sign arrow ∷ []
-
-  abbrev middle : List Wanted
-  middle = sign closeRound ∷ sign semicolon ∷ own w ∷ sign colon ∷ sign nextWord ∷ sign openRound ∷ own w ∷ sign equals ∷ ownPrevious w ∷ sign arrow ∷ sign tilde ∷ sign openRound ∷ []
-
-  abbrev headTokens : List (List ℕ)
-  headTokens = bytes "(" ∷ w ∷ bytes "=" ∷ (bytes "_" ++ w) ∷ bytes ")" ∷ bytes "->" ∷ []
-
-  abbrev middleTokens : List (List ℕ)
-  middleTokens = bytes ")" ∷ bytes ";" ∷ w ∷ bytes ":" ∷ bytes "GX" ∷ bytes "(" ∷ w ∷ bytes "=" ∷ (bytes "_" ++ w) ∷ bytes "->" ∷ bytes "~" ∷ bytes "(" ∷ []
-
   agreeing-goes : (cases : List Spanned) (cs : List Condition) (a m : ℕ) → plainList sc a ≡ accepted cs m → partsFrom (sc .text) cases a ≡ agrees m → agreeingList sc cases a ≡ accepted cs m
   unfolding agreeingList settled
   agreeing-goes cases cs a m e1 e2 = rw (e2, e1)
 
-  change-goes : (cases : List Spanned) (cs : List Condition) (a n1 n2 n3 n4 n5 : ℕ) → phrase (sc .text) head a ≡ accepted tt n1 → casesFrom caseLimit sc w [] n1 ≡ accepted cases n2 → phrase (sc .text) middle n2 ≡ accepted tt n3 → agreeingList sc cases n3 ≡ accepted cs n4 → followed (sc .text) (sign closeRound ∷ sign semicolon ∷ []) (change v (casesOf cases) cs) n4 ≡ accepted (change v (casesOf cases) cs) n5 → changeAt sc w v a ≡ accepted (change v (casesOf cases) cs) n5
+  change-goes : (cases : List Spanned) (cs : List Condition) (a n1 n2 n3 n4 n5 : ℕ) → phrase (sc .text) (head w) a ≡ accepted tt n1 → casesFrom caseLimit sc w [] n1 ≡ accepted cases n2 → phrase (sc .text) (middle w) n2 ≡ accepted tt n3 → agreeingList sc cases n3 ≡ accepted cs n4 → followed (sc .text) (sign closeRound ∷ sign semicolon ∷ []) (change v (casesOf cases) cs) n4 ≡ accepted (change v (casesOf cases) cs) n5 → changeAt sc w v a ≡ accepted (change v (casesOf cases) cs) n5
   unfolding changeAt
   change-goes cases cs a n1 n2 n3 n4 n5 e1 e2 e3 e4 e5 = rw (e1, e2, e3, e4) e5
 
-  change-reads : (ts ls : List (List ℕ)) (ks : List Case) (cs : List Condition) → SpellsCases (sc .names) w ts ls ks → length ks ≤ caseLimit → SpellsList (sc .names) ls cs → UsableK (sc .known) ks → (a m : ℕ) → a ≤ length (sc .text) → Spells (sc .text) a m ((headTokens ++ ts) ++ (middleTokens ++ ls) ++ bytes ")" ∷ bytes ")" ∷ bytes ";" ∷ []) → changeAt sc w v a ≡ accepted (change v ks cs) m
+  change-reads : (ts ls : List (List ℕ)) (ks : List Case) (cs : List Condition) → SpellsCases (sc .names) w ts ls ks → length ks ≤ caseLimit → SpellsList (sc .names) ls cs → UsableK (sc .known) ks → (a m : ℕ) → a ≤ length (sc .text) → Spells (sc .text) a m ((headTokens w ++ ts) ++ (middleTokens w ++ ls) ++ bytes ")" ∷ bytes ")" ∷ bytes ";" ∷ []) → changeAt sc w v a ≡ accepted (change v ks cs) m
   unfolding signs isFixed kindNumber is
   change-reads ts ls ks cs d room e u a m h g =
       let text = sc .text in
-      let p = split text a m ((headTokens ++ ts) ++ (middleTokens ++ ls)) (bytes ")" ∷ bytes ")" ∷ bytes ";" ∷ []) g in
-      let q = split text a (p .place) (headTokens ++ ts) (middleTokens ++ ls) (p .first) in
-      let r = split text a (q .place) headTokens ts (q .first) in
-      let t = split text (q .place) (p .place) middleTokens ls (q .second) in
-      let i1 = spells-in text a (r .place) headTokens h (r .first) .1 in
+      let p = split text a m ((headTokens w ++ ts) ++ (middleTokens w ++ ls)) (bytes ")" ∷ bytes ")" ∷ bytes ";" ∷ []) g in
+      let q = split text a (p .place) (headTokens w ++ ts) (middleTokens w ++ ls) (p .first) in
+      let r = split text a (q .place) (headTokens w) ts (q .first) in
+      let t = split text (q .place) (p .place) (middleTokens w) ls (q .second) in
+      let i1 = spells-in text a (r .place) (headTokens w) h (r .first) .1 in
       let i2 = spells-in text (r .place) (q .place) ts i1 (r .second) .1 in
-      let i3 = spells-in text (q .place) (t .place) middleTokens i2 (t .first) .1 in
+      let i3 = spells-in text (q .place) (t .place) (middleTokens w) i2 (t .first) .1 in
       let i4 = spells-in text (t .place) (p .place) ls i3 (t .second) .1 in
       let n4 = p .second .0 in
       let i5 = stands-in text (p .place) n4 (bytes ")") i4 (p .second .1) .1 in
@@ -88,8 +76,8 @@ module _ (sc : Scope) (good : Named (sc .names)) (w : List ℕ) (nm : IsName w) 
       let x = cases-read sc good w nm caseLimit [] ts ls ks d u room (r .place) (q .place) i1 (r .second) closeRound (t .first .1 .start) (t .first .0) (fixed-at text closeRound refl (q .place) (t .first .0) i2 (t .first .1)) refl in
       subst (λ (l : List Case). changeAt sc w v a ≡ accepted (change v l cs) m) (x .are-cases)
       (change-goes (x .spans) cs a (r .place) (q .place) (t .place) n4 m
-      (phrase-reads text head refl (nm, (nm, tt)) a (r .place) h (r .first)) (x .reads)
-      (phrase-reads text middle refl (nm, (nm, (nm, tt))) (q .place) (t .place) i2 (t .first))
+      (phrase-reads text (head w) refl (nm, (nm, tt)) a (r .place) h (r .first)) (x .reads)
+      (phrase-reads text (middle w) refl (nm, (nm, (nm, tt))) (q .place) (t .place) i2 (t .first))
       (agreeing-goes (x .spans) cs (t .place) n4 (no-change-reads sc good w ts ls ks cs d e u room (t .place) n4 i3 close) (spells-parts text (x .spans) ls (x .lists) (t .place) n4 i3 close))
       (followed-reads text (sign closeRound ∷ sign semicolon ∷ []) refl tt (change v (casesOf (x .spans)) cs) n4 m i5 (p .second .2)))
 
@@ -144,7 +132,7 @@ module _ (sc : Scope) (good : Named (sc .names)) where
       let st = g .1 in
       let n = g .0 in
       let mv = token-at-moved text a (st .kind) (st .start) n h (st .is-token) in
-      let tail = (headTokens sc good w nm v ++ us) ++ (middleTokens sc good w nm v ++ ls) ++ bytes ")" ∷ bytes ")" ∷ bytes ";" ∷ [] in
+      let tail = (headTokens w ++ us) ++ (middleTokens w ++ ls) ++ bytes ")" ∷ bytes ")" ∷ bytes ";" ∷ [] in
       let p = split text n m (bytes ":" ∷ bytes "GX" ∷ bytes "(" ∷ []) (bytes "~" ∷ tail) (g .2) in
       let i = spells-in text n (p .place) (bytes ":" ∷ bytes "GX" ∷ bytes "(" ∷ []) (mv .2) (p .first) .1 in
       let j = stands-in text (p .place) (p .second .0) (bytes "~") i (p .second .1) .1 in

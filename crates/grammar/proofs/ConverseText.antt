@@ -29,7 +29,8 @@ use Rattle.grammar.proofs.Spellings.{spellingOf, isFixed}
 use Rattle.grammar.proofs.Standing.{split, spells-in}
 use Rattle.grammar.proofs.Phrases.{fixed-at, name-at}
 use Rattle.grammar.proofs.Converse.{Named}
-use Rattle.grammar.proofs.Accepted.{each-name, program-parsed}
+use Rattle.grammar.proofs.Whole.{named}
+use Rattle.grammar.proofs.Accepted.{program-parsed}
 use Rattle.grammar.proofs.ConverseDeclarations.{declarations-read}
 use Rattle.grammar.proofs.ConverseRules.{rules-read, few-unruled}
 use Rattle.grammar.proofs.DerivedText.{parse-spelled}
@@ -87,7 +88,7 @@ module _ (text : List ℕ) where
   unfolding declarations isFixed is kindNumber
   spelled-program inputs variables rules its vts rts t di dv apart few dr ordered =
       let names = inputs ++ variables in
-      let good : Named (spellings names) = record { distinct = apart; each = each-name names (fit-append inputs variables (declared-fit (bytes "input") its inputs di) (declared-fit (bytes "var") vts variables dv)) } in
+      let good : Named (spellings names) = named names (fit-append inputs variables (declared-fit (bytes "input") its inputs di) (declared-fit (bytes "var") vts variables dv)) apart in
       let p = split text 0 (t .end) (its ++ vts) rts (t .spells) in
       let q = split text 0 (p .place) its vts (p .first) in
       let i1 = spells-in text 0 (q .place) its (omega arith) (q .first) .1 in

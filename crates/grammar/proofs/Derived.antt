@@ -25,16 +25,11 @@ use Rattle.grammar.specs.Conditions.{comparisonOf, compared, comparisonA
 use Rattle.grammar.specs.Derivation.{Stands, Spells, SpellsE, a-number, a-current, a-previous, brackets, plain, opposite, one-factor, product, one-term, sum, SpellsC, not-square, one-atom, conjoined, one-conjunction, disjoined}
 use Rattle.grammar.specs.Derivation as D
 use Rattle.grammar.specs.Emitted.{codeE, codeC}
-use Rattle.grammar.proofs.Combine.{token-prop, then-prop, option-prop}
-use Rattle.grammar.proofs.Bytes.{part-length}
-use Rattle.grammar.proofs.Growth.{Grown, Reads, Inside, factor-grown, term-grown, expression-grown, bracket-grown, square-grown, atom-grown, conjunction-grown, condition-grown, whole-condition-grown, not-end, products-end, sums-end, comparisons-end, ands-end, ors-end}
-use Rattle.grammar.proofs.Agree.{part-cons, one-sign}
+use Rattle.grammar.proofs.Combine.{token-prop, then-prop, option-prop, one-sign}
+use Rattle.grammar.proofs.Bytes.{part-cons, heads}
+use Rattle.grammar.proofs.Growth.{Grown, Reads, Inside, factor-grown, term-grown, expression-grown, bracket-grown, square-grown, atom-grown, conjunction-grown, condition-grown, not-end, operator-end, products-end, sums-end, comparisons-end, ands-end, ors-end}
 use Rattle.grammar.proofs.Spellings.{Spelling}
-use Rattle.grammar.proofs.Standing.{stands, stands-spelled, spells-append, id-names, product-sign, sum-sign, comparison-sign}
-
--- an operator is not the end
-pub operator-end : {O : Type 0} (operator : Kind → Option O) → operator ending ≡ none → (k : Kind) (o : O) → operator k ≡ some o → k ≡ ending → ⊥
-operator-end operator h k o e f = let g : operator ending ≡ some o = ap operator (sym f) ∙ e in let z : _≡_ {A = ℕ} 0 1 = cc in omega arith
+use Rattle.grammar.proofs.Standing.{stands, stands-spelled, spells-append, id-names, product-sign, sum-sign, comparison-sign, only-sign}
 
 module _ (text : List ℕ) where
   -- tokens that spell e stand from `at` up to n
@@ -188,9 +183,6 @@ module _ (sc : Scope) (few : length (sc .names) ≤ 64) where
         let mv = token-at-moved (sc .text) at k s n h et in
         before (sc .text) (ClosedE l) (SpellsE (sc .names) D.primary l) (bytes "(") (bracketed l) at n (sign-is (sc .text) openRound (bytes "(") (λ x q. q) refl at k s n h et e) (inner s n) (hi s n (mv .2)))
         (λ n4. tt)))))
-      where
-        heads : (x y : ℕ) (k l : List ℕ) → x ∷ k ≡ y ∷ l → x ≡ y
-        heads x y k l e = cc
 
     factor-derives : (at : ℕ) → at ≤ length (sc .text) → Derives (sc .text) (SpellsE (sc .names) D.factor l) at (factor inner sc at)
     unfolding factor negative is kindNumber
@@ -243,27 +235,14 @@ module _ (sc : Scope) (few : length (sc .names) ≤ 64) where
   not-squared zero ts c h = absurd h
   not-squared (suc l) ts c h = rw (h .is-closed) (not-square (h .inner) c (h .derives))
 
+  -- `&` and `|`
   and-derives : (l : ℕ) (k : Kind) (w : List ℕ) (o : Connective) (ts us : List (List ℕ)) (a b : Condition) → andOf k ≡ some o → Spelling k w → SpellsC (sc .names) D.conjunction l ts a → SpellsC (sc .names) D.atom l us b → SpellsC (sc .names) D.conjunction l (ts ++ w ∷ us) (connect o a b)
   unfolding andOf connect
-  and-derives l k w o ts us a b e sp d f = go (is k ampersand) refl e
-    where
-      go : (t : Bool) → is k ampersand ≡ t → pick t (some andAlso) none ≡ some o → SpellsC (sc .names) D.conjunction l (ts ++ w ∷ us) (connect o a b)
-      go true t q =
-          let i : andAlso ≡ o = cc in
-          let j : w ≡ bytes "&" = subst (λ (x : Kind). Spelling x w) (same-kind k ampersand t) sp in
-          subst (λ (o : Connective). SpellsC (sc .names) D.conjunction l (ts ++ w ∷ us) (connect o a b)) i (rw j (conjoined ts us a b d f))
-      go false t q = let z : _≡_ {A = ℕ} 0 1 = cc in let g : ⊥ = omega arith in absurd g
+  and-derives l k w o ts us a b e sp d f = let r = only-sign k w sp ampersand andAlso o e in rw (r .0, ← r .1) (conjoined ts us a b d f)
 
   or-derives : (l : ℕ) (k : Kind) (w : List ℕ) (o : Connective) (ts us : List (List ℕ)) (a b : Condition) → orOf k ≡ some o → Spelling k w → SpellsC (sc .names) D.condition l ts a → SpellsC (sc .names) D.conjunction l us b → SpellsC (sc .names) D.condition l (ts ++ w ∷ us) (connect o a b)
   unfolding orOf connect
-  or-derives l k w o ts us a b e sp d f = go (is k bar) refl e
-    where
-      go : (t : Bool) → is k bar ≡ t → pick t (some orElse) none ≡ some o → SpellsC (sc .names) D.condition l (ts ++ w ∷ us) (connect o a b)
-      go true t q =
-          let i : orElse ≡ o = cc in
-          let j : w ≡ bytes "|" = subst (λ (x : Kind). Spelling x w) (same-kind k bar t) sp in
-          subst (λ (o : Connective). SpellsC (sc .names) D.condition l (ts ++ w ∷ us) (connect o a b)) i (rw j (disjoined ts us a b d f))
-      go false t q = let z : _≡_ {A = ℕ} 0 1 = cc in let g : ⊥ = omega arith in absurd g
+  or-derives l k w o ts us a b e sp d f = let r = only-sign k w sp bar orElse o e in rw (r .0, ← r .1) (disjoined ts us a b d f)
 
   module _ (l : ℕ) (inner : ℕ → ℕ → Parsed Expression) (hg : Inside (sc .text) codeE inner) (hi : (s n : ℕ) → n ≤ length (sc .text) → Derives (sc .text) (ClosedE l) n (inner s n)) (inside : ℕ → ℕ → Parsed Condition) (hc : Inside (sc .text) codeC inside) (hd : (s n : ℕ) → n ≤ length (sc .text) → Derives (sc .text) (ClosedC l) n (inside s n)) where
     abbrev A : ℕ → Parsed Condition → Type 0
@@ -345,17 +324,7 @@ module _ (sc : Scope) (few : length (sc .names) ≤ 64) where
       let g = subst (Grown codeC (length (sc .text)) n) es (condition-grown sc few inner (bracket-grown sc few l) inside (square-grown sc few l) n h) in
       rw (one-sign (sc .text) closeSquare c m) (sign-derives (sc .text) (SpellsC (sc .names) D.condition l) closeSquare (bytes "]") (λ x q. q) refl n c m (g .1) d))
 
-  pub whole-condition-derives : (at : ℕ) → at ≤ length (sc .text) → Derives (sc .text) (SpellsC (sc .names) D.condition bracketLimit) at (wholeCondition sc at)
-  unfolding wholeCondition
-  whole-condition-derives at h =
-      condition-derives bracketLimit (λ s n. bracket bracketLimit sc s n) (bracket-grown sc few bracketLimit) (bracket-derives bracketLimit) (λ s n. square bracketLimit sc s n) (square-grown sc few bracketLimit) (square-derives bracketLimit) at h
-
   -- `[c]` of a rule form, after its bracket
   pub listed-derives : (at : ℕ) → at ≤ length (sc .text) → Derives (sc .text) (Closed (sc .text) (SpellsC (sc .names) D.condition bracketLimit) (bytes "]")) at (listed sc at)
-  unfolding listed is kindNumber
-  listed-derives at h =
-      then-prop (Derives (sc .text) (Closed (sc .text) (SpellsC (sc .names) D.condition bracketLimit) (bytes "]")) at) (wholeCondition sc at) _ (λ k q. tt)
-      (λ c m es.
-      let d = subst (Derives (sc .text) (SpellsC (sc .names) D.condition bracketLimit) at) es (whole-condition-derives at h) in
-      let g = subst (Grown codeC (length (sc .text)) at) es (whole-condition-grown sc few at h) in
-      rw (one-sign (sc .text) closeSquare c m) (sign-derives (sc .text) (SpellsC (sc .names) D.condition bracketLimit) closeSquare (bytes "]") (λ x q. q) refl at c m (g .1) d))
+  unfolding listed wholeCondition square
+  listed-derives at h = square-derives (suc bracketLimit) 0 at h

@@ -23,8 +23,7 @@ use Rattle.grammar.specs.Derivation.{Stands, Spells, IsDigits}
 use Rattle.grammar.specs.Spelled.{SpellsZ, positive, negative, SpellsStart, absent, given, Declares, declares, DeclareAll}
 use Rattle.grammar.specs.Spelled as S
 use Rattle.grammar.proofs.Shape.{NameFits}
-use Rattle.grammar.proofs.Combine.{token-prop, then-prop, option-prop}
-use Rattle.grammar.proofs.Agree.{one-sign}
+use Rattle.grammar.proofs.Combine.{token-prop, then-prop, option-prop, one-sign}
 use Rattle.grammar.proofs.Spellings.{Spelling, spellingOf, isFixed}
 use Rattle.grammar.proofs.Standing.{spells-append, spells-append-left, spells-in}
 use Rattle.grammar.proofs.Phrases.{signs, fixed-stands, phrase-spells}

@@ -1,172 +1,53 @@
 -- Rules that are accepted are spelled by the tokens that were read. Assumes nothing.
 use mathlib.Core.Path.{_≡_, refl, ap, sym, _∙_, subst}
 use mathlib.Core.List.{List, [], _∷_, _++_, map, append-assoc, append-nil}
-use mathlib.Core.Bool.{Bool, true, false}
-use mathlib.Core.Option.{Option, none, some}
-use Prim.Native.Nat.{ℕ, zero, suc, _+_, _≤_, _<_}
-use native.Mathlib.Omega.{arith}
-use lib.ListN.{length, getD, set, getElem?}
+use mathlib.Core.Bool.{true, false}
+use mathlib.Core.Option.{none, some}
+use Prim.Native.Nat.{ℕ, zero, suc, _≤_}
+use lib.ListN.{length, getD, getElem?, length-set}
 use Rattle.limits.specs.Limits.{caseLimit, bracketLimit}
-use Rattle.lexer.specs.Bytes.{bytes, pick, part}
-use Rattle.lexer.specs.Token.{Kind, kindNumber, ending, name, nextWord, arrow, semicolon, colon, openRound, closeRound, openSquare, tilde, ampersand, bar, equals, is, Read, token, fault}
+use Rattle.lexer.specs.Bytes.{bytes, part}
+use Rattle.lexer.specs.Token.{Kind, kindNumber, ending, name, nextWord, semicolon, colon, openRound, closeRound, tilde, equals, is, token}
 use Rattle.lexer.specs.Lexer.{tokenAt, overLong}
 use Rattle.lexer.specs.Names.{idOf}
 use Rattle.lexer.proofs.Laws.{pick-prop, token-at-moved}
 use Rattle.lexer.proofs.Same.{same-kind}
-use Rattle.semantics.specs.Program.{Expression, Condition, Case, Rule, function, change, target, allTrue}
-use Rattle.grammar.specs.Parsed.{Parsed, accepted, refused, andThen, onToken, onOption, Wanted, sign, own, ownPrevious, phrase, followed}
+use Rattle.semantics.specs.Program.{Condition, Case, Rule, change, target, allTrue}
+use Rattle.grammar.specs.Parsed.{Parsed, accepted, refused, sign, own, phrase, followed}
 use Rattle.grammar.specs.Expressions.{Scope, withId, wholeExpression}
-use Rattle.grammar.specs.Conditions.{listed}
-use Rattle.grammar.specs.Rules.{Span, Spanned, caseAt, casesFrom, partsFrom, agrees, agreeingList, casesOf, functionAt, changeAt, formulas, ruleAt, ruled, rulesFrom}
-use Rattle.grammar.specs.Derivation.{Stands, Spells, SpellsE, SpellsC}
+use Rattle.grammar.specs.Rules.{casesFrom, agreeingList, casesOf, functionAt, changeAt, formulas, ruleAt, ruled, rulesFrom}
+use Rattle.grammar.specs.Derivation.{Stands, Spells, SpellsE}
 use Rattle.grammar.specs.Derivation as D
-use Rattle.grammar.specs.Spelled.{squared, cased, SpellsCases, one-case, more-cases, SpellsList, one-listed, more-listed, SpellsR, a-change, a-function, SpellsRules}
+use Rattle.grammar.specs.Spelled.{SpellsCases, SpellsList, SpellsR, a-change, a-function, SpellsRules}
 use Rattle.grammar.specs.Spelled as S
-use Rattle.grammar.specs.Emitted.{codeE}
 use Rattle.grammar.proofs.Combine.{token-prop, then-prop, option-prop}
-use Rattle.grammar.proofs.Growth.{Grown, whole-expression-grown}
-use Rattle.grammar.proofs.Lists.{cases-spans, Agreeing, agreeing-same}
-use Rattle.grammar.proofs.Lists as L
 use Rattle.grammar.proofs.Spellings.{isFixed, end-place}
-use Rattle.grammar.proofs.Standing.{stands-in, spells-in, split, spells-append, id-names}
-use Rattle.grammar.proofs.Phrases.{signs, fixed-stands, phrase-spells}
-use Rattle.grammar.proofs.Listed.{Listed, last, next, parts-spells}
-use Rattle.grammar.proofs.Derived.{Derived, Derives, before, sign-stands, Closed, whole-expression-derives, listed-derives}
+use Rattle.grammar.proofs.Standing.{spells-in, split, spells-append, id-names}
+use Rattle.grammar.proofs.Phrases.{signs, fixed-stands, phrase-spells, head, middle, headTokens, middleTokens}
+use Rattle.grammar.proofs.Converse.{Named}
+use Rattle.grammar.proofs.DerivedCases.{cases-list}
+use Rattle.grammar.proofs.Lists.{cases-in, agreeing-same}
+use Rattle.grammar.proofs.Derived.{Derived, Derives, before, sign-stands, whole-expression-derives}
 
--- the list of the conditions of cases is one
-pub cases-list : (names : List (List ℕ)) (v : List ℕ) (ts ls : List (List ℕ)) (ks : List Case) → SpellsCases names v ts ls ks → SpellsList names ls (map (λ k. k .condition) ks)
-cases-list names v ts ls ks (one-case us vs k c e) = one-listed us (k .condition) c
-cases-list names v ts ls ks (more-cases us vs ws ms k js c e r) = more-listed us ms (k .condition) (map (λ k. k .condition) js) c (cases-list names v ws ms js r)
-
-module _ (sc : Scope) (few : length (sc .names) ≤ 64) where
-  -- ---- cases
-
-  pub record CaseRead (w : List ℕ) (at n : ℕ) (c : Spanned) : Type 0 where
-    pub conditions : List (List ℕ)
-    pub values : List (List ℕ)
-    pub spells : Spells (sc .text) at n (cased w conditions values)
-    pub lists : Spells (sc .text) (c .span .from) (c .span .to) (squared conditions)
-    pub within : c .span .from ≤ length (sc .text)
-    pub condition : SpellsC (sc .names) D.condition bracketLimit conditions (c .case .condition)
-    pub value : SpellsE (sc .names) D.expression bracketLimit values (c .case .value)
-
-  abbrev CaseReads : List ℕ → ℕ → Parsed Spanned → Type 0
-  CaseReads w at (accepted c n) = CaseRead w at n c
-  CaseReads w at (refused k q) = Unit {0}
-
-  case-derives : (w : List ℕ) (at n : ℕ) → at ≤ length (sc .text) → Stands (sc .text) at n (bytes "[") → CaseReads w at (caseAt sc w at n)
-  unfolding caseAt followed signs isFixed kindNumber
-  case-derives w at n h st =
-      let i0 = stands-in (sc .text) at n (bytes "[") h st .1 in
-      then-prop (CaseReads w at) (listed sc n) _ (λ k q. tt)
-      (λ c n1 e1.
-      let d1 = subst (Derives (sc .text) (Closed (sc .text) (SpellsC (sc .names) D.condition bracketLimit) (bytes "]")) n) e1 (listed-derives sc few n i0) in
-      let ts = d1 .derives .inner in
-      let s1 : Spells (sc .text) at n1 (squared ts) = (n, st, subst (Spells (sc .text) n n1) (d1 .derives .is-closed) (d1 .spells)) in
-      let i1 = spells-in (sc .text) at n1 (squared ts) h s1 .1 in
-      then-prop (CaseReads w at) (phrase (sc .text) (sign ampersand ∷ own w ∷ sign equals ∷ sign openRound ∷ []) n1) _ (λ k q. tt)
-      (λ u n2 e2.
-      let s2 = phrase-spells (sc .text) (sign ampersand ∷ own w ∷ sign equals ∷ sign openRound ∷ []) refl n1 u n2 i1 e2 in
-      let i2 = spells-in (sc .text) n1 n2 (bytes "&" ∷ w ∷ bytes "=" ∷ bytes "(" ∷ []) i1 s2 .1 in
-      then-prop (CaseReads w at) (wholeExpression sc n2) _ (λ k q. tt)
-      (λ e n3 e3.
-      let d3 = subst (Derives (sc .text) (SpellsE (sc .names) D.expression bracketLimit) n2) e3 (whole-expression-derives sc few n2 i2) in
-      let i3 = spells-in (sc .text) n2 n3 (d3 .tokens) i2 (d3 .spells) .1 in
-      then-prop (CaseReads w at) (phrase (sc .text) (sign closeRound ∷ []) n3) _ (λ k q. tt)
-      (λ u2 n4 e4.
-      let s4 = phrase-spells (sc .text) (sign closeRound ∷ []) refl n3 u2 n4 i3 e4 in
-      let s23 = spells-append (sc .text) n1 n2 n3 (bytes "&" ∷ w ∷ bytes "=" ∷ bytes "(" ∷ []) (d3 .tokens) s2 (d3 .spells) in
-      let s13 = spells-append (sc .text) at n1 n3 (squared ts) (bytes "&" ∷ w ∷ bytes "=" ∷ bytes "(" ∷ d3 .tokens) s1 s23 in
-      record {
-        conditions = ts;
-        values = d3 .tokens;
-        spells = spells-append (sc .text) at n3 n4 (squared ts ++ bytes "&" ∷ w ∷ bytes "=" ∷ bytes "(" ∷ d3 .tokens) (bytes ")" ∷ []) s13 s4;
-        lists = s1;
-        within = h;
-        condition = d1 .derives .derives;
-        value = d3 .derives;
-      }))))
-
-  pub record CasesRead (w : List ℕ) (left : ℕ) (done : List Spanned) (at n : ℕ) (cs : List Spanned) : Type 0 where
-    pub more : List Spanned
-    pub is-more : cs ≡ done ++ more
-    pub tokens : List (List ℕ)
-    pub list : List (List ℕ)
-    pub spells : Spells (sc .text) at n tokens
-    pub derives : SpellsCases (sc .names) w tokens list (casesOf more)
-    pub lists : Listed (sc .text) more list
-    pub count : length (casesOf more) ≤ left
-
-  abbrev CasesReads : List ℕ → ℕ → List Spanned → ℕ → Parsed (List Spanned) → Type 0
-  CasesReads w left done at (accepted cs n) = CasesRead w left done at n cs
-  CasesReads w left done at (refused k q) = Unit {0}
-
-  -- the last case, and one before others
-  case-last : (w : List ℕ) (left : ℕ) (done : List Spanned) (at n : ℕ) (c : Spanned) → CaseRead w at n c → CasesRead w (suc left) done at n (done ++ (c ∷ []))
-  case-last w left done at n c r =
-      record {
-        more = c ∷ [];
-        is-more = refl;
-        tokens = cased w (r .conditions) (r .values);
-        list = squared (r .conditions);
-        spells = r .spells;
-        derives = one-case (r .conditions) (r .values) (c .case) (r .condition) (r .value);
-        lists = last c (squared (r .conditions)) (r .within) (r .lists);
-        count = omega arith;
-      }
-
-  case-next : (w : List ℕ) (left : ℕ) (done : List Spanned) (at n m : ℕ) (c : Spanned) → CaseRead w at n c → Stands (sc .text) n m (bytes "|") → (p : Parsed (List Spanned)) → CasesReads w left (done ++ (c ∷ [])) m p → CasesReads w (suc left) done at p
-  case-next w left done at n m c r st (accepted cs i) q =
-      record {
-        more = c ∷ q .more;
-        is-more = q .is-more ∙ append-assoc done (c ∷ []) (q .more);
-        tokens = cased w (r .conditions) (r .values) ++ bytes "|" ∷ q .tokens;
-        list = squared (r .conditions) ++ bytes "|" ∷ q .list;
-        spells = spells-append (sc .text) at n i (cased w (r .conditions) (r .values)) (bytes "|" ∷ q .tokens) (r .spells) (m, st, q .spells);
-        derives = more-cases (r .conditions) (r .values) (q .tokens) (q .list) (c .case) (casesOf (q .more)) (r .condition) (r .value) (q .derives);
-        lists = next c (q .more) (squared (r .conditions)) (q .list) (r .within) (r .lists) (q .lists);
-        count = omega (arith, q .count);
-      }
-  case-next w left done at n m c r st (refused k p) q = tt
-
-  cases-derive : (w : List ℕ) (left : ℕ) (done : List Spanned) (at : ℕ) → at ≤ length (sc .text) → CasesReads w left done at (casesFrom left sc w done at)
-  unfolding casesFrom isFixed kindNumber
-  cases-derive w zero done at h =
-      token-prop (CasesReads w zero done at) (tokenAt (sc .text) at) _ (λ k q. tt)
-      (λ k s n et. pick-prop (CasesReads w zero done at) (is k openSquare) _ _ (λ e. tt) (λ e. tt))
-  cases-derive w (suc left) done at h =
-      token-prop (CasesReads w (suc left) done at) (tokenAt (sc .text) at) _ (λ k q. tt)
-      (λ k s n et. pick-prop (CasesReads w (suc left) done at) (is k openSquare) _ _
-      (λ eo. then-prop (CasesReads w (suc left) done at) (caseAt sc w at n) _ (λ k q. tt)
-      (λ c n1 e1.
-      let r = subst (CaseReads w at) e1 (case-derives w at n h (fixed-stands (sc .text) openSquare refl at k s n h et eo)) in
-      let i1 = spells-in (sc .text) at n1 (cased w (r .conditions) (r .values)) h (r .spells) .1 in
-      token-prop (CasesReads w (suc left) done at) (tokenAt (sc .text) n1) _ (λ k q. tt)
-      (λ k2 s2 n2 et2.
-      let mw = token-at-moved (sc .text) n1 k2 s2 n2 i1 et2 in
-      pick-prop (CasesReads w (suc left) done at) (is k2 bar) _ _
-      (λ e. case-next w left done at n1 n2 c r (fixed-stands (sc .text) bar refl n1 k2 s2 n2 i1 et2 e) (casesFrom left sc w (done ++ (c ∷ [])) n2) (cases-derive w left (done ++ (c ∷ [])) n2 (mw .2)))
-      (λ e. case-last w left done at n1 c r))))
-      (λ e. tt))
-
+module _ (sc : Scope) (few : length (sc .names) ≤ 64) (lengths : length (sc .names) ≡ length (sc .known)) (good : Named (sc .names)) where
   -- ---- a function, after `v: GX(`
 
   module _ (w : List ℕ) (v : ℕ) (ev : getElem? (sc .names) v ≡ some w) where
-    abbrev Named : List (List ℕ) → Rule → Type 0
-    Named ts r = SpellsR (sc .names) (w ∷ bytes ":" ∷ bytes "GX" ∷ bytes "(" ∷ ts) r
+    abbrev Ruling : List (List ℕ) → Rule → Type 0
+    Ruling ts r = SpellsR (sc .names) (w ∷ bytes ":" ∷ bytes "GX" ∷ bytes "(" ∷ ts) r
 
-    function-derives : (at : ℕ) → at ≤ length (sc .text) → Derives (sc .text) Named at (functionAt sc w v at)
+    function-derives : (at : ℕ) → at ≤ length (sc .text) → Derives (sc .text) Ruling at (functionAt sc w v at)
     unfolding functionAt followed signs isFixed kindNumber
     function-derives at h =
-        then-prop (Derives (sc .text) Named at) (phrase (sc .text) (own w ∷ sign equals ∷ sign openRound ∷ []) at) _ (λ k q. tt)
+        then-prop (Derives (sc .text) Ruling at) (phrase (sc .text) (own w ∷ sign equals ∷ sign openRound ∷ []) at) _ (λ k q. tt)
         (λ u n1 e1.
         let s1 = phrase-spells (sc .text) (own w ∷ sign equals ∷ sign openRound ∷ []) refl at u n1 h e1 in
         let i1 = spells-in (sc .text) at n1 (w ∷ bytes "=" ∷ bytes "(" ∷ []) h s1 .1 in
-        then-prop (Derives (sc .text) Named at) (wholeExpression sc n1) _ (λ k q. tt)
+        then-prop (Derives (sc .text) Ruling at) (wholeExpression sc n1) _ (λ k q. tt)
         (λ e n2 e2.
         let d2 = subst (Derives (sc .text) (SpellsE (sc .names) D.expression bracketLimit) n1) e2 (whole-expression-derives sc few n1 i1) in
         let i2 = spells-in (sc .text) n1 n2 (d2 .tokens) i1 (d2 .spells) .1 in
-        then-prop (Derives (sc .text) Named at) (phrase (sc .text) (sign closeRound ∷ sign closeRound ∷ sign semicolon ∷ []) n2) _ (λ k q. tt)
+        then-prop (Derives (sc .text) Ruling at) (phrase (sc .text) (sign closeRound ∷ sign closeRound ∷ sign semicolon ∷ []) n2) _ (λ k q. tt)
         (λ u2 n3 e3.
         let s3 = phrase-spells (sc .text) (sign closeRound ∷ sign closeRound ∷ sign semicolon ∷ []) refl n2 u2 n3 i2 e3 in
         let s12 = spells-append (sc .text) at n1 n2 (w ∷ bytes "=" ∷ bytes "(" ∷ []) (d2 .tokens) s1 (d2 .spells) in
@@ -181,65 +62,44 @@ module _ (sc : Scope) (few : length (sc .names) ≤ 64) where
     abbrev Changing : List (List ℕ) → Rule → Type 0
     Changing ts r = SpellsR (sc .names) (w ∷ bytes ":" ∷ bytes "GX" ∷ bytes "(" ∷ bytes "~" ∷ ts) r
 
-    abbrev head : List Wanted
-    head = sign openRound ∷ own w ∷ sign equals ∷ ownPrevious w ∷ sign closeRound ∷ sign arrow ∷ []
-
-    abbrev middle : List Wanted
-    middle = sign closeRound ∷ sign semicolon ∷ own w ∷ sign colon ∷ sign nextWord ∷ sign openRound ∷ own w ∷ sign equals ∷ ownPrevious w ∷ sign arrow ∷ sign tilde ∷ sign openRound ∷ []
-
-    abbrev headTokens : List (List ℕ)
-    headTokens = bytes "(" ∷ w ∷ bytes "=" ∷ (bytes "_" ++ w) ∷ bytes ")" ∷ bytes "->" ∷ []
-
-    abbrev middleTokens : List (List ℕ)
-    middleTokens = bytes ")" ∷ bytes ";" ∷ w ∷ bytes ":" ∷ bytes "GX" ∷ bytes "(" ∷ w ∷ bytes "=" ∷ (bytes "_" ++ w) ∷ bytes "->" ∷ bytes "~" ∷ bytes "(" ∷ []
-
     -- the tokens from after `v: GX(~` on
-    change-spells : (a b c d e f : ℕ) (ts ls : List (List ℕ)) → Spells (sc .text) a b headTokens → Spells (sc .text) b c ts → Spells (sc .text) c d middleTokens → Spells (sc .text) d e (ls ++ bytes ")" ∷ []) → Spells (sc .text) e f (bytes ")" ∷ bytes ";" ∷ []) → Spells (sc .text) a f ((headTokens ++ ts) ++ (middleTokens ++ ls) ++ bytes ")" ∷ bytes ")" ∷ bytes ";" ∷ [])
+    change-spells : (a b c d e f : ℕ) (ts ls : List (List ℕ)) → Spells (sc .text) a b (headTokens w) → Spells (sc .text) b c ts → Spells (sc .text) c d (middleTokens w) → Spells (sc .text) d e (ls ++ bytes ")" ∷ []) → Spells (sc .text) e f (bytes ")" ∷ bytes ";" ∷ []) → Spells (sc .text) a f ((headTokens w ++ ts) ++ (middleTokens w ++ ls) ++ bytes ")" ∷ bytes ")" ∷ bytes ";" ∷ [])
     change-spells a b c d e f ts ls s1 s2 s3 s4 s5 =
         let p = split (sc .text) d e ls (bytes ")" ∷ []) s4 in
-        let front = spells-append (sc .text) a b c headTokens ts s1 s2 in
-        let back = spells-append (sc .text) c d (p .place) middleTokens ls s3 (p .first) in
+        let front = spells-append (sc .text) a b c (headTokens w) ts s1 s2 in
+        let back = spells-append (sc .text) c d (p .place) (middleTokens w) ls s3 (p .first) in
         let tail = spells-append (sc .text) (p .place) e f (bytes ")" ∷ []) (bytes ")" ∷ bytes ";" ∷ []) (p .second) s5 in
-        spells-append (sc .text) a (p .place) f ((headTokens ++ ts) ++ (middleTokens ++ ls)) (bytes ")" ∷ bytes ")" ∷ bytes ";" ∷ []) (spells-append (sc .text) a c (p .place) (headTokens ++ ts) (middleTokens ++ ls) front back) tail
+        spells-append (sc .text) a (p .place) f ((headTokens w ++ ts) ++ (middleTokens w ++ ls)) (bytes ")" ∷ bytes ")" ∷ bytes ";" ∷ []) (spells-append (sc .text) a c (p .place) (headTokens w ++ ts) (middleTokens w ++ ls) front back) tail
 
-    change-is : (ts ls : List (List ℕ)) (ks : List Case) (ds : List Condition) → SpellsCases (sc .names) w ts ls ks → length ks ≤ caseLimit → ds ≡ map (λ k. k .condition) ks → Changing ((headTokens ++ ts) ++ (middleTokens ++ ls) ++ bytes ")" ∷ bytes ")" ∷ bytes ";" ∷ []) (change v ks ds)
+    change-is : (ts ls : List (List ℕ)) (ks : List Case) (ds : List Condition) → SpellsCases (sc .names) w ts ls ks → length ks ≤ caseLimit → ds ≡ map (λ k. k .condition) ks → Changing ((headTokens w ++ ts) ++ (middleTokens w ++ ls) ++ bytes ")" ∷ bytes ")" ∷ bytes ";" ∷ []) (change v ks ds)
     change-is ts ls ks ds d l e = a-change w v ts ls ks ds ev d l (subst (SpellsList (sc .names) ls) (sym e) (cases-list (sc .names) w ts ls ks d))
 
     change-derives : (at : ℕ) → at ≤ length (sc .text) → Derives (sc .text) Changing at (changeAt sc w v at)
     unfolding changeAt followed signs isFixed kindNumber
     change-derives at h =
-        then-prop (Derives (sc .text) Changing at) (phrase (sc .text) head at) _ (λ k q. tt)
+        then-prop (Derives (sc .text) Changing at) (phrase (sc .text) (head w) at) _ (λ k q. tt)
         (λ u n1 e1.
-        let s1 = phrase-spells (sc .text) head refl at u n1 h e1 in
-        let i1 = spells-in (sc .text) at n1 headTokens h s1 .1 in
+        let s1 = phrase-spells (sc .text) (head w) refl at u n1 h e1 in
+        let i1 = spells-in (sc .text) at n1 (headTokens w) h s1 .1 in
         then-prop (Derives (sc .text) Changing at) (casesFrom caseLimit sc w [] n1) _ (λ k q. tt)
         (λ cases n2 e2.
-        let r = subst (CasesReads w caseLimit [] n1) e2 (cases-derive w caseLimit [] n1 i1) in
-        let i2 = spells-in (sc .text) n1 n2 (r .tokens) i1 (r .spells) .1 in
-        let same : r .more ≡ cases = sym (r .is-more) in
-        then-prop (Derives (sc .text) Changing at) (phrase (sc .text) middle n2) _ (λ k q. tt)
+        let r = cases-in sc few lengths w n1 n2 cases i1 e2 in
+        then-prop (Derives (sc .text) Changing at) (phrase (sc .text) (middle w) n2) _ (λ k q. tt)
         (λ u2 n3 e3.
-        let s3 = phrase-spells (sc .text) middle refl n2 u2 n3 i2 e3 in
-        let i3 = spells-in (sc .text) n2 n3 middleTokens i2 s3 .1 in
+        let s3 = phrase-spells (sc .text) (middle w) refl n2 u2 n3 (r .within) e3 in
+        let i3 = spells-in (sc .text) n2 n3 (middleTokens w) (r .within) s3 .1 in
         then-prop (Derives (sc .text) Changing at) (agreeingList sc cases n3) _ (λ k q. tt)
         (λ ds n4 e4.
-        let ag = agreed cases (r .list) (subst (λ (x : List Spanned). Listed (sc .text) x (r .list)) same (r .lists)) n3 n4 ds (cases-spans sc few w caseLimit [] n1 i1 tt cases n2 e2 .0) i3 e4 in
-        let s4 = ag .1 in
-        let i4 = spells-in (sc .text) n3 n4 (r .list ++ bytes ")" ∷ []) i3 s4 .1 in
+        let ag = agreeing-same sc few lengths good w n1 n2 cases r n3 n4 ds i3 e4 in
+        let i4 = spells-in (sc .text) n3 n4 (r .list ++ bytes ")" ∷ []) i3 (ag .spells) .1 in
         then-prop (Derives (sc .text) Changing at) (phrase (sc .text) (sign closeRound ∷ sign semicolon ∷ []) n4) _ (λ k q. tt)
         (λ u3 n5 e5.
         let s5 = phrase-spells (sc .text) (sign closeRound ∷ sign semicolon ∷ []) refl n4 u3 n5 i4 e5 in
         record {
-          tokens = (headTokens ++ r .tokens) ++ (middleTokens ++ r .list) ++ bytes ")" ∷ bytes ")" ∷ bytes ";" ∷ [];
-          spells = change-spells at n1 n2 n3 n4 n5 (r .tokens) (r .list) s1 (r .spells) s3 s4 s5;
-          derives = change-is (r .tokens) (r .list) (casesOf cases) ds
-              (subst (λ (x : List Spanned). SpellsCases (sc .names) w (r .tokens) (r .list) (casesOf x)) same (r .derives))
-              (subst (λ (x : List Spanned). length (casesOf x) ≤ caseLimit) same (r .count)) (ag .0);
+          tokens = (headTokens w ++ r .tokens) ++ (middleTokens w ++ r .list) ++ bytes ")" ∷ bytes ")" ∷ bytes ";" ∷ [];
+          spells = change-spells at n1 n2 n3 n4 n5 (r .tokens) (r .list) s1 (r .spells) s3 (ag .spells) s5;
+          derives = change-is (r .tokens) (r .list) (casesOf cases) ds (r .derives) (r .fine .1) (ag .same);
         })))))
-      where
-        agreed : (cases : List Spanned) (ls : List (List ℕ)) → Listed (sc .text) cases ls → (n m : ℕ) (ds : List Condition) → L.Spans sc cases → n ≤ length (sc .text) → agreeingList sc cases n ≡ accepted ds m → (ds ≡ map (λ k. k .condition) (casesOf cases)) × Spells (sc .text) n m (ls ++ bytes ")" ∷ [])
-        agreed cases ls (last c ts b sp) n m ds xs i e = let a = agreeing-same sc few c [] xs n m ds i e in (a .same, parts-spells (sc .text) (c ∷ []) ts (last c ts b sp) n m i (a .agreed))
-        agreed cases ls (next c cs ts us b sp r) n m ds xs i e = let a = agreeing-same sc few c cs xs n m ds i e in (a .same, parts-spells (sc .text) (c ∷ cs) (ts ++ bytes "|" ∷ us) (next c cs ts us b sp r) n m i (a .agreed))
 
     -- the formulas of w, after its name
     formulas-derive : (at : ℕ) → at ≤ length (sc .text) → Derives (sc .text) (λ ts r. SpellsR (sc .names) (w ∷ ts) r) at (formulas sc w v at)
@@ -253,13 +113,13 @@ module _ (sc : Scope) (few : length (sc .names) ≤ 64) where
         (λ k s m et.
         let mv = token-at-moved (sc .text) n k s m i1 et in
         pick-prop R (is k tilde) _ _
-        (λ e. after at n s1 (changeAt sc w v m) (before (sc .text) Changing Named (bytes "~") (λ ts x d. d) n m (fixed-stands (sc .text) tilde refl n k s m i1 et e) (changeAt sc w v m) (change-derives m (mv .2))))
+        (λ e. after at n s1 (changeAt sc w v m) (before (sc .text) Changing Ruling (bytes "~") (λ ts x d. d) n m (fixed-stands (sc .text) tilde refl n k s m i1 et e) (changeAt sc w v m) (change-derives m (mv .2))))
         (λ e. after at n s1 (functionAt sc w v n) (function-derives n i1))))
       where
         R : Parsed Rule → Type 0
         R p = Derives (sc .text) (λ ts r. SpellsR (sc .names) (w ∷ ts) r) at p
 
-        after : (at n : ℕ) → Spells (sc .text) at n (bytes ":" ∷ bytes "GX" ∷ bytes "(" ∷ []) → (p : Parsed Rule) → Derives (sc .text) Named n p → Derives (sc .text) (λ ts r. SpellsR (sc .names) (w ∷ ts) r) at p
+        after : (at n : ℕ) → Spells (sc .text) at n (bytes ":" ∷ bytes "GX" ∷ bytes "(" ∷ []) → (p : Parsed Rule) → Derives (sc .text) Ruling n p → Derives (sc .text) (λ ts r. SpellsR (sc .names) (w ∷ ts) r) at p
         after at n sp (accepted r m) d =
             record {
               tokens = bytes ":" ∷ bytes "GX" ∷ bytes "(" ∷ d .tokens;
@@ -306,19 +166,20 @@ rule-next text names done at m r d (accepted rs n) q =
     }
 rule-next text names done at m r d (refused k p) q = tt
 
-pub rules-derive : (f : ℕ) (sc : Scope) → length (sc .names) ≤ 64 → (done : List Rule) (at : ℕ) → at ≤ length (sc .text) → RulesReads (sc .text) (sc .names) done at (rulesFrom f sc done at)
+pub rules-derive : (f : ℕ) (sc : Scope) → length (sc .names) ≤ 64 → length (sc .names) ≡ length (sc .known) → Named (sc .names) → (done : List Rule) (at : ℕ) → at ≤ length (sc .text) → RulesReads (sc .text) (sc .names) done at (rulesFrom f sc done at)
 unfolding rulesFrom is kindNumber
-rules-derive zero sc few done at h = tt
-rules-derive (suc f) sc few done at h =
+rules-derive zero sc few lengths good done at h = tt
+rules-derive (suc f) sc few lengths good done at h =
     token-prop (RulesReads (sc .text) (sc .names) done at) (tokenAt (sc .text) at) _ (λ k q. tt)
     (λ k s n et.
     let mv = token-at-moved (sc .text) at k s n h et in
     pick-prop (RulesReads (sc .text) (sc .names) done at) (is k name) _ _
     (λ e. then-prop (RulesReads (sc .text) (sc .names) done at) (ruleAt sc s n) _ (λ k q. tt)
     (λ r m er.
-    let d = subst (Derives (sc .text) (SpellsR (sc .names)) at) er (rule-derives sc few at s n (mv .2) (sign-stands (sc .text) name refl at k s n h et e .0)) in
+    let d = subst (Derives (sc .text) (SpellsR (sc .names)) at) er (rule-derives sc few lengths good at s n (mv .2) (sign-stands (sc .text) name refl at k s n h et e .0)) in
     let i = spells-in (sc .text) at m (d .tokens) h (d .spells) .1 in
-    rule-next (sc .text) (sc .names) done at m r d (rulesFrom f (ruled sc (target r)) (done ++ (r ∷ [])) m) (rules-derive f (ruled sc (target r)) few (done ++ (r ∷ [])) m i)))
+    let l = lengths ∙ sym (length-set (sc .known) (target r) true) in
+    rule-next (sc .text) (sc .names) done at m r d (rulesFrom f (ruled sc (target r)) (done ++ (r ∷ [])) m) (rules-derive f (ruled sc (target r)) few l good (done ++ (r ∷ [])) m i)))
     (λ n1. pick-prop (RulesReads (sc .text) (sc .names) done at) (is k ending) _ _
     (λ e.
     let et2 : tokenAt (sc .text) at ≡ token ending s n = et ∙ ap (λ (x : Kind). token x s n) (same-kind k ending e) in

@@ -11,6 +11,7 @@ use Rattle.limits.specs.Limits.{textLimit}
 use Rattle.lexer.specs.Bytes.{bytes, pick}
 use Rattle.lexer.specs.Token.{kindNumber, inputWord, varWord}
 use Rattle.semantics.specs.Program.{Name, Rule, Program, knownFirst}
+use Rattle.semantics.proofs.Reference.{length-known}
 use Rattle.grammar.specs.Parsed.{Parsed, accepted, refused, andThen}
 use Rattle.grammar.specs.Expressions.{Scope}
 use Rattle.grammar.specs.Declarations.{spellings, declarations, declarationsFrom}
@@ -18,11 +19,10 @@ use Rattle.grammar.specs.Rules.{rulesFrom}
 use Rattle.grammar.specs.Parse.{program, parse}
 use Rattle.grammar.specs.Derivation.{Spells, TokensOf}
 use Rattle.grammar.specs.Spelled.{DeclareAll, SpellsRules, namesOf, Spelled}
-use Rattle.grammar.proofs.Combine.{then-prop}
-use Rattle.grammar.proofs.Agree.{never}
+use Rattle.grammar.proofs.Combine.{then-prop, never}
 use Rattle.grammar.proofs.Spellings.{isFixed}
 use Rattle.grammar.proofs.Standing.{spells-append, spells-in}
-use Rattle.grammar.proofs.Whole.{Ends, Names, declarations-fit, spellings-length}
+use Rattle.grammar.proofs.Whole.{Ends, Names, declarations-fit, spellings-length, named}
 use Rattle.grammar.proofs.DerivedDeclarations.{DeclaredFrom, DeclaresFrom, declarations-derive}
 use Rattle.grammar.proofs.DerivedRules.{RulesRead, RulesReads, rules-derive}
 use Rattle.grammar.proofs.Accepted.{parse-short, parse-named, parse-few, parse-ordered}
@@ -79,7 +79,7 @@ program-reads text =
     let sc : Scope = record { text = text; names = spellings names; known = knownFirst (length inputs) (length names) } in
     then-prop (Reads text) (rulesFrom 65 sc [] n2) _ (λ k q. tt)
     (λ rules n3 e3.
-    let r = subst (RulesReads text (spellings names) [] n2) e3 (rules-derive 65 sc (omega (arith, spellings-length names, g2 .0 .1)) [] n2 (g2 .1)) in
+    let r = subst (RulesReads text (spellings names) [] n2) e3 (rules-derive 65 sc (omega (arith, spellings-length names, g2 .0 .1)) (spellings-length names ∙ sym (length-known (length inputs) (length names))) (named names (g2 .0 .0) (g2 .0 .3)) [] n2 (g2 .1)) in
     read text inputs names rules n1 n2 d1 d2 r)))
 
 parsed : (text : List ℕ) (p : Program) (n : ℕ) → parse text ≡ accepted p n → program text ≡ accepted p n

@@ -1,26 +1,28 @@
--- What a parser accepts uses only values that may be used, and is not deep. Assumes nothing.
+-- What a parser accepts uses only values that may be used, and is not deep; cases are 1 to 32. Assumes nothing.
 use mathlib.Core.Path.{_≡_, refl, ap, sym, _∙_, subst}
 use mathlib.Core.List.{List, [], _∷_, _++_}
 use mathlib.Core.Bool.{Bool, true, false}
 use mathlib.Core.Option.{Option, none, some}
 use Prim.Native.Nat.{ℕ, zero, suc, _+_, _*_, _≤_, _<_, max}
 use native.Mathlib.Omega.{arith}
-use lib.ListN.{length, getD}
+use lib.ListN.{length, getD, length-append}
 use lib.Dec.{ltb, lt→ltb}
 use lib.IntN.{ℤ, pos}
 use borrow.Author.Tests.{ltb-false, lt-ltb}
 use Rattle.lexer.specs.Bytes.{pick, part}
-use Rattle.lexer.specs.Token.{Kind, name, digits, openRound, closeRound, openSquare, closeSquare, tilde, minus, is, Read, token, fault}
+use Rattle.lexer.specs.Token.{Kind, name, digits, openRound, closeRound, openSquare, closeSquare, tilde, bar, minus, is, Read, token, fault}
 use Rattle.lexer.specs.Token as T
 use Rattle.lexer.specs.Lexer.{tokenAt, overLong, valueOf}
 use Rattle.lexer.specs.Names.{idOf}
 use Rattle.lexer.proofs.Laws.{pick-prop}
 use Rattle.arith.specs.Values.{Operation, Comparison}
 use Rattle.arith.proofs.Laws.{mag-int32}
-use Rattle.semantics.specs.Program.{Expression, constant, current, previous, operation, negate, Condition, comparison, negated, both, either, UsableE, UsableC}
+use Rattle.semantics.specs.Program.{Expression, constant, current, previous, operation, negate, Condition, comparison, negated, both, either, Case, UsableE, UsableC, UsableK}
 use Rattle.grammar.specs.Parsed.{Parsed, accepted, refused, andThen, onToken, onOption, Wanted, sign, phrase, followed, rest, chain}
 use Rattle.grammar.specs.Expressions.{Scope, withId, currentAt, previousAt, numberLimit, numberAt, primary, negative, factor, productOf, sumOf, term, expression, bracket, wholeExpression}
 use Rattle.grammar.specs.Conditions.{comparisonOf, compared, comparisonAt, opposite, inverted, atom, Connective, andAlso, orElse, connect, andOf, orOf, conjunction, condition, square, wholeCondition, listed}
+use Rattle.grammar.specs.Rules.{Spanned, caseAt, casesFrom, casesOf}
+use Rattle.grammar.proofs.Shape.{CaseFits, CasesFit}
 use Rattle.grammar.proofs.Combine.{token-prop, then-prop, option-prop}
 use Rattle.grammar.proofs.Bytes.{id-of}
 use Rattle.bytecode.specs.Translation.{depthE, depthC}
@@ -191,8 +193,56 @@ module _ (sc : Scope) (lengths : length (sc .names) ≡ length (sc .known)) wher
       followed-holds (FitC (sc .known) (suc (suc (suc (1 + 2 * suc left))))) (sc .text) _ c m (g .0, omega (arith, g .1)))
 
   pub listed-fits : (at : ℕ) → Holds (FitC (sc .known) 38) (listed sc at)
-  unfolding listed wholeCondition
-  listed-fits at =
-      then-prop (Holds (FitC (sc .known) 38)) (wholeCondition sc at) _ (λ k q. tt)
-      (λ c m es. followed-holds (FitC (sc .known) 38) (sc .text) _ c m (subst (Holds (FitC (sc .known) 38)) es
-      (condition-fits 33 (omega arith) (λ s n. bracket bracketLimit sc s n) (bracket-fits bracketLimit) (λ s n. square bracketLimit sc s n) (square-fits bracketLimit) at)))
+  unfolding listed wholeCondition square
+  listed-fits at = square-fits (suc bracketLimit) 0 at
+
+-- ---- cases
+
+-- 1 to 32 cases
+abbrev pub Fine : List Bool → List Case → Type 0
+Fine known ks = (1 ≤ length ks) × (length ks ≤ 32) × CasesFit known ks
+
+pub cases-usable : (known : List Bool) (ks : List Case) → CasesFit known ks → UsableK known ks
+cases-usable known [] h = tt
+cases-usable known (k ∷ ks) h = (h .0 .usable-condition, h .0 .usable-value, cases-usable known ks (h .1))
+
+cases-append : (known : List Bool) (cs : List Spanned) (c : Spanned) → CasesFit known (casesOf cs) → CaseFits known (c .case) → CasesFit known (casesOf (cs ++ (c ∷ [])))
+cases-append known [] c h x = (x, tt)
+cases-append known (d ∷ cs) c h x = (h .0, cases-append known cs c (h .1) x)
+
+cases-length : (cs : List Spanned) → length (casesOf cs) ≡ length cs
+cases-length [] = refl
+cases-length (c ∷ cs) = ap suc (cases-length cs)
+
+module _ (sc : Scope) (lengths : length (sc .names) ≡ length (sc .known)) where
+  case-fits : (w : List ℕ) (at n : ℕ) → Holds (λ c. CaseFits (sc .known) (c .case)) (caseAt sc w at n)
+  unfolding caseAt
+  case-fits w at n =
+      then-prop (Holds (λ (c : Spanned). CaseFits (sc .known) (c .case))) (listed sc n) _ (λ k q. tt)
+      (λ c n1 e1. then-prop (Holds (λ (c : Spanned). CaseFits (sc .known) (c .case))) (phrase (sc .text) _ n1) _ (λ k q. tt)
+      (λ u n2 e2. then-prop (Holds (λ (c : Spanned). CaseFits (sc .known) (c .case))) (wholeExpression sc n2) _ (λ k q. tt)
+      (λ v n3 e3.
+      let fc = subst (Holds (FitC (sc .known) 38)) e1 (listed-fits sc lengths n) in
+      let fe = subst (Holds (FitE (sc .known) 35)) e3 (whole-expression-fits sc lengths n2) in
+      followed-holds (λ (c : Spanned). CaseFits (sc .known) (c .case)) (sc .text) _ _ n3 (record { usable-condition = fc .0; shallow-condition = fc .1; usable-value = fe .0; shallow-value = fe .1 }))))
+
+  abbrev F : List Spanned → Type 0
+  F cs = Fine (sc .known) (casesOf cs)
+
+  pub cases-fit : (w : List ℕ) (left : ℕ) (done : List Spanned) (at : ℕ) → length done + left ≡ 32 → CasesFit (sc .known) (casesOf done) → Holds F (casesFrom left sc w done at)
+  unfolding casesFrom
+  cases-fit w zero done at h hd =
+      token-prop (Holds F) (tokenAt (sc .text) at) _ (λ k q. tt) (λ k s n et. pick-prop (Holds F) (is k openSquare) _ _ (λ e. tt) (λ e. tt))
+  cases-fit w (suc left) done at h hd =
+      token-prop (Holds F) (tokenAt (sc .text) at) _ (λ k q. tt)
+      (λ k s n et. pick-prop (Holds F) (is k openSquare) _ _
+      (λ eo. then-prop (Holds F) (caseAt sc w at n) _ (λ k q. tt)
+      (λ c n1 e1.
+      let fc : CaseFits (sc .known) (c .case) = subst (Holds (λ (c : Spanned). CaseFits (sc .known) (c .case))) e1 (case-fits w at n) in
+      let fits : CasesFit (sc .known) (casesOf (done ++ (c ∷ []))) = cases-append (sc .known) done c hd fc in
+      let count : length (done ++ (c ∷ [])) ≡ length done + 1 = length-append done (c ∷ []) in
+      token-prop (Holds F) (tokenAt (sc .text) n1) _ (λ k q. tt)
+      (λ k2 s2 n2 et2. pick-prop (Holds F) (is k2 bar) _ _
+      (λ e. cases-fit w left (done ++ (c ∷ [])) n2 (omega arith) fits)
+      (λ e. (omega (arith, cases-length (done ++ (c ∷ []))), omega (arith, cases-length (done ++ (c ∷ []))), fits)))))
+      (λ e. tt))

@@ -37,6 +37,14 @@ abbrev pub Kept : {A : Type 0} → ℕ → ℕ → Parsed A → Type 0
 Kept len at (accepted e n) = (at ≤ n) × (n ≤ len)
 Kept len at (refused r q) = Unit {0}
 
+pub kept-later : {A : Type 0} (len at n : ℕ) (p : Parsed A) → at ≤ n → Kept len n p → Kept len at p
+kept-later len at n (accepted e m) i g = (omega arith, g .1)
+kept-later len at n (refused r q) i g = tt
+
+-- an operator is not the end
+pub operator-end : {O : Type 0} (operator : Kind → Option O) → operator ending ≡ none → (k : Kind) (o : O) → operator k ≡ some o → k ≡ ending → ⊥
+operator-end operator h k o e f = let g : operator ending ≡ some o = ap operator (sym f) ∙ e in let z : _≡_ {A = ℕ} 0 1 = cc in omega arith
+
 -- two parts joined by an instruction
 pub join-grown : {A B C : Type 0} (ca : A → List ℕ) (cb : B → List ℕ) (cc' : C → List ℕ) (len at : ℕ) (x : A) (n s m : ℕ) (y : B) (l k : ℕ) (z : C) → cc' z ≡ ca x ++ (cb y ++ (k ∷ [])) → Grown ca len at (accepted x n) → n ≤ s → s < m → Grown cb len m (accepted y l) → Grown cc' len at (accepted z l)
 join-grown ca cb cc' len at x n s m y l k z hb h i j g = (omega arith, g .1, rw hb (simp length-append (omega arith)))
@@ -61,11 +69,7 @@ module _ (text : List ℕ) where
   phrase-kept [] at h = (omega arith, h)
   phrase-kept (w ∷ ws) at h =
       then-prop (Kept (length text) at) (expected text w at) _ (λ r q. tt)
-      (λ u n e. let g = subst (Kept (length text) at) e (expected-kept w at h) in later at n (g .0) (phrase text ws n) (phrase-kept ws n (g .1)))
-    where
-      later : (at n : ℕ) → at ≤ n → (p : Parsed (Unit {0})) → Kept (length text) n p → Kept (length text) at p
-      later at n i (accepted u m) g = (omega arith, g .1)
-      later at n i (refused r q) g = tt
+      (λ u n e. let g = subst (Kept (length text) at) e (expected-kept w at h) in kept-later (length text) at n (phrase text ws n) (g .0) (phrase-kept ws n (g .1)))
 
   pub followed-grown : {A : Type 0} (code : A → List ℕ) (ws : List Wanted) (at m : ℕ) (e : A) (n : ℕ) → at ≤ m → Grown code (length text) m (accepted e n) → Grown code (length text) at (followed text ws e n)
   unfolding followed
@@ -76,9 +80,6 @@ module _ (text : List ℕ) where
   -- ---- chains
 
   module _ {O A : Type 0} (code : A → List ℕ) (join : O → A → A → A) (operator : Kind → Option O) (number : O → ℕ) (hb : (o : O) (a b : A) → code (join o a b) ≡ code a ++ (code b ++ (number o ∷ []))) (hc : operator ending ≡ none) where
-    no-end : (k : Kind) (o : O) → operator k ≡ some o → k ≡ ending → ⊥
-    no-end k o e f = let g : operator ending ≡ some o = ap operator (sym f) ∙ e in let z : _≡_ {A = ℕ} 0 1 = cc in omega arith
-
     rest-grown : (operand : ℕ → Parsed A) → Reads code operand → (f at : ℕ) (e : A) (n : ℕ) → Grown code (length text) at (accepted e n) → Grown code (length text) at (rest join operator operand text f e n)
     unfolding rest
     rest-grown operand ho zero at e n h = h
@@ -90,7 +91,7 @@ module _ (text : List ℕ) where
         then-prop (Grown code (length text) at) (operand m) _ (λ r q. tt)
         (λ b l es. rest-grown operand ho f at (join o e b) l
         (join-grown code code code (length text) at e n s m b l (number o) (join o e b) (hb o e b) h (mv .0)
-        (mv .3 (no-end k o eo))
+        (mv .3 (operator-end operator hc k o eo))
         (subst (Grown code (length text) m) es (ho m (mv .2)))))))
 
     pub chain-grown : (operand : ℕ → Parsed A) → Reads code operand → Reads code (λ at. chain join operator operand text at)
@@ -243,7 +244,7 @@ module _ (sc : Scope) (few : length (sc .names) ≤ 64) where
         let mv = token-at-moved (sc .text) n k s m (h .1) et in
         then-prop (Grown codeC (length (sc .text)) at) (expression inner sc m) _ (λ r q. tt)
         (λ b l es. join-grown codeE codeE codeC (length (sc .text)) at a n s m b l (comparisonCode o) (comparison o a b) (comparison-code o a b) h (mv .0)
-        (mv .3 (λ ke. let z : _≡_ {A = ℕ} 0 1 = cc (comparisons-end, ap comparisonOf ke) in omega arith))
+        (mv .3 (operator-end comparisonOf comparisons-end k o eo))
         (subst (Grown codeE (length (sc .text)) m) es (expression-grown inner hi m (mv .2))))))
 
     comparison-grown : Reads (sc .text) codeC (λ at. comparisonAt inner sc at)

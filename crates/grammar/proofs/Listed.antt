@@ -17,12 +17,37 @@ use Rattle.lexer.proofs.Same.{same-kind, same-token}
 use Rattle.grammar.specs.Rules.{Span, Spanned, Compared, agrees, differs, onCompared, onFound, onWanted, partFrom, kindAt, partsFrom}
 use Rattle.grammar.specs.Derivation.{Stands, Spells}
 use Rattle.grammar.proofs.Bytes.{part-length}
-use Rattle.grammar.proofs.Agree.{Found, found}
 use Rattle.grammar.proofs.Distinct.{same-itself}
-use Rattle.grammar.proofs.Lists.{Both, compared-inv}
 use Rattle.grammar.proofs.Spellings.{Spelling, spellingOf, isFixed, one-kind}
 use Rattle.grammar.proofs.Standing.{stands, stands-kind, stands-in, spells-in, split, spells-append, spells-append-left}
 use Rattle.grammar.proofs.Phrases.{fixed-stands, fixed-at}
+
+-- ---- a comparison that agrees
+
+record Found (r : Read) (test : Kind → ℕ → ℕ → Bool) (next : ℕ → Compared) (c : ℕ) : Type 0 where
+  pub kind : Kind
+  pub start : ℕ
+  pub end : ℕ
+  pub is-token : r ≡ token kind start end
+  pub passes : test kind start end ≡ true
+  pub more : next end ≡ agrees c
+
+found : (r : Read) (test : Kind → ℕ → ℕ → Bool) (next : ℕ → Compared) (c : ℕ) → onFound r test next ≡ agrees c → Found r test next c
+found (token k s n) test next c h = go (test k s n) refl h
+  where
+    go : (t : Bool) → test k s n ≡ t → pick t (next n) (differs s) ≡ agrees c → Found (token k s n) test next c
+    go true e m = record { kind = k; start = s; end = n; is-token = refl; passes = e; more = m }
+    go false e m = let z : _≡_ {A = ℕ} 0 1 = cc in let f : ⊥ = omega arith in absurd f
+found (fault p) test next c h = let z : _≡_ {A = ℕ} 0 1 = cc in let f : ⊥ = omega arith in absurd f
+
+record Both (x : Compared) (f : ℕ → Compared) (n : ℕ) : Type 0 where
+  pub place : ℕ
+  pub first : x ≡ agrees place
+  pub second : f place ≡ agrees n
+
+compared-inv : (x : Compared) (f : ℕ → Compared) (n : ℕ) → onCompared x f ≡ agrees n → Both x f n
+compared-inv (agrees m) f n e = record { place = m; first = refl; second = e }
+compared-inv (differs p) f n e = let z : _≡_ {A = ℕ} 0 1 = cc in let g : ⊥ = omega arith in absurd g
 
 module _ (text : List ℕ) where
   -- the tokens of the conditions of cases where they say that they stand, with `|` between them

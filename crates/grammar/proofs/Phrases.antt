@@ -7,13 +7,14 @@ use native.Mathlib.Omega.{arith}
 use lib.ListN.{length, getD}
 use borrow.Author.Tests.{eq-eqb}
 use Rattle.lexer.specs.Bytes.{bytes, pick, part}
-use Rattle.lexer.specs.Token.{Kind, kindNumber, ending, name, previous, is, Read, token, fault}
+use Rattle.lexer.specs.Token.{Kind, kindNumber, ending, name, previous, nextWord, arrow, semicolon, colon, openRound, closeRound, tilde, equals, is, Read, token, fault}
 use Rattle.lexer.specs.Lexer.{tokenAt, sameName}
 use Rattle.lexer.proofs.Laws.{token-at-moved}
 use Rattle.lexer.proofs.Same.{same-kind, same-name, both-true}
 use Rattle.grammar.specs.Parsed.{Parsed, accepted, refused, andThen, onToken, Wanted, sign, own, ownPrevious, isWanted, expected, phrase, followed}
 use Rattle.grammar.specs.Derivation.{Stands, Spells, IsName}
-use Rattle.grammar.proofs.Agree.{part-cons, tails, never}
+use Rattle.grammar.proofs.Combine.{never}
+use Rattle.grammar.proofs.Bytes.{part-cons, heads, tails}
 use Rattle.grammar.proofs.Distinct.{same-itself}
 use Rattle.grammar.proofs.Spellings.{Spelling, spellingOf, isFixed, fixed-spelling}
 use Rattle.grammar.proofs.Standing.{stands, stands-spelled, at-kind, stands-in}
@@ -35,10 +36,20 @@ signs (sign k ∷ ws) = isFixed k && signs ws
 signs (own w ∷ ws) = signs ws
 signs (ownPrevious w ∷ ws) = signs ws
 
-pub heads : (x y : ℕ) (k l : List ℕ) → x ∷ k ≡ y ∷ l → x ≡ y
-heads x y k l e = cc
+-- the fixed tokens of a change formula after `w: GX(~`, and between its cases and the list of its no-change formula
+abbrev pub head : List ℕ → List Wanted
+head w = sign openRound ∷ own w ∷ sign equals ∷ ownPrevious w ∷ sign closeRound ∷ sign arrow ∷ []
 
-and-both : (a b : Bool) → a && b ≡ true → (a ≡ true) × (b ≡ true)
+abbrev pub middle : List ℕ → List Wanted
+middle w = sign closeRound ∷ sign semicolon ∷ own w ∷ sign colon ∷ sign nextWord ∷ sign openRound ∷ own w ∷ sign equals ∷ ownPrevious w ∷ sign arrow ∷ sign tilde ∷ sign openRound ∷ []
+
+abbrev pub headTokens : List ℕ → List (List ℕ)
+headTokens w = bytes "(" ∷ w ∷ bytes "=" ∷ (bytes "_" ++ w) ∷ bytes ")" ∷ bytes "->" ∷ []
+
+abbrev pub middleTokens : List ℕ → List (List ℕ)
+middleTokens w = bytes ")" ∷ bytes ";" ∷ w ∷ bytes ":" ∷ bytes "GX" ∷ bytes "(" ∷ w ∷ bytes "=" ∷ (bytes "_" ++ w) ∷ bytes "->" ∷ bytes "~" ∷ bytes "(" ∷ []
+
+pub and-both : (a b : Bool) → a && b ≡ true → (a ≡ true) × (b ≡ true)
 and-both true b e = (refl, e)
 and-both false b e = let z : _≡_ {A = ℕ} 0 1 = cc in absurd (omega arith)
 

@@ -177,8 +177,5 @@ module _ (sc : Scope) where
       (λ c j i. followed-within (sc .text) _ c j i)
 
   pub listed-within : Reads (λ at. listed sc at)
-  unfolding listed wholeCondition
-  listed-within at h =
-      then-within (length (sc .text)) (wholeCondition sc at) _
-      (condition-within (λ s n. bracket bracketLimit sc s n) (bracket-within bracketLimit) (λ s n. square bracketLimit sc s n) (square-within bracketLimit) at h)
-      (λ c n m. followed-within (sc .text) _ c n m)
+  unfolding listed wholeCondition square
+  listed-within at h = square-within (suc bracketLimit) 0 at (omega arith) h

@@ -14,7 +14,7 @@ use Rattle.lexer.specs.Lexer.{isSpace, isDigit, isLetter, isAlphanumeric, runOn
 use Rattle.lexer.proofs.Laws.{pick-prop, run-from, run-within, run-some, token-at-moved}
 use Rattle.lexer.proofs.Same.{same-name, same-kind}
 use Rattle.grammar.specs.Derivation.{All, IsWord, IsDigits}
-use Rattle.grammar.proofs.Agree.{part-cons}
+use Rattle.grammar.proofs.Bytes.{part-cons}
 
 -- a previous value: `_` and a name
 pub record IsPrevious (w : List ℕ) : Type 0 where

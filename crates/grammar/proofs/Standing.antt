@@ -127,3 +127,7 @@ module _ (k : Kind) (w : List ℕ) (sp : Spelling k w) where
     where
       P : Option Comparison → Type 0
       P x = x ≡ some o → ComparisonSign w o
+
+  -- the sign of the kind v, where no other is an operator
+  pub only-sign : {O : Type 0} (v : Kind) (c o : O) → pick (is k v) (some c) none ≡ some o → Spelling v w × (c ≡ o)
+  only-sign {O} v c o = pick-prop (λ (x : Option O). x ≡ some o → Spelling v w × (c ≡ o)) (is k v) _ _ (λ e h. (told v e, cc)) (λ n h. let z : _≡_ {A = ℕ} 0 1 = cc in absurd (omega arith))

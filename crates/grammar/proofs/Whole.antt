@@ -1,43 +1,44 @@
 -- The program of an accepted text is as Shape says. Assumes nothing.
 use mathlib.Core.Path.{_≡_, refl, ap, sym, _∙_, subst}
-use mathlib.Core.List.{List, [], _∷_, _++_, append-assoc, append-nil}
+use mathlib.Core.List.{List, [], _∷_, _++_, append-assoc, append-nil, map-append}
 use mathlib.Core.Bool.{Bool, true, false, _&&_}
-use mathlib.Core.Option.{Option, none, some}
-use Prim.Native.Nat.{ℕ, zero, suc, _+_, _-_, _*_, _≤_, _<_}
+use mathlib.Core.Option.{some}
+use Prim.Native.Nat.{ℕ, zero, suc, _+_, _-_, _≤_, _<_}
 use native.Mathlib.Nat.{le-refl}
 use native.Mathlib.Omega.{arith}
-use lib.ListN.{length, getD, set, length-append, length-set, length-map}
+use lib.ListN.{length, getD, set, getElem?, length-append, length-set, length-map}
 use lib.Dec.{T, ltb, leb, eqb}
 use lib.IntN.{ℤ, pos, negℤ}
 use lib.Signed.{leZ}
-use borrow.Author.Tests.{lt-ltb, ltb-true, ltb-false}
-use Rattle.lexer.specs.Bytes.{pick, part}
-use Rattle.lexer.specs.Token.{Kind, kindNumber, name, digits, ending, openSquare, tilde, bar, minus, initWord, semicolon, dots, inputWord, varWord, is, Read, token, fault}
+use borrow.Author.Tests.{ltb-true, ltb-false}
+use Rattle.lexer.specs.Bytes.{part}
+use Rattle.lexer.specs.Token.{Kind, kindNumber, name, digits, ending, openSquare, tilde, bar, minus, initWord, semicolon, dots, inputWord, varWord, is}
 use Rattle.lexer.specs.Lexer.{tokenAt, overLong, valueOf}
 use Rattle.lexer.specs.Names.{idOf}
 use Rattle.lexer.proofs.Laws.{pick-prop, token-at-moved}
-use Rattle.semantics.specs.Program.{Name, Expression, Condition, Case, Rule, function, change, Program, target, allTrue, knownFirst, UsableE, UsableC}
+use Rattle.semantics.specs.Program.{Name, Condition, Rule, function, change, target, allTrue, knownFirst}
 use Rattle.arith.proofs.Basics.{true-T, and-T}
 use Rattle.semantics.proofs.Reference.{length-known}
-use Rattle.grammar.specs.Parsed.{Parsed, accepted, refused, andThen, onToken, onOption, Wanted, sign, own, phrase, followed}
+use Rattle.grammar.specs.Parsed.{Parsed, accepted, refused, Wanted, sign, phrase, followed}
 use Rattle.grammar.specs.Expressions.{Scope, withId, wholeExpression}
 use Rattle.grammar.specs.Conditions.{listed}
 use Rattle.grammar.specs.Declarations.{inRange, signedAt, boundAt, spellings, newName, startAt, declaration, declarationsFrom, declarations}
-use Rattle.grammar.specs.Rules.{Span, Spanned, caseAt, casesFrom, listFrom, plainList, Compared, agrees, differs, partsFrom, settled, agreeingList, casesOf, functionAt, changeAt, formulas, ruleAt, ruled, rulesFrom}
+use Rattle.grammar.specs.Rules.{Spanned, casesFrom, listFrom, plainList, Compared, agrees, differs, partsFrom, settled, agreeingList, casesOf, functionAt, changeAt, formulas, ruleAt, ruled, rulesFrom}
 use Rattle.grammar.specs.Parse.{program, parse}
 use Rattle.grammar.specs.Emitted.{codeE, codeC}
 use Rattle.grammar.specs.Derivation.{IsName}
 use Rattle.grammar.specs.Spelled.{Apart, Distinct}
-use Rattle.grammar.proofs.Shape.{CaseFits, CasesFit, conditionsOf, RuleFits, RulesFit, NameFits, NamesFit, Fitting}
+use Rattle.grammar.proofs.Shape.{RuleFits, RulesFit, NameFits, NamesFit, Fitting}
 use Rattle.grammar.proofs.Combine.{token-prop, then-prop, option-prop}
 use Rattle.grammar.proofs.Bytes.{part-length, id-of}
-use Rattle.grammar.proofs.Growth.{Grown, Kept, phrase-kept, whole-expression-grown, listed-grown}
-use Rattle.grammar.proofs.Agree.{never}
-use Rattle.grammar.proofs.Lists.{Spans, cases-spans, agreeing-same}
+use Rattle.grammar.proofs.Growth.{Grown, Kept, kept-later, phrase-kept, whole-expression-grown, listed-grown}
+use Rattle.grammar.proofs.Lists.{cases-in, agreeing-same}
 use Rattle.grammar.proofs.Distinct.{new-apart, distinct-snoc}
 use Rattle.grammar.proofs.Derived.{sign-stands}
-use Rattle.grammar.proofs.Fits.{Holds, followed-holds, FitE, FitC, whole-expression-fits, listed-fits}
-use Rattle.bytecode.specs.Translation.{depthE, depthC, RangeFits}
+use Rattle.grammar.proofs.Converse.{Named}
+use Rattle.grammar.proofs.Phrases.{and-both}
+use Rattle.grammar.proofs.Fits.{Holds, FitE, whole-expression-fits}
+use Rattle.bytecode.specs.Translation.{RangeFits}
 use Rattle.limits.specs.Limits.{nameLimit, caseLimit, textLimit}
 use Rattle.arith.specs.Values.{isInt32}
 
@@ -52,47 +53,7 @@ followed-ends P text ws x at h p = then-prop (Ends (length text) P) (phrase text
 
 -- ---- rules
 
-cases-append : (known : List Bool) (cs : List Spanned) (c : Spanned) → CasesFit known (casesOf cs) → CaseFits known (c .case) → CasesFit known (casesOf (cs ++ (c ∷ [])))
-cases-append known [] c h x = (x, tt)
-cases-append known (d ∷ cs) c h x = (h .0, cases-append known cs c (h .1) x)
-
-cases-length : (cs : List Spanned) → length (casesOf cs) ≡ length cs
-cases-length [] = refl
-cases-length (c ∷ cs) = ap suc (cases-length cs)
-
 module _ (sc : Scope) (few : length (sc .names) ≤ 64) (lengths : length (sc .names) ≡ length (sc .known)) where
-  case-fits : (w : List ℕ) (at n : ℕ) → Holds (λ c. CaseFits (sc .known) (c .case)) (caseAt sc w at n)
-  unfolding caseAt
-  case-fits w at n =
-      then-prop (Holds (λ (c : Spanned). CaseFits (sc .known) (c .case))) (listed sc n) _ (λ k q. tt)
-      (λ c n1 e1. then-prop (Holds (λ (c : Spanned). CaseFits (sc .known) (c .case))) (phrase (sc .text) _ n1) _ (λ k q. tt)
-      (λ u n2 e2. then-prop (Holds (λ (c : Spanned). CaseFits (sc .known) (c .case))) (wholeExpression sc n2) _ (λ k q. tt)
-      (λ v n3 e3.
-      let fc = subst (Holds (FitC (sc .known) 38)) e1 (listed-fits sc lengths n) in
-      let fe = subst (Holds (FitE (sc .known) 35)) e3 (whole-expression-fits sc lengths n2) in
-      followed-holds (λ (c : Spanned). CaseFits (sc .known) (c .case)) (sc .text) _ _ n3 (record { usable-condition = fc .0; shallow-condition = fc .1; usable-value = fe .0; shallow-value = fe .1 }))))
-
-  abbrev Fine : List Spanned → Type 0
-  Fine cs = (1 ≤ length cs) × (length cs ≤ 32) × CasesFit (sc .known) (casesOf cs)
-
-  cases-fit : (w : List ℕ) (left : ℕ) (done : List Spanned) (at : ℕ) → length done + left ≡ 32 → CasesFit (sc .known) (casesOf done) → Holds Fine (casesFrom left sc w done at)
-  unfolding casesFrom
-  cases-fit w zero done at h hd =
-      token-prop (Holds Fine) (tokenAt (sc .text) at) _ (λ k q. tt) (λ k s n et. pick-prop (Holds Fine) (is k openSquare) _ _ (λ e. tt) (λ e. tt))
-  cases-fit w (suc left) done at h hd =
-      token-prop (Holds Fine) (tokenAt (sc .text) at) _ (λ k q. tt)
-      (λ k s n et. pick-prop (Holds Fine) (is k openSquare) _ _
-      (λ eo. then-prop (Holds Fine) (caseAt sc w at n) _ (λ k q. tt)
-      (λ c n1 e1.
-      let fc : CaseFits (sc .known) (c .case) = subst (Holds (λ (c : Spanned). CaseFits (sc .known) (c .case))) e1 (case-fits w at n) in
-      let fits : CasesFit (sc .known) (casesOf (done ++ (c ∷ []))) = cases-append (sc .known) done c hd fc in
-      let count : length (done ++ (c ∷ [])) ≡ length done + 1 = length-append done (c ∷ []) in
-      token-prop (Holds Fine) (tokenAt (sc .text) n1) _ (λ k q. tt)
-      (λ k2 s2 n2 et2. pick-prop (Holds Fine) (is k2 bar) _ _
-      (λ e. cases-fit w left (done ++ (c ∷ [])) n2 (omega arith) fits)
-      (λ e. (omega arith, omega arith, fits)))))
-      (λ e. tt))
-
   -- the rule of v
   abbrev Ruled : ℕ → Rule → Type 0
   Ruled v r = RuleFits (sc .known) r × (target r ≡ v)
@@ -109,10 +70,6 @@ module _ (sc : Scope) (few : length (sc .names) ≤ 64) (lengths : length (sc .n
       let f = subst (Holds (FitE (sc .known) 35)) e2 (whole-expression-fits sc lengths n1) in
       followed-ends (Ruled v) (sc .text) _ (function v e) n2 (g .1) (f, refl)))
 
-  later : {A : Type 0} (at n : ℕ) (p : Parsed A) → at ≤ n → Kept (length (sc .text)) n p → Kept (length (sc .text)) at p
-  later at n (accepted a m) h g = (omega arith, g .1)
-  later at n (refused k q) h g = tt
-
   list-kept : (left : ℕ) (done : List Condition) (at : ℕ) → at ≤ length (sc .text) → Kept (length (sc .text)) at (listFrom left sc done at)
   unfolding listFrom
   list-kept zero done at h = token-prop (Kept (length (sc .text)) at) (tokenAt (sc .text) at) _ (λ k q. tt) (λ k s n et. tt)
@@ -128,7 +85,7 @@ module _ (sc : Scope) (few : length (sc .names) ≤ 64) (lengths : length (sc .n
       (λ k2 s2 n2 et2.
       let mw = token-at-moved (sc .text) n1 k2 s2 n2 (g .1) et2 in
       pick-prop (Kept (length (sc .text)) at) (is k2 bar) _ _
-      (λ e. later at n2 (listFrom left sc (done ++ (c ∷ [])) n2) (omega arith) (list-kept left (done ++ (c ∷ [])) n2 (mw .2)))
+      (λ e. kept-later (length (sc .text)) at n2 (listFrom left sc (done ++ (c ∷ [])) n2) (omega arith) (list-kept left (done ++ (c ∷ [])) n2 (mw .2)))
       (λ e. (omega arith, g .1)))))
       (λ e. tt))
 
@@ -150,87 +107,79 @@ module _ (sc : Scope) (few : length (sc .names) ≤ 64) (lengths : length (sc .n
       then-prop (Kept (length (sc .text)) at) (phrase (sc .text) _ n) _ (λ k q. tt)
       (λ u m e2. let k = subst (Kept (length (sc .text)) n) e2 (phrase-kept (sc .text) _ n (g .1)) in (omega arith, k .1))))
 
-  change-fits : (w : List ℕ) (v at : ℕ) → at ≤ length (sc .text) → Ends (length (sc .text)) (Ruled v) (changeAt sc w v at)
-  unfolding changeAt
-  change-fits w v at h =
-      then-prop (Ends (length (sc .text)) (Ruled v)) (phrase (sc .text) _ at) _ (λ k q. tt)
-      (λ u n1 e1.
-      let k1 = subst (Kept (length (sc .text)) at) e1 (phrase-kept (sc .text) _ at h) in
-      then-prop (Ends (length (sc .text)) (Ruled v)) (casesFrom caseLimit sc w [] n1) _ (λ k q. tt)
-      (λ cases n2 e2.
-      let spans = cases-spans sc few w caseLimit [] n1 (k1 .1) tt cases n2 e2 in
-      let fits : Fine cases = subst (Holds Fine) e2 (cases-fit w caseLimit [] n1 refl tt) in
-      then-prop (Ends (length (sc .text)) (Ruled v)) (phrase (sc .text) _ n2) _ (λ k q. tt)
-      (λ u2 n3 e3.
-      let k3 = subst (Kept (length (sc .text)) n2) e3 (phrase-kept (sc .text) _ n2 (spans .1)) in
-      then-prop (Ends (length (sc .text)) (Ruled v)) (agreeingList sc cases n3) _ (λ k q. tt)
-      (λ ds n4 e4.
-      let k4 = subst (Kept (length (sc .text)) n3) e4 (agree-kept cases n3 (k3 .1)) in
-      followed-ends (Ruled v) (sc .text) _ (change v (casesOf cases) ds) n4 (k4 .1)
-      ((omega (arith, cases-length cases, fits .0), omega (arith, cases-length cases, fits .1), fits .2, agreed cases n3 n4 ds (fits .0) (spans .0) (k3 .1) e4), refl)))))
-    where
-      agreed : (cases : List Spanned) (n m : ℕ) (ds : List Condition) → 1 ≤ length cases → Spans sc cases → n ≤ length (sc .text) → agreeingList sc cases n ≡ accepted ds m → ds ≡ conditionsOf (casesOf cases)
-      agreed [] n m ds i xs l e = absurd (omega arith)
-      agreed (c ∷ cs) n m ds i xs l e = agreeing-same sc few c cs xs n m ds l e .same
+  module _ (good : Named (sc .names)) where
+    change-fits : (w : List ℕ) (v at : ℕ) → at ≤ length (sc .text) → Ends (length (sc .text)) (Ruled v) (changeAt sc w v at)
+    unfolding changeAt
+    change-fits w v at h =
+        then-prop (Ends (length (sc .text)) (Ruled v)) (phrase (sc .text) _ at) _ (λ k q. tt)
+        (λ u n1 e1.
+        let k1 = subst (Kept (length (sc .text)) at) e1 (phrase-kept (sc .text) _ at h) in
+        then-prop (Ends (length (sc .text)) (Ruled v)) (casesFrom caseLimit sc w [] n1) _ (λ k q. tt)
+        (λ cases n2 e2.
+        let c = cases-in sc few lengths w n1 n2 cases (k1 .1) e2 in
+        then-prop (Ends (length (sc .text)) (Ruled v)) (phrase (sc .text) _ n2) _ (λ k q. tt)
+        (λ u2 n3 e3.
+        let k3 = subst (Kept (length (sc .text)) n2) e3 (phrase-kept (sc .text) _ n2 (c .within)) in
+        then-prop (Ends (length (sc .text)) (Ruled v)) (agreeingList sc cases n3) _ (λ k q. tt)
+        (λ ds n4 e4.
+        let k4 = subst (Kept (length (sc .text)) n3) e4 (agree-kept cases n3 (k3 .1)) in
+        followed-ends (Ruled v) (sc .text) _ (change v (casesOf cases) ds) n4 (k4 .1)
+        ((c .fine .0, c .fine .1, c .fine .2, agreeing-same sc few lengths good w n1 n2 cases c n3 n4 ds (k3 .1) e4 .same), refl)))))
 
-  formulas-fit : (w : List ℕ) (v at : ℕ) → at ≤ length (sc .text) → Ends (length (sc .text)) (Ruled v) (formulas sc w v at)
-  unfolding formulas
-  formulas-fit w v at h =
-      then-prop (Ends (length (sc .text)) (Ruled v)) (phrase (sc .text) _ at) _ (λ k q. tt)
-      (λ u n e.
-      let k1 = subst (Kept (length (sc .text)) at) e (phrase-kept (sc .text) _ at h) in
-      token-prop (Ends (length (sc .text)) (Ruled v)) (tokenAt (sc .text) n) _ (λ k q. tt)
-      (λ k s m et.
-      let mv = token-at-moved (sc .text) n k s m (k1 .1) et in
-      pick-prop (Ends (length (sc .text)) (Ruled v)) (is k tilde) _ _ (λ e. change-fits w v m (mv .2)) (λ e. function-fits w v n (k1 .1))))
+    formulas-fit : (w : List ℕ) (v at : ℕ) → at ≤ length (sc .text) → Ends (length (sc .text)) (Ruled v) (formulas sc w v at)
+    unfolding formulas
+    formulas-fit w v at h =
+        then-prop (Ends (length (sc .text)) (Ruled v)) (phrase (sc .text) _ at) _ (λ k q. tt)
+        (λ u n e.
+        let k1 = subst (Kept (length (sc .text)) at) e (phrase-kept (sc .text) _ at h) in
+        token-prop (Ends (length (sc .text)) (Ruled v)) (tokenAt (sc .text) n) _ (λ k q. tt)
+        (λ k s m et.
+        let mv = token-at-moved (sc .text) n k s m (k1 .1) et in
+        pick-prop (Ends (length (sc .text)) (Ruled v)) (is k tilde) _ _ (λ e. change-fits w v m (mv .2)) (λ e. function-fits w v n (k1 .1))))
 
-  -- a rule that is the first of its variable
-  abbrev First : Rule → Type 0
-  First r = RuleFits (sc .known) r × (target r < length (sc .known)) × (getD (sc .known) (target r) false ≡ false)
+    -- a rule that is the first of its variable
+    abbrev First : Rule → Type 0
+    First r = RuleFits (sc .known) r × (target r < length (sc .known)) × (getD (sc .known) (target r) false ≡ false)
 
-  rule-fits : (s n : ℕ) → n ≤ length (sc .text) → Ends (length (sc .text)) First (ruleAt sc s n)
-  unfolding ruleAt withId
-  rule-fits s n h =
-      pick-prop (Ends (length (sc .text)) First) (overLong s n) _ _ (λ e. tt)
-      (λ e. option-prop (Ends (length (sc .text)) First) (idOf (sc .names) (part (sc .text) s n)) _ _ (λ z. tt)
-      (λ v ev. pick-prop (Ends (length (sc .text)) First) (getD (sc .known) v false) _ _ (λ t. tt)
-      (λ t. first v (omega (arith, lengths, id-of (sc .names) (part (sc .text) s n) v ev)) t (formulas sc (part (sc .text) s n) v n) (formulas-fit (part (sc .text) s n) v n h))))
-    where
-      first : (v : ℕ) → v < length (sc .known) → getD (sc .known) v false ≡ false → (p : Parsed Rule) → Ends (length (sc .text)) (Ruled v) p → Ends (length (sc .text)) First p
-      first v l t (accepted r m) g = ((g .0 .0, subst (λ (x : ℕ). x < length (sc .known)) (sym (g .0 .1)) l, subst (λ (x : ℕ). getD (sc .known) x false ≡ false) (sym (g .0 .1)) t), g .1)
-      first v l t (refused k q) g = tt
+    rule-fits : (s n : ℕ) → n ≤ length (sc .text) → Ends (length (sc .text)) First (ruleAt sc s n)
+    unfolding ruleAt withId
+    rule-fits s n h =
+        pick-prop (Ends (length (sc .text)) First) (overLong s n) _ _ (λ e. tt)
+        (λ e. option-prop (Ends (length (sc .text)) First) (idOf (sc .names) (part (sc .text) s n)) _ _ (λ z. tt)
+        (λ v ev. pick-prop (Ends (length (sc .text)) First) (getD (sc .known) v false) _ _ (λ t. tt)
+        (λ t. first v (omega (arith, lengths, id-of (sc .names) (part (sc .text) s n) v ev)) t (formulas sc (part (sc .text) s n) v n) (formulas-fit (part (sc .text) s n) v n h))))
+      where
+        first : (v : ℕ) → v < length (sc .known) → getD (sc .known) v false ≡ false → (p : Parsed Rule) → Ends (length (sc .text)) (Ruled v) p → Ends (length (sc .text)) First p
+        first v l t (accepted r m) g = ((g .0 .0, subst (λ (x : ℕ). x < length (sc .known)) (sym (g .0 .1)) l, subst (λ (x : ℕ). getD (sc .known) x false ≡ false) (sym (g .0 .1)) t), g .1)
+        first v l t (refused k q) g = tt
 
 record Continued (known : List Bool) (done rs : List Rule) : Type 0 where
   more : List Rule
   is-more : rs ≡ done ++ more
   ordered : RulesFit known more
 
-rules-fit : (f : ℕ) (sc : Scope) → length (sc .names) ≤ 64 → length (sc .names) ≡ length (sc .known) → (done : List Rule) (at : ℕ) → at ≤ length (sc .text) → Holds (Continued (sc .known) done) (rulesFrom f sc done at)
+rules-fit : (f : ℕ) (sc : Scope) → length (sc .names) ≤ 64 → length (sc .names) ≡ length (sc .known) → Named (sc .names) → (done : List Rule) (at : ℕ) → at ≤ length (sc .text) → Holds (Continued (sc .known) done) (rulesFrom f sc done at)
 unfolding rulesFrom
-rules-fit zero sc few lengths done at h = tt
-rules-fit (suc f) sc few lengths done at h =
+rules-fit zero sc few lengths good done at h = tt
+rules-fit (suc f) sc few lengths good done at h =
     token-prop (Holds (Continued (sc .known) done)) (tokenAt (sc .text) at) _ (λ k q. tt)
     (λ k s n et.
     let mv = token-at-moved (sc .text) at k s n h et in
     pick-prop (Holds (Continued (sc .known) done)) (is k name) _ _
     (λ e. then-prop (Holds (Continued (sc .known) done)) (ruleAt sc s n) _ (λ k q. tt)
     (λ r m er.
-    let g = subst (Ends (length (sc .text)) (First sc few lengths)) er (rule-fits sc few lengths s n (mv .2)) in
+    let g = subst (Ends (length (sc .text)) (First sc few lengths good)) er (rule-fits sc few lengths good s n (mv .2)) in
     let l : length (sc .names) ≡ length (set (sc .known) (target r) true) = lengths ∙ sym (length-set (sc .known) (target r) true) in
-    before r (g .0) (rulesFrom f (ruled sc (target r)) (done ++ (r ∷ [])) m) (rules-fit f (ruled sc (target r)) few l (done ++ (r ∷ [])) m (g .1))))
+    before r (g .0) (rulesFrom f (ruled sc (target r)) (done ++ (r ∷ [])) m) (rules-fit f (ruled sc (target r)) few l good (done ++ (r ∷ [])) m (g .1))))
     (λ e. pick-prop (Holds (Continued (sc .known) done)) (is k ending) _ _
     (λ e. pick-prop (Holds (Continued (sc .known) done)) (allTrue (sc .known)) _ _ (λ a. record { more = []; is-more = sym (append-nil done); ordered = a }) (λ a. tt))
     (λ e. tt)))
   where
-    before : (r : Rule) → First sc few lengths r → (p : Parsed (List Rule)) → Holds (Continued (set (sc .known) (target r) true) (done ++ (r ∷ []))) p → Holds (Continued (sc .known) done) p
+    before : (r : Rule) → First sc few lengths good r → (p : Parsed (List Rule)) → Holds (Continued (set (sc .known) (target r) true) (done ++ (r ∷ []))) p → Holds (Continued (sc .known) done) p
     before r g (accepted rs m) c = record { more = r ∷ c .more; is-more = c .is-more ∙ append-assoc done (r ∷ []) (c .more); ordered = (g .0, g .1, g .2, c .ordered) }
     before r g (refused k q) c = tt
 
 -- ---- declarations
-
-both-hold : (a b : Bool) → a && b ≡ true → (a ≡ true) × (b ≡ true)
-both-hold true b e = (refl, e)
-both-hold false b e = let z : _≡_ {A = ℕ} 0 1 = cc in let f : ⊥ = omega arith in absurd f
 
 module _ (text : List ℕ) where
   abbrev Bound : (ℤ → Bool) → ℤ → Type 0
@@ -241,7 +190,7 @@ module _ (text : List ℕ) where
   signed-fits test signed k s n h =
       let z = signed (pos (valueOf (part text s n))) in
       pick-prop (Ends (length text) (Bound test)) (is k digits) _ _
-      (λ e. pick-prop (Ends (length text) (Bound test)) (isInt32 z && test z) _ _ (λ t. (both-hold (isInt32 z) (test z) t, h)) (λ t. tt))
+      (λ e. pick-prop (Ends (length text) (Bound test)) (isInt32 z && test z) _ _ (λ t. (and-both (isInt32 z) (test z) t, h)) (λ t. tt))
       (λ e. tt)
 
   bound-fits : (test : ℤ → Bool) (at : ℕ) → at ≤ length text → Ends (length text) (Bound test) (boundAt test text at)
@@ -308,7 +257,7 @@ module _ (text : List ℕ) where
   range-fits : (low high start : ℤ) → Bound (λ z. true) low → Bound (leZ low) high → Bound (inRange low high) start → RangeFits (record { low = low; high = high; start = start })
   unfolding inRange
   range-fits low high start l h s =
-      let b = both-hold (leZ low start) (leZ start high) (s .1) in (
+      let b = and-both (leZ low start) (leZ start high) (s .1) in (
         true-T (isInt32 low) (l .0),
         both-T (isInt32 high) (leZ low high) (h .0) (h .1),
         and-T (isInt32 start && leZ low start) (leZ start high) (both-T (isInt32 start) (leZ low start) (s .0) (b .0)) (true-T (leZ start high) (b .1)),
@@ -347,10 +296,6 @@ module _ (text : List ℕ) where
   names-append [] x h g = (g, tt)
   names-append (y ∷ names) x h g = (h .0, names-append names x (h .1) g)
 
-  spellings-append : (names : List Name) (x : Name) → spellings (names ++ (x ∷ [])) ≡ spellings names ++ (x .spelling ∷ [])
-  spellings-append [] x = refl
-  spellings-append (y ∷ names) x = ap (λ (l : List (List ℕ)). y .spelling ∷ l) (spellings-append names x)
-
   abbrev pub Names : ℕ → List Name → Type 0
   Names count l = NamesFit l × (length l ≤ 64) × (count ≤ length l) × Distinct (spellings l)
 
@@ -366,10 +311,19 @@ module _ (text : List ℕ) where
       (λ x m es.
       let d = subst (Ends (length text) (Declared names)) es (declaration-fits names n (mv .2)) in
       let l : length (names ++ (x ∷ [])) ≡ length names + 1 = length-append names (x ∷ []) in
-      declarations-fit f word (names ++ (x ∷ [])) m count (d .1) (names-append names x (g .0) (d .0 .fits), omega (arith, d .0 .room), omega (arith, g .2), rw (spellings-append names x) (distinct-snoc (spellings names) (x .spelling) (g .3) (d .0 .apart)))))
+      declarations-fit f word (names ++ (x ∷ [])) m count (d .1) (names-append names x (g .0) (d .0 .fits), omega (arith, d .0 .room), omega (arith, g .2), rw (map-append (λ x. x .spelling) names (x ∷ [])) (distinct-snoc (spellings names) (x .spelling) (g .3) (d .0 .apart)))))
       (λ e. (g, h)))
 
 -- ---- the whole text
+
+each-name : (l : List Name) → NamesFit l → (i : ℕ) (w : List ℕ) → getElem? (spellings l) i ≡ some w → IsName w
+each-name [] h i w e = let z : _≡_ {A = ℕ} 0 1 = cc in absurd (omega arith)
+each-name (x ∷ l) h zero w e = let q : x .spelling ≡ w = cc in subst IsName q (h .0 .is-name)
+each-name (x ∷ l) h (suc i) w e = each-name l (h .1) i w e
+
+-- names that fit and are distinct are names of a text
+pub named : (l : List Name) → NamesFit l → Distinct (spellings l) → Named (spellings l)
+named l h d = record { distinct = d; each = each-name l h }
 
 pub spellings-length : (names : List Name) → length (spellings names) ≡ length names
 spellings-length names = length-map names (λ x. x .spelling)
@@ -387,7 +341,7 @@ program-fits text =
     then-prop (Holds Fitting) (rulesFrom 65 sc [] n2) _ (λ k q. tt)
     (λ rules n3 e3.
     let c = subst (Holds (Continued (knownFirst (length inputs) (length names)) [])) e3
-    (rules-fit 65 sc (omega (arith, spellings-length names, g2 .0 .1)) (spellings-length names ∙ sym (length-known (length inputs) (length names))) [] n2 (g2 .1)) in
+    (rules-fit 65 sc (omega (arith, spellings-length names, g2 .0 .1)) (spellings-length names ∙ sym (length-known (length inputs) (length names))) (named names (g2 .0 .0) (g2 .0 .3)) [] n2 (g2 .1)) in
     record { few = g2 .0 .1; inputs-fit = g2 .0 .2; names-fit = g2 .0 .0; distinct = g2 .0 .3; ordered = subst (RulesFit (knownFirst (length inputs) (length names))) (sym (c .is-more)) (c .ordered) })))
 
 -- the program of an accepted text is as Shape says
