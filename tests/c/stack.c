@@ -7,7 +7,7 @@
 #include <stdlib.h>
 #include <string.h>
 
-enum { STACK = 1 << 18, FILL = 0xA5, BOUND = 32768 };
+enum { STACK = 1 << 18, FILL = 0xA5, BOUND = 98304 };
 
 static uint8_t text[4096], image[ROLVENKO_IMAGE_ROOM];
 static size_t text_len, image_len;
@@ -68,6 +68,12 @@ static void nested(int square) {
                                 condition, condition);
 }
 
+/* The same rule in a text of 2,048 bytes: over 1,024 translate takes scratch memory for the longest image. */
+static void lengthen(void) {
+    memset(text + text_len, ' ', 2048 - text_len);
+    text_len = 2048;
+}
+
 static void measure(const char *name, void *(*call)(void *), size_t idle, size_t *most) {
     size_t bytes = used(call) - idle;
     if (rolvenko_number(answer) != 0) {
@@ -84,6 +90,8 @@ int main(void) {
         nested(square);
         measure("translate", translate, idle, &most[0]);
         image_len = rolvenko_count(answer);
+        lengthen();
+        measure("translate", translate, idle, &most[0]);
         measure("check", check, idle, &most[1]);
         measure("start", start, idle, &most[2]);
         measure("scan", scan, idle, &most[3]);
