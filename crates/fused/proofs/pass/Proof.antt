@@ -9,89 +9,17 @@ use borrow.Author.Needs.{needs}
 use Rattle.fused.proofs.pass.Statement.{statement}
 use Rattle.fused.proofs.pass.Tie as tie
 
-shared-slice-read-byte : tie.Need-shared-slice-read-byte
-shared-slice-read-byte c = search needs
-
-add-behind : tie.Need-add-behind
-add-behind c = search needs
-
-number-at-requires : tie.Need-number-at-requires
-number-at-requires c κs = search needs
-
-enum-known-n : tie.Need-enum-known-n
-enum-known-n c = search needs
-
-enum-told : tie.Need-enum-told
-enum-told c = search needs
-
 returns : tie.Need-returns
 returns c = search needs
-
-over-requires : tie.Need-over-requires
-over-requires c κs = (c .before .before .before .before .before .before .before .pre .0, number-within _ _ _ _ (sym (c .before .before .before .number-at .ensures) ∙ ap unsignedRead (c .before .n .given .1)) .operand)
-
-number-at-requires-2 : tie.Need-number-at-requires-2
-number-at-requires-2 c κs = search needs
-
-enum-known-n-2 : tie.Need-enum-known-n-2
-enum-known-n-2 c = search needs
-
-enum-told-2 : tie.Need-enum-told-2
-enum-told-2 c = search needs
 
 returns-2 : tie.Need-returns-2
 returns-2 c = search needs
 
-over-requires-2 : tie.Need-over-requires-2
-over-requires-2 c κs = (c .before .before .before .before .before .before .before .pre .0, number-within _ _ _ _ (sym (c .before .before .before .number-at2 .ensures) ∙ ap unsignedRead (c .before .n2 .given .1)) .operand)
-
-number-at-requires-3 : tie.Need-number-at-requires-3
-number-at-requires-3 c κs = search needs
-
-enum-known-n-3 : tie.Need-enum-known-n-3
-enum-known-n-3 c = search needs
-
-enum-told-3 : tie.Need-enum-told-3
-enum-told-3 c = search needs
-
 returns-3 : tie.Need-returns-3
 returns-3 c = search needs
 
-over-requires-3 : tie.Need-over-requires-3
-over-requires-3 c κs = (c .before .before .before .before .before .before .before .pre .0, number-within _ _ _ _ (sym (c .before .before .before .number-at3 .ensures) ∙ ap unsignedRead (c .before .n3 .given .1)) .operand)
-
-over-requires-4 : tie.Need-over-requires-4
-over-requires-4 c κs = search needs
-
-over-requires-5 : tie.Need-over-requires-5
-over-requires-5 c κs = search needs
-
-over-requires-6 : tie.Need-over-requires-6
-over-requires-6 c κs = search needs
-
-over-requires-7 : tie.Need-over-requires-7
-over-requires-7 c κs = search needs
-
-over-requires-8 : tie.Need-over-requires-8
-over-requires-8 c κs = search needs
-
-over-requires-9 : tie.Need-over-requires-9
-over-requires-9 c κs = search needs
-
-number-at-requires-4 : tie.Need-number-at-requires-4
-number-at-requires-4 c κs = search needs
-
-enum-known-n-4 : tie.Need-enum-known-n-4
-enum-known-n-4 c = search needs
-
-enum-told-4 : tie.Need-enum-told-4
-enum-told-4 c = search needs
-
 returns-4 : tie.Need-returns-4
 returns-4 c = search needs
-
-over-requires-10 : tie.Need-over-requires-10
-over-requires-10 c κs = (c .before .before .before .before .before .before .before .pre .0, number-within _ _ _ _ (sym (c .before .before .before .number-at4 .ensures) ∙ ap unsignedRead (c .before .n4 .given .1)) .operand)
 
 returns-5 : tie.Need-returns-5
 unfolding instructionOf hasOperand
@@ -160,34 +88,34 @@ pub pass-spec : {M : Type 1} → statement M
 pass-spec =
     tie.close
     (tie.spec
-    shared-slice-read-byte
-    add-behind
-    number-at-requires
-    enum-known-n
-    enum-told
+    (λ c. search needs)
+    (λ c. search needs)
+    (λ c κs. search needs)
+    (λ c. search needs)
+    (λ c. search needs)
     returns
-    over-requires
-    number-at-requires-2
-    enum-known-n-2
-    enum-told-2
+    (λ c κs. (c .before .before .before .before .before .before .before .pre .0, number-within _ _ _ _ (sym (c .before .before .before .number-at .ensures) ∙ ap unsignedRead (c .before .n .given .1)) .operand))
+    (λ c κs. search needs)
+    (λ c. search needs)
+    (λ c. search needs)
     returns-2
-    over-requires-2
-    number-at-requires-3
-    enum-known-n-3
-    enum-told-3
+    (λ c κs. (c .before .before .before .before .before .before .before .pre .0, number-within _ _ _ _ (sym (c .before .before .before .number-at2 .ensures) ∙ ap unsignedRead (c .before .n2 .given .1)) .operand))
+    (λ c κs. search needs)
+    (λ c. search needs)
+    (λ c. search needs)
     returns-3
-    over-requires-3
-    over-requires-4
-    over-requires-5
-    over-requires-6
-    over-requires-7
-    over-requires-8
-    over-requires-9
-    number-at-requires-4
-    enum-known-n-4
-    enum-told-4
+    (λ c κs. (c .before .before .before .before .before .before .before .pre .0, number-within _ _ _ _ (sym (c .before .before .before .number-at3 .ensures) ∙ ap unsignedRead (c .before .n3 .given .1)) .operand))
+    (λ c κs. search needs)
+    (λ c κs. search needs)
+    (λ c κs. search needs)
+    (λ c κs. search needs)
+    (λ c κs. search needs)
+    (λ c κs. search needs)
+    (λ c κs. search needs)
+    (λ c. search needs)
+    (λ c. search needs)
     returns-4
-    over-requires-10
+    (λ c κs. (c .before .before .before .before .before .before .before .pre .0, number-within _ _ _ _ (sym (c .before .before .before .number-at4 .ensures) ∙ ap unsignedRead (c .before .n4 .given .1)) .operand))
     returns-5
     returns-6
     returns-7
