@@ -10,14 +10,22 @@ use lib.IntN.{ℤ, pos}
 use lib.ListN.{length, getD, set, take, drop, length-append, length-drop, List·getD-append, length-map}
 use lib.Seq.{getD-take, ext-getD, length-take-le}
 use Rattle.arith.specs.Values.{Outcome, ok, refusal, _>>=_, check}
-use Rattle.semantics.specs.Program.{Program, Range, Rule, rangesOf, WellFormed, StartsWithin, knownFirst, OrderedRules, within}
-use Rattle.semantics.specs.Formula.{State, at, Formula, formulasOfRule, formulasOfRules, formulasOf, Holds, HoldsAfter, GX, All, Satisfies}
+use Rattle.semantics.specs.Program.{Program, Range, Rule, Condition, both, either, rangesOf, WellFormed, StartsWithin, knownFirst, OrderedRules, within}
+use Rattle.semantics.specs.Formula.{State, at, evalC, Formula, formulasOfRule, formulasOfRules, formulasOf, Holds, HoldsAfter, GX, All, Satisfies}
 use Rattle.semantics.specs.ReferenceScan.{allWithin, scanRules, withInputs, referenceScan}
 use Rattle.semantics.specs.Rows.{Reply, reply, referenceReplies, startsOf, acceptedStates, acceptedRows, traceOf, finalState, lastPlace, Fits, InRanges, AllInRanges, OnlyTrace}
 use Rattle.arith.proofs.Basics.{T-true, true-T, and-T, ok≢refusal, ok-inj}
 use Rattle.semantics.proofs.Unique.{Agree, HoldsRule, HoldsAll, scan-holds, scan-value, scan-within, allWithin-inputs}
 
 -- ---- every formula at a place, and along a trace
+
+-- Both operands of `&` and `|` are worked out: a refusal of the second counts, whatever the first is.
+module _ (s t : State) (a b : Condition) (x : Bool) (k : ℕ) (e : evalC s t a ≡ ok x) (f : evalC s t b ≡ refusal k) where
+  pub both-worked-out : evalC s t (both a b) ≡ refusal k
+  both-worked-out = rw (e, f)
+
+  pub either-worked-out : evalC s t (either a b) ≡ refusal k
+  either-worked-out = rw (e, f)
 
 -- A formula that needs a value refused by 14 isn't satisfied.
 pub refused-unsatisfied : (f : Formula) (s t : State) (k : ℕ) → f s t ≡ refusal k → Holds f s t → ⊥

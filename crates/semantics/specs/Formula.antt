@@ -28,6 +28,7 @@ evalE s t (previous i) = ok (at s i)
 evalE s t (operation o a b) = evalE s t a >>= λ x. evalE s t b >>= λ y. arithmetic o x y
 evalE s t (negate a) = evalE s t a >>= λ x. negation x
 
+-- Whether a condition holds there.
 -- Both operands of `&` and `|` are worked out.
 abbrev pub evalC : State → State → Condition → Outcome Bool
 evalC s t (comparison o a b) = evalE s t a >>= λ x. evalE s t b >>= λ y. ok (compares o x y)
