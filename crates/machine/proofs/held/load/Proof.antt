@@ -1,4 +1,4 @@
--- `machine::load` meets its contract. A declared value is pushed. Assumes nothing.
+-- `machine::held::load` meets its contract. A declared value is pushed. Assumes nothing.
 use mathlib.Core.List.{[]}
 use mathlib.Core.Path.{_∙_}
 use borrow.Author.Tests.{lt-ltb, le-ltb}
@@ -8,8 +8,8 @@ use lib.IntN.{pos}
 use mir.Val.{SFits}
 use mir.Syntax.{w32}
 use mir.Facts.{toZ-ofZ}
-use Rattle.machine.proofs.load.Statement.{statement}
-use Rattle.machine.proofs.load.Tie as tie
+use Rattle.machine.proofs.held.load.Statement.{statement}
+use Rattle.machine.proofs.held.load.Tie as tie
 
 returns : tie.Need-returns
 returns c = (λ t. rw (le-ltb _ _ (c .if1 .taken)), search needs)

@@ -1,10 +1,10 @@
--- `machine::push` meets its contract. The two ways are the laws of Stack. Assumes nothing.
+-- `machine::held::push` meets its contract. The two ways are the laws of Stack. Assumes nothing.
 use native.Mathlib.Omega.{arith}
 use borrow.Author.Needs.{needs}
 use mir.Facts.{toZ-ofZ}
 use Rattle.machine.proofs.Stack.{push-full, push-put}
-use Rattle.machine.proofs.push.Statement.{statement}
-use Rattle.machine.proofs.push.Tie as tie
+use Rattle.machine.proofs.held.push.Statement.{statement}
+use Rattle.machine.proofs.held.push.Tie as tie
 
 returns : tie.Need-returns
 returns c = (λ ns s t. push-full (c .before .args .vals .now) (c .before .args .m .held) (c .before .args .v) (c .before .args .m .picked) t (c .if1 .taken), search needs)

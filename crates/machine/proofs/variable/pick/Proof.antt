@@ -1,4 +1,4 @@
--- `machine::pick` meets its contract. A value other than the previous one is assigned. Assumes nothing.
+-- `machine::variable::pick` meets its contract. A value other than the previous one is assigned. Assumes nothing.
 use mathlib.Core.Bool.{true, false}
 use mathlib.Core.Path.{_≡_, sym, _∙_}
 use Prim.Native.Nat.{_-_, _<_, _≤_}
@@ -12,8 +12,8 @@ use Rattle.machine.proofs.Changes.{pick-undeclared, pick-equal, pick-ot
 use Rattle.machine.proofs.Stack.{pop-none}
 use Rattle.semantics.specs.Formula.{at}
 use Rattle.arith.specs.Values.{eqZ, compares}
-use Rattle.machine.proofs.pick.Statement.{statement}
-use Rattle.machine.proofs.pick.Tie as tie
+use Rattle.machine.proofs.variable.pick.Statement.{statement}
+use Rattle.machine.proofs.variable.pick.Tie as tie
 
 returns : tie.Need-returns
 returns c = (λ ns r. pop-none (c .before .args .vals .now) (c .before .args .m .held) _ (c .if1 .taken), search needs)

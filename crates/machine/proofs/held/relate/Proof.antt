@@ -1,4 +1,4 @@
--- `machine::relate` meets its contract. A yes-no is put in the place of two values. Assumes nothing.
+-- `machine::held::relate` meets its contract. A yes-no is put in the place of two values. Assumes nothing.
 use mathlib.Core.Path.{_≡_, sym, ap, _∙_}
 use Prim.Native.Nat.{_-_}
 use native.Mathlib.Omega.{arith}
@@ -12,8 +12,8 @@ use Rattle.machine.proofs.Stack.{two-few, two-put}
 use Rattle.machine.specs.Internal.{truthOf}
 use Rattle.machine.specs.Step.{bit}
 use Rattle.arith.specs.Values.{ok}
-use Rattle.machine.proofs.relate.Statement.{statement}
-use Rattle.machine.proofs.relate.Tie as tie
+use Rattle.machine.proofs.held.relate.Statement.{statement}
+use Rattle.machine.proofs.held.relate.Tie as tie
 
 returns : tie.Need-returns
 returns c = (λ t. two-few (λ x y. ok (bit (truthOf (c .before .args .code) x y))) (c .before .args .vals .now) (c .before .args .m .held) (c .before .args .m .picked) t (c .if1 .taken), search needs)

@@ -1,4 +1,4 @@
--- `machine::gate` meets its contract. The value on top decides, then whether a pick was done. Assumes nothing.
+-- `machine::variable::gate` meets its contract. The value on top decides, then whether a pick was done. Assumes nothing.
 use mathlib.Core.Bool.{true, false}
 use mathlib.Core.Path.{_≡_, sym, _∙_}
 use Prim.Native.Nat.{_-_}
@@ -12,8 +12,8 @@ use mir.Syntax.{w32}
 use mir.Facts.{toZ-ofZ}
 use Rattle.machine.proofs.Stack.{pop-none, pop-top}
 use Rattle.machine.specs.Step.{yes}
-use Rattle.machine.proofs.gate.Statement.{statement}
-use Rattle.machine.proofs.gate.Tie as tie
+use Rattle.machine.proofs.variable.gate.Statement.{statement}
+use Rattle.machine.proofs.variable.gate.Tie as tie
 
 returns : tie.Need-returns
 returns c = (λ ns s t. pop-none (c .before .args .vals .now) (c .before .args .m .held) _ (c .if1 .taken), search needs)

@@ -1,12 +1,12 @@
--- `machine::settle` meets its contract. The ways are the laws of Changes. Assumes nothing.
+-- `machine::variable::settle` meets its contract. The ways are the laws of Changes. Assumes nothing.
 use borrow.Author.Needs.{needs}
 use mir.Val.{SFits}
 use mir.Syntax.{w32}
 use mir.Facts.{toZ-ofZ}
 use Rattle.machine.proofs.Changes.{settle-undeclared, settle-picked, settle-kept}
 use Rattle.semantics.specs.Formula.{at}
-use Rattle.machine.proofs.settle.Statement.{statement}
-use Rattle.machine.proofs.settle.Tie as tie
+use Rattle.machine.proofs.variable.settle.Statement.{statement}
+use Rattle.machine.proofs.variable.settle.Tie as tie
 
 returns : tie.Need-returns
 returns c =

@@ -1,4 +1,4 @@
--- `machine::calculate` meets its contract. The three ways are the laws of two values in Stack. Assumes nothing.
+-- `machine::held::calculate` meets its contract. The three ways are the laws of two values in Stack. Assumes nothing.
 use mathlib.Core.Path.{_≡_, sym, ap, _∙_}
 use Prim.Native.Nat.{_-_}
 use native.Mathlib.Omega.{arith}
@@ -12,8 +12,8 @@ use Rattle.machine.proofs.Stack.{two-few, two-refused, two-put}
 use Rattle.bytecode.specs.Instructions.{operationOf}
 use Rattle.arith.specs.Results.{outcomeOf}
 use Rattle.arith.specs.Values.{ok, refusal, arithmetic}
-use Rattle.machine.proofs.calculate.Statement.{statement}
-use Rattle.machine.proofs.calculate.Tie as tie
+use Rattle.machine.proofs.held.calculate.Statement.{statement}
+use Rattle.machine.proofs.held.calculate.Tie as tie
 
 returns : tie.Need-returns
 returns c = (λ ns s t. two-few (arithmetic (operationOf (c .before .args .code))) (c .before .args .vals .now) (c .before .args .m .held) (c .before .args .m .picked) t (c .if1 .taken), search needs)

@@ -1,4 +1,4 @@
--- `machine::invert` meets its contract. A yes-no is put in the place of one value. Assumes nothing.
+-- `machine::held::invert` meets its contract. A yes-no is put in the place of one value. Assumes nothing.
 use mathlib.Core.Bool.{not}
 use mathlib.Core.Path.{_≡_, sym, ap, _∙_}
 use Prim.Native.Nat.{_-_}
@@ -12,8 +12,8 @@ use mir.Facts.{toZ-ofZ}
 use Rattle.machine.proofs.Stack.{pop-none, one-put}
 use Rattle.machine.specs.Step.{bit, yes}
 use Rattle.arith.specs.Values.{ok}
-use Rattle.machine.proofs.invert.Statement.{statement}
-use Rattle.machine.proofs.invert.Tie as tie
+use Rattle.machine.proofs.held.invert.Statement.{statement}
+use Rattle.machine.proofs.held.invert.Tie as tie
 
 returns : tie.Need-returns
 returns c = (λ ns s t. pop-none (c .before .args .vals .now) (c .before .args .m .held) _ (c .if1 .taken), search needs)

@@ -1,4 +1,4 @@
--- `machine::negate` meets its contract. The ways are the laws of one value in Stack. Assumes nothing.
+-- `machine::held::negate` meets its contract. The ways are the laws of one value in Stack. Assumes nothing.
 use mathlib.Core.Path.{_≡_, sym, ap, _∙_}
 use Prim.Native.Nat.{_-_}
 use native.Mathlib.Omega.{arith}
@@ -11,8 +11,8 @@ use mir.Facts.{toZ-ofZ}
 use Rattle.machine.proofs.Stack.{pop-none, one-refused, one-put}
 use Rattle.arith.specs.Results.{outcomeOf}
 use Rattle.arith.specs.Values.{ok, refusal, negation}
-use Rattle.machine.proofs.negate.Statement.{statement}
-use Rattle.machine.proofs.negate.Tie as tie
+use Rattle.machine.proofs.held.negate.Statement.{statement}
+use Rattle.machine.proofs.held.negate.Tie as tie
 
 returns : tie.Need-returns
 returns c = (λ ns s t. pop-none (c .before .args .vals .now) (c .before .args .m .held) _ (c .if1 .taken), search needs)

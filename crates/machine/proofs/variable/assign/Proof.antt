@@ -1,4 +1,4 @@
--- `machine::assign` meets its contract. The ways are the laws of Changes. Assumes nothing.
+-- `machine::variable::assign` meets its contract. The ways are the laws of Changes. Assumes nothing.
 use mathlib.Core.Bool.{true, false, _&&_}
 use mathlib.Core.Path.{_≡_, sym, _∙_}
 use Prim.Native.Nat.{_-_}
@@ -12,8 +12,8 @@ use mir.Facts.{toZ-ofZ}
 use Rattle.machine.proofs.Changes.{assign-undeclared, assign-outside, assign-inside}
 use Rattle.machine.proofs.Stack.{pop-none}
 use Rattle.semantics.specs.Formula.{at}
-use Rattle.machine.proofs.assign.Statement.{statement}
-use Rattle.machine.proofs.assign.Tie as tie
+use Rattle.machine.proofs.variable.assign.Statement.{statement}
+use Rattle.machine.proofs.variable.assign.Tie as tie
 
 returns : tie.Need-returns
 returns c = (λ ns s r. pop-none (c .before .args .vals .now) (c .before .args .m .held) _ (c .if1 .taken), search needs)

@@ -1,0 +1,144 @@
+// A variable: the gate before a case, and the instructions that give its value.
+use crate::BROKEN_IMAGE;
+use crate::EQUAL_TO_PREVIOUS;
+use crate::Registers;
+use crate::SECOND_TRUE_CASE;
+use crate::Stepped;
+use crate::VALUE_OUT_OF_RANGE;
+use crate::values;
+ghost use mathlib.Core.Path.{_≡_};
+ghost use mathlib.Core.List.{List};
+ghost use Prim.Native.Nat.{_≤_};
+ghost use lib.IntN.{ℤ};
+ghost use lib.ListN.{length};
+ghost use Rattle.semantics.specs.Program.{Range};
+ghost use Rattle.semantics.specs.Formula.{State};
+ghost use Rattle.bytecode.specs.Instructions.{gate as gating, pick as picking, assign as assigning, settle as settling};
+ghost use Rattle.machine.specs.Step.{perform};
+ghost use Rattle.machine.specs.Memory.{heldOf, stepOutcome, RangesIn, Stack, Few, Named};
+ghost use Rattle.machine.specs.Internal.{OnStack};
+
+// A false condition passes over what stands up to the next pick; a true one after a pick is refused.
+pub fn gate(vals: &[i32], m: Registers) -> Stepped
+    requires { ⌜ Stack m (now vals) ⌝ }
+    ensures { λ r. ⌜ OnStack gating m (now (vals .entry)) r (now (vals .entry)) ⌝ }
+    ensures { λ r. ⌜ Few r ⌝ }
+{
+    let n = m.held;
+    if n == 0 {
+        return Stepped::Refused(BROKEN_IMAGE);
+    }
+    let top = n - 1;
+    let picked = m.picked;
+    if !values::is_yes(vals[top]) {
+        return Stepped::Next(Registers {
+            held: top,
+            picked,
+            passing: true,
+        });
+    }
+    if picked {
+        return Stepped::Refused(SECOND_TRUE_CASE);
+    }
+    Stepped::Next(Registers {
+        held: top,
+        picked: false,
+        passing: false,
+    })
+}
+
+// The value on top becomes the current value of a name, if it lies in the name's range.
+pub fn assign(
+    low: &[i32],
+    high: &[i32],
+    cur: &mut [i32],
+    vals: &[i32],
+    m: Registers,
+    id: u64,
+) -> Stepped
+    requires { ⌜ Stack m (now vals) × (length (now high) ≡ length (now low)) × (length (now cur) ≡ length (now low)) ⌝ }
+    ensures { λ r. ⌜ ((ns : List Range) (s : State) → RangesIn ns (now (low .entry)) (now (high .entry))
+        → stepOutcome r (now (vals .entry)) (now (cur .exit))
+        ≡ perform ns s (assigning id) (m .picked) (heldOf (now (vals .entry)) (m .held)) (now (cur .entry))) ⌝ }
+    ensures { λ r. ⌜ Few r ⌝ }
+{
+    let n = m.held;
+    if n == 0 {
+        return Stepped::Refused(BROKEN_IMAGE);
+    }
+    let top = n - 1;
+    let i = id as usize;
+    if low.len() <= i {
+        return Stepped::Refused(BROKEN_IMAGE);
+    }
+    let v = vals[top];
+    if !values::in_range(low[i], high[i], v) {
+        return Stepped::Refused(VALUE_OUT_OF_RANGE);
+    }
+    cur[i] = v;
+    Stepped::Next(Registers {
+        held: top,
+        picked: m.picked,
+        passing: false,
+    })
+}
+
+// The same, refused first if it is equal to the previous value.
+pub fn pick(
+    low: &[i32],
+    high: &[i32],
+    prev: &[i32],
+    cur: &mut [i32],
+    vals: &[i32],
+    m: Registers,
+    id: u64,
+) -> Stepped
+    requires { ⌜ Stack m (now vals) ⌝ }
+    requires { ⌜ Named (now low) (now high) (now prev) (now cur) ⌝ }
+    ensures { λ r. ⌜ ((ns : List Range) → RangesIn ns (now (low .entry)) (now (high .entry))
+        → stepOutcome r (now (vals .entry)) (now (cur .exit))
+        ≡ perform ns (now (prev .entry)) (picking id) (m .picked) (heldOf (now (vals .entry)) (m .held)) (now (cur .entry))) ⌝ }
+    ensures { λ r. ⌜ Few r ⌝ }
+{
+    let n = m.held;
+    if n == 0 {
+        return Stepped::Refused(BROKEN_IMAGE);
+    }
+    let top = n - 1;
+    let i = id as usize;
+    if prev.len() <= i {
+        return Stepped::Refused(BROKEN_IMAGE);
+    }
+    if arith::is_equal(vals[top], prev[i]) {
+        return Stepped::Refused(EQUAL_TO_PREVIOUS);
+    }
+    let k = Registers {
+        held: n,
+        picked: true,
+        passing: false,
+    };
+    assign(low, high, cur, vals, k, id)
+}
+
+// Keeps the previous value if nothing was picked.
+pub fn settle(prev: &[i32], cur: &mut [i32], m: Registers, id: u64) -> Stepped
+    requires { ⌜ (m .held ≤ 40) × (length (now cur) ≡ length (now prev)) ⌝ }
+    ensures { λ r. ⌜ ((ns : List Range) (vs : List ℤ) → length ns ≡ length (now (prev .entry)) → stepOutcome r vs (now (cur .exit))
+        ≡ perform ns (now (prev .entry)) (settling id) (m .picked) (heldOf vs (m .held)) (now (cur .entry))) ⌝ }
+    ensures { λ r. ⌜ Few r ⌝ }
+{
+    let i = id as usize;
+    if prev.len() <= i {
+        return Stepped::Refused(BROKEN_IMAGE);
+    }
+    let k = Registers {
+        held: m.held,
+        picked: false,
+        passing: false,
+    };
+    if m.picked {
+        return Stepped::Next(k);
+    }
+    cur[i] = prev[i];
+    Stepped::Next(k)
+}
