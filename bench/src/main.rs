@@ -8,6 +8,7 @@
 mod input;
 mod native;
 mod once;
+mod refused;
 mod timing;
 
 use input::{inputs, Input};
@@ -55,6 +56,7 @@ fn tables(rounds: u32) {
     println!("{:<10} {:<14} {:>7} {:>11} {:>11} {:>7} {:>9}", "service", "input", "units", "archive", "model", "ratio", "gcc -O2");
     lines.iter().for_each(Line::print);
     growth(&lines);
+    refused::table(inputs.iter().find(|input| input.name == "lock").expect("the lock"), rounds);
 }
 
 impl<'i> Line<'i> {

@@ -55,16 +55,6 @@ read-within bytes at = within-found (length bytes) at _ (subst (λ (n : ℕ). In
 pub number-within : (bytes : List ℕ) (at n next : ℕ) → numberAt bytes at ≡ got n next → Bounded (length bytes) at n next
 number-within bytes at n next e = subst (ReadWithin (length bytes) at) e (read-within bytes at)
 
--- a number of one group
-module _ (bytes : List ℕ) (at : ℕ) where
-  pub number-none : length bytes ≤ at → numberAt bytes at ≡ nothing
-  unfolding numberAt below32
-  number-none h = rw (at-end bytes at h)
-
-  pub number-one : at < length bytes → getD bytes at 0 < 128 → numberAt bytes at ≡ got (getD bytes at 0) (at + 1)
-  unfolding numberAt below32
-  number-one h l = rw (at-last bytes at h l, lt-ltb (getD bytes at 0) (2 ^ 32) (omega arith))
-
 -- ---- the ways in which an instruction is read
 
 module _ (bytes : List ℕ) (at : ℕ) where

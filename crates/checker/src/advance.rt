@@ -330,6 +330,6 @@ pub fn advance_fixed(code: u8, n: u64, w: Walk) -> Advanced
         20 => advance(20, n, w),
         21 => advance(21, n, w),
         22 => advance(22, n, w),
-        _ => advance(code, n, w),
+        _ => Advanced::Broken,
     }
 }

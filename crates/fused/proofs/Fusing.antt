@@ -22,7 +22,9 @@ use Rattle.machine.proofs.Loop.{Going, ended, again, refused}
 use Rattle.fused.specs.declared.Progress.{Progress}
 use Rattle.fused.specs.declared.Moved.{Moved}
 use Rattle.fused.specs.declared.Moved.the-variants as M
-use Rattle.fused.specs.Together.{registersOf, Ready, Moves, Refuses, MovesBy, SoundFrom, Succeeds, Fails}
+use Rattle.fused.specs.declared.Attempt.{Attempt}
+use Rattle.fused.specs.declared.Attempt.the-variants as A
+use Rattle.fused.specs.Together.{registersOf, Ready, Moves, Refuses, MovesBy, SoundFrom, freshOf, RefusedBy, Succeeds, Fails, RunBy}
 
 -- nothing held, nothing picked, nothing passed over
 abbrev idle : Registers
@@ -34,11 +36,8 @@ pub record Fusing (code : List ℕ) (low high prev : List ℤ) (inputs : ℕ) (c
   pub going : Going code low high prev cur₀ vals₀ 0 (length code) idle cur vals (registersOf b) (b .at) steps
   pub few : steps ≤ b .at
 
-abbrev first : ℕ → ℕ → Walk
-first inputs names = record { held = 0; sorts = 0; gate = 0; picking = 0; known = 2 ^ inputs - 1; names = names }
-
 pub fusing-begins : (code : List ℕ) (low high prev : List ℤ) (inputs : ℕ) (cur vals : List ℤ) → Named low high prev cur → inputs ≤ length low → length low ≤ 64 → 40 ≤ length vals
-    → Fusing code low high prev inputs cur vals cur vals (record { walk = first inputs (length low); at = 0; picked = false; passing = false }) 0
+    → Fusing code low high prev inputs cur vals cur vals (freshOf inputs (length low)) 0
 fusing-begins code low high prev inputs cur vals named l m room =
     let e : length code - 0 ≡ length code = omega arith in
     record {
@@ -81,7 +80,7 @@ module _ {code : List ℕ} {low high prev : List ℤ} {inputs : ℕ} {cur₀ val
         few = omega (arith, f .few);
       }
 
-  pub fusing-refused : (k : Progress) (number : ℕ) → b .at < length code → Refuses code low high prev b vals cur k number → SoundFrom code (k .at) (k .walk)
+  fusing-refused : (k : Progress) (number : ℕ) → b .at < length code → Refuses code low high prev b vals cur k number → SoundFrom code (k .at) (k .walk)
       → Fails code low high prev inputs cur₀ number (steps + 1)
   unfolding heldOf
   fusing-refused k number l m rest =
@@ -95,6 +94,13 @@ module _ {code : List ℕ} {low high prev : List ℤ} {inputs : ℕ} {cur₀ val
         went = λ ns q. sym (refused (f .going) (omega (arith, f .few)) l (some i) (k .at) (sym (m .fetched)) (Refused number) vals cur (λ ns₁ q₁. sym (m .acted ns₁ q₁)) number refl ns q);
         within = omega (arith, f .few);
       }
+
+  -- with what is answered of the rest of the code
+  pub fusing-stops : (k : Progress) (number : ℕ) → b .at < length code → Refuses code low high prev b vals cur k number → (cur₁ : List ℤ) (r : Attempt) → RefusedBy code (k .at) (k .walk) number (steps + 1) r
+      → RunBy code low high prev inputs cur₀ cur₁ r
+  fusing-stops k number l m cur₁ (A.Done n) h = absurd h
+  fusing-stops k number l m cur₁ (A.Refused j n) h = rw (h .0, h .1) (fusing-refused k number l m (h .2))
+  fusing-stops k number l m cur₁ A.Doubt h = tt
 
   pub fusing-ends : length code ≤ b .at → true ≡ complete (knownOf (b .walk)) → Succeeds code low high prev inputs cur₀ cur steps
   unfolding heldOf

@@ -26,7 +26,7 @@ use Rattle.machine.proofs.Stack.{length-held}
 use Rattle.fused.specs.declared.Progress.{Progress}
 use Rattle.fused.specs.declared.Moved.{Moved}
 use Rattle.fused.specs.declared.Moved.the-variants as M
-use Rattle.fused.specs.Together.{registersOf, Ready, Over, OverBy, Passes, PassesBy, Takes, Stops, TakesBy, Moves, Refuses, MovesBy}
+use Rattle.fused.specs.Together.{registersOf, Ready, AtByte, Takes, Stops, TakesBy, Moves, Refuses, MovesBy}
 
 -- ---- as many values are held
 
@@ -85,6 +85,13 @@ module _ {low high prev cur vals : List ℤ} {b : Progress} (r : Ready low high 
 
 -- ---- the instruction at hand
 
+module _ (code : List ℕ) (b : Progress) (byte : ℕ) where
+  pub at-alone : AtByte code b byte false → fetch code (b .at) ≡ decoded (instructionOf byte 0) (b .at + 1)
+  at-alone h = fetch-alone code (b .at) (h .inside) (ap hasOperand (h .is) ∙ h .has) ∙ rw (h .is)
+
+  pub at-operand : AtByte code b byte true → (n next : ℕ) → numberAt code (b .at + 1) ≡ got n next → fetch code (b .at) ≡ decoded (instructionOf byte n) next
+  at-operand h n next e = fetch-number code (b .at) n next (h .inside) (ap hasOperand (h .is) ∙ h .has) e ∙ rw (h .is)
+
 module _ (code : List ℕ) (low high prev : List ℤ) (b : Progress) (vals cur vals₁ cur₁ : List ℤ) where
   from-takes : (o : Option Instruction) (next : ℕ) (k : Progress) → fetch code (b .at) ≡ decoded o next → next ≤ length code → Takes low high prev o next b vals cur vals₁ cur₁ k
       → Moves code low high prev b vals cur vals₁ cur₁ k
@@ -105,11 +112,10 @@ module _ (code : List ℕ) (low high prev : List ℤ) (b : Progress) (vals cur v
   from-read o next f i (M.On k) t = from-takes o next k f i t
   from-read o next f i (M.Refused k number) t = from-stops o next k number f i t
 
-  module _ (byte : ℕ) (l : b .at < length code) (is : getD code (b .at) 0 ≡ byte) where
-    pub moves-alone : hasOperand byte ≡ false → (r : Moved) → TakesBy low high prev (instructionOf byte 0) (b .at + 1) b vals cur vals₁ cur₁ r → MovesBy code low high prev b vals cur vals₁ cur₁ r
-    moves-alone h r t = from-read (instructionOf byte 0) (b .at + 1) (fetch-alone code (b .at) l (ap hasOperand is ∙ h) ∙ rw is) (omega (arith, l)) r t
+  module _ (byte : ℕ) where
+    pub moves-alone : AtByte code b byte false → (r : Moved) → TakesBy low high prev (instructionOf byte 0) (b .at + 1) b vals cur vals₁ cur₁ r → MovesBy code low high prev b vals cur vals₁ cur₁ r
+    moves-alone h r t = from-read (instructionOf byte 0) (b .at + 1) (at-alone code b byte h) (omega (arith, h .inside)) r t
 
-    pub moves-number : (n next : ℕ) → hasOperand byte ≡ true → numberAt code (b .at + 1) ≡ got n next → (r : Moved)
+    pub moves-operand : AtByte code b byte true → (n next : ℕ) → numberAt code (b .at + 1) ≡ got n next → (r : Moved)
         → TakesBy low high prev (instructionOf byte n) next b vals cur vals₁ cur₁ r → MovesBy code low high prev b vals cur vals₁ cur₁ r
-    moves-number n next h e r t =
-        from-read (instructionOf byte n) next (fetch-number code (b .at) n next l (ap hasOperand is ∙ h) e ∙ rw is) (number-within code (b .at + 1) n next e .inside) r t
+    moves-operand h n next e r t = from-read (instructionOf byte n) next (at-operand code b byte h n next e) (number-within code (b .at + 1) n next e .inside) r t

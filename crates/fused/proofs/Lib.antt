@@ -1,4 +1,3 @@
-pub mod TwoGroups
 pub mod Joining
 pub mod Passing
 pub mod Resting

@@ -10,9 +10,9 @@ use lib.ListN.{length, getD}
 use Rattle.arith.specs.Values.{ok}
 use Rattle.semantics.specs.Program.{Range}
 use Rattle.leb128.specs.Numbers.{got, numberAt}
-use Rattle.bytecode.specs.Instructions.{Instruction, instructionOf, hasOperand, decoded, fetch}
+use Rattle.bytecode.specs.Instructions.{Instruction, instructionOf, decoded, fetch}
 use Rattle.bytecode.proofs.Soundness.{none≢some}
-use Rattle.bytecode.proofs.Fetching.{fetch-alone, fetch-number, number-within}
+use Rattle.bytecode.proofs.Fetching.{number-within}
 use Rattle.checker.specs.Represented.{knownOf}
 use Rattle.machine.specs.Step.{machine, isPick, step}
 use Rattle.machine.specs.Memory.{heldOf, machineOf, RangesIn}
@@ -20,8 +20,8 @@ use Rattle.machine.proofs.Refusals.{Matches, Kept}
 use Rattle.fused.specs.declared.Progress.{Progress}
 use Rattle.fused.specs.declared.Moved.{Moved}
 use Rattle.fused.specs.declared.Moved.the-variants as M
-use Rattle.fused.specs.Together.{registersOf, Ready, Over, OverBy, Passes, PassesBy, Moves, MovesBy}
-use Rattle.fused.proofs.Joining.{aligned, opens, kept}
+use Rattle.fused.specs.Together.{registersOf, Ready, Over, OverBy, AtByte, Passes, PassesBy, Moves, MovesBy}
+use Rattle.fused.proofs.Joining.{at-alone, at-operand, aligned, opens, kept}
 
 -- whether passing over goes on behind an instruction
 abbrev pub GoesOn : Option Instruction → Bool → Type 0
@@ -34,19 +34,17 @@ module _ (code : List ℕ) (b : Progress) where
   from-over (some x) next p k f i g t =
       record { instruction = x; fetched = rw (t .placed) f; inside = rw (t .placed) i; advanced = t .advanced; small = t .small; same-picked = t .same-picked; passing-is = t .passing-is ∙ g }
 
-  module _ (byte : ℕ) (p : Bool) (l : b .at < length code) (is : getD code (b .at) 0 ≡ byte) where
-    pub passes-alone : hasOperand byte ≡ false → GoesOn (instructionOf byte 0) p → (r : Moved) → OverBy b (instructionOf byte 0) (b .at + 1) p r → PassesBy code b r
-    passes-alone h g M.Doubt t = tt
-    passes-alone h g (M.Refused k number) t = absurd t
-    passes-alone h g (M.On k) t =
-        from-over (instructionOf byte 0) (b .at + 1) p k (fetch-alone code (b .at) l (ap hasOperand is ∙ h) ∙ rw is) (omega (arith, l)) g t
+  from-over-by : (o : Option Instruction) (next : ℕ) (p : Bool) → fetch code (b .at) ≡ decoded o next → next ≤ length code → GoesOn o p → (r : Moved) → OverBy b o next p r → PassesBy code b r
+  from-over-by o next p f i g M.Doubt t = tt
+  from-over-by o next p f i g (M.Refused k number) t = absurd t
+  from-over-by o next p f i g (M.On k) t = from-over o next p k f i g t
 
-    pub passes-number : (n next : ℕ) → hasOperand byte ≡ true → GoesOn (instructionOf byte n) p → numberAt code (b .at + 1) ≡ got n next → (r : Moved)
-        → OverBy b (instructionOf byte n) next p r → PassesBy code b r
-    passes-number n next h g e M.Doubt t = tt
-    passes-number n next h g e (M.Refused k number) t = absurd t
-    passes-number n next h g e (M.On k) t =
-        from-over (instructionOf byte n) next p k (fetch-number code (b .at) n next l (ap hasOperand is ∙ h) e ∙ rw is) (number-within code (b .at + 1) n next e .inside) g t
+  pub passes-alone : (byte : ℕ) (p : Bool) → AtByte code b byte false → GoesOn (instructionOf byte 0) p → (r : Moved) → OverBy b (instructionOf byte 0) (b .at + 1) p r → PassesBy code b r
+  passes-alone byte p h on r t = from-over-by (instructionOf byte 0) (b .at + 1) p (at-alone code b byte h) (omega (arith, h .inside)) on r t
+
+  pub passes-operand : (byte : ℕ) (p : Bool) → AtByte code b byte true → (n next : ℕ) → GoesOn (instructionOf byte n) p → numberAt code (b .at + 1) ≡ got n next → (r : Moved)
+      → OverBy b (instructionOf byte n) next p r → PassesBy code b r
+  passes-operand byte p h n next on e r t = from-over-by (instructionOf byte n) next p (at-operand code b byte h n next e) (number-within code (b .at + 1) n next e .inside) on r t
 
 -- what is passed over leaves the memory as it is
 module _ (code : List ℕ) {low high prev cur vals : List ℤ} {b : Progress} (r : Ready low high prev cur vals b) (go : b .passing ≡ true) where

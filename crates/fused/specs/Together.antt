@@ -4,15 +4,15 @@ use mathlib.Core.Path.{_≡_}
 use mathlib.Core.Bool.{Bool, true, false, not, cond}
 use mathlib.Core.List.{List, []}
 use mathlib.Core.Option.{Option, none, some}
-use Prim.Native.Nat.{ℕ, _+_, _≤_}
+use Prim.Native.Nat.{ℕ, _+_, _-_, _^_, _≤_, _<_}
 use lib.IntN.{ℤ}
-use lib.ListN.{length}
+use lib.ListN.{length, getD}
 use Rattle.limits.specs.Limits.{stackLimit}
 use Rattle.limits.specs.Answer.{accepted}
 use Rattle.arith.specs.Values.{ok, refusal}
 use Rattle.semantics.specs.Program.{Range, knownFirst}
 use Rattle.leb128.specs.Numbers.{got}
-use Rattle.bytecode.specs.Instructions.{Instruction, fetch}
+use Rattle.bytecode.specs.Instructions.{Instruction, hasOperand, fetch}
 use Rattle.bytecode.specs.Check.{known, advance, checkCode}
 use Rattle.checker.specs.declared.advance.Walk.{Walk}
 use Rattle.checker.specs.Represented.{knownOf, openOf, advanceBy, Small}
@@ -52,6 +52,12 @@ abbrev pub OverBy : Progress → Option Instruction → ℕ → Bool → Moved �
 OverBy b o next passing (M.On k) = Over b o next passing k
 OverBy b o next passing (M.Refused k number) = ⊥
 OverBy b o next passing M.Doubt = Unit {0}
+
+-- the code byte at hand, and whether an operand stands behind it
+pub record AtByte (code : List ℕ) (b : Progress) (byte : ℕ) (operand : Bool) : Type 0 where
+  pub inside : b .at < length code
+  pub is : getD code (b .at) 0 ≡ byte
+  pub has : hasOperand byte ≡ operand
 
 -- the same of the instruction at hand: passing over ends at a pick
 pub record Passes (code : List ℕ) (b k : Progress) : Type 0 where
@@ -116,6 +122,17 @@ MovesBy code low high prev b vals cur vals₁ cur₁ M.Doubt = Unit {0}
 -- from a place on the walk finds the rest of the code sound
 abbrev pub SoundFrom : List ℕ → ℕ → Walk → Type 0
 SoundFrom code at w = (base fuel : ℕ) → length code ≤ at + fuel → checkCode base code fuel at (knownOf w) ≡ accepted tt
+
+-- before the first instruction: nothing held, nothing picked, the inputs known
+abbrev pub freshOf : ℕ → ℕ → Progress
+freshOf inputs names =
+    record { walk = record { held = 0; sorts = 0; gate = 0; picking = 0; known = 2 ^ inputs - 1; names = names }; at = 0; picked = false; passing = false }
+
+-- a refusal of the machine stands where the rest of the code is sound
+abbrev pub RefusedBy : List ℕ → ℕ → Walk → ℕ → ℕ → Attempt → Type 0
+RefusedBy code behind w number steps (A.Done n) = ⊥
+RefusedBy code behind w number steps (A.Refused m n) = (m ≡ number) × (n ≡ steps) × SoundFrom code behind w
+RefusedBy code behind w number steps A.Doubt = Unit {0}
 
 -- the walk finds the code sound
 abbrev pub SoundCode : List ℕ → ℕ → ℕ → Type 0

@@ -6,7 +6,7 @@ use machine::Registers;
 use machine::Stepped;
 ghost use mathlib.Core.Path.{_≡_};
 ghost use mathlib.Core.Bool.{true, false};
-ghost use Prim.Native.Nat.{_≤_, _<_, _^_};
+ghost use Prim.Native.Nat.{_+_, _≤_, _<_, _^_};
 ghost use lib.ListN.{length};
 ghost use Rattle.limits.specs.Limits.{nameLimit, stackLimit};
 ghost use Rattle.leb128.specs.Numbers.{numberAt};
@@ -14,7 +14,7 @@ ghost use Rattle.leb128.specs.Results.{unsignedRead};
 ghost use Rattle.bytecode.specs.Instructions.{instructionOf};
 ghost use Rattle.checker.specs.Represented.{Small};
 ghost use Rattle.machine.specs.Memory.{Named};
-ghost use Rattle.fused.specs.Together.{OverBy, PassesBy, Ready, TakesBy, MovesBy, SoundFrom, RunBy};
+ghost use Rattle.fused.specs.Together.{OverBy, AtByte, PassesBy, Ready, TakesBy, MovesBy, SoundFrom, freshOf, RefusedBy, RunBy};
 
 pub mod header;
 
@@ -39,37 +39,6 @@ pub enum Attempt {
     Done(usize),
     Refused(u8, usize),
     Doubt,
-}
-
-fn wide(x: u8) -> u64
-    ensures { λ r. ⌜ r ≡ x ⌝ }
-{
-    x as u64
-}
-
-// The number at a place. One of one or two groups is read here without a call.
-fn number_at(s: &[u8], at: usize) -> leb128::Unsigned
-    ensures { λ r. ⌜ unsignedRead r ≡ numberAt (now (s .entry)) at ⌝ }
-{
-    if s.len() <= at {
-        return leb128::Unsigned::Malformed;
-    }
-    let a = wide(s[at]);
-    let behind = at + 1;
-    if a < 128 {
-        return leb128::Unsigned::Number(a, behind);
-    }
-    if s.len() <= behind {
-        return leb128::Unsigned::Malformed;
-    }
-    let b = wide(s[behind]);
-    if b == 0 {
-        return leb128::Unsigned::Malformed;
-    }
-    if b < 128 {
-        return leb128::Unsigned::Number(a - 128 + b * 128, behind + 1);
-    }
-    leb128::unsigned_at(s, at)
 }
 
 // An instruction that is passed over: only the walk moves.
@@ -99,19 +68,19 @@ fn pass(code: &[u8], b: Progress) -> Moved
     let behind = at + 1;
     match byte {
         1 => {
-            let leb128::Unsigned::Number(n, next) = number_at(code, behind) else {
+            let leb128::Unsigned::Number(n, next) = leb128::unsigned_at(code, behind) else {
                 return Moved::Doubt;
             };
             over(b, 1, n, next, true)
         }
         2 => {
-            let leb128::Unsigned::Number(n, next) = number_at(code, behind) else {
+            let leb128::Unsigned::Number(n, next) = leb128::unsigned_at(code, behind) else {
                 return Moved::Doubt;
             };
             over(b, 2, n, next, true)
         }
         3 => {
-            let leb128::Unsigned::Number(n, next) = number_at(code, behind) else {
+            let leb128::Unsigned::Number(n, next) = leb128::unsigned_at(code, behind) else {
                 return Moved::Doubt;
             };
             over(b, 3, n, next, true)
@@ -123,7 +92,7 @@ fn pass(code: &[u8], b: Progress) -> Moved
         8 => over(b, 8, 0, behind, true),
         9 => over(b, 9, 0, behind, true),
         20 => {
-            let leb128::Unsigned::Number(n, next) = number_at(code, behind) else {
+            let leb128::Unsigned::Number(n, next) = leb128::unsigned_at(code, behind) else {
                 return Moved::Doubt;
             };
             over(b, 20, n, next, false)
@@ -178,6 +147,47 @@ fn both(
     }
 }
 
+// An instruction of this code byte that has no operand is done.
+fn take_alone(
+    code: &[u8],
+    low: &[i32],
+    high: &[i32],
+    prev: &[i32],
+    cur: &mut [i32],
+    vals: &mut [i32],
+    b: Progress,
+    byte: u8,
+) -> Moved
+    requires { ⌜ Ready (now low) (now high) (now prev) (now cur) (now vals) b ⌝ }
+    requires { ⌜ AtByte (now code) b byte false × (b .passing ≡ false) ⌝ }
+    ensures { λ r. ⌜ MovesBy (now (code .entry)) (now (low .entry)) (now (high .entry)) (now (prev .entry)) b (now (vals .entry)) (now (cur .entry)) (now (vals .exit)) (now (cur .exit)) r ⌝ }
+{
+    both(low, high, prev, cur, vals, b, byte, 0, b.at + 1)
+}
+
+// The same of one that has an operand, which was read: an argument, so that this stays small enough to be inlined in each arm.
+fn take_operand(
+    code: &[u8],
+    low: &[i32],
+    high: &[i32],
+    prev: &[i32],
+    cur: &mut [i32],
+    vals: &mut [i32],
+    b: Progress,
+    byte: u8,
+    read: leb128::Unsigned,
+) -> Moved
+    requires { ⌜ Ready (now low) (now high) (now prev) (now cur) (now vals) b ⌝ }
+    requires { ⌜ AtByte (now code) b byte true × (b .passing ≡ false) ⌝ }
+    requires { ⌜ unsignedRead read ≡ numberAt (now code) (b .at + 1) ⌝ }
+    ensures { λ r. ⌜ MovesBy (now (code .entry)) (now (low .entry)) (now (high .entry)) (now (prev .entry)) b (now (vals .entry)) (now (cur .entry)) (now (vals .exit)) (now (cur .exit)) r ⌝ }
+{
+    let leb128::Unsigned::Number(n, next) = read else {
+        return Moved::Doubt;
+    };
+    both(low, high, prev, cur, vals, b, byte, n, next)
+}
+
 // The instruction at hand: one match on its code byte, so that each arm's call is of a fixed code.
 fn advance_one(
     code: &[u8],
@@ -199,58 +209,88 @@ fn advance_one(
     let byte = code[at];
     let behind = at + 1;
     match byte {
-        1 => {
-            let leb128::Unsigned::Number(n, next) = number_at(code, behind) else {
-                return Moved::Doubt;
-            };
-            both(low, high, prev, cur, vals, b, 1, n, next)
-        }
-        2 => {
-            let leb128::Unsigned::Number(n, next) = number_at(code, behind) else {
-                return Moved::Doubt;
-            };
-            both(low, high, prev, cur, vals, b, 2, n, next)
-        }
-        3 => {
-            let leb128::Unsigned::Number(n, next) = number_at(code, behind) else {
-                return Moved::Doubt;
-            };
-            both(low, high, prev, cur, vals, b, 3, n, next)
-        }
-        4 => both(low, high, prev, cur, vals, b, 4, 0, behind),
-        5 => both(low, high, prev, cur, vals, b, 5, 0, behind),
-        6 => both(low, high, prev, cur, vals, b, 6, 0, behind),
-        7 => both(low, high, prev, cur, vals, b, 7, 0, behind),
-        8 => both(low, high, prev, cur, vals, b, 8, 0, behind),
-        9 => both(low, high, prev, cur, vals, b, 9, 0, behind),
-        10 => both(low, high, prev, cur, vals, b, 10, 0, behind),
-        11 => both(low, high, prev, cur, vals, b, 11, 0, behind),
-        12 => both(low, high, prev, cur, vals, b, 12, 0, behind),
-        13 => both(low, high, prev, cur, vals, b, 13, 0, behind),
-        14 => both(low, high, prev, cur, vals, b, 14, 0, behind),
-        15 => both(low, high, prev, cur, vals, b, 15, 0, behind),
-        16 => both(low, high, prev, cur, vals, b, 16, 0, behind),
-        17 => both(low, high, prev, cur, vals, b, 17, 0, behind),
-        18 => both(low, high, prev, cur, vals, b, 18, 0, behind),
-        19 => both(low, high, prev, cur, vals, b, 19, 0, behind),
-        20 => {
-            let leb128::Unsigned::Number(n, next) = number_at(code, behind) else {
-                return Moved::Doubt;
-            };
-            both(low, high, prev, cur, vals, b, 20, n, next)
-        }
-        21 => {
-            let leb128::Unsigned::Number(n, next) = number_at(code, behind) else {
-                return Moved::Doubt;
-            };
-            both(low, high, prev, cur, vals, b, 21, n, next)
-        }
-        22 => {
-            let leb128::Unsigned::Number(n, next) = number_at(code, behind) else {
-                return Moved::Doubt;
-            };
-            both(low, high, prev, cur, vals, b, 22, n, next)
-        }
+        1 => take_operand(
+            code,
+            low,
+            high,
+            prev,
+            cur,
+            vals,
+            b,
+            1,
+            leb128::unsigned_at(code, behind),
+        ),
+        2 => take_operand(
+            code,
+            low,
+            high,
+            prev,
+            cur,
+            vals,
+            b,
+            2,
+            leb128::unsigned_at(code, behind),
+        ),
+        3 => take_operand(
+            code,
+            low,
+            high,
+            prev,
+            cur,
+            vals,
+            b,
+            3,
+            leb128::unsigned_at(code, behind),
+        ),
+        4 => take_alone(code, low, high, prev, cur, vals, b, 4),
+        5 => take_alone(code, low, high, prev, cur, vals, b, 5),
+        6 => take_alone(code, low, high, prev, cur, vals, b, 6),
+        7 => take_alone(code, low, high, prev, cur, vals, b, 7),
+        8 => take_alone(code, low, high, prev, cur, vals, b, 8),
+        9 => take_alone(code, low, high, prev, cur, vals, b, 9),
+        10 => take_alone(code, low, high, prev, cur, vals, b, 10),
+        11 => take_alone(code, low, high, prev, cur, vals, b, 11),
+        12 => take_alone(code, low, high, prev, cur, vals, b, 12),
+        13 => take_alone(code, low, high, prev, cur, vals, b, 13),
+        14 => take_alone(code, low, high, prev, cur, vals, b, 14),
+        15 => take_alone(code, low, high, prev, cur, vals, b, 15),
+        16 => take_alone(code, low, high, prev, cur, vals, b, 16),
+        17 => take_alone(code, low, high, prev, cur, vals, b, 17),
+        18 => take_alone(code, low, high, prev, cur, vals, b, 18),
+        19 => take_alone(code, low, high, prev, cur, vals, b, 19),
+        20 => take_operand(
+            code,
+            low,
+            high,
+            prev,
+            cur,
+            vals,
+            b,
+            20,
+            leb128::unsigned_at(code, behind),
+        ),
+        21 => take_operand(
+            code,
+            low,
+            high,
+            prev,
+            cur,
+            vals,
+            b,
+            21,
+            leb128::unsigned_at(code, behind),
+        ),
+        22 => take_operand(
+            code,
+            low,
+            high,
+            prev,
+            cur,
+            vals,
+            b,
+            22,
+            leb128::unsigned_at(code, behind),
+        ),
         _ => Moved::Doubt,
     }
 }
@@ -275,8 +315,38 @@ fn rest_is_sound(code: &[u8], from: usize, first: Walk) -> bool
     checker::complete(w)
 }
 
-// The whole code, from nothing held, on current values that hold the row. Where the machine refuses, the walk alone goes on: an
-// instruction behind that breaks soundness comes first.
+// Nothing held, nothing picked, the inputs known, at the first instruction.
+fn fresh(inputs: usize, names: usize) -> Progress
+    requires { ⌜ inputs ≤ nameLimit ⌝ }
+    ensures { λ r. ⌜ r ≡ freshOf inputs names ⌝ }
+{
+    Progress {
+        walk: Walk {
+            held: 0,
+            sorts: 0,
+            gate: 0,
+            picking: 0,
+            known: checker::ones(inputs as u64),
+            names: names as u64,
+        },
+        at: 0,
+        picked: false,
+        passing: false,
+    }
+}
+
+// Where the machine refuses, the walk alone goes on: an instruction behind that breaks soundness comes first.
+fn refused(code: &[u8], behind: usize, w: Walk, number: u8, steps: usize) -> Attempt
+    requires { ⌜ Small w ⌝ }
+    ensures { λ r. ⌜ RefusedBy (now (code .entry)) behind w number steps r ⌝ }
+{
+    if rest_is_sound(code, behind, w) {
+        return Attempt::Refused(number, steps);
+    }
+    Attempt::Doubt
+}
+
+// The whole code, from nothing held, on current values that hold the row.
 pub fn run(
     code: &[u8],
     low: &[i32],
@@ -290,20 +360,7 @@ pub fn run(
     requires { ⌜ (inputs ≤ length (now low)) × (length (now low) ≤ nameLimit) × (stackLimit ≤ length (now vals)) ⌝ }
     ensures { λ r. ⌜ RunBy (now (code .entry)) (now (low .entry)) (now (high .entry)) (now (prev .entry)) inputs (now (cur .entry)) (now (cur .exit)) r ⌝ }
 {
-    let first = Walk {
-        held: 0,
-        sorts: 0,
-        gate: 0,
-        picking: 0,
-        known: checker::ones(inputs as u64),
-        names: low.len() as u64,
-    };
-    let mut b = Progress {
-        walk: first,
-        at: 0,
-        picked: false,
-        passing: false,
-    };
+    let mut b = fresh(inputs, low.len());
     let mut steps = 0;
     while b.at < code.len() {
         let m = advance_one(code, low, high, prev, cur, vals, b);
@@ -313,13 +370,9 @@ pub fn run(
                 steps += 1;
             }
             Moved::Refused(k, number) => {
-                let done = steps + 1;
-                let at = k.at;
+                let behind = k.at;
                 let w = k.walk;
-                if rest_is_sound(code, at, w) {
-                    return Attempt::Refused(number, done);
-                }
-                return Attempt::Doubt;
+                return refused(code, behind, w, number, steps + 1);
             }
             Moved::Doubt => {
                 return Attempt::Doubt;

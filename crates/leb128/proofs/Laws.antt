@@ -87,6 +87,11 @@ sized (b ∷ s) h = sized-cond (ltb b 128) b (numberIn s) (ltb-true b 128) (h 0)
 pub sized-at : (s : List ℕ) (at : ℕ) → Bytes s → Sized (numberIn (drop at s))
 sized-at s at h = sized (drop at s) (λ i. rw getD-drop (h (at + i)))
 
+pub after-nonzero : (low v k : ℕ) → 1 ≤ v → grouped low (found v k) ≡ found (low + v * 128) (k + 1)
+unfolding grouped
+after-nonzero low zero k h = absurd (omega arith)
+after-nonzero low (suc v) k h = refl
+
 -- what a list has at a place: nothing, a last group, or a group before others
 module _ (s : List ℕ) (at : ℕ) where
   pub at-end : length s ≤ at → numberIn (drop at s) ≡ none

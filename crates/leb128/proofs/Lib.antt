@@ -1,3 +1,4 @@
 pub mod Laws
 pub mod Signs
 pub mod RoundTrip
+pub mod Short

@@ -15,13 +15,8 @@ use borrow.Author.Tests.{lt-ltb, le-ltb, leb-true, leb-false, ltb-true, ltb-fals
 use Rattle.leb128.specs.Numbers.{groups, number, Found, found, none, grouped, numberIn, Read, got, nothing, _then_, below32, numberAt, zigzag, unzigzag, signedAt}
 use Rattle.arith.specs.Values.{isInt32}
 use Rattle.arith.proofs.Laws.{int32-fits}
-use Rattle.leb128.proofs.Laws.{Bytes, Sized, sized, sized-at, lower}
+use Rattle.leb128.proofs.Laws.{Bytes, Sized, sized, sized-at, lower, after-nonzero}
 use Rattle.leb128.proofs.Signs.{unzigzag-zigzag, zigzag-below}
-
-after-nonzero : (low v k : ℕ) → 1 ≤ v → grouped low (found v k) ≡ found (low + v * 128) (k + 1)
-unfolding grouped
-after-nonzero low zero k h = absurd (omega arith)
-after-nonzero low (suc v) k h = refl
 
 read-last : (n : ℕ) (rest : List ℕ) → n < 128 → numberIn (n ∷ rest) ≡ found n 1
 unfolding numberIn

@@ -49,16 +49,10 @@ fn group(s: &[u8], at: usize, left: usize) -> Unsigned
     Unsigned::Number(b - 128 + v * 128, next)
 }
 
-pub fn unsigned_at(s: &[u8], at: usize) -> Unsigned
+// A number of any length: at most five groups.
+fn long_at(s: &[u8], at: usize) -> Unsigned
     ensures { λ r. ⌜ unsignedRead r ≡ numberAt (now (s .entry)) at ⌝ }
 {
-    // most numbers of an image have one group
-    if at < s.len() {
-        let b = wide(s[at]);
-        if b < 128 {
-            return Unsigned::Number(b, at + 1);
-        }
-    }
     let Unsigned::Number(v, next) = group(s, at, 5) else {
         return Unsigned::Malformed;
     };
@@ -66,6 +60,31 @@ pub fn unsigned_at(s: &[u8], at: usize) -> Unsigned
         return Unsigned::Number(v, next);
     }
     Unsigned::Malformed
+}
+
+// The number at a place. Most have one group or two, which are read here without a call.
+pub fn unsigned_at(s: &[u8], at: usize) -> Unsigned
+    ensures { λ r. ⌜ unsignedRead r ≡ numberAt (now (s .entry)) at ⌝ }
+{
+    if s.len() <= at {
+        return Unsigned::Malformed;
+    }
+    let a = wide(s[at]);
+    let behind = at + 1;
+    if a < 128 {
+        return Unsigned::Number(a, behind);
+    }
+    if s.len() <= behind {
+        return Unsigned::Malformed;
+    }
+    let b = wide(s[behind]);
+    if b == 0 {
+        return Unsigned::Malformed;
+    }
+    if b < 128 {
+        return Unsigned::Number(a - 128 + b * 128, behind + 1);
+    }
+    long_at(s, at)
 }
 
 pub fn signed_at(s: &[u8], at: usize) -> Signed

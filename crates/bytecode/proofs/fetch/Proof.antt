@@ -19,8 +19,8 @@ add-behind c = search needs
 has-operand-requires : tie.Need-has-operand-requires
 has-operand-requires c κs = search needs
 
-operand-at-requires : tie.Need-operand-at-requires
-operand-at-requires c κs = search needs
+unsigned-at-requires : tie.Need-unsigned-at-requires
+unsigned-at-requires c κs = search needs
 
 enum-known-n : tie.Need-enum-known-n
 enum-known-n c = search needs
@@ -30,11 +30,11 @@ enum-told c = search needs
 
 returns-2 : tie.Need-returns-2
 returns-2 c =
-    (sym (fetch-malformed _ _ (c .before .before .before .before .before .before .if1 .left) (sym (c .before .before .before .before .has-operand .ensures) ∙ c .before .before .before .if2 .taken) (sym (c .before .before .operand-at .ensures) ∙ ap unsignedRead (c .enum-told .given .1))), tt)
+    (sym (fetch-malformed _ _ (c .before .before .before .before .before .before .if1 .left) (sym (c .before .before .before .before .has-operand .ensures) ∙ c .before .before .before .if2 .taken) (sym (c .before .before .unsigned-at .ensures) ∙ ap unsignedRead (c .enum-told .given .1))), tt)
 
 returns-3 : tie.Need-returns-3
 returns-3 c =
-    let e = sym (c .before .before .before .operand-at .ensures) ∙ ap unsignedRead (c .before .n .given .1) in
+    let e = sym (c .before .before .before .unsigned-at .ensures) ∙ ap unsignedRead (c .before .n .given .1) in
     let w = number-within _ _ _ _ e in (
       sym (fetch-number _ _ _ _ (c .before .before .before .before .before .before .before .if1 .left) (sym (c .before .before .before .before .before .has-operand .ensures) ∙ c .before .before .before .before .if2 .taken) e),
       record { operand = w .operand; behind = omega (arith, w .behind); inside = w .inside },
@@ -53,7 +53,7 @@ fetch-spec =
     shared-slice-read-byte
     add-behind
     has-operand-requires
-    operand-at-requires
+    unsigned-at-requires
     enum-known-n
     enum-told
     returns-2

@@ -1,15 +1,13 @@
--- `leb128::unsigned_at` meets its contract: five groups are enough for a number below 2 ^ 32, and a first byte below 128 is the
--- whole of it. Assumes nothing.
-use mathlib.Core.Path.{_≡_, sym, ap, _∙_}
-use Prim.Native.Nat.{ℕ, _<_, _^_}
+-- `leb128::unsigned_at` meets its contract: one group, two groups, or the reader of any. Assumes nothing.
+use mathlib.Core.Path.{sym}
 use native.Mathlib.Omega.{arith}
+use Rattle.leb128.proofs.Short.{none-at, one-group, two-cut, two-zero, two-groups}
 use borrow.Author.Needs.{needs}
-use borrow.Author.Tests.{lt-ltb, le-ltb}
-use Rattle.leb128.specs.Numbers.{below32, numberAt}
-use Rattle.leb128.specs.Results.{unsignedRead}
-use Rattle.leb128.proofs.Laws.{at-last, sized-at, five-enough, trimmed}
 use Rattle.leb128.proofs.unsigned_at.Statement.{statement}
 use Rattle.leb128.proofs.unsigned_at.Tie as tie
+
+returns : tie.Need-returns
+returns c = sym (none-at _ _ (c .if1 .taken))
 
 shared-slice-read-wide : tie.Need-shared-slice-read-wide
 shared-slice-read-wide c = search needs
@@ -17,45 +15,78 @@ shared-slice-read-wide c = search needs
 wide-requires : tie.Need-wide-requires
 wide-requires c κs = search needs
 
-add-t11 : tie.Need-add-t11
-add-t11 c = search needs
-
--- a last group at once
-returns : tie.Need-returns
-unfolding numberAt below32
-returns c =
-    let s = c .before .before .before .before .before in
-    let e = c .before .wide .ensures in
-    let small : c .before .wide .result < 2 ^ 32 = omega arith in
-    rw (at-last (s .args .s .now) (s .args .at) (omega arith) (omega arith), ← e, lt-ltb _ _ small)
-
--- else the definition is the answer of five groups, where it is below 2 ^ 32
-is-trimmed : (c : tie.After-group) → let s = c .before .before .before in numberAt (s .args .s .now) (s .args .at) ≡ trimmed (unsignedRead (c .group .result))
-unfolding numberAt
-is-trimmed c =
-    let s = c .before .before .before in
-    rw (c .group .ensures)
-    (sym (five-enough _ _ (sized-at (s .args .s .now) (s .args .at) (λ i. omega (arith, c .before .before .shared-slice-known .given i)))))
-
-group-requires : tie.Need-group-requires
-group-requires c κs = search needs
-
-enum-known-v : tie.Need-enum-known-v
-enum-known-v c = search needs
-
-enum-told : tie.Need-enum-told
-enum-told c = search needs
+add-behind : tie.Need-add-behind
+add-behind c = search needs
 
 returns-2 : tie.Need-returns-2
-returns-2 c = rw (is-trimmed (c .before .before), c .enum-told .given .1)
+returns-2 c =
+    let e = c .before .wide .ensures in
+    rw e (sym (one-group _ _ (c .before .before .before .if1 .left) (omega (arith, e, c .if2 .taken))))
 
 returns-3 : tie.Need-returns-3
-returns-3 c = rw (is-trimmed (c .before .before .before .before), c .before .before .v .given .1, lt-ltb _ _ (c .if3 .taken))
+returns-3 c =
+    let at-wide = c .before .before in
+    two-cut _ _ (at-wide .before .before .if1 .left) (omega (arith, at-wide .wide .ensures, c .before .if2 .left)) (c .if3 .taken)
+
+shared-slice-read-wide-2 : tie.Need-shared-slice-read-wide-2
+shared-slice-read-wide-2 c = search needs
+
+wide-requires-2 : tie.Need-wide-requires-2
+wide-requires-2 c κs = search needs
 
 returns-4 : tie.Need-returns-4
-returns-4 c = rw (is-trimmed (c .before .before .before .before), c .before .before .v .given .1, le-ltb _ _ (c .if3 .left))
+returns-4 c =
+    let at-wide2 = c .before in
+    let at-if3 = at-wide2 .before .before in
+    let at-if2 = at-if3 .before in
+    let at-wide = at-if2 .before in
+    two-zero _ _ (at-wide .before .before .if1 .left) (omega (arith, at-wide .wide .ensures, at-if2 .if2 .left)) (at-if3 .if3 .left) (omega (arith, at-wide2 .wide2 .ensures, c .if4 .taken))
+
+mul-t12 : tie.Need-mul-t12
+mul-t12 c = search needs
+
+add-t13 : tie.Need-add-t13
+add-t13 c =
+    let at-wide2 = c .before .before in
+    let at-wide = at-wide2 .before .before .before .before in
+    let at-known = at-wide .before .before .before in
+    omega (arith, at-wide .wide .ensures, at-wide2 .wide2 .ensures, c .if5 .taken, at-known .shared-slice-known .given (at-known .before .args .at))
+
+add-t14 : tie.Need-add-t14
+add-t14 c = search needs
+
+returns-5 : tie.Need-returns-5
+returns-5 c =
+    let at-wide2 = c .before .before in
+    let at-if3 = at-wide2 .before .before in
+    let at-if2 = at-if3 .before in
+    let at-wide = at-if2 .before in
+    let at-known = at-wide .before .before .before in
+    rw (at-wide .wide .ensures, at-wide2 .wide2 .ensures)
+    (two-groups _ _ (at-wide .before .before .if1 .left) (omega (arith, at-wide .wide .ensures, at-if2 .if2 .left)) (at-if3 .if3 .left) (omega (arith, at-wide2 .wide2 .ensures, c .before .if4 .left)) (omega (arith, at-wide2 .wide2 .ensures, c .if5 .taken)) (omega (arith, at-known .shared-slice-known .given (at-known .before .args .at))))
+
+long-at-requires : tie.Need-long-at-requires
+long-at-requires c κs = search needs
+
+returns-6 : tie.Need-returns-6
+returns-6 c = search needs
 
 pub unsigned-at-spec : {M : Type 1} → statement M
 unsigned-at-spec =
     tie.close
-    (tie.spec shared-slice-read-wide wide-requires add-t11 returns group-requires enum-known-v enum-told returns-2 returns-3 returns-4)
+    (tie.spec
+    returns
+    shared-slice-read-wide
+    wide-requires
+    add-behind
+    returns-2
+    returns-3
+    shared-slice-read-wide-2
+    wide-requires-2
+    returns-4
+    mul-t12
+    add-t13
+    add-t14
+    returns-5
+    long-at-requires
+    returns-6)
