@@ -2,7 +2,7 @@
 use mathlib.Core.Path.{_≡_, refl, ap, sym, _∙_, subst}
 use mathlib.Core.List.{List, [], _∷_, _++_}
 use mathlib.Core.Option.{some}
-use Prim.Native.Nat.{ℕ, zero, suc, _+_, _-_, _<_}
+use Prim.Native.Nat.{ℕ, zero, suc, _+_, _-_, _^_, _<_}
 use native.Mathlib.Omega.{arith}
 use lib.ListN.{length, set, length-append}
 use Rattle.limits.specs.Limits.{noToken, notAllowed, tooMany}
@@ -13,19 +13,21 @@ use Rattle.arith.specs.Values.{Comparison, equal, notEqual, less, lessEqual, gr
 use Rattle.bytecode.specs.Instructions.{comparisonCode}
 use Rattle.semantics.specs.Program.{Expression, Condition, comparison, negated}
 use Rattle.grammar.specs.Parsed.{Parsed, accepted, refused, andThen, sign, followed}
-use Rattle.grammar.specs.Expressions.{Scope, expression, bracket}
+use Rattle.grammar.specs.Expressions.{Scope, expression}
 use Rattle.grammar.specs.Conditions.{comparisonOf, compared, comparisonAt, opposite, inverted, atom, Connective, andAlso, orElse, connect, andOf, orOf, square, wholeCondition, listed}
 use Rattle.grammar.specs.Emitted.{codeE, codeC}
 use Rattle.grammar.proofs.Growth.{Grown, not-end, ands-end, ors-end, comparisons-end, bracket-grown, atom-grown, conjunction-grown, square-grown}
 use Rattle.expressions.specs.declared.Lookahead.{Lookahead}
 use Rattle.expressions.specs.declared.scope.Names.{Names}
 use Rattle.expressions.specs.Scopes.{scopeOf, Declared}
-use Rattle.expressions.specs.Steps.{Room}
-use Rattle.expressions.specs.Internal.{Codes}
-use Rattle.expressions.proofs.Steps.{sets-append, lookedAhead, Refuses, refused-now, Known, known, told, untold, Accepted, then-refused, closing, one-more, room-after, room-more}
+use Rattle.expressions.specs.declared.Step.{Step}
+use Rattle.expressions.specs.declared.Step.the-variants.{Done, Refused}
+use Rattle.expressions.specs.Steps.{stepAt, Parses, Room}
+use Rattle.expressions.specs.Internal.{Codes, closedStep}
+use Rattle.expressions.proofs.Steps.{sets-append, lookedAhead, Refuses, refused-now, Known, known, told, untold, Accepted, accepted-by, accepts, answers, same-part, passed, then-refused, ahead-at, ahead-stands, closing, closed-parses, one-more, room-fits, room-after, room-more, room-at}
 use Rattle.expressions.proofs.Scopes.{few-names}
 use Rattle.expressions.proofs.Chain.{Operators, Operator, operator-some, operator-none}
-use Rattle.conditions.specs.Internal.{connectiveCode, atomIn, conjunctionIn, conditionIn}
+use Rattle.conditions.specs.Internal.{connectiveCode, comparisonIn, invertedIn, atomIn, conjunctionIn, conditionIn}
 
 -- ---- operators
 
@@ -111,51 +113,63 @@ module _ (inner : ℕ → ℕ → Parsed Expression) (sc : Scope) (at : ℕ) whe
           wrote = rw (compared-code, sets-append before to (codeE (a .tree)) (codeE (b .tree) ++ (c ∷ [])), ← a .wrote, ← a .count, sets-append mid t (codeE (b .tree)) (c ∷ []), ← b .wrote, ← b .count) hl;
         }
 
--- ---- atoms
-
-module _ (inside : ℕ → ℕ → Parsed Condition) (sc : Scope) where
-  pub inverted-fault : (at q : ℕ) → tokenAt (sc .text) at ≡ fault q → inverted inside sc at ≡ refused noToken q
-  unfolding inverted
-  inverted-fault at q e = rw e
-
-  module _ {h : Lookahead} {at : ℕ} (k : Known (sc .text) h) (i : h .at ≡ at) where
-    pub inverted-square : h .kind ≡ kindNumber openSquare → inverted inside sc at ≡ opposite (inside (h .start) (h .end))
-    unfolding inverted
-    inverted-square e = rw (← i, k .read, told k openSquare e)
-
-    pub inverted-none : (h .kind ≡ kindNumber openSquare → ⊥) → inverted inside sc at ≡ refused notAllowed (h .start)
-    unfolding inverted
-    inverted-none e = rw (← i, k .read, untold k openSquare e)
-
-module _ (inner : ℕ → ℕ → Parsed Expression) (inside : ℕ → ℕ → Parsed Condition) (sc : Scope) where
-  pub atom-fault : (at q : ℕ) → tokenAt (sc .text) at ≡ fault q → atom inner inside sc at ≡ refused noToken q
-  unfolding atom
-  atom-fault at q e = rw e
-
-  module _ {h : Lookahead} {at : ℕ} (k : Known (sc .text) h) (i : h .at ≡ at) where
-    pub atom-inverted : h .kind ≡ kindNumber tilde → atom inner inside sc at ≡ inverted inside sc (h .end)
-    unfolding atom
-    atom-inverted e = rw (← i, k .read, told k tilde e)
-
-    module _ (n : h .kind ≡ kindNumber tilde → ⊥) where
-      pub atom-square : h .kind ≡ kindNumber openSquare → atom inner inside sc at ≡ inside (h .start) (h .end)
-      unfolding atom
-      atom-square e = rw (← i, k .read, untold k tilde n, told k openSquare e)
-
-      pub atom-comparison : (h .kind ≡ kindNumber openSquare → ⊥) → atom inner inside sc at ≡ comparisonAt inner sc at
-      unfolding atom
-      atom-comparison e = rw (← i, k .read, untold k tilde n, untold k openSquare e)
-
 -- ---- the opposite
 
 module _ {text : List ℕ} {p : Parsed Condition} where
-  pub opposite-refuses : {k q : ℕ} → Refuses text p k q → Refuses text (opposite p) k q
+  opposite-refuses : {k q : ℕ} → Refuses text p k q → Refuses text (opposite p) k q
   unfolding opposite lookedAhead
   opposite-refuses r = then-refused text _ (λ a n q e. record { looked = rw e }) p r
 
-  pub opposite-accepts : {to : ℕ} {before after : List ℕ} {h : Lookahead} {t u : ℕ} {last : List ℕ} → Accepted text codeC p to before after h t → u ≡ t + 1 → last ≡ set after t 16 → Accepted text codeC (opposite p) to before last h u
+  opposite-accepts : {to : ℕ} {before after : List ℕ} {h : Lookahead} {t u : ℕ} {last : List ℕ} → Accepted text codeC p to before after h t → u ≡ t + 1 → last ≡ set after t 16 → Accepted text codeC (opposite p) to before last h u
   unfolding opposite codeC
   opposite-accepts a e f = one-more a (negated (a .tree)) 16 (rw (a .is)) refl e f
+
+-- ---- atoms
+
+module _ (text starts ends : List ℕ) (names : Names) (left at : ℕ) where
+  abbrev sc : Scope
+  sc = scopeOf text starts ends names
+
+  pub atom-fault : (q : ℕ) → tokenAt text at ≡ fault q → atomIn left sc at ≡ refused noToken q
+  unfolding atom
+  atom-fault q e = rw e
+
+  pub inverted-fault : (q : ℕ) → tokenAt text at ≡ fault q → invertedIn left sc at ≡ refused noToken q
+  unfolding inverted
+  inverted-fault q e = rw e
+
+  -- `ahead` read the token h there
+  module _ (to : ℕ) {t : ℕ} {r : Step} {h : Lookahead} (d : r ≡ Done h t) (e : r ≡ stepAt (tokenAt text at) at to) where
+    first : Known text h
+    first = known (ahead-stands text at to d e)
+
+    pub atom-inverted : h .kind ≡ kindNumber tilde → atomIn left sc at ≡ invertedIn left sc (h .end)
+    unfolding atom
+    atom-inverted m = rw (← ahead-at text at to d e, first .read, told first tilde m)
+
+    module _ (n : h .kind ≡ kindNumber tilde → ⊥) where
+      pub atom-square : h .kind ≡ kindNumber openSquare → atomIn left sc at ≡ square left sc (h .start) (h .end)
+      unfolding atom
+      atom-square m = rw (← ahead-at text at to d e, first .read, untold first tilde n, told first openSquare m)
+
+      pub atom-comparison : (h .kind ≡ kindNumber openSquare → ⊥) → atomIn left sc at ≡ comparisonIn left sc at
+      unfolding atom
+      atom-comparison m = rw (← ahead-at text at to d e, first .read, untold first tilde n, untold first openSquare m)
+
+    pub inverted-none : (h .kind ≡ kindNumber openSquare → ⊥) → invertedIn left sc at ≡ refused notAllowed (h .start)
+    unfolding inverted
+    inverted-none n = rw (← ahead-at text at to d e, first .read, untold first openSquare n)
+
+    module _ (m : h .kind ≡ kindNumber openSquare) {v : ℕ} {before after : List ℕ} {p : Step} (c : Parses text codeC (square left sc (h .start) (h .end)) v before after p) where
+      inverted-square : invertedIn left sc at ≡ opposite (square left sc (h .start) (h .end))
+      unfolding inverted
+      inverted-square = rw (← ahead-at text at to d e, first .read, told first openSquare m)
+
+      pub inverted-refuses : {k q l : ℕ} {front last : List ℕ} → p ≡ Refused k q → Parses text codeC (invertedIn left sc at) l front last p
+      inverted-refuses i = same-part inverted-square (passed c i opposite-refuses)
+
+      pub inverted-accepts : {l : Lookahead} {n x : ℕ} {last : List ℕ} → p ≡ Done l n → (x ≡ n + 1) × (last ≡ set after n 16) → Parses text codeC (invertedIn left sc at) v before last (Done l x)
+      inverted-accepts i f = same-part inverted-square (accepts (opposite-accepts (accepted-by c i) (f .0) (f .1)))
 
 -- ---- brackets
 
@@ -167,10 +181,13 @@ module _ (sc : Scope) (s n : ℕ) where
   unfolding square
   square-none left e = rw e
 
-  pub square-some : (left : ℕ) → (left ≡ 0 → ⊥) → square left sc s n ≡ closing (sc .text) closeSquare (conditionIn (left - 1) sc n)
+  square-some : (left : ℕ) → (left ≡ 0 → ⊥) → square left sc s n ≡ closing (sc .text) closeSquare (conditionIn (left - 1) sc n)
   unfolding square closing
   square-some zero e = absurd (e refl)
   square-some (suc d) e = ap (λ (x : ℕ). andThen (conditionIn x sc n) (λ a m. followed (sc .text) (sign closeSquare ∷ []) a m)) (sym (down d))
+
+pub square-closes : (text starts ends : List ℕ) (names : Names) (s n left : ℕ) {to : ℕ} {before after : List ℕ} {part r : Step} → (left ≡ 0 → ⊥) → r ≡ closedStep text (kindNumber closeSquare) part → Parses text codeC (conditionIn (left - 1) (scopeOf text starts ends names) n) to before after part → Parses text codeC (square left (scopeOf text starts ends names) s n) to before after r
+square-closes text starts ends names s n left z e c = same-part (square-some (scopeOf text starts ends names) s n left z) (answers e (closed-parses closeSquare _ c))
 
 pub listed-is : (sc : Scope) (n : ℕ) → listed sc n ≡ closing (sc .text) closeSquare (wholeCondition sc n)
 unfolding listed closing
@@ -185,11 +202,13 @@ module _ {text starts ends : List ℕ} {names : Names} (d : Declared starts ends
   pub conjunction-grows : Grown codeC (length text) at (conjunctionIn left (scopeOf text starts ends names) at)
   conjunction-grows = conjunction-grown _ (few-names text d) _ (bracket-grown _ (few-names text d) left) _ (square-grown _ (few-names text d) left) at (r .within)
 
--- behind `[c]`, whose bracket is the token h
-pub room-square : {text starts ends : List ℕ} {names : Names} → Declared starts ends names → (left : ℕ) {to : ℕ} {before after : List ℕ} {h g : Lookahead} {t : ℕ} → Room text (h .at) to → Known text h → h .kind ≡ kindNumber openSquare → Accepted text codeC (square left (scopeOf text starts ends names) (h .start) (h .end)) to before after g t → Room text (g .at) t
+-- behind `[c]`, whose bracket is the token h, there is room for a byte
+pub square-fits : (text starts ends : List ℕ) (names : Names) (left at to : ℕ) {t u v : ℕ} {before after : List ℕ} {p r : Step} {g h : Lookahead} → p ≡ Done g v → Parses text codeC (square left (scopeOf text starts ends names) (h .start) (h .end)) u before after p → r ≡ Done h t → r ≡ stepAt (tokenAt text at) at to → h .kind ≡ kindNumber openSquare → Declared starts ends names → Room text at u → v < 2 ^ 32
 unfolding is kindNumber
-room-square {text} d left {to} {h = h} r k e a =
-    let mv = token-at-moved text (h .at) (k .kind) (h .start) (h .end) (r .within) (k .read) in
-    let i : h .start < h .end = mv .3 (not-end (k .kind) openSquare refl (told k openSquare e)) in
-    let s : Room text (h .start) to = record { short = r .short; within = omega arith; room = omega arith } in
-    room-after s (square-grown _ (few-names text d) left (h .start) (h .end) i (mv .2)) a
+square-fits text starts ends names left at to {u = u} {h = h} i c d e m declared room =
+    let k = known (ahead-stands text at to d e) in
+    let q = room-at text at to d e room in
+    let mv = token-at-moved text (h .at) (k .kind) (h .start) (h .end) (q .within) (k .read) in
+    let wide : h .start < h .end = mv .3 (not-end (k .kind) openSquare refl (told k openSquare m)) in
+    let begun : Room text (h .start) u = record { short = q .short; within = omega arith; room = omega arith } in
+    omega (arith, room-fits (room-after begun (square-grown _ (few-names text declared) left (h .start) (h .end) wide (mv .2)) (accepted-by c i)))

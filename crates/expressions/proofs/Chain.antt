@@ -3,11 +3,11 @@
 use mathlib.Core.Path.{_≡_, refl, ap, sym, _∙_, subst}
 use mathlib.Core.List.{List, [], _∷_, _++_, append-assoc, append-nil}
 use mathlib.Core.Option.{Option, none, some}
-use Prim.Native.Nat.{ℕ, zero, suc, _+_, _<_}
+use Prim.Native.Nat.{ℕ, zero, suc, _+_, _-_, _^_, _<_}
 use native.Mathlib.Nat.{add-zero}
 use native.Mathlib.Omega.{arith}
-use lib.ListN.{length, set, length-append}
-use lib.Seq.{sets}
+use lib.ListN.{length, set, length-append, length-set}
+use lib.Seq.{sets, length-sets}
 use Rattle.limits.specs.Limits.{noToken}
 use Rattle.lexer.specs.Token.{Kind, ending, token, fault}
 use Rattle.lexer.specs.Lexer.{tokenAt}
@@ -18,7 +18,7 @@ use Rattle.expressions.specs.declared.Step.{Step}
 use Rattle.expressions.specs.declared.Step.the-variants.{Done, Refused}
 use Rattle.expressions.specs.Steps.{Parses, Room}
 use Rattle.expressions.specs.Internal.{Stands, codeOf, Codes}
-use Rattle.expressions.proofs.Steps.{sets-append, lookedAhead, Refuses, Known, known, Accepted, accepts, passed, then-refused, room-after, room-next, room-more}
+use Rattle.expressions.proofs.Steps.{sets-append, lookedAhead, Refuses, Known, known, Accepted, accepted-by, accepts, passed, then-refused, room-fits, room-after, room-next, room-more}
 
 -- ---- operators
 
@@ -62,11 +62,16 @@ pub record Chained {O A : Type 0} (code : A → List ℕ) (join : O → A → A 
   pub count : t ≡ t₀ + length tail
   pub fuels : length text < fuel + n
 
+-- an operand takes no more room than the text that it is read from
+abbrev pub Grows : {A : Type 0} → (A → List ℕ) → (ℕ → Parsed A) → List ℕ → Type 0
+Grows code operand text = (at to : ℕ) → Room text at to → Grown code (length text) at (operand at)
+
 -- the invariant of the loop: h is the token behind what was read
 pub record Turn {O A : Type 0} (code : A → List ℕ) (join : O → A → A → A) (operator : Kind → Option O) (operand : ℕ → Parsed A) (text : List ℕ) (out₀ : List ℕ) (h₀ : Lookahead) (t₀ : ℕ) (out : List ℕ) (h : Lookahead) (t : ℕ) : Type 0 where
   pub room : Room text (h .at) t
   pub stands : Stands text h
   pub size : length out ≡ length out₀
+  pub grows : Grows code operand text
   pub chained : (a₀ : A) → Chained code join operator operand text a₀ (h₀ .at) t₀ out₀ (h .at) t out
 
 module _ {O A : Type 0} {code : A → List ℕ} {join : O → A → A → A} {operator : Kind → Option O} {number : O → ℕ} (ops : Operators code join operator number) (operand : ℕ → Parsed A) (text : List ℕ) where
@@ -97,11 +102,12 @@ module _ {O A : Type 0} {code : A → List ℕ} {join : O → A → A → A} {op
   chain-first at c e = passed c e (first-refuses at)
 
   -- the loop begins
-  pub turn-first : {at to : ℕ} {before out : List ℕ} {h : Lookahead} {t : ℕ} → Room text at to → Grown code (length text) at (operand at) → Accepted text code (operand at) to before out h t → Turn code join operator operand text out h t out h t
-  turn-first {t = t} r g a = record {
-    room = room-after r g a;
-    stands = a .stands;
+  pub turn-first : {at to : ℕ} {before out : List ℕ} {r : Step} {h : Lookahead} {t : ℕ} → Grows code operand text → Room text at to → Parses text code (operand at) to before out r → r ≡ Done h t → Turn code join operator operand text out h t out h t
+  turn-first {at} {to} {t = t} g m p i = record {
+    room = room-after m (g at to m) (accepted-by p i);
+    stands = accepted-by p i .stands;
     size = refl;
+    grows = g;
     chained = λ a₀. record {
       fuel = suc (length text);
       tree = a₀;
@@ -141,17 +147,20 @@ module _ {O A : Type 0} {code : A → List ℕ} {join : O → A → A → A} {op
       sign z = operator-some operator number (here .kind) c (e (here .kind) (here .number)) z
 
       -- no operator: the chain ends here
-      pub turn-done : {at to : ℕ} {before : List ℕ} → Accepted text code (operand at) to before out₀ h₀ t₀ → c ≡ 0 → Parses text code (chain join operator operand text at) to before out (Done h t)
-      turn-done {to = to} {before = before} a z =
+      ends : {at to : ℕ} {before : List ℕ} → Accepted text code (operand at) to before out₀ h₀ t₀ → c ≡ 0 → Accepted text code (chain join operator operand text at) to before out h t
+      ends {to = to} {before = before} a z =
           let d = w .chained (a .tree) in
           let i : operator (here .kind) ≡ none = operator-none operator number (here .kind) c (e (here .kind) (here .number)) (ops .some-code) z in
-          accepts (record {
+          record {
             tree = d .tree;
             is = come a ∙ rest-none (d .fuel) (d .tree) here i;
             stands = w .stands;
             count = rw (d .spelt) (simp length-append (omega (arith, d .count, a .count)));
             wrote = d .wrote ∙ rw (a .wrote, a .count, d .spelt) (sym (sets-append before to (code (a .tree)) (d .tail)));
-          })
+          }
+
+      pub turn-done : {at to : ℕ} {before : List ℕ} {r : Step} → Parses text code (operand at) to before out₀ r → r ≡ Done h₀ t₀ → c ≡ 0 → Parses text code (chain join operator operand text at) to before out (Done h t)
+      turn-done p f z = accepts (ends (accepted-by p f) z)
 
       -- the operand that follows is refused
       module _ (z : c ≡ 0 → ⊥) where
@@ -163,19 +172,28 @@ module _ {O A : Type 0} {code : A → List ℕ} {join : O → A → A → A} {op
             (λ f. subst (λ (p : Parsed A). Refuses text p k q) (sym (rest-some f (w .chained (a .tree) .tree) here (o .which) (o .is)))
             (then-refused text _ (λ b. rest-fault f (join (o .which) (w .chained (a .tree) .tree) b)) (operand (h .end)) r)))
 
-        pub turn-refused : {at to u : ℕ} {before b x after : List ℕ} {r : Step} {k q : ℕ} → Accepted text code (operand at) to before out₀ h₀ t₀ → Parses text code (operand (h .end)) u b x r → r ≡ Refused k q → Parses text code (chain join operator operand text at) to before after r
-        turn-refused a d i = passed d i (operand-refuses a)
+        pub turn-refused : {at to u : ℕ} {before b x after : List ℕ} {r s : Step} {k q : ℕ} → Parses text code (operand at) to before out₀ r → r ≡ Done h₀ t₀ → Parses text code (operand (h .end)) u b x s → s ≡ Refused k q → Parses text code (chain join operator operand text at) to before after s
+        turn-refused p f d i = passed d i (operand-refuses (accepted-by p f))
 
         -- the operand that follows is accepted
-        module _ {out′ : List ℕ} {g : Lookahead} {u : ℕ} (grown : Grown code (length text) (h .end) (operand (h .end))) (b : Accepted text code (operand (h .end)) t out out′ g u) where
+        module _ {out′ : List ℕ} {s : Step} {g : Lookahead} {u : ℕ} (d : Parses text code (operand (h .end)) t out out′ s) (done : s ≡ Done g u) where
+          b : Accepted text code (operand (h .end)) t out out′ g u
+          b = accepted-by d done
+
           no-end : here .kind ≡ ending → ⊥
           no-end i =
               let f : operator ending ≡ some (sign z .which) = ap operator (sym i) ∙ sign z .is in
               let y : _≡_ {A = ℕ} 0 1 = cc (ops .none-ends) in
               omega arith
 
-          pub turn-room : Room text (g .at) (u + 1) × (h .at < g .at)
-          turn-room = room-more (w .room) here no-end grown b
+          turn-room : Room text (g .at) (u + 1) × (h .at < g .at)
+          turn-room = room-more (w .room) here no-end (w .grows (h .end) t turn-next) b
+
+          pub turn-fits : u < 2 ^ 32
+          turn-fits = omega (arith, room-fits (turn-room .0))
+
+          pub turn-less : length text - g .at < length text - h .at
+          turn-less = omega (arith, turn-room .0 .within, turn-room .1)
 
           module _ {out″ : List ℕ} (put : out″ ≡ set out′ u c) where
             wrote-more : (tail : List ℕ) → out ≡ sets out₀ t₀ tail → t ≡ t₀ + length tail → out″ ≡ sets out₀ t₀ (tail ++ (code (b .tree) ++ (number (sign z .which) ∷ [])))
@@ -198,11 +216,12 @@ module _ {O A : Type 0} {code : A → List ℕ} {join : O → A → A → A} {op
               fuels = omega (arith, turn-room .1);
             }
 
-            pub turn-more : {v : ℕ} → v ≡ u + 1 → length out″ ≡ length out → Turn code join operator operand text out₀ h₀ t₀ out″ g v
-            turn-more {v} i l =
-                subst (Turn code join operator operand text out₀ h₀ t₀ out″ g) (sym i) (record {
+            pub turn-more : {v : ℕ} → v ≡ u + 1 → Turn code join operator operand text out₀ h₀ t₀ out″ g v
+            turn-more {v} j =
+                subst (Turn code join operator operand text out₀ h₀ t₀ out″ g) (sym j) (record {
                   room = turn-room .0;
                   stands = b .stands;
-                  size = l ∙ w .size;
+                  size = rw (put, b .wrote) (simp (length-set, length-sets) (w .size));
+                  grows = w .grows;
                   chained = λ a₀. let d = w .chained a₀ in chained-more a₀ (d .fuel) (d .tree) (d .tail) (d .same) (d .spelt) (d .wrote) (d .count) (d .fuels);
                 })

@@ -2,7 +2,7 @@
 use mathlib.Core.Path.{_≡_, refl, ap, sym, _∙_, subst}
 use mathlib.Core.List.{List, [], _∷_, _++_}
 use mathlib.Core.Bool.{true, false}
-use Prim.Native.Nat.{ℕ, suc, _+_, _≤_, _<_}
+use Prim.Native.Nat.{ℕ, suc, _+_, _^_, _<_}
 use native.Mathlib.Nat.{add-zero}
 use native.Mathlib.Omega.{arith}
 use lib.ListN.{length, set, length-append}
@@ -207,15 +207,17 @@ ahead-none text at to {q = q} e i =
     let f : fault q ≡ tokenAt text at = ap tokenRead (sym i) ∙ e in
     rw (← f)
 
-module _ (text : List ℕ) (at to : ℕ) {r : Step} (e : r ≡ stepAt (tokenAt text at) at to) where
-  pub ahead-token : {h : Lookahead} {t : ℕ} → r ≡ Done h t → (h .at ≡ at) × Stands text h
-  ahead-token {h} d =
-      let s = stands-at at to (tokenAt text at) (sym d ∙ e) in
-      (s .0, subst (λ (m : ℕ). Done h 0 ≡ stepAt (tokenAt text m) m 0) (sym (s .0)) (s .2))
+module _ (text : List ℕ) (at to : ℕ) {r : Step} where
+  module _ {h : Lookahead} {t : ℕ} (d : r ≡ Done h t) (e : r ≡ stepAt (tokenAt text at) at to) where
+    pub ahead-at : h .at ≡ at
+    ahead-at = stands-at at to (tokenAt text at) (sym d ∙ e) .0
+
+    pub ahead-stands : Stands text h
+    ahead-stands = subst (λ (m : ℕ). Done h 0 ≡ stepAt (tokenAt text m) m 0) (sym ahead-at) (stands-at at to (tokenAt text at) (sym d ∙ e) .2)
 
   -- what stands there is no token, and the part that begins with it is refused
-  pub ahead-fault : {A : Type 0} {code : A → List ℕ} {p : Parsed A} {u : ℕ} {before after : List ℕ} {k q : ℕ} → r ≡ Refused k q → ((m : ℕ) → tokenAt text at ≡ fault m → p ≡ refused noToken m) → Parses text code p u before after r
-  ahead-fault {p = p} {k = k} {q = q} d f = answers d (refuses (refused-now (go (tokenAt text at) refl (sym d ∙ e))))
+  pub ahead-fault : {A : Type 0} {code : A → List ℕ} {p : Parsed A} {u : ℕ} {before after : List ℕ} {k q : ℕ} → r ≡ Refused k q → r ≡ stepAt (tokenAt text at) at to → ((m : ℕ) → tokenAt text at ≡ fault m → p ≡ refused noToken m) → Parses text code p u before after r
+  ahead-fault {p = p} {k = k} {q = q} d e f = answers d (refuses (refused-now (go (tokenAt text at) refl (sym d ∙ e))))
     where
       go : (w : Read) → tokenAt text at ≡ w → Refused k q ≡ stepAt w at to → p ≡ refused k q
       go (token w s m) i c = done-refused (sym c)
@@ -293,9 +295,9 @@ module _ {A : Type 0} {text : List ℕ} {code : A → List ℕ} {p : Parsed A} {
 
 -- ---- room
 
--- where a token was read
-pub room-at : {text : List ℕ} {at n to : ℕ} → n ≡ at → Room text at to → Room text n to
-room-at {text} {to = to} e r = subst (λ (n : ℕ). Room text n to) (sym e) r
+-- an instruction's bytes can be counted
+pub room-fits : {text : List ℕ} {at to : ℕ} → Room text at to → to + 1 < 2 ^ 31
+room-fits r = omega arith
 
 -- behind an accepted part
 pub room-after : {A : Type 0} {text : List ℕ} {code : A → List ℕ} {p : Parsed A} {to : ℕ} {before after : List ℕ} {at t : ℕ} {h : Lookahead} → Room text at to → Grown code (length text) at p → Accepted text code p to before after h t → Room text (h .at) t
@@ -310,8 +312,8 @@ module _ {text : List ℕ} {h : Lookahead} {to : ℕ} (r : Room text (h .at) to)
       let mv = token-at-moved text (h .at) (k .kind) (h .start) (h .end) (r .within) (k .read) in
       record { short = r .short; within = mv .2; room = omega arith }
 
-  pub token-within : h .start ≤ length text
-  token-within =
+  pub token-fits : h .start < 2 ^ 31
+  token-fits =
       let mv = token-at-moved text (h .at) (k .kind) (h .start) (h .end) (r .within) (k .read) in
       omega arith
 
@@ -322,3 +324,11 @@ module _ {text : List ℕ} {h : Lookahead} {to : ℕ} (r : Room text (h .at) to)
       let i = mv .3 e in
       let g′ = subst (Grown code (length text) (h .end)) (a .is) g in
       (record { short = r .short; within = g′ .1; room = omega (arith, a .count) }, omega arith)
+
+-- at the token that `ahead` read, and behind it
+module _ (text : List ℕ) (at to : ℕ) {r : Step} {h : Lookahead} {t u : ℕ} (d : r ≡ Done h t) (e : r ≡ stepAt (tokenAt text at) at to) (m : Room text at u) where
+  pub room-at : Room text (h .at) u
+  room-at = subst (λ (n : ℕ). Room text n u) (sym (ahead-at text at to d e)) m
+
+  pub room-behind : Room text (h .end) u
+  room-behind = room-next room-at (known (ahead-stands text at to d e))

@@ -26,11 +26,12 @@ use Rattle.grammar.specs.Emitted.{codeE}
 use Rattle.grammar.proofs.Growth.{Grown, products-end, sums-end, primary-grown, factor-grown, term-grown, expression-grown, bracket-grown}
 use Rattle.expressions.specs.declared.Lookahead.{Lookahead}
 use Rattle.expressions.specs.declared.Step.{Step}
+use Rattle.expressions.specs.declared.Step.the-variants.{Done, Refused}
 use Rattle.expressions.specs.declared.scope.Names.{Names}
 use Rattle.expressions.specs.Scopes.{scopeOf, Declared}
 use Rattle.expressions.specs.Steps.{stepAt, Parses, Room}
-use Rattle.expressions.specs.Internal.{textOnly, primaryIn, factorIn, termIn, expressionIn}
-use Rattle.expressions.proofs.Steps.{lookedAhead, Refuses, Known, told, untold, Accepted, then-refused, closing, ended, one-more}
+use Rattle.expressions.specs.Internal.{textOnly, closedStep, primaryIn, factorIn, termIn, expressionIn}
+use Rattle.expressions.proofs.Steps.{lookedAhead, Refuses, Known, known, told, untold, Accepted, accepted-by, accepts, answers, same-part, passed, then-refused, ahead-at, ahead-stands, closing, closed-parses, ended, one-more, room-fits, room-after}
 use Rattle.expressions.proofs.Scopes.{few-names}
 use Rattle.expressions.proofs.Chain.{Operators}
 
@@ -130,18 +131,14 @@ previous-code i = refl
 
 -- ---- factors and primaries
 
+number-text : (sc : Scope) (s n : ℕ) → numberAt sc s n ≡ numberAt (textOnly (sc .text)) s n
+unfolding numberAt
+number-text sc s n = refl
+
 module _ (inner : ℕ → ℕ → Parsed Expression) (sc : Scope) {h : Lookahead} (k : Known (sc .text) h) where
-  pub factor-minus : {at n : ℕ} → h .at ≡ at → h .kind ≡ kindNumber minus → n ≡ h .end → factor inner sc at ≡ negative (primary inner sc n)
-  unfolding factor
-  factor-minus i e j = rw (← i, j, k .read, told k minus e)
-
-  pub factor-plain : {at : ℕ} → h .at ≡ at → (h .kind ≡ kindNumber minus → ⊥) → factor inner sc at ≡ primary inner sc (h .at)
-  unfolding factor
-  factor-plain i e = rw (← i, k .read, untold k minus e)
-
-  pub primary-number : h .kind ≡ kindNumber digits → primary inner sc (h .at) ≡ numberAt sc (h .start) (h .end)
+  pub primary-number : h .kind ≡ kindNumber digits → primary inner sc (h .at) ≡ numberAt (textOnly (sc .text)) (h .start) (h .end)
   unfolding primary
-  primary-number e = rw (k .read, told k digits e)
+  primary-number e = rw (k .read, told k digits e) (number-text sc (h .start) (h .end))
 
   module _ (n1 : h .kind ≡ kindNumber digits → ⊥) where
     pub primary-current : h .kind ≡ kindNumber name → primary inner sc (h .at) ≡ currentAt sc (h .start) (h .end)
@@ -162,19 +159,6 @@ module _ (inner : ℕ → ℕ → Parsed Expression) (sc : Scope) {h : Lookahead
         unfolding primary
         primary-none n4 = rw (k .read, untold k digits n1, untold k name n2, untold k T.previous n3, untold k openRound n4)
 
-module _ (inner : ℕ → ℕ → Parsed Expression) (sc : Scope) (at q : ℕ) (e : tokenAt (sc .text) at ≡ fault q) where
-  pub factor-fault : factor inner sc at ≡ refused noToken q
-  unfolding factor
-  factor-fault = rw e
-
-  pub negative-fault : negative (primary inner sc at) ≡ refused noToken q
-  unfolding negative primary
-  negative-fault = rw e
-
-pub number-text : (sc : Scope) (s n : ℕ) → numberAt sc s n ≡ numberAt (textOnly (sc .text)) s n
-unfolding numberAt
-number-text sc s n = refl
-
 -- ---- brackets
 
 down : (d : ℕ) → suc d - 1 ≡ d
@@ -185,26 +169,69 @@ module _ (sc : Scope) (s n : ℕ) where
   unfolding bracket
   bracket-none left e = rw e
 
-  pub bracket-some : (left : ℕ) → (left ≡ 0 → ⊥) → bracket left sc s n ≡ closing (sc .text) closeRound (expressionIn (left - 1) sc n)
+  bracket-some : (left : ℕ) → (left ≡ 0 → ⊥) → bracket left sc s n ≡ closing (sc .text) closeRound (expressionIn (left - 1) sc n)
   unfolding bracket closing
   bracket-some zero e = absurd (e refl)
   bracket-some (suc d) e = ap (λ (x : ℕ). andThen (expressionIn x sc n) (λ a m. followed (sc .text) (sign closeRound ∷ []) a m)) (sym (down d))
 
+pub bracket-closes : (text starts ends : List ℕ) (names : Names) (s n left : ℕ) {to : ℕ} {before after : List ℕ} {part r : Step} → (left ≡ 0 → ⊥) → r ≡ closedStep text (kindNumber closeRound) part → Parses text codeE (expressionIn (left - 1) (scopeOf text starts ends names) n) to before after part → Parses text codeE (bracket left (scopeOf text starts ends names) s n) to before after r
+bracket-closes text starts ends names s n left z e c = same-part (bracket-some (scopeOf text starts ends names) s n left z) (answers e (closed-parses closeRound _ c))
+
 -- ---- the opposite
 
 module _ {text : List ℕ} {p : Parsed Expression} where
-  pub negative-refuses : {k q : ℕ} → Refuses text p k q → Refuses text (negative p) k q
+  negative-refuses : {k q : ℕ} → Refuses text p k q → Refuses text (negative p) k q
   unfolding negative lookedAhead
   negative-refuses r = then-refused text _ (λ a n q e. record { looked = rw e }) p r
 
-  pub negative-accepts : {to : ℕ} {before after : List ℕ} {h : Lookahead} {t u : ℕ} {last : List ℕ} → Accepted text codeE p to before after h t → u ≡ t + 1 → last ≡ set after t 9 → Accepted text codeE (negative p) to before last h u
+  negative-accepts : {to : ℕ} {before after : List ℕ} {h : Lookahead} {t u : ℕ} {last : List ℕ} → Accepted text codeE p to before after h t → u ≡ t + 1 → last ≡ set after t 9 → Accepted text codeE (negative p) to before last h u
   unfolding negative codeE
   negative-accepts a e f = one-more a (negate (a .tree)) 9 (rw (a .is)) refl e f
+
+-- ---- factors
+
+module _ (text starts ends : List ℕ) (names : Names) (left at : ℕ) where
+  abbrev sc : Scope
+  sc = scopeOf text starts ends names
+
+  pub factor-fault : (q : ℕ) → tokenAt text at ≡ fault q → factorIn left sc at ≡ refused noToken q
+  unfolding factor
+  factor-fault q e = rw e
+
+  -- `ahead` read the token h there
+  module _ (to : ℕ) {t : ℕ} {r : Step} {h : Lookahead} (d : r ≡ Done h t) (e : r ≡ stepAt (tokenAt text at) at to) where
+    here : Known text h
+    here = known (ahead-stands text at to d e)
+
+    pub factor-plain : (h .kind ≡ kindNumber minus → ⊥) → factorIn left sc at ≡ primaryIn left sc (h .at)
+    unfolding factor
+    factor-plain n = rw (← ahead-at text at to d e, here .read, untold here minus n)
+
+    module _ (m : h .kind ≡ kindNumber minus) where
+      factor-minus : factorIn left sc at ≡ negative (primaryIn left sc (h .end))
+      unfolding factor
+      factor-minus = rw (← ahead-at text at to d e, here .read, told here minus m)
+
+      pub minus-fault : (q : ℕ) → tokenAt text (h .end) ≡ fault q → factorIn left sc at ≡ refused noToken q
+      unfolding negative primary
+      minus-fault q i = factor-minus ∙ rw i
+
+      -- and the token g behind a `-`, with which the operand begins
+      module _ (u : ℕ) {w : ℕ} {s : Step} {g : Lookahead} (d′ : s ≡ Done g w) (e′ : s ≡ stepAt (tokenAt text (h .end)) (h .end) u) where
+        minus-operand : factorIn left sc at ≡ negative (primaryIn left sc (g .at))
+        minus-operand = rw (ahead-at text (h .end) u d′ e′) factor-minus
+
+        module _ {v : ℕ} {before after : List ℕ} {p : Step} (c : Parses text codeE (primaryIn left sc (g .at)) v before after p) where
+          pub minus-refuses : {k q l : ℕ} {first last : List ℕ} → p ≡ Refused k q → Parses text codeE (factorIn left sc at) l first last p
+          minus-refuses i = same-part minus-operand (passed c i negative-refuses)
+
+          pub minus-accepts : {l : Lookahead} {n x : ℕ} {last : List ℕ} → p ≡ Done l n → (x ≡ n + 1) × (last ≡ set after n 9) → Parses text codeE (factorIn left sc at) v before last (Done l x)
+          minus-accepts i f = same-part minus-operand (accepts (negative-accepts (accepted-by c i) (f .0) (f .1)))
 
 -- ---- growth
 
 module _ {text starts ends : List ℕ} {names : Names} (d : Declared starts ends names) (left : ℕ) {at to : ℕ} (r : Room text at to) where
-  pub primary-grows : Grown codeE (length text) at (primaryIn left (scopeOf text starts ends names) at)
+  primary-grows : Grown codeE (length text) at (primaryIn left (scopeOf text starts ends names) at)
   primary-grows = primary-grown _ (few-names text d) _ (bracket-grown _ (few-names text d) left) at (r .within)
 
   pub factor-grows : Grown codeE (length text) at (factorIn left (scopeOf text starts ends names) at)
@@ -215,3 +242,7 @@ module _ {text starts ends : List ℕ} {names : Names} (d : Declared starts ends
 
   pub expression-grows : Grown codeE (length text) at (expressionIn left (scopeOf text starts ends names) at)
   expression-grows = expression-grown _ (few-names text d) _ (bracket-grown _ (few-names text d) left) at (r .within)
+
+-- behind a primary there is room for a byte
+pub primary-fits : (text starts ends : List ℕ) (names : Names) (left : ℕ) {at to u : ℕ} {before after : List ℕ} {r : Step} {h : Lookahead} → r ≡ Done h u → Parses text codeE (primaryIn left (scopeOf text starts ends names) at) to before after r → Declared starts ends names → Room text at to → u < 2 ^ 32
+primary-fits text starts ends names left e c d m = omega (arith, room-fits (room-after m (primary-grows d left m) (accepted-by c e)))
