@@ -1,10 +1,8 @@
--- Worked examples of texts: the number and place of each refusal, and the images of the latches L1, L2 and L5 of document 01. Two
--- tables, each under one statement, proved by computing the definitions. Assumes nothing.
+-- The worked examples of texts hold: the answers of ExampleTexts, and the images of the latches L1, L2 and L5 of document 01. Two tables,
+-- each under one statement, proved by computing the definitions. Assumes nothing.
 use mathlib.Core.Path.{_≡_, refl}
-use mathlib.Core.List.{List, [], _∷_, _++_}
-use Prim.Native.Nat.{ℕ, zero, suc, _+_, _/_, _%_}
-use Prim.Native.String.{String}
-use lib.ListN.{length}
+use mathlib.Core.List.{List, [], _∷_}
+use Prim.Native.Nat.{ℕ}
 use Rattle.limits.specs.Answer.{Answer, accepted, refused}
 use Rattle.lexer.specs.Bytes.{bytes, sameBytes}
 use Rattle.lexer.specs.Token.{is, kindNumber}
@@ -19,13 +17,9 @@ use Rattle.grammar.specs.Conditions.{comparisonOf, compared, comparisonA
 use Rattle.grammar.specs.Declarations.{inRange, signedAt, boundAt, newName, startAt, declaration, declarationsFrom, declarations}
 use Rattle.grammar.specs.Rules.{caseAt, casesFrom, listFrom, plainList, partFrom, kindAt, partsFrom, settled, agreeingList, functionAt, changeAt, formulas, ruleAt, rulesFrom}
 use Rattle.grammar.specs.Parse.{program, parse, programOf}
+use Rattle.grammar.proofs.ExampleTexts.{Example, numberOrder, afterChange, longNames, manyNames, missingRules, numbers, longestMatch, manyBrackets, manyCases, examples, round, computing}
 
 -- ---- the two statements
-
--- a text and its answer, without the program
-pub record Example : Type 0 where
-  pub text : List ℕ
-  pub answer : Answer (Unit {0})
 
 abbrev pub verdict : Answer Program → Answer (Unit {0})
 verdict (accepted p) = accepted tt
@@ -70,229 +64,7 @@ hold : (es : List Example) → answersOf es ≡ wanted es → Every Holds es
 hold [] h = tt
 hold (e ∷ es) h = (first h, hold es (others h))
 
--- ---- texts
-
-abbrev times : ℕ → List ℕ → List ℕ
-times zero l = []
-times (suc n) l = l ++ times n l
-
--- a text that is refused where its second part begins, and one that is accepted
-abbrev at : List ℕ → ℕ → String → Example
-at before number after = record { text = before ++ bytes after; answer = refused number (length before) }
-
-abbrev fine : List ℕ → Example
-fine text = record { text = text; answer = accepted tt }
-
-abbrev D : List ℕ
-D = bytes "input i 0..1; var v 0..1; var w 0..1; "
-
-abbrev C : List ℕ
-C = bytes "v: GX(~(v = _v) -> [_v = 0 & i = 1] & v = (1) | [_v = 1] & v = (0)); "
-
-abbrev N : List ℕ
-N = bytes "v: GX(v = _v -> ~("
-
--- after the declarations; after a change formula; inside `~( )`; in the expression of a function
-abbrev declared : String → ℕ → String → Example
-declared before number after = at (D ++ bytes before) number after
-
-abbrev changed : String → ℕ → String → Example
-changed before number after = at (D ++ C ++ bytes before) number after
-
-abbrev listing : String → ℕ → String → Example
-listing before number after = at (D ++ C ++ N ++ bytes before) number after
-
-abbrev working : String → ℕ → String → Example
-working before number after = at (D ++ bytes "w: GX(w = (" ++ bytes before) number after
-
--- whole rules of w and v
-abbrev ruleW : List ℕ
-ruleW = bytes "w: GX(w = (0)); "
-
-abbrev ruleV : List ℕ
-ruleV = C ++ N ++ bytes "[_v = 0 & i = 1] | [_v = 1])); "
-
--- a name of 17 bytes, and one of 16
-abbrev long : String
-long = "abcdefghijklmnopq"
-
-abbrev short : String
-short = "abcdefghijklmnop"
-
--- n inputs a0, a1, ..
-abbrev inputs : ℕ → List ℕ
-inputs zero = []
-inputs (suc n) = inputs n ++ bytes "input " ++ ((97 + n / 10) ∷ (48 + n % 10) ∷ bytes " 0..0;")
-
--- one variable; l in n brackets
-abbrev one : List ℕ
-one = bytes "var v 0..1; "
-
-abbrev round : ℕ → List ℕ → List ℕ
-round n l = times n (bytes "(") ++ l ++ times n (bytes ")")
-
-abbrev squared : ℕ → List ℕ → List ℕ
-squared n l = times n (bytes "[") ++ l ++ times n (bytes "]")
-
--- the rule of v with the condition c and the value e, and the function e
-abbrev latched : List ℕ → List ℕ → List ℕ
-latched c e = one ++ bytes "v: GX(~(v = _v) -> [" ++ c ++ bytes "] & v = (" ++ e ++ bytes ")); v: GX(v = _v -> ~([" ++ c ++ bytes "]));"
-
-abbrev computing : List ℕ → List ℕ
-computing e = one ++ bytes "v: GX(v = (" ++ e ++ bytes "));"
-
--- a change formula as far as its n-th case and the `|` after it
-abbrev cases : ℕ → List ℕ
-cases n = one ++ bytes "v:GX(~(v=_v)->" ++ times n (bytes "[1=1]&v=(1)|")
-
--- a whole one of n cases and one, and its no-change formula as far as n conditions and one
-abbrev kept : ℕ → List ℕ
-kept n = cases n ++ bytes "[1=1]&v=(1));" ++ bytes "v:GX(v=_v->~(" ++ times n (bytes "[1=1]|") ++ bytes "[1=1]"
-
 -- ---- the table of answers
-
--- In number order at each token, inside `~( )` too: 1, 2, 3, 4, 5, then 7, then 8. An early end is 2.
-abbrev numberOrder : List Example
-numberOrder =
-    listing "" 2 "i"
-    ∷ listing "[" 2 "]"
-    ∷ listing "[_v = 0 & i = 1] " 2 "&"
-    ∷ listing "[_v = 0 & i = 1]" 2 ""
-    ∷ listing "" 2 ""
-    ∷ listing "[_v = " 3 "2147483648"
-    ∷ listing "[" 4 "zz"
-    ∷ listing "[" 4 "_zz"
-    ∷ listing "[" 5 "w"
-    ∷ listing "[" 5 "v"
-    ∷ listing "[" 7 "i"
-    ∷ listing "[_v = " 7 "00"
-    ∷ listing "[_v = 0" 7 "]"
-    ∷ listing "[_v = 0 & i = 1]" 7 ")"
-    ∷ listing "[_v = 0 & i = 1] | [_v = 1] " 7 "|"
-    ∷ listing "[" 7 long
-    ∷ listing "[" 7 "("
-    ∷ at (one ++ bytes "v: GX(~(v = _v) -> [" ++ round 16 (bytes "1") ++ bytes " = 1] & v = (1)); v: GX(v = _v -> ~([" ++ times 16 (bytes "(")) 7 "("
-    ∷ listing "[" 1 "_mod"
-    ∷ fine (D ++ ruleV ++ ruleW)
-    ∷ []
-
--- After a change formula anything but its own no-change formula is 2, and so is a wrong repeated name, whatever it is.
-abbrev afterChange : List Example
-afterChange =
-    changed "" 2 ""
-    ∷ changed "" 2 "w: GX("
-    ∷ changed "" 2 "zz: GX("
-    ∷ changed "" 2 long
-    ∷ at (D ++ ruleW ++ C) 2 "w: GX("
-    ∷ changed "v: GX(" 2 "~(v = _v)"
-    ∷ declared "v: GX(v = " 2 "_v -> ~([_v = 0]));"
-    ∷ declared "v: GX(" 2 "w = (1));"
-    ∷ declared "v: GX(" 2 "zz = (1));"
-    ∷ declared "v: GX(" 2 long
-    ∷ declared "v: GX(~(v = " 2 "v)"
-    ∷ declared "v: GX(~(v = " 2 "_w)"
-    ∷ []
-
--- An over-long name is 8 in a declaration, as a rule's name and as a value, and 2 where a name is repeated.
-abbrev longNames : List Example
-longNames =
-    at (bytes "input ") 8 long
-    ∷ declared "" 8 long
-    ∷ working "" 8 long
-    ∷ working "" 8 "_abcdefghijklmnopq"
-    ∷ fine (bytes "input " ++ bytes short ++ bytes " 0..1;")
-    ∷ []
-
--- The 65th name is 8, but 4 if it is declared already.
-abbrev manyNames : List Example
-manyNames =
-    at (inputs 64 ++ bytes "input ") 8 "z 0..0;"
-    ∷ at (inputs 64 ++ bytes "var ") 4 "a0 0..0;"
-    ∷ at (inputs 2 ++ bytes "var ") 4 "a0 0..0;"
-    ∷ []
-
--- A variable without rule is 6 at the end, its white space included; an unfinished rule is 2 there.
-abbrev missingRules : List Example
-missingRules =
-    at (bytes "var v 0..1;") 6 ""
-    ∷ at (bytes "var v 0..1; \n ") 6 ""
-    ∷ at (D ++ ruleV) 6 ""
-    ∷ declared "w: GX(w = (0))" 2 ""
-    ∷ declared "" 6 "i: GX(i = (0));"
-    ∷ at (D ++ ruleW) 6 "w: GX(w = (0));"
-    ∷ at (D ++ ruleV) 6 "v: GX(v = (0));"
-    ∷ working "" 5 "w"
-    ∷ at (D ++ ruleV ++ bytes "w: GX(w = (v + ") 4 "zz"
-    ∷ []
-
--- Digits: leading zeros are free, only the value counts; 3 is at the digits. A start outside is at its digits, or at `;` if absent.
-abbrev numbers : List Example
-numbers =
-    fine (bytes "input a -000..001 init -0;")
-    ∷ fine (bytes "input a -2147483648..2147483647 init -2147483648;")
-    ∷ working "-" 3 "2147483648"
-    ∷ working "" 3 "00000000002147483648"
-    ∷ at (bytes "input a -") 3 "2147483649..0;"
-    ∷ at (bytes "input a 0..") 3 "2147483648;"
-    ∷ at (bytes "input a 1..") 3 "0;"
-    ∷ at (bytes "input a 0..-") 3 "1;"
-    ∷ at (bytes "input a 0..1 init ") 3 "2;"
-    ∷ at (bytes "input a 0..1 init -") 3 "1;"
-    ∷ at (bytes "input a 1..2") 3 ";"
-    ∷ at (bytes "input a 0..1 init ") 2 ";"
-    ∷ at (bytes "input a 0..1 init -") 2 "-1;"
-    ∷ []
-
--- Tokens are read by longest match; a byte of no token, a lone `_` or `.` is 1. Words of the grammar are no names.
-abbrev longestMatch : List Example
-longestMatch =
-    fine (bytes "input modx 0..1; var v 0..1; v: GX(v = (_modx));")
-    ∷ working "" 1 "_mod"
-    ∷ working "i" 2 "_v"
-    ∷ working "1" 2 "i"
-    ∷ at (bytes "input a 0..") 1 ". 1;"
-    ∷ declared "v: GX(~(v = _v) -> [1" 2 "->2"
-    ∷ declared "v: GX(~(v = _v) -> [1 <" 2 "->2"
-    ∷ at (bytes "input v0") 2 "..1;"
-    ∷ at (bytes "input a 0") 1 ".1;"
-    ∷ working "" 1 "_ v"
-    ∷ working "" 1 "_1"
-    ∷ working "" 1 "__v"
-    ∷ working "" 1 "_"
-    ∷ at [] 1 "\u{b}"
-    ∷ at (bytes " ") 1 "\u{c}"
-    ∷ at [] 1 "\0"
-    ∷ at [] 1 "\u{80}"
-    ∷ at [] 1 "ÿ"
-    ∷ at (bytes "input a 0..1; ") 1 "!"
-    ∷ at (bytes "input ") 2 "mod 0..1;"
-    ∷ at (bytes "input ") 2 ""
-    ∷ at [] 4 "inputs 0..1;"
-    ∷ at (bytes "var v 0..1; ") 2 "input a 0..1;"
-    ∷ at (D ++ ruleW) 2 "var a 0..1;"
-    ∷ []
-
--- Brackets of both kinds are counted together, those open at the same time, from 0 in each part that the rule forms show.
-abbrev manyBrackets : List Example
-manyBrackets =
-    at (one ++ bytes "v: GX(v = (" ++ times 16 (bytes "(")) 8 "(1"
-    ∷ fine (computing (times 20 (round 1 (bytes "1") ++ bytes " + ") ++ bytes "1"))
-    ∷ fine (latched (squared 8 (round 8 (bytes "_v") ++ bytes " = 0")) (bytes "1"))
-    ∷ at (one ++ bytes "v: GX(~(v = _v) -> [" ++ times 8 (bytes "[") ++ times 8 (bytes "(")) 8 "(1"
-    ∷ at (one ++ bytes "v: GX(~(v = _v) -> [" ++ times 16 (bytes "[")) 8 "[1 = 1"
-    ∷ at (one ++ bytes "v: GX(~(v = _v) -> [" ++ times 16 (bytes "~[") ++ bytes "~") 8 "[1 = 1"
-    ∷ fine (latched (squared 16 (bytes "_v = 0")) (round 16 (bytes "1")))
-    ∷ []
-
--- The 33rd case is 8 at its bracket; in the no-change list it is 7 at the `|` before it.
-abbrev manyCases : List Example
-manyCases =
-    at (cases 32) 8 "[1=1]&v=(1));"
-    ∷ at (kept 31) 7 "|[1=1]));"
-    ∷ []
-
-abbrev pub examples : List (List Example)
-examples = numberOrder ∷ afterChange ∷ longNames ∷ manyNames ∷ missingRules ∷ numbers ∷ longestMatch ∷ manyBrackets ∷ manyCases ∷ []
 
 -- what a computation opens
 opened : Unit {0}
@@ -377,7 +149,7 @@ latches =
       text = bytes "var v 0..1; v: GX(~(v = _v) -> [_v = 0] & v = (1)); v: GX(v = _v -> ~([_v = 0]));";
       image = 0x00 ∷ 0x01 ∷ 0x00 ∷ 0x02 ∷ 0x00 ∷ 0x03 ∷ 0x00 ∷ 0x01 ∷ 0x00 ∷ 0x0a ∷ 0x13 ∷ 0x01 ∷ 0x02 ∷ 0x14 ∷ 0x00 ∷ 0x16 ∷ 0x00 ∷ [];
     }
-    -- L5: 16 brackets pass (17 are above)
+    -- L5: 16 brackets pass (17 are in ExampleTexts)
     ∷ record { text = computing (round 16 (bytes "1")); image = 0x00 ∷ 0x01 ∷ 0x00 ∷ 0x02 ∷ 0x00 ∷ 0x01 ∷ 0x02 ∷ 0x15 ∷ 0x00 ∷ [] }
     -- operators of one kind are read left to right, `* / mod` before `+ -`
     ∷ record {
