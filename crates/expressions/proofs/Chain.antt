@@ -62,7 +62,7 @@ pub record Chained {O A : Type 0} (code : A → List ℕ) (join : O → A → A 
   pub count : t ≡ t₀ + length tail
   pub fuels : length text < fuel + n
 
--- an operand takes no more room than the text that it is read from
+-- an operand's code takes no more room than the text that it is read from gives
 abbrev pub Grows : {A : Type 0} → (A → List ℕ) → (ℕ → Parsed A) → List ℕ → Type 0
 Grows code operand text = (at to : ℕ) → Room text at to → Grown code (length text) at (operand at)
 

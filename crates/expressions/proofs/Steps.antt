@@ -295,7 +295,7 @@ module _ {A : Type 0} {text : List ℕ} {code : A → List ℕ} {p : Parsed A} {
 
 -- ---- room
 
--- an instruction's bytes can be counted
+-- the bytes written so far can be counted, and one more
 pub room-fits : {text : List ℕ} {at to : ℕ} → Room text at to → to + 1 < 2 ^ 31
 room-fits r = omega arith
 

@@ -129,7 +129,7 @@ pub previous-code : (i : ℕ) → codeE (previous i) ≡ 3 ∷ number i
 unfolding codeE
 previous-code i = refl
 
--- ---- factors and primaries
+-- ---- primaries
 
 number-text : (sc : Scope) (s n : ℕ) → numberAt sc s n ≡ numberAt (textOnly (sc .text)) s n
 unfolding numberAt

@@ -1,5 +1,5 @@
--- The cycle of `conditions::condition`, `conjunction`, `atom`, `inverted` and `square` meets its contracts, each function by the needs that
--- the file of its name answers. Assumes nothing.
+-- The cycle of `conditions::condition`, `conjunction`, `atom`, `inverted` and `square` meets its contracts. The file of a function's
+-- name answers its needs, in the order of the code. Assumes nothing.
 use Rattle.conditions.proofs.+atom+condition+conjunction+inverted+square.{statement}
 use Rattle.conditions.proofs.+atom+condition+conjunction+inverted+square.Tie.{close}
 use Measures.{μ-atom, μ-condition, μ-conjunction, μ-inverted, μ-square}

@@ -1,5 +1,5 @@
--- The cycle of `expressions::expression`, `term`, `factor`, `primary` and `bracket` meets its contracts, each function by the needs that
--- the file of its name answers. Assumes nothing.
+-- The cycle of `expressions::expression`, `term`, `factor`, `primary` and `bracket` meets its contracts. The file of a function's name
+-- answers its needs, in the order of the code. Assumes nothing.
 use Rattle.expressions.proofs.+bracket+expression+factor+primary+term.{statement}
 use Rattle.expressions.proofs.+bracket+expression+factor+primary+term.Tie.{close}
 use Measures.{μ-bracket, μ-expression, μ-factor, μ-primary, μ-term}
