@@ -1,14 +1,14 @@
 -- Laws of signed numbers that the proofs of this crate share. Assumes nothing.
-use mathlib.Core.Path.{_≡_, refl, sym, ap, subst, _∙_}
+use mathlib.Core.Path.{_≡_, refl, sym, ap, _∙_}
 use mathlib.Core.Bool.{Bool, true, false, cond}
 use Prim.Native.Nat.{ℕ, zero, suc, _+_, _*_, _-_, _/_, _%_, _^_, _≤_, _<_}
-use native.Mathlib.Nat.{div-le-self, mul-le-mul, le-trans, le-of-lt, div-add-mod, mul-zero}
+use native.Mathlib.Nat.{div-le-self, mul-le-mul, div-add-mod, mul-zero}
 use native.Mathlib.Omega.{arith}
 use lib.Dec.{T, leb, ltb, eqb}
-use lib.IntN.{ℤ, pos, negsuc, negℤ, natAbs, subℕ, _+ℤ_, _-ℤ_, _*ℤ_, +ℤ-idl, negℤ-+ℤ}
-use lib.Signed.{mag, leZ, ltZ, quotZ, remZ, natAbs-le, mag-rem}
+use lib.IntN.{ℤ, pos, negsuc, negℤ, natAbs, _+ℤ_, _-ℤ_, _*ℤ_, negℤ-+ℤ}
+use lib.Signed.{mag, leZ, quotZ, remZ, natAbs-le, mag-rem}
 use borrow.Author.Tests.{leb-true, le-leb, le-ltb, ne-eqb, eq-eqb, eqb-true}
-use Rattle.arith.specs.Values.{Outcome, _>>=_, eqZ, nonZero, lowest, highest, isInt32}
+use Rattle.arith.specs.Values.{Outcome, _>>=_, eqZ, nonZero, isInt32}
 use Rattle.arith.proofs.Basics.{T-true, true-T, and-left, and-T}
 use mir.Syntax.{w32, w64}
 use mir.Val.{SFits, toZ, ofZ}

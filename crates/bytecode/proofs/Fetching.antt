@@ -8,7 +8,6 @@ use lib.Dec.{ltb}
 use lib.ListN.{length, getD, drop, length-drop}
 use borrow.Author.Tests.{lt-ltb, le-ltb, ltb-true}
 use Rattle.leb128.specs.Numbers.{Found, found, none, grouped, numberIn, Read, got, nothing, below32, numberAt}
-use Rattle.leb128.proofs.Laws.{at-end, at-last}
 use Rattle.bytecode.specs.Instructions.{instructionOf, hasOperand, decoded, fetch}
 use Rattle.bytecode.specs.Results.{Bounded}
 

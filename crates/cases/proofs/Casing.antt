@@ -1,6 +1,6 @@
 -- The ways through the cases of a change formula. Assumes nothing.
 use mathlib.Core.Path.{_≡_, refl, ap, sym, _∙_, subst}
-use mathlib.Core.List.{List, [], _∷_, _++_, append-assoc, append-nil}
+use mathlib.Core.List.{List, [], _∷_, _++_, append-assoc}
 use mathlib.Core.Bool.{Bool, true, false}
 use mathlib.Core.Logic.{_⊎_, inl, inr, ⊎-elim}
 use Prim.Native.Nat.{ℕ, zero, suc, _+_, _-_, _*_, _≤_, _<_}
@@ -11,15 +11,14 @@ use lib.Dec.{ltb}
 use lib.Seq.{sets, getD-set-same, getD-set-other}
 use borrow.Author.Tests.{ltb-true, ltb-false}
 use Rattle.limits.specs.Limits.{caseLimit, noToken, notAllowed, tooMany}
-use Rattle.lexer.specs.Token.{Kind, openSquare, bar, is, Read, token, fault}
+use Rattle.lexer.specs.Token.{Kind, openSquare, bar, is, token, fault}
 use Rattle.lexer.specs.Lexer.{tokenAt}
-use Rattle.lexer.specs.Results.{kindOf, Lies}
-use Rattle.semantics.specs.Program.{Expression, Condition, Case}
-use Rattle.grammar.specs.Parsed.{Parsed, accepted, refused, andThen, onToken, sign, expected, phrase, followed}
+use Rattle.lexer.specs.Results.{kindOf}
+use Rattle.grammar.specs.Parsed.{Parsed, accepted, refused, phrase, followed}
 use Rattle.grammar.specs.Expressions.{Scope, wholeExpression}
 use Rattle.grammar.specs.Conditions.{listed}
-use Rattle.grammar.specs.Rules.{Span, Spanned, caseAt, casesFrom, casesOf}
-use Rattle.grammar.specs.Emitted.{codeE, codeC, codeK}
+use Rattle.grammar.specs.Rules.{Span, Spanned, caseAt, casesFrom}
+use Rattle.grammar.specs.Emitted.{codeC, codeK}
 use Rattle.grammar.proofs.Combine.{then-prop}
 use Rattle.grammar.proofs.Growth.{Grown, listed-grown}
 use Rattle.grammar.proofs.Size.{Pays, case-pays}
@@ -28,7 +27,7 @@ use Rattle.agreement.specs.Spans.{spansIn, spansOf, Spans}
 use Rattle.cases.specs.declared.Part.{Part}
 use Rattle.cases.specs.declared.Part.the-variants.{Done, Refused}
 use Rattle.cases.specs.Post.{Writes, codeOfCase, codeOfCases, endOfCondition, Lists}
-use Rattle.cases.proofs.Parts.{never, same-value, same-end, Got, got, writes, refuses}
+use Rattle.cases.proofs.Parts.{never, same-value, Got, writes, refuses}
 use Rattle.cases.proofs.Ways.{then-bytes}
 use Rattle.cases.proofs.Listing.{Found}
 

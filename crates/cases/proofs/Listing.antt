@@ -1,29 +1,27 @@
 -- The ways through the list of conditions of a no-change formula. Assumes nothing.
-use mathlib.Core.Path.{_≡_, refl, ap, sym, _∙_, subst}
+use mathlib.Core.Path.{_≡_, refl, ap, sym, _∙_}
 use mathlib.Core.List.{List, [], _∷_, _++_}
 use mathlib.Core.Bool.{true, false}
-use Prim.Native.Nat.{ℕ, zero, suc, _+_, _-_, _≤_, _<_}
+use Prim.Native.Nat.{ℕ, zero, suc, _-_, _≤_}
 use native.Mathlib.Omega.{arith}
 use lib.ListN.{length}
 use Rattle.limits.specs.Limits.{caseLimit, noToken, notAllowed, tooMany}
-use Rattle.lexer.specs.Token.{Kind, kindNumber, closeRound, openSquare, bar, is, Read, token, fault}
+use Rattle.lexer.specs.Token.{Kind, kindNumber, closeRound, openSquare, bar, is, token, fault}
 use Rattle.lexer.specs.Lexer.{tokenAt}
 use Rattle.lexer.specs.Results.{kindOf, Lies}
 use Rattle.lexer.specs.declared.Token.{Token}
 use Rattle.lexer.specs.declared.Token.the-variants.{Is}
 use Rattle.lexer.proofs.Tokens.{Answers, is-token}
 use Rattle.semantics.specs.Program.{Condition}
-use Rattle.grammar.specs.Parsed.{Parsed, accepted, refused, andThen, onToken, sign, expected, phrase, followed}
+use Rattle.grammar.specs.Parsed.{Parsed, accepted, refused, andThen, sign, expected, phrase, followed}
 use Rattle.grammar.specs.Expressions.{Scope}
 use Rattle.grammar.specs.Conditions.{listed}
 use Rattle.grammar.specs.Rules.{listFrom, plainList}
 use Rattle.grammar.specs.Emitted.{codeC}
-use Rattle.grammar.proofs.Growth.{Grown, listed-grown}
+use Rattle.grammar.proofs.Growth.{listed-grown}
 use Rattle.expressions.specs.declared.Lookahead.{Lookahead}
 use Rattle.expressions.specs.Steps.{Room}
 use Rattle.expressions.proofs.Steps.{Refuses, Accepted, Known, known, told, untold, room-after, room-next}
-use Rattle.phrases.specs.declared.Expected.{Expected}
-use Rattle.phrases.specs.Results.{expectedOf}
 use Rattle.cases.specs.Results.{placeOnly}
 use Rattle.cases.proofs.Parts.{behind-refused}
 

@@ -1,12 +1,12 @@
 -- Laws of parts: what an answer says of the part read, and what answers make a contract. Assumes nothing.
 use mathlib.Core.Path.{_≡_, refl, ap, sym, _∙_, subst}
-use mathlib.Core.List.{List, [], _∷_, _++_}
+use mathlib.Core.List.{List, _∷_}
 use Prim.Native.Nat.{ℕ, _+_}
 use native.Mathlib.Omega.{arith}
 use lib.ListN.{length}
 use lib.Seq.{sets}
 use Rattle.limits.specs.Limits.{noToken}
-use Rattle.lexer.specs.Token.{Kind, Read, token, fault}
+use Rattle.lexer.specs.Token.{Read, token, fault}
 use Rattle.lexer.specs.Lexer.{tokenAt}
 use Rattle.grammar.specs.Parsed.{Parsed, accepted, refused, andThen, onToken, Wanted, expected, phrase}
 use Rattle.expressions.specs.declared.Step.{Step}

@@ -1,30 +1,27 @@
 -- The ways through a case and through the lists of conditions: what each comes to. Assumes nothing.
 use mathlib.Core.Path.{_≡_, refl, ap, sym, _∙_, subst}
-use mathlib.Core.List.{List, [], _∷_, _++_, append-assoc, append-nil}
-use Prim.Native.Nat.{ℕ, suc, _+_, _*_, _≤_, _<_, _^_}
+use mathlib.Core.List.{List, [], _∷_, _++_, append-nil}
+use Prim.Native.Nat.{ℕ, _+_, _*_, _≤_, _<_}
 use native.Mathlib.Numerals.{add-one}
 use native.Mathlib.Omega.{arith}
 use lib.ListN.{length, set, length-append}
 use lib.Seq.{sets}
 use borrow.Author.Tests.{lt-ltb, le-ltb, le-leb, lt-leb, eq-eqb, ne-eqb}
-use Rattle.limits.specs.Limits.{noToken, notAllowed, listsDiffer, tooMany}
+use Rattle.limits.specs.Limits.{listsDiffer}
 use Rattle.leb128.specs.Numbers.{number}
-use Rattle.lexer.specs.Token.{Kind, kindNumber, closeRound, is, Read, token, fault}
-use Rattle.lexer.specs.Lexer.{tokenAt}
+use Rattle.lexer.specs.Token.{closeRound}
 use Rattle.semantics.specs.Program.{Expression, Condition, Case}
-use Rattle.grammar.specs.Parsed.{Parsed, accepted, refused, andThen, onToken, Wanted, sign, expected, phrase, followed}
+use Rattle.grammar.specs.Parsed.{Parsed, accepted, refused, Wanted, sign, expected, phrase, followed}
 use Rattle.grammar.specs.Expressions.{Scope, wholeExpression}
 use Rattle.grammar.specs.Conditions.{listed}
-use Rattle.grammar.specs.Rules.{Span, Spanned, caseAt, Compared, differs, settled}
+use Rattle.grammar.specs.Rules.{caseAt, Compared, differs, settled}
 use Rattle.grammar.specs.Emitted.{codeE, codeC, codeK}
-use Rattle.grammar.proofs.Growth.{Grown, Kept, listed-grown, whole-expression-grown}
 use Rattle.grammar.proofs.Size.{Solid, Long, phrase-long}
 use Rattle.expressions.specs.Steps.{Room}
 use Rattle.expressions.proofs.Steps.{sets-append, Refuses}
 use Rattle.phrases.specs.Forms.{caseValueOpening}
 use Rattle.cases.specs.Results.{placeOnly}
-use Rattle.cases.specs.Post.{codeOfCase, endOfCondition}
-use Rattle.cases.proofs.Parts.{never, same-refusal, Got, phrase-fault, behind-refused}
+use Rattle.cases.proofs.Parts.{never, same-refusal, phrase-fault, behind-refused}
 
 -- ---- bytes of an instruction with an id
 

@@ -5,7 +5,7 @@ use mathlib.Core.List.{List, [], _∷_}
 use lib.ListN.{length}
 use lib.Seq.{sets}
 use Rattle.grammar.specs.Parsed.{Parsed, accepted, andThen}
-use Rattle.grammar.specs.Rules.{Span, Spanned, casesOf}
+use Rattle.grammar.specs.Rules.{Spanned, casesOf}
 use Rattle.grammar.specs.Emitted.{codeK}
 use Rattle.agreement.specs.Spans.{spansIn, spansOf, Spans}
 use Rattle.cases.specs.declared.Part.{Part}

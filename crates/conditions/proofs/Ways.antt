@@ -6,7 +6,7 @@ use Prim.Native.Nat.{ℕ, zero, suc, _+_, _-_, _^_, _<_}
 use native.Mathlib.Omega.{arith}
 use lib.ListN.{length, set, length-append}
 use Rattle.limits.specs.Limits.{noToken, notAllowed, tooMany}
-use Rattle.lexer.specs.Token.{kindNumber, ending, openSquare, closeSquare, tilde, is, token, fault}
+use Rattle.lexer.specs.Token.{kindNumber, ending, openSquare, closeSquare, tilde, is, fault}
 use Rattle.lexer.specs.Lexer.{tokenAt}
 use Rattle.lexer.proofs.Laws.{token-at-moved}
 use Rattle.arith.specs.Values.{Comparison, equal, notEqual, less, lessEqual, greater, greaterEqual}

@@ -2,7 +2,6 @@
 // the part's code, and answers with the token behind it.
 use expressions::Step;
 use expressions::scope::Names;
-ghost use mathlib.Core.Path.{_≡_};
 ghost use Rattle.bytecode.specs.Instructions.{comparisonCode};
 ghost use Rattle.grammar.specs.Conditions.{comparisonOf, andOf, orOf, square, wholeCondition, listed};
 ghost use Rattle.grammar.specs.Emitted.{codeC};

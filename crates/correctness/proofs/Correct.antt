@@ -1,5 +1,5 @@
 -- Demand 3, for every accepted text, buffer, lent state and list of rows. Assumes nothing.
-use Prim.Native.Nat.{ℕ, zero, suc, _+_, _≤_}
+use Prim.Native.Nat.{ℕ}
 use native.Mathlib.Omega.{arith}
 use mathlib.Core.Path.{_≡_, refl, sym, ap, ap₂, _∙_, subst}
 use mathlib.Core.Bool.{Bool, true, false, _&&_}
@@ -10,27 +10,26 @@ use lib.ListN.{length, length-map}
 use borrow.Author.Tests.{eq-eqb}
 use Rattle.limits.specs.Answer.{Answer, accepted, refused}
 use Rattle.arith.specs.Values.{Outcome, ok, refusal, _>>=_, check}
-use Rattle.semantics.specs.Program.{Program, Range, rangesOf, knownFirst}
-use Rattle.semantics.specs.Formula.{State, Satisfies}
+use Rattle.semantics.specs.Program.{Program, rangesOf, knownFirst}
+use Rattle.semantics.specs.Formula.{State}
 use Rattle.semantics.specs.ReferenceScan.{allWithin, scanRules, withInputs, referenceScan}
 use Rattle.semantics.specs.Rows.{Reply, reply, referenceReplies, startsOf, InRanges, OnlyTrace}
 use Rattle.arith.proofs.Basics.{T-true, bind-assoc}
-use Rattle.semantics.proofs.Reference.{Next, length-known, reference-next, reference-trace, starts-in-range}
+use Rattle.semantics.proofs.Reference.{length-known, reference-next, reference-trace, starts-in-range}
 use Rattle.bytecode.specs.Instructions.{encodeAll}
-use Rattle.bytecode.specs.Translation.{codeRules, encodeHeader, imageOf, Translatable}
-use Rattle.bytecode.specs.Check.{Header, checkOf}
-use Rattle.bytecode.specs.Counting.{headerOf, codeOf, countFrom, instructionsIn}
-use Rattle.bytecode.proofs.Soundness.{programHeader, header-of, code-of, translated-small, check-translated}
+use Rattle.bytecode.specs.Translation.{codeRules, imageOf, Translatable}
+use Rattle.bytecode.specs.Check.{checkOf}
+use Rattle.bytecode.specs.Counting.{headerOf, codeOf, instructionsIn}
+use Rattle.bytecode.proofs.Soundness.{header-of, code-of, translated-small, check-translated}
 use Rattle.machine.specs.Step.{Machine, machine}
-use Rattle.machine.specs.Runs.{Ran, run}
-use Rattle.machine.specs.Names.{stateLength, rowLength, startingState, stateInRange, rowInRange}
+use Rattle.machine.specs.Names.{stateLength, rowLength, stateInRange, rowInRange}
 use Rattle.machine.proofs.Laws.{run-steps}
-use Rattle.machine.proofs.Translated.{exec, exec-rules, run-exec}
+use Rattle.machine.proofs.Translated.{exec-rules, run-exec}
 use Rattle.grammar.proofs.Accepted.{program-translatable}
 use Rattle.translate.specs.Services.{translationOf}
-use Rattle.scan.specs.Services.{AfterStart, startOf, started, AfterScan, refusedScan, finished, runOf, scanCode, testedScan, scanned, scanOf}
+use Rattle.scan.specs.Services.{AfterStart, startOf, started, AfterScan, finished, runOf, scanCode, testedScan, scanned, scanOf}
 use Rattle.translate.proofs.Kept.{image-stored, stored-image}
-use Rattle.correctness.specs.TraceCorrect.{scansOf, verdictOf, replyOf, repliesOf, StepsIf, StepsAre, begun, found, TraceCorrect, Demand3}
+use Rattle.correctness.specs.TraceCorrect.{scansOf, replyOf, repliesOf, StepsIf, StepsAre, begun, TraceCorrect, Demand3}
 
 -- ---- one scan
 

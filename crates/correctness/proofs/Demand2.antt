@@ -1,7 +1,7 @@
 -- Demand 2, for every text, buffer and image. Assumes nothing.
-use Prim.Native.Nat.{ℕ, _+_, _*_, _≤_, _<_}
+use Prim.Native.Nat.{ℕ, _+_, _*_, _≤_}
 use native.Mathlib.Omega.{arith}
-use mathlib.Core.Path.{_≡_, refl, sym, ap}
+use mathlib.Core.Path.{_≡_, refl, ap}
 use mathlib.Core.List.{List, _++_}
 use lib.ListN.{length, take, drop}
 use borrow.Author.Tests.{le-leb, lt-leb}
@@ -11,7 +11,6 @@ use Rattle.semantics.specs.Program.{Program}
 use Rattle.bytecode.specs.Translation.{imageOf}
 use Rattle.bytecode.specs.Sound.{Sound}
 use Rattle.bytecode.proofs.Images.{check-exact, translated-sound}
-use Rattle.grammar.specs.Parse.{programOf}
 use Rattle.grammar.specs.Spelled.{Spelled}
 use Rattle.grammar.proofs.Accepted.{parse-growth, program-parsed, program-translatable}
 use Rattle.grammar.proofs.PlacesText.{program-refused}

@@ -1,5 +1,5 @@
 -- Demand 3, a single claim about a whole list of rows. Document 01, "The plain scan and the list of rows". Assumes nothing.
-use Prim.Native.Nat.{ℕ, zero, suc}
+use Prim.Native.Nat.{ℕ}
 use mathlib.Core.Path.{_≡_}
 use mathlib.Core.List.{List, [], _∷_, map}
 use lib.IntN.{ℤ}
@@ -11,8 +11,8 @@ use Rattle.semantics.specs.Formula.{State, Satisfies}
 use Rattle.semantics.specs.Rows.{Reply, referenceReplies, startsOf, acceptedStates, acceptedRows, traceOf, finalState, lastPlace, Fits}
 use Rattle.bytecode.specs.Counting.{instructionsIn}
 use Rattle.grammar.specs.Parse.{programOf}
-use Rattle.translate.specs.Services.{AfterTranslation, translationOf}
-use Rattle.scan.specs.Services.{AfterStart, startOf, AfterScan, scanOf}
+use Rattle.translate.specs.Services.{translationOf}
+use Rattle.scan.specs.Services.{startOf, AfterScan, scanOf}
 
 -- Scan is called once for each row, with the image written and the state as start or the scan before left it.
 abbrev pub scansOf : List ℕ → State → List (List ℤ) → List AfterScan

@@ -9,9 +9,9 @@ use native.Mathlib.Omega.{arith}
 use lib.ListN.{length, set, length-append, length-set}
 use lib.Seq.{sets, length-sets}
 use Rattle.limits.specs.Limits.{noToken}
-use Rattle.lexer.specs.Token.{Kind, ending, token, fault}
+use Rattle.lexer.specs.Token.{Kind, ending, fault}
 use Rattle.lexer.specs.Lexer.{tokenAt}
-use Rattle.grammar.specs.Parsed.{Parsed, accepted, refused, andThen, rest, chain}
+use Rattle.grammar.specs.Parsed.{Parsed, accepted, andThen, rest, chain}
 use Rattle.grammar.proofs.Growth.{Grown}
 use Rattle.expressions.specs.declared.Lookahead.{Lookahead}
 use Rattle.expressions.specs.declared.Step.{Step}

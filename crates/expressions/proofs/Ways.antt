@@ -13,7 +13,7 @@ use borrow.Author.Tests.{lt-ltb, le-ltb}
 use Rattle.limits.specs.Limits.{noToken, notAllowed, outOfLimit, wrongName, tooEarly, tooMany}
 use Rattle.leb128.specs.Numbers.{number, zigzag}
 use Rattle.lexer.specs.Bytes.{part}
-use Rattle.lexer.specs.Token.{kindNumber, name, digits, openRound, closeRound, minus, token, fault}
+use Rattle.lexer.specs.Token.{kindNumber, name, digits, openRound, closeRound, minus, fault}
 use Rattle.lexer.specs.Token as T
 use Rattle.lexer.specs.Lexer.{tokenAt, overLong, valueOf}
 use Rattle.lexer.specs.Names.{idOf}

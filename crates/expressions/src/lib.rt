@@ -5,7 +5,7 @@ use lexer::Token;
 use scope::Names;
 ghost use mathlib.Core.Path.{_≡_};
 ghost use mathlib.Core.List.{_∷_};
-ghost use Prim.Native.Nat.{ℕ, _+_, _/_, _^_, _<_};
+ghost use Prim.Native.Nat.{ℕ, _+_, _^_, _<_};
 ghost use Rattle.leb128.specs.Numbers.{number as numberBytes};
 ghost use Rattle.lexer.specs.Lexer.{tokenAt};
 ghost use Rattle.bytecode.specs.Instructions.{operationCode};

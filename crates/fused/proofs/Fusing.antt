@@ -1,6 +1,6 @@
 -- What holds at each turn of the loop over the code: what is left of the walk makes the whole check, what is left to do makes the
 -- whole run. Assumes nothing.
-use Prim.Native.Nat.{ℕ, _+_, _-_, _≤_, _<_, _^_}
+use Prim.Native.Nat.{ℕ, _+_, _-_, _≤_, _<_}
 use native.Mathlib.Omega.{arith}
 use mathlib.Core.Path.{_≡_, refl, sym, subst, _∙_}
 use mathlib.Core.Bool.{Bool, true, false, cond, false≢true}
@@ -11,7 +11,6 @@ use lib.ListN.{length}
 use Rattle.bytecode.specs.Check.{complete}
 use Rattle.bytecode.proofs.RoundTrip.{fetch-next}
 use Rattle.bytecode.proofs.Soundness.{advance-small}
-use Rattle.checker.specs.declared.advance.Walk.{Walk}
 use Rattle.checker.specs.Represented.{knownOf, flagsOf}
 use Rattle.checker.proofs.Bits.{length-flags}
 use Rattle.checker.proofs.Walking.{Walking, walking-begins, walking-goes, walking-ends}

@@ -1,12 +1,12 @@
 -- The walk and the machine hold as many values; what one instruction does to both. Assumes nothing.
-use Prim.Native.Nat.{ℕ, _+_, _≤_, _<_, _^_}
+use Prim.Native.Nat.{ℕ, _+_, _≤_}
 use native.Mathlib.Omega.{arith}
 use mathlib.Core.Path.{_≡_, refl, sym, ap, subst, _∙_}
-use mathlib.Core.Bool.{Bool, true, false, not, cond, false≢true}
+use mathlib.Core.Bool.{Bool, true, false, cond, false≢true}
 use mathlib.Core.List.{List, []}
 use mathlib.Core.Option.{Option, none, some}
 use lib.IntN.{ℤ}
-use lib.ListN.{length, getD}
+use lib.ListN.{length}
 use Rattle.arith.specs.Values.{ok, refusal}
 use Rattle.semantics.specs.Program.{Range}
 use Rattle.leb128.specs.Numbers.{got, numberAt}
@@ -18,8 +18,8 @@ use Rattle.checker.specs.declared.advance.Walk.{Walk}
 use Rattle.checker.specs.Represented.{knownOf, openOf, advanceBy, Small}
 use Rattle.checker.proofs.Bits.{length-sorts, length-flags}
 use Rattle.machine.specs.declared.Registers.{Registers}
-use Rattle.machine.specs.Step.{Machine, machine, isPick, step}
-use Rattle.machine.specs.Memory.{heldOf, machineOf, stepped, RangesIn, Named}
+use Rattle.machine.specs.Step.{Machine, machine, step}
+use Rattle.machine.specs.Memory.{heldOf, machineOf, stepped, RangesIn}
 use Rattle.machine.proofs.Refusals.{Matches, Kept, step-keeps}
 use Rattle.machine.proofs.Changes.{names-length}
 use Rattle.machine.proofs.Stack.{length-held}

@@ -1,18 +1,14 @@
 -- Ranges that are read and tested fit, and go into two lists. Assumes nothing.
 use Prim.Native.Nat.{ℕ, suc, _+_, _-_, _≤_, _<_}
 use native.Mathlib.Omega.{arith}
-use mathlib.Core.Path.{_≡_, refl, sym, ap, _∙_}
+use mathlib.Core.Path.{_≡_, refl, ap}
 use mathlib.Core.Bool.{false}
 use mathlib.Core.List.{List}
 use lib.IntN.{ℤ}
 use lib.ListN.{length, set}
 use lib.Signed.{ltZ}
-use mir.Syntax.{w32}
-use mir.Val.{SFits}
-use Rattle.limits.specs.Answer.{accepted, _andThen_}
 use Rattle.semantics.specs.Program.{Range}
 use Rattle.leb128.specs.Numbers.{Read, got, nothing, _then_, signedAt}
-use Rattle.bytecode.specs.Check.{checkRange}
 use Rattle.bytecode.specs.Counting.{rangeAt, rangesFrom}
 use Rattle.bytecode.proofs.Heading.{signed-within, range-fits, Heading, heading-begins, heading-goes, heading-ends, Filling, filling-begins, filling-goes, filling-ends}
 use Rattle.fused.specs.Header.{Stands}

@@ -1,12 +1,11 @@
 -- What holds of the program of every accepted text: it can be translated, its code holds at most 38 values, and its names are
 -- distinct and of 1 to 16 bytes. Assumes nothing.
-use mathlib.Core.Path.{_≡_, refl, ap, sym, _∙_, subst}
+use mathlib.Core.Path.{_≡_, refl, ap, subst}
 use mathlib.Core.List.{List, [], _∷_, map}
 use mathlib.Core.Bool.{Bool, true, false, _&&_}
-use mathlib.Core.Option.{some}
-use Prim.Native.Nat.{ℕ, zero, suc, _+_, _*_, _≤_, _<_, max}
+use Prim.Native.Nat.{ℕ, _+_, _*_, _≤_, _<_, max}
 use native.Mathlib.Omega.{arith}
-use lib.ListN.{length, getD, set, getElem?, length-map}
+use lib.ListN.{length, set, length-map}
 use lib.Dec.{T, ltb, lt→ltb}
 use lib.Signed.{leZ}
 use borrow.Author.Tests.{ltb-false, lt-ltb}
@@ -14,16 +13,15 @@ use Rattle.limits.specs.Limits.{textLimit, nameLimit, tooLong}
 use Rattle.limits.specs.Answer as A
 use Rattle.arith.specs.Values.{isInt32}
 use Rattle.arith.proofs.Basics.{true-T, and-left, and-right, and-T}
-use Rattle.semantics.specs.Program.{Range, Name, Expression, Condition, Case, Rule, function, change, Program, rangesOf, target, within, knownFirst, allTrue, UsableK, UsableR, OrderedRules, Ordered, AgreesR, AgreesAll, StartsWithin, WellFormed}
+use Rattle.semantics.specs.Program.{Range, Name, Case, Rule, function, change, Program, rangesOf, target, within, knownFirst, allTrue, UsableR, OrderedRules, Ordered, AgreesR, AgreesAll, StartsWithin}
 use Rattle.bytecode.specs.Translation.{imageOf, depthE, depthC, ShallowK, ShallowR, Shallow, RangeFits, RangesFit, Translatable}
 use Rattle.lexer.specs.Bytes.{pick}
 use Rattle.grammar.specs.Parsed.{Parsed, accepted, refused}
 use Rattle.grammar.specs.Parse.{program, parse, answerOf, programOf}
 use Rattle.grammar.specs.Derivation.{IsWord, IsName}
 use Rattle.grammar.specs.Spelled.{namesOf}
-use Rattle.grammar.specs.Emitted.{image}
 use Rattle.grammar.proofs.Combine.{never}
-use Rattle.grammar.proofs.Shape.{CaseFits, CasesFit, RuleFits, RulesFit, NameFits, NamesFit, Fitting}
+use Rattle.grammar.proofs.Shape.{CasesFit, RuleFits, RulesFit, NamesFit, Fitting}
 use Rattle.grammar.proofs.Fits.{Holds, cases-usable}
 use Rattle.grammar.proofs.Converse.{Named}
 use Rattle.grammar.proofs.Whole.{named, parse-fits}

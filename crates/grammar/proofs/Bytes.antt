@@ -1,19 +1,18 @@
 -- Parts of a text, and how many bytes numbers and ids take. Assumes nothing.
-use mathlib.Core.Path.{_≡_, refl, ap, sym, _∙_, subst}
-use mathlib.Core.List.{List, [], _∷_, _++_}
+use mathlib.Core.Path.{_≡_, refl, subst}
+use mathlib.Core.List.{List, [], _∷_}
 use mathlib.Core.Bool.{Bool, true, false, cond}
-use mathlib.Core.Option.{Option, none, some}
+use mathlib.Core.Option.{some}
 use Prim.Native.Nat.{ℕ, zero, suc, _+_, _-_, _*_, _/_, _%_, _≤_, _<_}
 use native.Mathlib.Omega.{arith}
-use lib.ListN.{length, getD, take, drop, length-take, length-drop}
+use lib.ListN.{length, getD, length-take, length-drop}
 use lib.Seq.{drop-cons}
 use lib.Dec.{ltb}
-use lib.IntN.{ℤ, pos}
-use borrow.Author.Tests.{ltb-true, ltb-false, lt-ltb}
+use lib.IntN.{pos}
+use borrow.Author.Tests.{ltb-false}
 use Rattle.lexer.specs.Bytes.{pick, part}
 use Rattle.lexer.specs.Lexer.{valueOn, valueOf, sameName}
 use Rattle.lexer.specs.Names.{idFrom, idOf}
-use Rattle.lexer.proofs.Laws.{pick-prop}
 use Rattle.leb128.specs.Numbers.{groups, number, zigzag}
 
 -- 128 to the d

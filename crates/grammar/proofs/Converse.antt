@@ -1,29 +1,27 @@
 -- Tokens that spell an expression or a condition are read as it where they stand, if its values may be used there and what follows
 -- does not go on with it. Assumes nothing.
-use mathlib.Core.Path.{_≡_, refl, ap, sym, _∙_, subst}
+use mathlib.Core.Path.{_≡_, refl, ap, sym, _∙_}
 use mathlib.Core.List.{List, [], _∷_, _++_}
 use mathlib.Core.Bool.{Bool, true, false}
 use mathlib.Core.Option.{Option, none, some}
-use Prim.Native.Nat.{ℕ, zero, suc, _+_, _-_, _*_, _≤_, _<_}
+use Prim.Native.Nat.{ℕ, zero, suc, _+_, _-_, _≤_, _<_}
 use native.Mathlib.Omega.{arith}
 use lib.ListN.{length, getD, getElem?}
-use lib.Dec.{ltb}
-use lib.IntN.{ℤ, pos}
+use lib.IntN.{pos}
 use borrow.Author.Tests.{le-ltb}
 use Rattle.limits.specs.Limits.{bracketLimit}
-use Rattle.lexer.specs.Bytes.{bytes, pick, part}
-use Rattle.lexer.specs.Token.{Kind, kindNumber, ending, name, digits, openRound, closeRound, openSquare, closeSquare, tilde, ampersand, bar, minus, plus, star, slash, modWord, is, Read, token, fault}
+use Rattle.lexer.specs.Bytes.{bytes, part}
+use Rattle.lexer.specs.Token.{Kind, kindNumber, name, digits, openRound, closeRound, openSquare, closeSquare, tilde, ampersand, bar, minus, plus, star, slash, modWord, is, Read, token, fault}
 use Rattle.lexer.specs.Token as T
 use Rattle.lexer.specs.Lexer.{tokenAt, overLong, valueOf}
-use Rattle.lexer.specs.Names.{idOf}
-use Rattle.lexer.proofs.Laws.{pick-prop, token-at-moved}
+use Rattle.lexer.proofs.Laws.{token-at-moved}
 use Rattle.lexer.proofs.Same.{same-kind}
-use Rattle.arith.specs.Values.{Operation, add, subtract, Comparison}
+use Rattle.arith.specs.Values.{Operation, Comparison}
 use Rattle.semantics.specs.Program.{Expression, constant, current, previous, operation, negate, Condition, comparison, negated, both, either, UsableE, UsableC}
-use Rattle.grammar.specs.Parsed.{Parsed, accepted, refused, andThen, onToken, onOption, sign, expected, followed, rest, chain}
+use Rattle.grammar.specs.Parsed.{Parsed, accepted, refused, expected, rest, chain}
 use Rattle.grammar.specs.Expressions.{Scope, withId, currentAt, previousAt, numberLimit, numberAt, primary, negative, factor, productOf, sumOf, term, expression, bracket, wholeExpression}
-use Rattle.grammar.specs.Conditions.{comparisonOf, compared, comparisonAt, opposite as opposed, inverted, atom, Connective, andAlso, orElse, connect, andOf, orOf, conjunction, condition, square, wholeCondition, listed}
-use Rattle.grammar.specs.Derivation.{Stands, Spells, IsName, IsDigits, ProductSign, SumSign, ComparisonSign, Level, SpellsE, a-number, a-current, a-previous, brackets, plain, opposite, one-factor, product, one-term, sum, LevelC, SpellsC, not-square, one-atom, conjoined, one-conjunction, disjoined}
+use Rattle.grammar.specs.Conditions.{comparisonOf, compared, comparisonAt, opposite as opposed, inverted, atom, andAlso, orElse, connect, andOf, orOf, conjunction, condition, square, wholeCondition, listed}
+use Rattle.grammar.specs.Derivation.{Spells, IsName, IsDigits, ProductSign, SumSign, ComparisonSign, Level, SpellsE, a-number, a-current, a-previous, brackets, plain, opposite, one-factor, product, one-term, sum, LevelC, SpellsC, not-square, one-atom, conjoined, one-conjunction, disjoined}
 use Rattle.grammar.specs.Derivation as D
 use Rattle.grammar.specs.Spelled.{Distinct}
 use Rattle.grammar.proofs.Combine.{one-sign, never}

@@ -2,30 +2,30 @@
 use mathlib.Core.Path.{_≡_, refl, ap, sym, _∙_, subst}
 use mathlib.Core.List.{List, [], _∷_, _++_, map, append-assoc}
 use mathlib.Core.Bool.{Bool, true, false}
-use mathlib.Core.Option.{Option, none, some}
+use mathlib.Core.Option.{some}
 use Prim.Native.Nat.{ℕ, zero, suc, _+_, _≤_, _<_}
 use native.Mathlib.Omega.{arith}
-use lib.ListN.{length, getD, getElem?, replicate, getD-replicate, length-replicate, length-map}
-use lib.Dec.{ltb, lt→ltb}
+use lib.ListN.{length, getElem?, replicate, getD-replicate, length-replicate, length-map}
+use lib.Dec.{lt→ltb}
 use lib.IntN.{pos}
 use Rattle.limits.specs.Limits.{caseLimit, bracketLimit}
 use Rattle.arith.proofs.Laws.{mag-int32}
-use Rattle.lexer.specs.Bytes.{bytes, pick, part}
-use Rattle.lexer.specs.Token.{Kind, kindNumber, ending, openRound, closeRound, openSquare, ampersand, bar, equals, is, Read, token, fault}
+use Rattle.lexer.specs.Bytes.{bytes}
+use Rattle.lexer.specs.Token.{Kind, kindNumber, openRound, closeRound, openSquare, ampersand, bar, equals, is, token}
 use Rattle.lexer.specs.Lexer.{tokenAt, valueOf}
 use Rattle.semantics.specs.Program.{Expression, Condition, Case, UsableE, UsableC, UsableK}
-use Rattle.grammar.specs.Parsed.{Parsed, accepted, refused, andThen, sign, own, phrase, followed}
+use Rattle.grammar.specs.Parsed.{accepted, sign, own, phrase, followed}
 use Rattle.grammar.specs.Expressions.{Scope, productOf, sumOf, wholeExpression}
 use Rattle.grammar.specs.Conditions.{listed}
-use Rattle.grammar.specs.Rules.{Span, Spanned, caseAt, casesFrom, listFrom, plainList, casesOf}
-use Rattle.grammar.specs.Derivation.{Stands, Spells, IsName, Level, SpellsE, a-number, a-current, a-previous, brackets, plain, opposite, one-factor, product, one-term, sum, LevelC, SpellsC, not-square, one-atom, conjoined, one-conjunction, disjoined}
+use Rattle.grammar.specs.Rules.{Spanned, caseAt, casesFrom, listFrom, plainList, casesOf}
+use Rattle.grammar.specs.Derivation.{Spells, IsName, Level, SpellsE, a-number, a-current, a-previous, brackets, plain, opposite, one-factor, product, one-term, sum, LevelC, SpellsC, not-square, one-atom, conjoined, one-conjunction, disjoined}
 use Rattle.grammar.specs.Derivation as D
 use Rattle.grammar.specs.Spelled.{squared, cased, SpellsCases, one-case, more-cases, SpellsList, one-listed, more-listed}
 use Rattle.grammar.proofs.Spellings.{isFixed}
 use Rattle.grammar.proofs.Standing.{split, stands-in, spells-in}
 use Rattle.grammar.proofs.Phrases.{signs, fixed-at, phrase-reads, followed-reads}
 use Rattle.grammar.proofs.Listed.{Listed, last, next}
-use Rattle.grammar.proofs.Converse.{Named, Stop, spelled-expression, spelled-listed}
+use Rattle.grammar.proofs.Converse.{Named, spelled-expression, spelled-listed}
 use Rattle.grammar.proofs.DerivedCases.{cases-list}
 
 -- ---- values that may be used where every name is known

@@ -2,28 +2,26 @@
 use mathlib.Core.Path.{_≡_, refl, ap, sym, _∙_, subst}
 use mathlib.Core.List.{List, [], _∷_, _++_, append-assoc, append-nil, map-append}
 use mathlib.Core.Bool.{Bool, true, false, _&&_}
-use mathlib.Core.Option.{Option, none, some}
+use mathlib.Core.Option.{none}
 use Prim.Native.Nat.{ℕ, zero, suc, _+_, _-_, _≤_, _<_}
 use native.Mathlib.Omega.{arith}
 use lib.ListN.{length, length-append}
-use lib.Dec.{T, ltb}
-use lib.IntN.{ℤ, pos, negℤ}
+use lib.IntN.{ℤ}
 use lib.Signed.{leZ}
 use borrow.Author.Tests.{lt-ltb, le-ltb, eq-eqb}
 use Rattle.limits.specs.Limits.{nameLimit}
 use Rattle.arith.specs.Values.{isInt32}
 use Rattle.arith.proofs.Basics.{T-true, and-left, and-right, and-T}
-use Rattle.lexer.specs.Bytes.{bytes, pick, part}
-use Rattle.lexer.specs.Token.{Kind, kindNumber, ending, name, digits, initWord, dots, semicolon, minus, is, Read, token, fault}
-use Rattle.lexer.specs.Lexer.{tokenAt, overLong, valueOf}
-use Rattle.lexer.specs.Names.{idOf}
+use Rattle.lexer.specs.Bytes.{bytes}
+use Rattle.lexer.specs.Token.{Kind, kindNumber, digits, initWord, dots, semicolon, minus, is, token}
+use Rattle.lexer.specs.Lexer.{tokenAt, overLong}
 use Rattle.lexer.proofs.Laws.{token-at-moved}
 use Rattle.semantics.specs.Program.{Range, Name}
 use Rattle.bytecode.specs.Translation.{RangeFits}
-use Rattle.grammar.specs.Parsed.{Parsed, accepted, refused, andThen, onToken, sign, phrase, followed}
+use Rattle.grammar.specs.Parsed.{accepted, sign, phrase}
 use Rattle.grammar.specs.Declarations.{inRange, signedAt, boundAt, spellings, newName, startAt, declaration, declarationsFrom}
-use Rattle.grammar.specs.Derivation.{Stands, Spells, IsName, IsDigits}
-use Rattle.grammar.specs.Spelled.{SpellsZ, positive, negative, SpellsStart, absent, given, declarationForm, Declares, declares, DeclareAll, Apart, Distinct}
+use Rattle.grammar.specs.Derivation.{Stands, Spells, IsName}
+use Rattle.grammar.specs.Spelled.{SpellsZ, positive, negative, SpellsStart, absent, given, Declares, declares, DeclareAll, Apart, Distinct}
 use Rattle.grammar.specs.Spelled as S
 use Rattle.grammar.proofs.Bytes.{part-length}
 use Rattle.grammar.proofs.Distinct.{apart-new, distinct-at}

@@ -2,31 +2,31 @@
 use mathlib.Core.Path.{_≡_, refl, ap, sym, _∙_, subst}
 use mathlib.Core.List.{List, [], _∷_, _++_, append-assoc, append-nil}
 use mathlib.Core.Bool.{Bool, true, false}
-use mathlib.Core.Option.{Option, none, some}
-use Prim.Native.Nat.{ℕ, zero, suc, _+_, _≤_, _<_}
+use mathlib.Core.Option.{none, some}
+use Prim.Native.Nat.{ℕ, zero, suc, _≤_, _<_}
 use native.Mathlib.Omega.{arith}
-use lib.ListN.{length, getD, set, getElem?, length-set}
-use lib.Dec.{T, ltb, ltb→lt}
+use lib.ListN.{length, getD, set, getElem?}
+use lib.Dec.{ltb→lt}
 use Rattle.limits.specs.Limits.{caseLimit, bracketLimit}
 use Rattle.arith.proofs.Basics.{T-true}
-use Rattle.lexer.specs.Bytes.{bytes, pick, part}
-use Rattle.lexer.specs.Token.{Kind, kindNumber, ending, name, nextWord, semicolon, colon, openRound, closeRound, openSquare, tilde, bar, equals, is, Read, token, fault}
+use Rattle.lexer.specs.Bytes.{bytes, part}
+use Rattle.lexer.specs.Token.{kindNumber, ending, name, nextWord, semicolon, colon, openRound, closeRound, tilde, equals, is, token}
 use Rattle.lexer.specs.Lexer.{tokenAt}
 use Rattle.lexer.proofs.Laws.{token-at-moved}
 use Rattle.semantics.specs.Program.{Expression, Condition, Case, Rule, function, change, target, allTrue, UsableE, UsableK, UsableR, OrderedRules}
-use Rattle.grammar.specs.Parsed.{Parsed, accepted, refused, andThen, sign, own, phrase, followed}
-use Rattle.grammar.specs.Expressions.{Scope, productOf, sumOf, withId, wholeExpression}
-use Rattle.grammar.specs.Rules.{Spanned, casesFrom, plainList, Compared, agrees, partsFrom, settled, agreeingList, casesOf, functionAt, changeAt, formulas, ruleAt, ruled, rulesFrom}
-use Rattle.grammar.specs.Derivation.{Stands, Spells, IsName, SpellsE}
+use Rattle.grammar.specs.Parsed.{accepted, sign, own, phrase, followed}
+use Rattle.grammar.specs.Expressions.{Scope, productOf, sumOf, wholeExpression}
+use Rattle.grammar.specs.Rules.{Spanned, casesFrom, plainList, agrees, partsFrom, settled, agreeingList, casesOf, functionAt, changeAt, formulas, ruleAt, ruled, rulesFrom}
+use Rattle.grammar.specs.Derivation.{Spells, IsName, SpellsE}
 use Rattle.grammar.specs.Derivation as D
-use Rattle.grammar.specs.Spelled.{changeForm, functionForm, SpellsCases, SpellsList, SpellsR, a-change, a-function, SpellsRules}
+use Rattle.grammar.specs.Spelled.{SpellsCases, SpellsList, SpellsR, a-change, a-function, SpellsRules}
 use Rattle.grammar.specs.Spelled as S
 use Rattle.grammar.proofs.Spellings.{isFixed}
 use Rattle.grammar.proofs.Standing.{split, stands-in, spells-in, spells-append}
 use Rattle.grammar.proofs.Phrases.{signs, fixed-at, name-at, phrase-reads, followed-reads, head, middle, headTokens, middleTokens}
-use Rattle.grammar.proofs.Listed.{Listed, spells-parts}
+use Rattle.grammar.proofs.Listed.{spells-parts}
 use Rattle.grammar.proofs.Converse.{Named, named-id, spelled-expression}
-use Rattle.grammar.proofs.ConverseCases.{CasesReads, cases-read, no-change-reads}
+use Rattle.grammar.proofs.ConverseCases.{cases-read, no-change-reads}
 
 module _ (sc : Scope) (good : Named (sc .names)) (w : List ℕ) (nm : IsName w) (v : ℕ) where
   -- ---- a function, after `v: GX(`

@@ -1,31 +1,28 @@
 -- A text that spells a program is read as it. So the texts accepted are exactly those that spell a program. Assumes nothing.
 use mathlib.Core.Path.{_≡_, refl, ap, ap₂, sym, _∙_, subst}
 use mathlib.Core.List.{List, [], _∷_, _++_}
-use mathlib.Core.Bool.{Bool, true, false}
-use mathlib.Core.Option.{some}
-use Prim.Native.Nat.{ℕ, zero, suc, _+_, _≤_, _<_}
+use mathlib.Core.Bool.{false}
+use Prim.Native.Nat.{ℕ, _+_, _≤_}
 use native.Mathlib.Omega.{arith}
-use lib.ListN.{length, getElem?, length-append, length-map}
-use lib.Dec.{ltb}
+use lib.ListN.{length, length-append, length-map}
 use borrow.Author.Tests.{le-ltb}
 use Rattle.limits.specs.Limits.{textLimit}
 use Rattle.limits.specs.Answer as A
-use Rattle.lexer.specs.Bytes.{bytes, pick}
+use Rattle.lexer.specs.Bytes.{bytes}
 use Rattle.lexer.specs.Token.{Kind, kindNumber, ending, name, inputWord, varWord, is, token}
 use Rattle.lexer.specs.Lexer.{tokenAt}
 use Rattle.semantics.specs.Program.{Name, Rule, Program, knownFirst, rangesOf, OrderedRules, Ordered}
 use Rattle.semantics.proofs.Reference.{length-known}
-use Rattle.grammar.specs.Parsed.{Parsed, accepted, refused, andThen}
-use Rattle.grammar.specs.Expressions.{Scope}
+use Rattle.grammar.specs.Parsed.{accepted}
 use Rattle.grammar.specs.Declarations.{spellings, declarations}
 use Rattle.grammar.specs.Rules.{rulesFrom}
 use Rattle.grammar.specs.Parse.{program, parse, answerOf, programOf}
-use Rattle.grammar.specs.Derivation.{Spells, TokensOf, IsName}
-use Rattle.grammar.specs.Spelled.{Declares, declares, DeclareAll, Distinct, Apart, SpellsR, a-change, a-function, SpellsRules, namesOf, Spelled}
+use Rattle.grammar.specs.Derivation.{Spells, TokensOf}
+use Rattle.grammar.specs.Spelled.{declares, DeclareAll, Distinct, Apart, a-change, a-function, SpellsRules, namesOf, Spelled}
 use Rattle.grammar.specs.Spelled as S
 use Rattle.grammar.specs.Accepts.{Accepts}
-use Rattle.grammar.proofs.Shape.{NameFits, NamesFit}
-use Rattle.grammar.proofs.Spellings.{spellingOf, isFixed}
+use Rattle.grammar.proofs.Shape.{NamesFit}
+use Rattle.grammar.proofs.Spellings.{isFixed}
 use Rattle.grammar.proofs.Standing.{split, spells-in}
 use Rattle.grammar.proofs.Phrases.{fixed-at, name-at}
 use Rattle.grammar.proofs.Converse.{Named}

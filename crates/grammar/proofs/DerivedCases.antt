@@ -16,7 +16,6 @@ use Rattle.grammar.specs.Rules.{Spanned, caseAt, casesFrom, casesOf}
 use Rattle.grammar.specs.Derivation.{Stands, Spells, SpellsE, SpellsC}
 use Rattle.grammar.specs.Derivation as D
 use Rattle.grammar.specs.Spelled.{squared, cased, SpellsCases, one-case, more-cases, SpellsList, one-listed, more-listed}
-use Rattle.grammar.specs.Spelled as S
 use Rattle.grammar.proofs.Combine.{token-prop, then-prop}
 use Rattle.grammar.proofs.Spellings.{isFixed}
 use Rattle.grammar.proofs.Standing.{stands-in, spells-in, spells-append}

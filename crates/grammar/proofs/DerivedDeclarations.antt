@@ -1,33 +1,32 @@
 -- Declarations that are accepted are spelled by the tokens that were read. Assumes nothing.
 use mathlib.Core.Path.{_≡_, refl, ap, sym, _∙_, subst}
 use mathlib.Core.List.{List, [], _∷_, _++_, append-assoc, append-nil}
-use mathlib.Core.Bool.{Bool, true, false, _&&_}
-use mathlib.Core.Option.{Option, none, some}
-use Prim.Native.Nat.{ℕ, zero, suc, _+_, _≤_, _<_}
-use native.Mathlib.Omega.{arith}
+use mathlib.Core.Bool.{Bool, true, _&&_}
+use mathlib.Core.Option.{none}
+use Prim.Native.Nat.{ℕ, zero, suc, _≤_}
 use lib.ListN.{length}
 use lib.Dec.{ltb}
 use lib.IntN.{ℤ, pos, negℤ}
 use lib.Signed.{leZ}
 use Rattle.limits.specs.Limits.{nameLimit}
 use Rattle.arith.specs.Values.{isInt32}
-use Rattle.lexer.specs.Bytes.{bytes, pick, part}
-use Rattle.lexer.specs.Token.{Kind, kindNumber, ending, name, digits, initWord, dots, semicolon, minus, is, Read, token, fault}
+use Rattle.lexer.specs.Bytes.{bytes, part}
+use Rattle.lexer.specs.Token.{Kind, kindNumber, name, digits, initWord, dots, semicolon, minus, is, token}
 use Rattle.lexer.specs.Lexer.{tokenAt, overLong, valueOf}
 use Rattle.lexer.specs.Names.{idOf}
 use Rattle.lexer.proofs.Laws.{pick-prop, token-at-moved}
-use Rattle.semantics.specs.Program.{Name, Program}
-use Rattle.grammar.specs.Parsed.{Parsed, accepted, refused, andThen, onToken, sign, phrase, followed}
+use Rattle.semantics.specs.Program.{Name}
+use Rattle.grammar.specs.Parsed.{Parsed, accepted, refused, andThen, sign, phrase, followed}
 use Rattle.grammar.specs.Declarations.{inRange, signedAt, boundAt, spellings, newName, startAt, declaration, declarationsFrom}
 use Rattle.grammar.specs.Derivation.{Stands, Spells, IsDigits}
 use Rattle.grammar.specs.Spelled.{SpellsZ, positive, negative, SpellsStart, absent, given, Declares, declares, DeclareAll}
 use Rattle.grammar.specs.Spelled as S
 use Rattle.grammar.proofs.Shape.{NameFits}
 use Rattle.grammar.proofs.Combine.{token-prop, then-prop, option-prop, one-sign}
-use Rattle.grammar.proofs.Spellings.{Spelling, spellingOf, isFixed}
+use Rattle.grammar.proofs.Spellings.{spellingOf, isFixed}
 use Rattle.grammar.proofs.Standing.{spells-append, spells-append-left, spells-in}
 use Rattle.grammar.proofs.Phrases.{signs, fixed-stands, phrase-spells}
-use Rattle.grammar.proofs.Derived.{Derived, Derives, before, weaker, joined, sign-stands, Closed, sign-derives}
+use Rattle.grammar.proofs.Derived.{Derives, before, sign-stands, Closed, sign-derives}
 use Rattle.grammar.proofs.Whole.{Declared, declaration-fits, Ends}
 
 module _ (text : List ℕ) where

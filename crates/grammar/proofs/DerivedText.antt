@@ -1,8 +1,8 @@
 -- A text that is accepted spells its program. Assumes nothing.
-use mathlib.Core.Path.{_≡_, refl, ap, sym, _∙_, subst}
-use mathlib.Core.List.{List, [], _∷_, _++_}
+use mathlib.Core.Path.{_≡_, refl, sym, _∙_, subst}
+use mathlib.Core.List.{List, [], _++_}
 use mathlib.Core.Bool.{Bool, true, false}
-use Prim.Native.Nat.{ℕ, zero, suc, _+_, _≤_, _<_}
+use Prim.Native.Nat.{ℕ}
 use native.Mathlib.Nat.{le-refl}
 use native.Mathlib.Omega.{arith}
 use lib.ListN.{length}
@@ -12,16 +12,16 @@ use Rattle.lexer.specs.Bytes.{bytes, pick}
 use Rattle.lexer.specs.Token.{kindNumber, inputWord, varWord}
 use Rattle.semantics.specs.Program.{Name, Rule, Program, knownFirst}
 use Rattle.semantics.proofs.Reference.{length-known}
-use Rattle.grammar.specs.Parsed.{Parsed, accepted, refused, andThen}
+use Rattle.grammar.specs.Parsed.{Parsed, accepted, refused}
 use Rattle.grammar.specs.Expressions.{Scope}
-use Rattle.grammar.specs.Declarations.{spellings, declarations, declarationsFrom}
+use Rattle.grammar.specs.Declarations.{spellings, declarations}
 use Rattle.grammar.specs.Rules.{rulesFrom}
 use Rattle.grammar.specs.Parse.{program, parse}
-use Rattle.grammar.specs.Derivation.{Spells, TokensOf}
+use Rattle.grammar.specs.Derivation.{TokensOf}
 use Rattle.grammar.specs.Spelled.{DeclareAll, SpellsRules, namesOf, Spelled}
 use Rattle.grammar.proofs.Combine.{then-prop, never}
 use Rattle.grammar.proofs.Spellings.{isFixed}
-use Rattle.grammar.proofs.Standing.{spells-append, spells-in}
+use Rattle.grammar.proofs.Standing.{spells-append}
 use Rattle.grammar.proofs.Whole.{Ends, Names, declarations-fit, spellings-length, named}
 use Rattle.grammar.proofs.DerivedDeclarations.{DeclaredFrom, DeclaresFrom, declarations-derive}
 use Rattle.grammar.proofs.DerivedRules.{RulesRead, RulesReads, rules-derive}

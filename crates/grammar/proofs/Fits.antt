@@ -1,24 +1,24 @@
 -- What a parser accepts uses only values that may be used, and is not deep; cases are 1 to 32. Assumes nothing.
-use mathlib.Core.Path.{_≡_, refl, ap, sym, _∙_, subst}
+use mathlib.Core.Path.{_≡_, refl, ap, subst}
 use mathlib.Core.List.{List, [], _∷_, _++_}
-use mathlib.Core.Bool.{Bool, true, false}
-use mathlib.Core.Option.{Option, none, some}
-use Prim.Native.Nat.{ℕ, zero, suc, _+_, _*_, _≤_, _<_, max}
+use mathlib.Core.Bool.{Bool, false}
+use mathlib.Core.Option.{Option}
+use Prim.Native.Nat.{ℕ, zero, suc, _+_, _*_, _≤_, _<_}
 use native.Mathlib.Omega.{arith}
 use lib.ListN.{length, getD, length-append}
 use lib.Dec.{ltb, lt→ltb}
-use lib.IntN.{ℤ, pos}
-use borrow.Author.Tests.{ltb-false, lt-ltb}
-use Rattle.lexer.specs.Bytes.{pick, part}
-use Rattle.lexer.specs.Token.{Kind, name, digits, openRound, closeRound, openSquare, closeSquare, tilde, bar, minus, is, Read, token, fault}
+use lib.IntN.{pos}
+use borrow.Author.Tests.{ltb-false}
+use Rattle.lexer.specs.Bytes.{part}
+use Rattle.lexer.specs.Token.{Kind, name, digits, openRound, openSquare, tilde, bar, minus, is}
 use Rattle.lexer.specs.Token as T
 use Rattle.lexer.specs.Lexer.{tokenAt, overLong, valueOf}
 use Rattle.lexer.specs.Names.{idOf}
 use Rattle.lexer.proofs.Laws.{pick-prop}
 use Rattle.arith.specs.Values.{Operation, Comparison}
 use Rattle.arith.proofs.Laws.{mag-int32}
-use Rattle.semantics.specs.Program.{Expression, constant, current, previous, operation, negate, Condition, comparison, negated, both, either, Case, UsableE, UsableC, UsableK}
-use Rattle.grammar.specs.Parsed.{Parsed, accepted, refused, andThen, onToken, onOption, Wanted, sign, phrase, followed, rest, chain}
+use Rattle.semantics.specs.Program.{Expression, previous, operation, Condition, comparison, Case, UsableE, UsableC, UsableK}
+use Rattle.grammar.specs.Parsed.{Parsed, accepted, refused, Wanted, phrase, followed, rest, chain}
 use Rattle.grammar.specs.Expressions.{Scope, withId, currentAt, previousAt, numberLimit, numberAt, primary, negative, factor, productOf, sumOf, term, expression, bracket, wholeExpression}
 use Rattle.grammar.specs.Conditions.{comparisonOf, compared, comparisonAt, opposite, inverted, atom, Connective, andAlso, orElse, connect, andOf, orOf, conjunction, condition, square, wholeCondition, listed}
 use Rattle.grammar.specs.Rules.{Spanned, caseAt, casesFrom, casesOf}

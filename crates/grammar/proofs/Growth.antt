@@ -1,29 +1,28 @@
 -- How far parsers read, and how much of an image what they accept makes. Assumes nothing.
 use mathlib.Core.Path.{_≡_, refl, ap, sym, _∙_, subst}
 use mathlib.Core.List.{List, [], _∷_, _++_}
-use mathlib.Core.Bool.{Bool, true, false}
+use mathlib.Core.Bool.{true, false}
 use mathlib.Core.Option.{Option, none, some}
 use Prim.Native.Nat.{ℕ, zero, suc, _+_, _-_, _*_, _≤_, _<_}
 use native.Mathlib.Omega.{arith}
-use lib.ListN.{length, getD, take, drop, length-append}
-use lib.Dec.{eqb, ltb}
-use lib.IntN.{ℤ, pos}
-use Rattle.lexer.specs.Bytes.{pick, part}
-use Rattle.lexer.specs.Token.{Kind, kindNumber, ending, name, digits, openRound, closeRound, openSquare, closeSquare, tilde, minus, is, Read, token, fault}
+use lib.ListN.{length, getD, length-append}
+use lib.Dec.{ltb}
+use Rattle.lexer.specs.Bytes.{part}
+use Rattle.lexer.specs.Token.{Kind, kindNumber, ending, name, digits, openRound, closeRound, openSquare, closeSquare, tilde, minus, is}
 use Rattle.lexer.specs.Token as T
 use Rattle.lexer.specs.Lexer.{tokenAt, overLong, valueOf}
 use Rattle.lexer.specs.Names.{idOf}
-use Rattle.lexer.proofs.Laws.{pick-prop, apart, Moved, token-at-moved}
+use Rattle.lexer.proofs.Laws.{pick-prop, apart, token-at-moved}
 use Rattle.arith.specs.Values.{Operation, Comparison}
-use Rattle.semantics.specs.Program.{Expression, constant, current, previous, operation, negate, Condition, comparison, negated, both, either}
-use Rattle.grammar.specs.Parsed.{Parsed, accepted, refused, andThen, onToken, onOption, Wanted, sign, isWanted, expected, phrase, followed, rest, chain}
+use Rattle.semantics.specs.Program.{Expression, previous, operation, Condition, comparison}
+use Rattle.grammar.specs.Parsed.{Parsed, accepted, refused, Wanted, sign, isWanted, expected, phrase, followed, rest, chain}
 use Rattle.grammar.specs.Expressions.{Scope, withId, currentAt, previousAt, numberLimit, numberAt, primary, negative, factor, productOf, sumOf, term, expression, bracket, wholeExpression}
 use Rattle.grammar.specs.Conditions.{comparisonOf, compared, comparisonAt, opposite, inverted, atom, Connective, andAlso, orElse, connect, andOf, orOf, conjunction, condition, square, wholeCondition, listed}
 use Rattle.grammar.specs.Emitted.{codeE, codeC}
 use Rattle.grammar.proofs.Combine.{token-prop, then-prop, option-prop}
 use Rattle.grammar.proofs.Bytes.{digits-bytes, id-bytes, id-of, part-length}
 use Rattle.bytecode.specs.Instructions.{operationCode, comparisonCode}
-use Rattle.leb128.specs.Numbers.{number, zigzag}
+use Rattle.leb128.specs.Numbers.{number}
 use Rattle.limits.specs.Limits.{bracketLimit}
 
 -- an accepted part that starts at `at` has a byte at least, ends within the text, and twice its code's bytes are at most three times

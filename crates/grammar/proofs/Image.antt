@@ -1,13 +1,12 @@
 -- The bytes that a translator writes while it reads are those of the image: each part's bytes are its encoded instructions.
 -- Assumes nothing.
-use mathlib.Core.Path.{_≡_, refl, ap, sym, _∙_}
+use mathlib.Core.Path.{_≡_, refl}
 use mathlib.Core.List.{List, [], _∷_, _++_, map, append-assoc, append-nil}
-use Prim.Native.Nat.{ℕ, _-_}
-use lib.ListN.{length, length-map}
-use Rattle.leb128.specs.Numbers.{number, zigzag}
-use Rattle.semantics.specs.Program.{Name, Expression, constant, current, previous, operation, negate, Condition, comparison, negated, both, either, Case, Rule, function, change, Program, rangesOf}
-use Rattle.bytecode.specs.Instructions.{Instruction, operationCode, comparisonCode, encode, encodeAll}
-use Rattle.bytecode.specs.Translation.{imageOf, encodeHeader, encodeRanges, codeRules}
+use Prim.Native.Nat.{ℕ}
+use lib.ListN.{length-map}
+use Rattle.semantics.specs.Program.{Name, Expression, constant, current, previous, operation, negate, Condition, comparison, negated, both, either, Case, Rule, function, change, Program}
+use Rattle.bytecode.specs.Instructions.{Instruction, encodeAll}
+use Rattle.bytecode.specs.Translation.{imageOf, encodeRanges, codeRules}
 use Rattle.bytecode.specs.Translation as B
 use Rattle.grammar.specs.Emitted.{codeE, codeC, codeK, codeR, header, image}
 

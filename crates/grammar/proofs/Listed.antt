@@ -7,19 +7,18 @@ use Prim.Native.Nat.{ℕ, zero, suc, _+_, _≤_, _<_}
 use native.Mathlib.Nat.{le-refl}
 use native.Mathlib.Omega.{arith}
 use lib.ListN.{length}
-use lib.Dec.{ltb}
 use borrow.Author.Tests.{lt-ltb, le-ltb, eq-eqb}
-use Rattle.lexer.specs.Bytes.{bytes, pick, part}
-use Rattle.lexer.specs.Token.{Kind, kindNumber, ending, closeRound, bar, is, Read, token, fault}
+use Rattle.lexer.specs.Bytes.{bytes, pick}
+use Rattle.lexer.specs.Token.{Kind, kindNumber, closeRound, bar, is, Read, token, fault}
 use Rattle.lexer.specs.Lexer.{tokenAt, sameToken}
 use Rattle.lexer.proofs.Laws.{token-at-moved}
-use Rattle.lexer.proofs.Same.{same-kind, same-token}
-use Rattle.grammar.specs.Rules.{Span, Spanned, Compared, agrees, differs, onCompared, onFound, onWanted, partFrom, kindAt, partsFrom}
+use Rattle.lexer.proofs.Same.{same-token}
+use Rattle.grammar.specs.Rules.{Spanned, Compared, agrees, differs, onCompared, onFound, partFrom, kindAt, partsFrom}
 use Rattle.grammar.specs.Derivation.{Stands, Spells}
 use Rattle.grammar.proofs.Bytes.{part-length}
 use Rattle.grammar.proofs.Distinct.{same-itself}
-use Rattle.grammar.proofs.Spellings.{Spelling, spellingOf, isFixed, one-kind}
-use Rattle.grammar.proofs.Standing.{stands, stands-kind, stands-in, spells-in, split, spells-append, spells-append-left}
+use Rattle.grammar.proofs.Spellings.{spellingOf, isFixed, one-kind}
+use Rattle.grammar.proofs.Standing.{stands-kind, stands-in, spells-in, split, spells-append, spells-append-left}
 use Rattle.grammar.proofs.Phrases.{fixed-stands, fixed-at}
 
 -- ---- a comparison that agrees

@@ -1,6 +1,6 @@
 -- What holds of the program of every accepted text, as the parser's laws find it: a shape for proofs. `Translatable` and `Spelled` are
 -- made of it. Assumes nothing.
-use Prim.Native.Nat.{ℕ, zero, suc, _≤_, _<_, max}
+use Prim.Native.Nat.{_≤_, _<_}
 use mathlib.Core.Path.{_≡_}
 use mathlib.Core.Bool.{Bool, true, false}
 use mathlib.Core.List.{List, [], _∷_, map}

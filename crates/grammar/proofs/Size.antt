@@ -1,29 +1,27 @@
 -- The image of an accepted text: twice its bytes are at most three times the text's, and four. Assumes nothing.
-use mathlib.Core.Path.{_≡_, refl, ap, sym, _∙_, subst}
-use mathlib.Core.List.{List, [], _∷_, _++_, append-assoc}
+use mathlib.Core.Path.{_≡_, refl, sym, _∙_, subst}
+use mathlib.Core.List.{List, [], _∷_, _++_}
 use mathlib.Core.Bool.{Bool, true, false, _&&_}
-use mathlib.Core.Option.{Option, none, some}
 use Prim.Native.Nat.{ℕ, zero, suc, _+_, _-_, _*_, _≤_, _<_}
 use native.Mathlib.Nat.{le-refl}
 use native.Mathlib.Omega.{arith}
 use lib.ListN.{length, getD, set, length-append, length-set}
-use lib.Dec.{ltb, leb, eqb}
-use lib.IntN.{ℤ, pos, negsuc, negℤ}
+use lib.Dec.{ltb}
+use lib.IntN.{ℤ, pos, negℤ}
 use lib.Signed.{leZ}
-use borrow.Author.Tests.{ltb-false, ltb-true}
-use Rattle.lexer.specs.Bytes.{pick, part}
-use Rattle.lexer.specs.Token.{Kind, kindNumber, name, previous, digits, ending, openSquare, tilde, bar, minus, initWord, semicolon, dots, is, Read, token, fault}
+use Rattle.lexer.specs.Bytes.{part}
+use Rattle.lexer.specs.Token.{Kind, kindNumber, name, previous, digits, ending, openSquare, tilde, bar, minus, initWord, semicolon, dots, is}
 use Rattle.lexer.specs.Lexer.{tokenAt, overLong, valueOf, sameName}
 use Rattle.lexer.specs.Names.{idOf}
 use Rattle.lexer.proofs.Laws.{pick-prop, token-at-moved}
 use Rattle.lexer.proofs.Same.{both-true}
-use Rattle.semantics.specs.Program.{Name, Expression, Condition, Case, Rule, function, change, Program, target, allTrue, knownFirst}
+use Rattle.semantics.specs.Program.{Name, Rule, function, change, Program, target, allTrue, knownFirst}
 use Rattle.semantics.proofs.Reference.{length-known}
-use Rattle.grammar.specs.Parsed.{Parsed, accepted, refused, andThen, onToken, onOption, Wanted, sign, own, ownPrevious, isWanted, expected, phrase, followed}
+use Rattle.grammar.specs.Parsed.{Parsed, accepted, refused, Wanted, sign, own, ownPrevious, isWanted, expected, phrase, followed}
 use Rattle.grammar.specs.Expressions.{Scope, withId, wholeExpression}
 use Rattle.grammar.specs.Conditions.{listed}
 use Rattle.grammar.specs.Declarations.{inRange, signedAt, boundAt, spellings, newName, startAt, declaration, declarationsFrom, declarations}
-use Rattle.grammar.specs.Rules.{Span, Spanned, caseAt, casesFrom, agreeingList, casesOf, functionAt, changeAt, formulas, ruleAt, ruled, rulesFrom}
+use Rattle.grammar.specs.Rules.{Spanned, caseAt, casesFrom, agreeingList, casesOf, functionAt, changeAt, formulas, ruleAt, ruled, rulesFrom}
 use Rattle.grammar.specs.Emitted.{codeE, codeC, codeK, codeR, header, image}
 use Rattle.grammar.proofs.Combine.{token-prop, then-prop, option-prop}
 use Rattle.grammar.proofs.Bytes.{part-length, value-bytes, id-bytes}

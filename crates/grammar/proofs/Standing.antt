@@ -3,12 +3,11 @@ use mathlib.Core.Path.{_≡_, refl, ap, sym, _∙_, subst}
 use mathlib.Core.List.{List, [], _∷_, _++_, append-assoc}
 use mathlib.Core.Bool.{Bool, true, false}
 use mathlib.Core.Option.{Option, none, some}
-use Prim.Native.Nat.{ℕ, zero, suc, _+_, _≤_, _<_}
+use Prim.Native.Nat.{ℕ, suc, _+_, _≤_, _<_}
 use native.Mathlib.Omega.{arith}
-use native.Mathlib.Numerals.{add-one}
 use lib.ListN.{length, getElem?}
-use Rattle.lexer.specs.Bytes.{bytes, pick, part}
-use Rattle.lexer.specs.Token.{Kind, kindNumber, ending, is, token}
+use Rattle.lexer.specs.Bytes.{pick, part}
+use Rattle.lexer.specs.Token.{Kind, ending, is, token}
 use Rattle.lexer.specs.Token as T
 use Rattle.lexer.specs.Lexer.{tokenAt, sameName}
 use Rattle.lexer.specs.Names.{idFrom, idOf}
@@ -16,7 +15,7 @@ use Rattle.lexer.proofs.Laws.{pick-prop, token-at-moved}
 use Rattle.lexer.proofs.Same.{same-kind, same-name}
 use Rattle.arith.specs.Values.{Operation, add, subtract, multiply, divide, modulo, Comparison, equal, notEqual, less, lessEqual, greater, greaterEqual}
 use Rattle.grammar.specs.Expressions.{productOf, sumOf}
-use Rattle.grammar.specs.Conditions.{comparisonOf, Connective, andAlso, orElse, andOf, orOf}
+use Rattle.grammar.specs.Conditions.{comparisonOf}
 use Rattle.grammar.specs.Derivation.{Stands, Spells, SumSign, ProductSign, ComparisonSign}
 use Rattle.grammar.specs.Derivation as D
 use Rattle.grammar.proofs.Spellings.{Spelling, token-spelled, one-kind}

@@ -1,6 +1,6 @@
 -- Conditions. Document 01, "The text". Assumes nothing.
 use Prim.Native.Nat.{ℕ, zero, suc}
-use mathlib.Core.List.{List, [], _∷_}
+use mathlib.Core.List.{[], _∷_}
 use mathlib.Core.Option.{Option, none, some}
 use Rattle.limits.specs.Limits.{bracketLimit, notAllowed, tooMany}
 use Rattle.lexer.specs.Bytes.{pick}
@@ -9,7 +9,7 @@ use Rattle.lexer.specs.Token as T
 use Rattle.lexer.specs.Lexer.{tokenAt}
 use Rattle.arith.specs.Values.{Comparison, equal, notEqual, less, lessEqual, greater, greaterEqual}
 use Rattle.semantics.specs.Program.{Expression, Condition, comparison, negated, both, either}
-use Rattle.grammar.specs.Parsed.{Parsed, accepted, refused, andThen, onToken, onOption, sign, phrase, followed, chain}
+use Rattle.grammar.specs.Parsed.{Parsed, accepted, refused, andThen, onToken, onOption, sign, followed, chain}
 use Rattle.grammar.specs.Expressions.{Scope, expression, bracket}
 
 -- `=` `<>` `<` `<=` `>` `>=`

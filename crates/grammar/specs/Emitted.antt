@@ -1,11 +1,8 @@
 -- The bytes of each part of a program, as a translator writes them while it reads: a shape for proofs and contracts. The law
 -- `image-emitted` says that they make bytecode's `imageOf`. Document 01, "The image". Assumes nothing.
 use Prim.Native.Nat.{ℕ, _-_}
-use mathlib.Core.Bool.{Bool, true, false}
 use mathlib.Core.List.{List, [], _∷_, _++_}
 use lib.ListN.{length}
-use lib.Dec.{ltb}
-use lib.IntN.{ℤ, pos, negsuc}
 use Rattle.leb128.specs.Numbers.{number, zigzag}
 use Rattle.bytecode.specs.Instructions.{operationCode, comparisonCode}
 use Rattle.semantics.specs.Program.{Name, Expression, constant, current, previous, operation, negate, Condition, comparison, negated, both, either, Case, Rule, function, change, Program}

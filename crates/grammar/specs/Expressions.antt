@@ -1,14 +1,14 @@
 -- Names in use and expressions. Document 01, "The text". Assumes nothing.
 use Prim.Native.Nat.{ℕ, zero, suc, _+_}
-use mathlib.Core.Bool.{Bool, true, false}
+use mathlib.Core.Bool.{Bool, false}
 use mathlib.Core.List.{List, [], _∷_}
 use mathlib.Core.Option.{Option, none, some}
 use lib.ListN.{getD}
 use lib.Dec.{ltb}
-use lib.IntN.{ℤ, pos}
+use lib.IntN.{pos}
 use Rattle.limits.specs.Limits.{bracketLimit, notAllowed, outOfLimit, wrongName, tooEarly, tooMany}
 use Rattle.lexer.specs.Bytes.{pick, part}
-use Rattle.lexer.specs.Token.{Kind, name, digits, modWord, openRound, closeRound, plus, minus, star, slash, is, Read, token, fault}
+use Rattle.lexer.specs.Token.{Kind, name, digits, modWord, openRound, closeRound, plus, minus, star, slash, is}
 use Rattle.lexer.specs.Token as T
 use Rattle.lexer.specs.Lexer.{tokenAt, overLong, valueOf}
 use Rattle.lexer.specs.Names.{idOf}

@@ -1,7 +1,6 @@
 -- A whole text. Document 01, "The text" and "Who can cause which refusal". Assumes nothing.
-use Prim.Native.Nat.{ℕ, zero, suc}
-use mathlib.Core.Bool.{Bool, true, false}
-use mathlib.Core.List.{List, [], _∷_}
+use Prim.Native.Nat.{ℕ}
+use mathlib.Core.List.{List, []}
 use lib.ListN.{length}
 use lib.Dec.{ltb}
 use Rattle.limits.specs.Limits.{textLimit, tooLong}
@@ -9,9 +8,8 @@ use Rattle.limits.specs.Answer.{Answer}
 use Rattle.limits.specs.Answer as A
 use Rattle.lexer.specs.Bytes.{pick}
 use Rattle.lexer.specs.Token.{inputWord, varWord}
-use Rattle.semantics.specs.Program.{Name, Rule, Program, knownFirst}
+use Rattle.semantics.specs.Program.{Program, knownFirst}
 use Rattle.grammar.specs.Parsed.{Parsed, accepted, refused, andThen}
-use Rattle.grammar.specs.Expressions.{Scope}
 use Rattle.grammar.specs.Declarations.{declarations, spellings}
 use Rattle.grammar.specs.Rules.{rulesFrom}
 

@@ -1,16 +1,15 @@
 -- Rules: functions, change formulas and their no-change formulas. Document 01, "The text". Assumes nothing.
-use Prim.Native.Nat.{ℕ, zero, suc, _+_}
+use Prim.Native.Nat.{ℕ, zero, suc}
 use mathlib.Core.Bool.{Bool, true, false}
 use mathlib.Core.List.{List, [], _∷_, _++_}
-use mathlib.Core.Option.{Option, none, some}
 use lib.ListN.{length, getD, set}
 use lib.Dec.{ltb, leb, eqb}
 use Rattle.limits.specs.Limits.{caseLimit, notAllowed, wrongRule, listsDiffer, tooMany}
 use Rattle.lexer.specs.Bytes.{pick, part}
 use Rattle.lexer.specs.Token.{Kind, name, ending, nextWord, arrow, semicolon, colon, openRound, closeRound, openSquare, tilde, ampersand, bar, equals, is, Read, token, fault}
 use Rattle.lexer.specs.Lexer.{tokenAt, sameToken}
-use Rattle.semantics.specs.Program.{Expression, Condition, Case, Rule, function, change, target, allTrue}
-use Rattle.grammar.specs.Parsed.{Parsed, accepted, refused, andThen, onToken, onOption, Wanted, sign, own, ownPrevious, phrase, followed}
+use Rattle.semantics.specs.Program.{Condition, Case, Rule, function, change, target, allTrue}
+use Rattle.grammar.specs.Parsed.{Parsed, accepted, refused, andThen, onToken, sign, own, ownPrevious, phrase, followed}
 use Rattle.grammar.specs.Expressions.{Scope, withId, wholeExpression}
 use Rattle.grammar.specs.Conditions.{listed}
 

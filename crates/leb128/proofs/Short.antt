@@ -5,7 +5,7 @@ use mathlib.Core.Path.{_≡_, refl}
 use mathlib.Core.List.{List}
 use lib.ListN.{length, getD}
 use borrow.Author.Tests.{lt-ltb}
-use Rattle.leb128.specs.Numbers.{Found, found, none, grouped, numberIn, got, nothing, below32, numberAt}
+use Rattle.leb128.specs.Numbers.{found, none, grouped, got, nothing, below32, numberAt}
 use Rattle.leb128.proofs.Laws.{at-end, at-last, at-more, after-nonzero}
 
 grouped-none : (low : ℕ) → grouped low none ≡ none

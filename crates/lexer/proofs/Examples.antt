@@ -1,8 +1,7 @@
 -- Texts whose tokens are easily read another way, by computation. Assumes nothing.
 use mathlib.Core.Path.{_≡_, refl}
 use mathlib.Core.Bool.{true, false}
-use mathlib.Core.List.{List, [], _∷_}
-use Prim.Native.Nat.{ℕ}
+use mathlib.Core.List.{[], _∷_}
 use Rattle.lexer.specs.Bytes.{bytes, sameBytes}
 use Rattle.lexer.specs.Token.{name, previous, digits, modWord, dots, arrow, lessEqual, less, kindNumber, ending, is, token, fault}
 use Rattle.lexer.specs.Lexer.{isSpace, isDigit, isLetter, isAlphanumeric, runOn, runEnd, wordOf, overLong, pairOf, signOf, readOf, signAt, wordAt, digitsAt, previousAt, tokenOf, tokenPast, tokenAt, valueOn, valueOf}

@@ -1,12 +1,12 @@
 -- Laws of a run: its end, one step, a refusal, a divided budget, its count of steps. Assumes nothing.
 use Prim.Native.Nat.{ℕ, zero, suc, _+_, _-_, _≤_, _<_}
 use native.Mathlib.Omega.{arith}
-use mathlib.Core.Path.{_≡_, refl, sym, ap, _∙_}
+use mathlib.Core.Path.{_≡_, refl, sym}
 use mathlib.Core.Bool.{Bool, true, false, cond}
-use mathlib.Core.List.{List, [], _∷_}
+use mathlib.Core.List.{List}
 use lib.Dec.{ltb}
 use lib.ListN.{length}
-use borrow.Author.Tests.{lt-ltb, le-ltb, ltb-true, ltb-false}
+use borrow.Author.Tests.{lt-ltb, le-ltb, ltb-false}
 use Rattle.arith.specs.Values.{Outcome, ok, refusal}
 use Rattle.semantics.specs.Program.{Range}
 use Rattle.semantics.specs.Formula.{State}
@@ -15,7 +15,7 @@ use Rattle.bytecode.specs.Instructions.{Instruction, fetch}
 use Rattle.bytecode.specs.Counting.{counted, countFrom}
 use Rattle.bytecode.proofs.RoundTrip.{fetch-next}
 use Rattle.machine.specs.Step.{Machine, step}
-use Rattle.machine.specs.Runs.{Ran, ran, afterStep, afterFetch, run, resume}
+use Rattle.machine.specs.Runs.{ran, afterStep, afterFetch, run, resume}
 
 module _ (ns : List Range) (s : State) (code : List ℕ) where
   -- at the end of the code nothing is done

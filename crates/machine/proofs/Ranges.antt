@@ -1,13 +1,12 @@
 -- A run keeps every current value in its range, whatever the code. Assumes nothing.
-use Prim.Native.Nat.{ℕ, zero, suc, _+_, _≤_, _<_}
-use native.Mathlib.Omega.{arith}
-use mathlib.Core.Path.{_≡_, refl, sym, ap, _∙_}
-use mathlib.Core.Bool.{Bool, true, false, not, _&&_, _||_, cond}
+use Prim.Native.Nat.{ℕ, zero, suc, _+_}
+use mathlib.Core.Path.{_≡_, refl, _∙_}
+use mathlib.Core.Bool.{Bool, true, false, not, cond}
 use mathlib.Core.List.{List, [], _∷_}
 use lib.Dec.{T, ltb}
 use lib.IntN.{ℤ}
 use lib.ListN.{length, set, length-set}
-use Rattle.arith.specs.Values.{Outcome, ok, refusal, _>>=_, require, eqZ, arithmetic, negation, compares}
+use Rattle.arith.specs.Values.{Outcome, ok, refusal, _>>=_, require, eqZ, arithmetic, negation}
 use Rattle.semantics.specs.Program.{Range, within}
 use Rattle.semantics.specs.Formula.{State, at}
 use Rattle.semantics.specs.ReferenceScan.{rangeAt, allWithin, ranged, picked}
@@ -15,7 +14,7 @@ use Rattle.arith.proofs.Basics.{Bound, bound, unbind, passed}
 use Rattle.semantics.proofs.Unique.{allWithin-at, allWithin-set}
 use Rattle.leb128.specs.Numbers.{Read, got, nothing}
 use Rattle.bytecode.specs.Instructions.{Instruction, constant, current, previous, operation, negate, comparison, negated, both, either, gate, pick, assign, settle, fetch}
-use Rattle.machine.specs.Step.{Machine, machine, bit, yes, push, pop, gated, settled, isPick, declared, perform, step}
+use Rattle.machine.specs.Step.{Machine, machine, yes, push, pop, gated, settled, perform, step}
 use Rattle.machine.specs.Runs.{Ran, ran, afterStep, afterFetch, run}
 
 abbrev pub currentOf : Machine → State

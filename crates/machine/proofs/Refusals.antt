@@ -2,29 +2,28 @@
 -- declared. Assumes nothing.
 use Prim.Native.Nat.{ℕ, zero, suc, _+_, _≤_, _<_}
 use native.Mathlib.Omega.{arith}
-use mathlib.Core.Path.{_≡_, refl, sym, ap, _∙_, subst}
-use mathlib.Core.Bool.{Bool, true, false, not, _&&_, _||_, false≢true, cond}
+use mathlib.Core.Path.{_≡_, refl, ap, _∙_, subst}
+use mathlib.Core.Bool.{Bool, true, false, not, _&&_, _||_}
 use mathlib.Core.List.{List, [], _∷_}
 use mathlib.Core.Option.{Option, none, some}
-use lib.Dec.{T, ltb, eqb, ltb→lt}
+use lib.Dec.{T, ltb, ltb→lt}
 use lib.IntN.{ℤ, pos, negℤ, _+ℤ_, _-ℤ_, _*ℤ_}
-use lib.ListN.{length, getD, set, length-set}
+use lib.ListN.{length, getD, set}
 use lib.Signed.{quotZ}
-use borrow.Author.Tests.{lt-ltb, le-ltb, ltb-true, ltb-false}
-use Rattle.limits.specs.Answer.{Answer, accepted, refused}
+use borrow.Author.Tests.{lt-ltb, ltb-true}
+use Rattle.limits.specs.Answer.{accepted}
 use Rattle.arith.specs.Values.{Outcome, ok, refusal, _>>=_, require, eqZ, isInt32, int32, nonZero, Operation, add, subtract, multiply, divide, modulo, arithmetic, negation, compares}
 use Rattle.semantics.specs.Program.{Range, within}
 use Rattle.semantics.specs.Formula.{State, at}
 use Rattle.semantics.specs.ReferenceScan.{rangeAt, ranged, picked}
-use Rattle.arith.proofs.Basics.{T-true, true-T, and-left, and-right, ok≢refusal}
-use Rattle.leb128.specs.Numbers.{Read, got, nothing}
-use Rattle.bytecode.specs.Instructions.{Instruction, constant, current, previous, operation, negate, comparison, negated, both, either, gate, pick, assign, settle, fetch}
-use Rattle.bytecode.specs.Check.{Sort, Known, known, guard, held, one, empty, unset, closed, fresh, opened, advance, checkCode}
+use Rattle.arith.proofs.Basics.{T-true, and-left, and-right, ok≢refusal}
+use Rattle.bytecode.specs.Instructions.{Instruction, constant, current, previous, operation, negate, comparison, negated, both, either, gate, pick, assign, settle}
+use Rattle.bytecode.specs.Check.{Sort, Known, known, held, one, empty, unset, closed, fresh, opened, advance, checkCode}
 use Rattle.bytecode.proofs.RoundTrip.{fetch-next}
 use Rattle.bytecode.proofs.Soundness.{none≢some, guard-some, one-some, idsOf, known-inside, advance-small}
-use Rattle.bytecode.proofs.Walk.{Stepped, check-stepped}
+use Rattle.bytecode.proofs.Walk.{check-stepped}
 use Rattle.machine.specs.Step.{Machine, machine, bit, yes, push, pop, gated, settled, isPick, declared, perform, step}
-use Rattle.machine.specs.Runs.{Ran, ran, afterStep, afterFetch, run}
+use Rattle.machine.specs.Runs.{afterStep, run}
 
 -- a refusal of the rules at work: 14, 15, 16 or 17
 pub record ByRules (k : ℕ) : Type 0 where

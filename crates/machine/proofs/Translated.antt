@@ -3,29 +3,28 @@ use Prim.Native.Nat.{ℕ, zero, suc, _+_, _-_, _≤_, _<_}
 use native.Mathlib.Omega.{arith}
 use mathlib.Core.Path.{_≡_, refl, sym, ap, _∙_}
 use mathlib.Core.Logic.{_≢_}
-use mathlib.Core.Bool.{Bool, true, false, not, _&&_, _||_, false≢true, cond}
-use mathlib.Core.List.{List, [], _∷_, _++_, append-assoc}
+use mathlib.Core.Bool.{Bool, true, false, false≢true}
+use mathlib.Core.List.{List, [], _∷_, _++_}
 use mathlib.Core.Option.{Option, none, some}
-use lib.Dec.{T, ltb, ltb→lt}
+use lib.Dec.{ltb, ltb→lt}
 use lib.IntN.{ℤ, pos}
 use lib.ListN.{length, set, getD, drop, length-append, length-set, length-drop}
 use lib.Seq.{getD-set-other}
 use borrow.Author.Tests.{lt-ltb, le-ltb}
-use Rattle.arith.specs.Values.{Outcome, ok, refusal, _>>=_, arithmetic, negation, compares, eqZ}
+use Rattle.arith.specs.Values.{Outcome, ok, refusal, _>>=_}
 use Rattle.semantics.specs.Program.{Range, Expression, Condition, Case, Rule, function, change, target, UsableE, UsableC, UsableK, UsableR, OrderedRules}
 use Rattle.semantics.specs.Program as P
 use Rattle.semantics.specs.Formula.{State, at, evalE, evalC}
-use Rattle.semantics.specs.ReferenceScan.{ranged, picked, tryCase, tryCases, orPrevious, newValue, scanRules}
-use Rattle.arith.proofs.Basics.{T-true, bind-assoc, bind-cong}
-use Rattle.semantics.proofs.Unique.{Agree, evalC-agree, evalE-agree}
-use Rattle.leb128.specs.Numbers.{Read, got, nothing}
-use Rattle.bytecode.specs.Instructions.{Instruction, constant, current, previous, operation, negate, comparison, negated, both, either, gate, pick, assign, settle, encode, encodeAll, fetch}
+use Rattle.semantics.specs.ReferenceScan.{tryCase, tryCases, orPrevious, newValue, scanRules}
+use Rattle.arith.proofs.Basics.{bind-assoc, bind-cong}
+use Rattle.semantics.proofs.Unique.{Agree, evalC-agree}
+use Rattle.bytecode.specs.Instructions.{Instruction, constant, current, previous, operation, negate, comparison, negated, both, either, gate, pick, encode, encodeAll}
 use Rattle.bytecode.specs.Translation.{codeE, codeC, codeCase, codeK, codeR, codeRules, depthE, depthC, ShallowK, ShallowR, Shallow}
 use Rattle.leb128.proofs.RoundTrip.{drop-behind}
-use Rattle.bytecode.proofs.RoundTrip.{Small, AllSmall, fetch-encoded, length-encode, encoded-inside}
+use Rattle.bytecode.proofs.RoundTrip.{AllSmall, fetch-encoded, length-encode, encoded-inside}
 use Rattle.bytecode.proofs.Soundness.{known-inside}
-use Rattle.machine.specs.Step.{Machine, machine, bit, yes, push, pop, gated, settled, isPick, declared, perform, step}
-use Rattle.machine.specs.Runs.{Ran, ran, afterStep, afterFetch, run}
+use Rattle.machine.specs.Step.{Machine, machine, bit, yes, push, gated, settled, step}
+use Rattle.machine.specs.Runs.{afterStep, run}
 
 pub yes-bit : (b : Bool) → yes (bit b) ≡ b
 unfolding yes bit

@@ -1,6 +1,6 @@
 -- One instruction of the machine that runs an image's code. It is total: on anything that no sound image has, it answers 11.
 -- Document 01, "The image" and "Values and formulas". Assumes nothing.
-use Prim.Native.Nat.{ℕ, zero, suc}
+use Prim.Native.Nat.{ℕ}
 use mathlib.Core.Bool.{Bool, true, false, not, _&&_, _||_, cond}
 use mathlib.Core.List.{List, [], _∷_}
 use lib.Dec.{ltb}

@@ -1,27 +1,27 @@
 -- What the running code records, row by row, is what the definition stores at once. Assumes nothing.
-use Prim.Native.Nat.{ℕ, zero, suc, _+_, _≤_, min}
-use mathlib.Core.Path.{_≡_, refl, sym, ap, ap₂, _∙_}
+use Prim.Native.Nat.{ℕ, _+_, min}
+use mathlib.Core.Path.{_≡_, refl, sym, ap, _∙_}
 use mathlib.Core.Bool.{Bool, true, false, cond}
 use mathlib.Core.List.{List, [], _∷_, _++_, map}
 use native.Mathlib.Omega.{arith}
 use native.Mathlib.Numerals.{add-one}
 use lib.Dec.{eqb}
 use lib.IntN.{ℤ}
-use lib.ListN.{length, set}
+use lib.ListN.{length}
 use lib.Seq.{sets, length-sets}
 use Rattle.limits.specs.Answer.{Answer, accepted, refused}
 use Rattle.semantics.specs.Formula.{State}
-use Rattle.semantics.specs.Rows.{Reply, ifAccepted, acceptedStates, traceOf, finalState}
+use Rattle.semantics.specs.Rows.{ifAccepted, acceptedStates, finalState}
 use Rattle.bytecode.specs.Check.{checkOf}
 use Rattle.bytecode.specs.Counting.{headerOf}
 use Rattle.machine.specs.Names.{stateLength, startingState}
 use Rattle.leb128.proofs.RoundTrip.{sets-join}
 use Rattle.scan.specs.declared.Started.the-variants as S
-use Rattle.scan.specs.Services.{AfterStart, started, startOf, AfterScan, scanOf}
+use Rattle.scan.specs.Services.{AfterStart, started, startOf, scanOf}
 use Rattle.scan.specs.Results.{afterStart}
 use Rattle.correctness.specs.TraceCorrect.{scansOf, verdictOf, replyOf}
 use Rattle.replay.specs.declared.Replayed.the-variants as R
-use Rattle.replay.specs.Replay.{rowsOf, numberOf, stepsOf, valuesOf, recorded, replayRows}
+use Rattle.replay.specs.Replay.{numberOf, stepsOf, valuesOf, replayRows}
 use Rattle.replay.specs.Results.{lent, afterReplay}
 use Rattle.replay.specs.Internal.{Records, records, addedBy, recordScan, scanRows}
 use Rattle.replay.proofs.Stores.{sets-clipped}

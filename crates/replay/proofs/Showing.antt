@@ -1,8 +1,8 @@
 -- A replay that was not refused shows demand 3 of what stands in memory. Assumes nothing.
 use Prim.Native.Nat.{ℕ, _+_, _≤_}
-use mathlib.Core.Path.{_≡_, refl, sym, ap, ap₂, _∙_, subst}
+use mathlib.Core.Path.{_≡_, refl, sym, ap, _∙_, subst}
 use mathlib.Core.Bool.{Bool, true, false, cond}
-use mathlib.Core.List.{List, [], _∷_, _++_, map}
+use mathlib.Core.List.{List, [], map}
 use native.Mathlib.Omega.{arith}
 use lib.Dec.{eqb}
 use lib.IntN.{ℤ, pos}
@@ -18,7 +18,7 @@ use Rattle.machine.specs.Names.{stateLength, startingState}
 use Rattle.grammar.specs.Parse.{programOf}
 use Rattle.translate.specs.Services.{AfterTranslation, translationOf}
 use Rattle.scan.specs.Services.{AfterStart, started, startOf}
-use Rattle.correctness.specs.TraceCorrect.{scansOf, TraceCorrect, Demand3}
+use Rattle.correctness.specs.TraceCorrect.{scansOf, TraceCorrect}
 use Rattle.correctness.proofs.Correct.{trace-correct}
 use Rattle.replay.specs.declared.Replayed.{Replayed}
 use Rattle.replay.specs.declared.Replayed.the-variants as R

@@ -1,14 +1,14 @@
 -- Stores that are clipped at a list's end. Assumes nothing.
-use Prim.Native.Nat.{ℕ, zero, suc, _+_, _-_, _≤_, _<_, min}
-use mathlib.Core.Path.{_≡_, refl, sym, ap, _∙_}
+use Prim.Native.Nat.{ℕ, suc, _+_, _-_, _≤_, _<_, min}
+use mathlib.Core.Path.{_≡_, refl, sym, _∙_}
 use mathlib.Core.Bool.{Bool, true, false}
-use mathlib.Core.List.{List, [], _∷_, _++_}
+use mathlib.Core.List.{List, [], _∷_}
 use native.Mathlib.Omega.{arith}
 use native.Mathlib.Numerals.{add-one}
 use lib.Dec.{leb}
 use lib.IntN.{ℤ, pos}
-use lib.ListN.{length, take, drop, set, getD, length-set, length-drop}
-use lib.Seq.{sets, set-out, drop-cons, drop-length, length-sets}
+use lib.ListN.{length, drop, set, getD, length-set}
+use lib.Seq.{sets, set-out, drop-cons, drop-length}
 use borrow.Author.Tests.{leb-true, leb-false}
 
 -- past the end nothing is stored

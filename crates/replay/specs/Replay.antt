@@ -11,7 +11,7 @@ use Rattle.semantics.specs.Program.{Program}
 use Rattle.semantics.specs.Formula.{State, Trace}
 use Rattle.semantics.specs.Rows.{traceOf, finalState}
 use Rattle.grammar.specs.Parse.{programOf}
-use Rattle.translate.specs.Services.{AfterTranslation, translationOf}
+use Rattle.translate.specs.Services.{translationOf}
 use Rattle.scan.specs.Services.{AfterStart, startOf, AfterScan}
 use Rattle.correctness.specs.TraceCorrect.{scansOf, replyOf, begun, found, TraceCorrect}
 

@@ -1,21 +1,21 @@
 -- The ways through a function, a change formula with its no-change formula, and a rule: what each comes to. Assumes nothing.
-use mathlib.Core.Path.{_≡_, refl, ap, sym, _∙_, subst}
-use mathlib.Core.List.{List, [], _∷_, _++_, append-nil}
-use mathlib.Core.Bool.{Bool, true, false}
-use mathlib.Core.Option.{Option, none, some}
-use Prim.Native.Nat.{ℕ, _+_, _*_, _≤_, _<_}
+use mathlib.Core.Path.{_≡_, refl, sym, subst}
+use mathlib.Core.List.{List, [], _∷_, append-nil}
+use mathlib.Core.Bool.{true, false}
+use mathlib.Core.Option.{none, some}
+use Prim.Native.Nat.{ℕ, _+_, _≤_, _<_}
 use native.Mathlib.Omega.{arith}
 use lib.ListN.{length, getD, length-append}
 use lib.Seq.{sets}
 use Rattle.limits.specs.Limits.{caseLimit, noToken, wrongName, wrongRule, tooMany}
 use Rattle.leb128.specs.Numbers.{number}
-use Rattle.lexer.specs.Bytes.{pick, part}
-use Rattle.lexer.specs.Token.{Kind, tilde, is, Read, token, fault}
+use Rattle.lexer.specs.Bytes.{part}
+use Rattle.lexer.specs.Token.{Kind, tilde, is, token, fault}
 use Rattle.lexer.specs.Lexer.{tokenAt, overLong}
 use Rattle.lexer.specs.Names.{idOf}
 use Rattle.lexer.proofs.Laws.{pick-prop}
 use Rattle.semantics.specs.Program.{Expression, Condition, Rule, function, change, target}
-use Rattle.grammar.specs.Parsed.{Parsed, accepted, refused, andThen, onToken, Wanted, phrase, followed}
+use Rattle.grammar.specs.Parsed.{Parsed, accepted, refused, Wanted, phrase, followed}
 use Rattle.grammar.specs.Expressions.{Scope, withId, wholeExpression}
 use Rattle.grammar.specs.Rules.{Spanned, casesFrom, agreeingList, casesOf, functionAt, changeAt, formulas, ruleAt}
 use Rattle.grammar.specs.Emitted.{codeE, codeK, codeR}
@@ -28,7 +28,7 @@ use Rattle.expressions.proofs.Steps.{Refuses}
 use Rattle.agreement.specs.Spans.{spansIn, spansOf, Spans}
 use Rattle.phrases.specs.Forms.{ruleOpening, formulaClosing, functionClosing, valueOpening, changeOpening, noChangeOpening}
 use Rattle.cases.specs.Post.{codeOfCases, Lists}
-use Rattle.cases.proofs.Parts.{Got, never, same-value, phrase-fault, behind-refused}
+use Rattle.cases.proofs.Parts.{Got, phrase-fault, behind-refused}
 use Rattle.cases.proofs.Ways.{then-bytes}
 use Rattle.rules.specs.Post.{codeOfRule}
 

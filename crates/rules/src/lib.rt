@@ -1,4 +1,5 @@
 // The rules of a text: functions, and change formulas with their no-change formulas. A rule is written as it is read.
+ghost use mathlib.Core.List.{[]};
 use cases::Part;
 use cases::Variable;
 use expressions::scope::Names;
@@ -6,7 +7,6 @@ use lexer::Found;
 use lexer::Token;
 use phrases::Expected;
 ghost use mathlib.Core.Path.{_≡_};
-ghost use mathlib.Core.List.{[]};
 ghost use Prim.Native.Nat.{_≤_, _<_};
 ghost use lib.ListN.{length};
 ghost use Rattle.limits.specs.Limits.{nameLimit};

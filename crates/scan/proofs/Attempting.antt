@@ -1,5 +1,5 @@
 -- An attempt to check and scan in one pass: what it answers is the answer of the scan. Assumes nothing.
-use mathlib.Core.Path.{_≡_, sym, ap, subst, _∙_}
+use mathlib.Core.Path.{_≡_, subst, _∙_}
 use mathlib.Core.Bool.{true, false}
 use mathlib.Core.List.{List, []}
 use Prim.Native.Nat.{ℕ, _≤_}
@@ -7,7 +7,6 @@ use native.Mathlib.Omega.{arith}
 use lib.IntN.{ℤ}
 use lib.ListN.{length, drop}
 use Rattle.limits.specs.Answer.{accepted, _andThen_}
-use Rattle.arith.specs.Values.{ok, refusal}
 use Rattle.semantics.specs.Program.{Range}
 use Rattle.semantics.specs.Formula.{State}
 use Rattle.semantics.specs.ReferenceScan.{allWithin, withInputs}
@@ -16,7 +15,7 @@ use Rattle.bytecode.specs.Counting.{extentOf}
 use Rattle.bytecode.specs.Results.{Extends}
 use Rattle.checker.proofs.Checking.{whole-header}
 use Rattle.machine.specs.Step.{machine}
-use Rattle.machine.specs.Runs.{ran, run}
+use Rattle.machine.specs.Runs.{run}
 use Rattle.machine.specs.Memory.{RangesIn}
 use Rattle.fused.specs.declared.Attempt.{Attempt}
 use Rattle.fused.specs.declared.Attempt.the-variants as A
@@ -25,13 +24,13 @@ use Rattle.fused.specs.declared.header.Placed.the-variants as P
 use Rattle.fused.specs.Together.{Succeeds, Fails, RunBy}
 use Rattle.fused.specs.Header.{Stands, PlacedBy}
 use Rattle.scan.specs.Services.{scanOf}
-use Rattle.scan.specs.Results.{afterScan, ScannedWithin}
+use Rattle.scan.specs.Results.{afterScan}
 use Rattle.scan.specs.Internal.{ranOn, scannedIn, scannedFrom}
 use Rattle.scan.specs.Attempts.{Tried, SoundCodeBy, SoundRest, SoundFromBy, AttemptWithin}
 use Rattle.scan.specs.declared.Scanned.the-variants as R
 use Rattle.scan.proofs.Copies.{over-all}
 use Rattle.scan.proofs.Scanning.{copied, length-copied}
-use Rattle.scan.proofs.Images.{SoundCounts, sound-counts, scan-from}
+use Rattle.scan.proofs.Images.{sound-counts, scan-from}
 
 -- ---- the code
 

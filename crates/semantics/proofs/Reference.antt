@@ -1,20 +1,20 @@
 -- The trace that the reference scan finds satisfies every formula, and no other does: one place, then a whole list of rows.
 -- Assumes nothing.
-use Prim.Native.Nat.{ℕ, zero, suc, _+_, _<_, _≤_}
+use Prim.Native.Nat.{ℕ, zero, suc, _<_, _≤_}
 use native.Mathlib.Omega.{arith}
-use mathlib.Core.Path.{_≡_, refl, sym, ap, ap₂, _∙_, subst}
-use mathlib.Core.Bool.{Bool, true, false, _&&_, false≢true}
+use mathlib.Core.Path.{_≡_, refl, sym, ap, ap₂, _∙_}
+use mathlib.Core.Bool.{Bool, true, false, false≢true}
 use mathlib.Core.List.{List, [], _∷_, _++_, map}
 use lib.Dec.{T, eqb, eqb→eq}
 use lib.IntN.{ℤ, pos}
-use lib.ListN.{length, getD, set, take, drop, length-append, length-drop, List·getD-append, length-map}
+use lib.ListN.{length, getD, take, drop, length-append, length-drop, List·getD-append, length-map}
 use lib.Seq.{getD-take, ext-getD, length-take-le}
-use Rattle.arith.specs.Values.{Outcome, ok, refusal, _>>=_, check}
-use Rattle.semantics.specs.Program.{Program, Range, Rule, Condition, both, either, rangesOf, WellFormed, StartsWithin, knownFirst, OrderedRules, within}
-use Rattle.semantics.specs.Formula.{State, at, evalC, Formula, formulasOfRule, formulasOfRules, formulasOf, Holds, HoldsAfter, GX, All, Satisfies}
+use Rattle.arith.specs.Values.{Outcome, ok, refusal, check}
+use Rattle.semantics.specs.Program.{Program, Range, Rule, Condition, both, either, rangesOf, WellFormed, StartsWithin, knownFirst, within}
+use Rattle.semantics.specs.Formula.{State, at, evalC, Formula, formulasOfRule, formulasOfRules, formulasOf, Holds, GX, All, Satisfies}
 use Rattle.semantics.specs.ReferenceScan.{allWithin, scanRules, withInputs, referenceScan}
-use Rattle.semantics.specs.Rows.{Reply, reply, referenceReplies, startsOf, acceptedStates, acceptedRows, traceOf, finalState, lastPlace, Fits, InRanges, AllInRanges, OnlyTrace}
-use Rattle.arith.proofs.Basics.{T-true, true-T, and-T, ok≢refusal, ok-inj}
+use Rattle.semantics.specs.Rows.{Reply, reply, referenceReplies, startsOf, acceptedStates, acceptedRows, traceOf, Fits, InRanges, AllInRanges, OnlyTrace}
+use Rattle.arith.proofs.Basics.{and-T, ok≢refusal}
 use Rattle.semantics.proofs.Unique.{Agree, HoldsRule, HoldsAll, scan-holds, scan-value, scan-within, allWithin-inputs}
 
 -- ---- every formula at a place, and along a trace

@@ -1,22 +1,22 @@
 -- The reference scan's new state satisfies every formula at its place, and is the only state of its length and inputs that does.
 -- Assumes nothing.
-use Prim.Native.Nat.{ℕ, zero, suc, _<_, _≤_}
+use Prim.Native.Nat.{ℕ, zero, suc, _<_}
 use native.Mathlib.Omega.{arith}
 use native.Mathlib.Decide.{ℕ-discrete}
 use mathlib.Core.Path.{_≡_, refl, sym, ap, _∙_, subst}
 use mathlib.Core.Logic.{_≢_}
-use mathlib.Core.Bool.{Bool, true, false, not, _&&_, _||_, true≢false, false≢true}
+use mathlib.Core.Bool.{Bool, true, false, not, false≢true}
 use mathlib.Core.List.{List, [], _∷_, _++_, map}
 use mathlib.Core.Option.{Option, none, some}
-use lib.Dec.{T, ltb, ltb→lt}
-use lib.IntN.{ℤ, pos, negsuc}
+use lib.Dec.{T, ltb→lt}
+use lib.IntN.{ℤ, pos}
 use lib.ListN.{length, getD, set, drop, length-set}
 use lib.Seq.{drop-nil, getD-set-same, getD-set-other, ext-getD}
-use Rattle.arith.specs.Values.{Outcome, ok, refusal, _>>=_, require, eqZ, arithmetic, negation, compares}
+use Rattle.arith.specs.Values.{ok, _>>=_, require, eqZ}
 use Rattle.semantics.specs.Program.{Range, Expression, constant, current, previous, operation, negate, Condition, comparison, negated, both, either, Case, Rule, function, change, target, UsableE, UsableC, UsableK, UsableR, OrderedRules, AgreesR, AgreesAll, allTrue, within}
-use Rattle.semantics.specs.Formula.{State, at, evalE, evalC, Formula, equation, chosen, anyCase, anyCondition, changeFormula, noChangeFormula, functionFormula, formulasOfRule, formulasOfRules, Holds, All}
+use Rattle.semantics.specs.Formula.{State, at, evalE, evalC, anyCase, anyCondition, changeFormula, noChangeFormula, functionFormula, formulasOfRule, Holds, All}
 use Rattle.semantics.specs.ReferenceScan.{noRange, allWithin, rangeAt, ranged, picked, tryCase, tryCases, orPrevious, newValue, scanRules}
-use Rattle.arith.proofs.Basics.{and-left, and-right, and-T, T-true, true-T, eqZ-self, eqZ-true, ok≢refusal, ok-inj, Bound, bound, unbind, passed, bind-cong, bind-assoc, or-true, or-false, or-second, not-true, T-not-false}
+use Rattle.arith.proofs.Basics.{and-left, and-right, and-T, T-true, eqZ-self, eqZ-true, ok≢refusal, ok-inj, Bound, bound, unbind, passed, bind-cong, bind-assoc, or-true, or-false, or-second, not-true, T-not-false}
 
 abbrev conditions : List Case → List Condition
 conditions ks = map (λ k. k .condition) ks

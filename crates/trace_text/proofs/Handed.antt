@@ -1,5 +1,5 @@
 -- The rows that are handed to scan, one after the other, are those of the lines behind the line `#`. Assumes nothing.
-use mathlib.Core.Path.{_≡_, refl, sym, ap, ap₂, _∙_}
+use mathlib.Core.Path.{_≡_, refl, sym, ap, _∙_}
 use mathlib.Core.Bool.{Bool, true, false}
 use mathlib.Core.List.{List, [], _∷_, _++_, map, append-nil}
 use mathlib.Core.Option.{Option, none, some}
@@ -8,7 +8,7 @@ use native.Mathlib.Omega.{arith}
 use lib.Dec.{eqb, leb}
 use lib.IntN.{ℤ}
 use lib.ListN.{length, take, drop, length-append}
-use lib.Seq.{sets, sets-eq, length-sets, take-at, drop-at, append-snoc}
+use lib.Seq.{sets-eq, length-sets, take-at, drop-at, append-snoc}
 use borrow.Author.Tests.{leb-true, eqb-true}
 use Rattle.lexer.specs.Bytes.{pick}
 use Rattle.trace_text.specs.declared.Line.{Line}

@@ -1,19 +1,16 @@
 -- The ways through a whole text, once its declarations are read: the rules, then the two counts. Assumes nothing.
 use mathlib.Core.Path.{_≡_, refl, sym, ap, subst, _∙_}
-use mathlib.Core.List.{List, [], _∷_, _++_, append-assoc}
-use Prim.Native.Nat.{ℕ, suc, _+_, _-_, _*_, _≤_, _<_}
+use mathlib.Core.List.{List, [], _∷_, _++_}
+use Prim.Native.Nat.{ℕ, _+_, _-_, _*_, _≤_, _<_}
 use native.Mathlib.Omega.{arith}
 use lib.ListN.{length, set, length-append}
 use lib.Seq.{sets}
 use Rattle.limits.specs.Limits.{textLimit, nameLimit}
 use Rattle.lexer.specs.Token.{inputWord, varWord}
-use Rattle.lexer.specs.Names.{namesOf, Table}
 use Rattle.semantics.specs.Program.{Name, Rule, Program, knownFirst}
-use Rattle.leb128.specs.Numbers.{number}
 use Rattle.leb128.proofs.Laws.{groups-one}
 use Rattle.leb128.proofs.RoundTrip.{sets-join}
 use Rattle.grammar.specs.Parsed.{Parsed, accepted, refused, andThen}
-use Rattle.grammar.specs.Expressions.{Scope}
 use Rattle.grammar.specs.Declarations.{declarations}
 use Rattle.grammar.specs.Rules.{rulesFrom}
 use Rattle.grammar.specs.Emitted.{header, codeR, image}

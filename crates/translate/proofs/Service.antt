@@ -1,12 +1,12 @@
 -- From the descent to the service: the limit of texts, the answer, and the buffer. Assumes nothing.
 use mathlib.Core.Path.{_≡_, refl, sym, ap, subst, _∙_}
 use mathlib.Core.Bool.{Bool, true, false, cond}
-use mathlib.Core.List.{List, [], _∷_, _++_}
+use mathlib.Core.List.{List, [], _++_}
 use Prim.Native.Nat.{ℕ, _+_, _*_, _≤_, _<_}
 use native.Mathlib.Omega.{arith}
 use lib.Dec.{leb}
 use lib.ListN.{length, take, drop}
-use lib.Seq.{sets, length-sets}
+use lib.Seq.{length-sets}
 use borrow.Author.Tests.{lt-ltb, le-ltb, le-leb, lt-leb}
 use Rattle.limits.specs.Limits.{textLimit, imageLimit}
 use Rattle.limits.specs.Answer.{Answer}
@@ -20,7 +20,6 @@ use Rattle.grammar.proofs.Image.{image-emitted}
 use Rattle.grammar.proofs.Accepted.{parse-translatable, parse-growth, parse-short as accepted-short}
 use Rattle.grammar.proofs.Places.{Within}
 use Rattle.grammar.proofs.PlacesText.{parse-limited}
-use Rattle.declarations.specs.Post.{Holds}
 use Rattle.translate.specs.declared.Analysis.{Analysis}
 use Rattle.translate.specs.declared.Analysis.the-variants as N
 use Rattle.translate.specs.declared.Translated.{Translated}

@@ -1,33 +1,26 @@
 -- The ways through a whole text: its declarations, then its rules. Assumes nothing.
 use mathlib.Core.Path.{_≡_, refl, sym, ap, subst, fun-ext, _∙_}
-use mathlib.Core.Bool.{Bool, true, false}
-use mathlib.Core.List.{List, [], _∷_, _++_}
-use Prim.Native.Nat.{ℕ, zero, suc, _+_, _-_, _*_, _/_, _%_, _^_, _≤_, _<_}
-use native.Mathlib.Nat.{le-refl, pow-suc}
+use mathlib.Core.List.{List, [], _++_}
+use Prim.Native.Nat.{ℕ, _+_, _*_, _≤_}
+use native.Mathlib.Nat.{le-refl}
 use native.Mathlib.Omega.{arith}
-use lib.Dec.{eqb}
-use lib.ListN.{length, drop, length-append}
+use lib.ListN.{length, length-append}
 use lib.Seq.{sets}
 use Rattle.limits.specs.Limits.{textLimit, nameLimit}
 use Rattle.lexer.specs.Token.{inputWord, varWord}
-use Rattle.semantics.specs.Program.{Name, Rule, Program, knownFirst}
-use Rattle.leb128.specs.Numbers.{number}
-use Rattle.leb128.proofs.Laws.{groups-one}
+use Rattle.semantics.specs.Program.{Name, Program}
 use Rattle.leb128.proofs.RoundTrip.{sets-join}
 use Rattle.grammar.specs.Parsed.{Parsed, accepted, refused, andThen}
-use Rattle.grammar.specs.Expressions.{Scope}
-use Rattle.grammar.specs.Declarations.{declarations, declarationsFrom, spellings}
+use Rattle.grammar.specs.Declarations.{declarations}
 use Rattle.grammar.specs.Rules.{rulesFrom}
-use Rattle.grammar.specs.Emitted.{header, codeR, image}
+use Rattle.grammar.specs.Emitted.{header}
 use Rattle.grammar.specs.Parse.{program}
 use Rattle.grammar.proofs.Whole.{Ends, Names, declarations-fit}
 use Rattle.grammar.proofs.Size.{Pays, declarations-pay}
-use Rattle.expressions.specs.Scopes.{knownOf}
 use Rattle.declarations.specs.Post.{Holds, headerAfter}
 use Rattle.declarations.proofs.Known.{AllDeclared, header-joined}
 use Rattle.translate.specs.declared.Heading.the-variants as H
 use Rattle.translate.specs.Internal.{Declarations, headingOf, scopeAfter, Heads}
-use Rattle.translate.proofs.Stores.{counts-last}
 
 -- ---- what follows what
 

@@ -1,6 +1,6 @@
 -- The descent over a whole text in two parts, the declarations and the rules: shapes for the contracts of the functions inside.
 -- Assumes nothing.
-use Prim.Native.Nat.{ℕ, _+_, _≤_}
+use Prim.Native.Nat.{ℕ, _+_}
 use mathlib.Core.Path.{_≡_}
 use mathlib.Core.List.{List, []}
 use lib.ListN.{length}
@@ -8,11 +8,10 @@ use lib.Seq.{sets}
 use Rattle.limits.specs.Answer.{Answer}
 use Rattle.limits.specs.Answer as A
 use Rattle.lexer.specs.Token.{inputWord, varWord}
-use Rattle.semantics.specs.Program.{Name, Rule, Program, knownFirst}
+use Rattle.semantics.specs.Program.{Name, Program, knownFirst}
 use Rattle.grammar.specs.Parsed.{Parsed, accepted, refused, andThen}
 use Rattle.grammar.specs.Expressions.{Scope}
 use Rattle.grammar.specs.Declarations.{declarations, spellings}
-use Rattle.grammar.specs.Rules.{rulesFrom}
 use Rattle.grammar.specs.Emitted.{header, image}
 use Rattle.declarations.specs.Post.{Holds}
 use Rattle.declarations.specs.declared.Declared.{Declared}

@@ -167,6 +167,18 @@ fn translate_short(text: &[u8], image: &mut [u8]) -> Translated
     translate_in(text, image, &mut starts, &mut ends, &mut scratch)
 }
 
+// Likewise a text of at most 8,192 bytes, whose image has at most 12,290.
+fn translate_middle(text: &[u8], image: &mut [u8]) -> Translated
+    requires { ⌜ length (now text) ≤ 8192 ⌝ }
+    ensures { λ r. ⌜ afterTranslation r (now (image .exit)) ≡ translationOf (now (text .entry)) (now (image .entry)) ⌝ }
+    ensures { λ r. ⌜ TranslatedWithin r ⌝ }
+{
+    let mut starts = [0usize; 64];
+    let mut ends = [0usize; 64];
+    let mut scratch = [0u8; 12290];
+    translate_in(text, image, &mut starts, &mut ends, &mut scratch)
+}
+
 // No image of a text has over 49,154 bytes.
 fn translate_any(text: &[u8], image: &mut [u8]) -> Translated
     requires { ⌜ length (now text) ≤ textLimit ⌝ }
@@ -185,6 +197,9 @@ pub fn translate(text: &[u8], image: &mut [u8]) -> Translated
 {
     if text.len() <= 1024 {
         return translate_short(text, image);
+    }
+    if text.len() <= 8192 {
+        return translate_middle(text, image);
     }
     if text.len() <= TEXT_LIMIT {
         return translate_any(text, image);

@@ -20,55 +20,54 @@ abbrev μ-loop : tie.MeasureT-loop
 loop-holds : tie.Need-loop-holds Inv-loop μ-loop
 loop-holds c = matching _ _ _ _ (c .before .pre)
 
-token-at-requires : tie.Need-token-at-requires Inv-loop μ-loop
-token-at-requires c κs = search needs
-
-enum-known-wanted : tie.Need-enum-known-wanted Inv-loop μ-loop
-enum-known-wanted c = search needs
-
-enum-told : tie.Need-enum-told Inv-loop μ-loop
-enum-told c = search needs
-
-fault-requires : tie.Need-fault-requires Inv-loop μ-loop
-fault-requires c κs = search needs
-
 returns : tie.Need-returns Inv-loop μ-loop
 returns c = ap comparedOf (c .fault .ensures ∙ ap faultAt (c .before .enum-told .given .1)) ∙ unmatched-fault _ _ _ _ _ _ (c .before .before .before .before .before .loop .inv) (c .before .before .before .before .loop-test .taken) _ (is-fault _ _ _ (c .before .before .before .token-at .ensures) _ (c .before .enum-told .given .1))
 
-token-at-requires-2 : tie.Need-token-at-requires-2 Inv-loop μ-loop
-token-at-requires-2 c κs = search needs
-
-enum-known-found : tie.Need-enum-known-found Inv-loop μ-loop
-enum-known-found c = search needs
-
-enum-told-2 : tie.Need-enum-told-2 Inv-loop μ-loop
-enum-told-2 c = search needs
-
-fault-requires-2 : tie.Need-fault-requires-2 Inv-loop μ-loop
-fault-requires-2 c κs = search needs
-
 returns-2 : tie.Need-returns-2 Inv-loop μ-loop
 returns-2 c =
+    let at-wanted = c .before .before .before .before .before in
+    let at-token-at = at-wanted .before .before in
+    let at-loop-test = at-token-at .before in
+    let at-loop = at-loop-test .before in
     ap comparedOf (c .fault2 .ensures ∙ ap faultAt (c .before .enum-told2 .given .1))
-    ∙ found-fault _ _ _ _ _ _ (c .before .before .before .before .before .before .before .before .before .loop .inv) (c .before .before .before .before .before .before .before .before .loop-test .taken) _ _ _ (is-token _ _ _ (c .before .before .before .before .before .before .before .token-at .ensures) _ _ _ (c .before .before .before .before .before .wanted .given .1) .0) _ (is-fault _ _ _ (c .before .before .before .token-at2 .ensures) _ (c .before .enum-told2 .given .1))
+    ∙ found-fault _ _ _ _ _ _ (at-loop .loop .inv) (at-loop-test .loop-test .taken) _ _ _ (is-token _ _ _ (at-token-at .token-at .ensures) _ _ _ (at-wanted .wanted .given .1) .0) _ (is-fault _ _ _ (c .before .before .before .token-at2 .ensures) _ (c .before .enum-told2 .given .1))
 
 same-token-requires : tie.Need-same-token-requires Inv-loop μ-loop
-same-token-requires c κs = ((is-token _ _ _ (c .before .before .before .before .before .before .before .token-at .ensures) _ _ _ (c .before .before .before .before .before .wanted .given .1)) .1 .known-kind, (is-token _ _ _ (c .before .before .before .token-at2 .ensures) _ _ _ (c .before .found .given .1)) .1 .known-kind)
+same-token-requires c κs =
+    let at-wanted = c .before .before .before .before .before in
+    let at-token-at = at-wanted .before .before in
+    ((is-token _ _ _ (at-token-at .token-at .ensures) _ _ _ (at-wanted .wanted .given .1)) .1 .known-kind, (is-token _ _ _ (c .before .before .before .token-at2 .ensures) _ _ _ (c .before .found .given .1)) .1 .known-kind)
 
 loop-less : tie.Need-loop-less Inv-loop μ-loop
-loop-less c = let l = progress _ _ _ _ _ (omega (arith, c .before .before .before .before .before .before .before .before .before .before .loop-test .taken, c .before .before .before .before .before .before .before .before .before .before .before .before .before .pre)) (is-token _ _ _ (c .before .before .before .before .before .before .before .before .before .token-at .ensures) _ _ _ (c .before .before .before .before .before .before .before .wanted .given .1) .0) in omega (arith, l, c .before .before .before .before .before .before .before .before .before .before .loop-test .taken)
+loop-less c =
+    let at-wanted = c .before .before .before .before .before .before .before in
+    let at-token-at = at-wanted .before .before in
+    let at-loop-test = at-token-at .before in
+    let start = at-loop-test .before .before .before in
+    let l = progress _ _ _ _ _ (omega (arith, at-loop-test .loop-test .taken, start .pre)) (is-token _ _ _ (at-token-at .token-at .ensures) _ _ _ (at-wanted .wanted .given .1) .0) in omega (arith, l, at-loop-test .loop-test .taken)
 
 loop-again : tie.Need-loop-again Inv-loop μ-loop
 loop-again c =
-    let w = is-token _ _ _ (c .before .before .before .before .before .before .before .before .before .token-at .ensures) _ _ _ (c .before .before .before .before .before .before .before .wanted .given .1) in
-    let f = is-token _ _ _ (c .before .before .before .before .before .token-at2 .ensures) _ _ _ (c .before .before .before .found .given .1) in
-    next-tokens _ _ _ _ _ _ (c .before .before .before .before .before .before .before .before .before .before .before .loop .inv) (c .before .before .before .before .before .before .before .before .before .before .loop-test .taken) _ _ _ (w .0) _ _ _ (f .0) (sym (c .before .same-token .ensures) ∙ c .if1 .taken) (progress _ _ _ _ _ (omega (arith, c .before .before .before .before .before .before .before .before .before .before .loop-test .taken, c .before .before .before .before .before .before .before .before .before .before .before .before .before .pre)) (w .0))
+    let at-token-at2 = c .before .before .before .before .before in
+    let at-wanted = at-token-at2 .before .before in
+    let at-token-at = at-wanted .before .before in
+    let at-loop-test = at-token-at .before in
+    let at-loop = at-loop-test .before in
+    let start = at-loop .before .before in
+    let w = is-token _ _ _ (at-token-at .token-at .ensures) _ _ _ (at-wanted .wanted .given .1) in
+    let f = is-token _ _ _ (at-token-at2 .token-at2 .ensures) _ _ _ (c .before .before .before .found .given .1) in
+    next-tokens _ _ _ _ _ _ (at-loop .loop .inv) (at-loop-test .loop-test .taken) _ _ _ (w .0) _ _ _ (f .0) (sym (c .before .same-token .ensures) ∙ c .if1 .taken) (progress _ _ _ _ _ (omega (arith, at-loop-test .loop-test .taken, start .pre)) (w .0))
 
 returns-3 : tie.Need-returns-3 Inv-loop μ-loop
 returns-3 c =
-    let w = is-token _ _ _ (c .before .before .before .before .before .before .before .before .before .token-at .ensures) _ _ _ (c .before .before .before .before .before .before .before .wanted .given .1) in
-    let f = is-token _ _ _ (c .before .before .before .before .before .token-at2 .ensures) _ _ _ (c .before .before .before .found .given .1) in
-    unmatched _ _ _ _ _ _ (c .before .before .before .before .before .before .before .before .before .before .before .loop .inv) (c .before .before .before .before .before .before .before .before .before .before .loop-test .taken) _ _ _ (w .0) _ _ _ (f .0) (sym (c .before .same-token .ensures) ∙ c .if1 .left)
+    let at-token-at2 = c .before .before .before .before .before in
+    let at-wanted = at-token-at2 .before .before in
+    let at-token-at = at-wanted .before .before in
+    let at-loop-test = at-token-at .before in
+    let at-loop = at-loop-test .before in
+    let w = is-token _ _ _ (at-token-at .token-at .ensures) _ _ _ (at-wanted .wanted .given .1) in
+    let f = is-token _ _ _ (at-token-at2 .token-at2 .ensures) _ _ _ (c .before .before .before .found .given .1) in
+    unmatched _ _ _ _ _ _ (at-loop .loop .inv) (at-loop-test .loop-test .taken) _ _ _ (w .0) _ _ _ (f .0) (sym (c .before .same-token .ensures) ∙ c .if1 .left)
 
 returns-4 : tie.Need-returns-4 Inv-loop μ-loop
 returns-4 c = matched _ _ _ _ _ _ (c .before .loop .inv) (c .loop-test .left)
@@ -76,22 +75,6 @@ returns-4 c = matched _ _ _ _ _ _ (c .before .loop .inv) (c .loop-test .left)
 pub compare-part-spec : {M : Type 1} → statement M
 compare-part-spec =
     tie.close
-    (tie.spec
-    Inv-loop
-    μ-loop
-    loop-holds
-    token-at-requires
-    enum-known-wanted
-    enum-told
-    fault-requires
-    returns
-    token-at-requires-2
-    enum-known-found
-    enum-told-2
-    fault-requires-2
-    returns-2
-    same-token-requires
-    loop-less
-    loop-again
-    returns-3
-    returns-4)
+    (tie.spec Inv-loop μ-loop loop-holds (λ c κs. search needs) (λ c. search needs) (λ c. search needs) (λ c κs. search needs) returns
+    (λ c κs. search needs) (λ c. search needs) (λ c. search needs) (λ c κs. search needs) returns-2 same-token-requires loop-less loop-again
+    returns-3 returns-4)

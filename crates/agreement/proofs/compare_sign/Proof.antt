@@ -8,18 +8,6 @@ use borrow.Author.Needs.{needs}
 use Rattle.agreement.proofs.compare_sign.Statement.{statement}
 use Rattle.agreement.proofs.compare_sign.Tie as tie
 
-token-at-requires : tie.Need-token-at-requires
-token-at-requires c κs = search needs
-
-enum-known-found : tie.Need-enum-known-found
-enum-known-found c = search needs
-
-enum-told : tie.Need-enum-told
-enum-told c = search needs
-
-fault-requires : tie.Need-fault-requires
-fault-requires c κs = search needs
-
 returns : tie.Need-returns
 returns c = ap comparedOf (c .fault .ensures ∙ ap faultAt (c .before .enum-told .given .1)) ∙ sign-fault _ _ _ _ (is-fault _ _ _ (c .before .before .before .token-at .ensures) _ (c .before .enum-told .given .1))
 
@@ -32,11 +20,4 @@ returns-3 c = let t = is-token _ _ _ (c .before .before .before .before .token-a
 pub compare-sign-spec : {M : Type 1} → statement M
 compare-sign-spec =
     tie.close
-    (tie.spec
-    token-at-requires
-    enum-known-found
-    enum-told
-    fault-requires
-    returns
-    returns-2
-    returns-3)
+    (tie.spec (λ c κs. search needs) (λ c. search needs) (λ c. search needs) (λ c κs. search needs) returns returns-2 returns-3)

@@ -1,17 +1,14 @@
 -- `arith::narrow` meets its contract. Assumes nothing.
-use mathlib.Core.Path.{_≡_, refl, sym, _∙_}
-use mathlib.Core.Bool.{Bool, true, false}
+use mathlib.Core.Path.{_≡_}
+use mathlib.Core.Bool.{true, false}
 use lib.Signed.{leZ}
-use lib.IntN.{ℤ, pos, negsuc}
 use mir.Syntax.{w32, w64}
-use mir.Val.{SFits, toZ, ofZ}
+use mir.Val.{SFits}
 use mir.Facts.{toZ-ofZ}
 use Rattle.arith.specs.Values.{lowest, highest}
 use Rattle.arith.proofs.Laws.{in32, narrowed32}
 use Rattle.arith.proofs.narrow.Statement.{statement}
 use Rattle.arith.proofs.narrow.Tie as tie
-use Rattle.arith.proofs.narrow.Reads as reads
-use Rattle.arith.proofs.narrow.Lts as lts
 
 -- the tests, of x itself
 above : (c : tie.Then1) → leZ lowest (c .before .args .x) ≡ true

@@ -1,10 +1,9 @@
 -- `arith::negated` meets its contract. Assumes nothing.
-use mathlib.Core.Path.{ap, _∙_}
 use borrow.Author.Needs.{needs}
-use lib.IntN.{ℤ, pos, negℤ, _-ℤ_, +ℤ-idl}
+use lib.IntN.{+ℤ-idl}
 use mir.Syntax.{w64}
 use mir.Facts.{toZ-ofZ}
-use Rattle.arith.specs.Values.{int32, negation}
+use Rattle.arith.specs.Values.{negation}
 use Rattle.arith.proofs.Laws.{widens, widened, neg-fits}
 use Rattle.arith.proofs.negated.Statement.{statement}
 use Rattle.arith.proofs.negated.Tie as tie
@@ -15,9 +14,6 @@ cast-x c = widens (c .fits .a)
 sub-narrow : tie.Need-sub-narrow
 sub-narrow c = rw (widened (c .fits .a), +ℤ-idl) (neg-fits (c .fits .a) (c .fits .a))
 
-narrow-requires : tie.Need-narrow-requires
-narrow-requires c κs = search needs
-
 returns : tie.Need-returns
 unfolding negation
 returns c =
@@ -25,4 +21,4 @@ returns c =
     rw (c .narrow .ensures, widened f, +ℤ-idl, toZ-ofZ {w = w64} (neg-fits f f))
 
 pub negated-spec : {M : Type 1} → statement M
-negated-spec = tie.close (tie.spec cast-x sub-narrow narrow-requires returns)
+negated-spec = tie.close (tie.spec cast-x sub-narrow (λ c κs. search needs) returns)

@@ -8,26 +8,8 @@ use Rattle.bytecode.proofs.Heading.{signed-within, signed-fits, no-low,
 use Rattle.bytecode.proofs.check_range.Statement.{statement}
 use Rattle.bytecode.proofs.check_range.Tie as tie
 
-signed-at-requires : tie.Need-signed-at-requires
-signed-at-requires c κs = search needs
-
-enum-known-low : tie.Need-enum-known-low
-enum-known-low c = search needs
-
-enum-told : tie.Need-enum-told
-enum-told c = search needs
-
 returns : tie.Need-returns
 returns c = (rw (no-low _ _ (sym (c .before .before .signed-at .ensures) ∙ ap signedRead (c .enum-told .given .1))), c .before .before .before .before .pre)
-
-signed-at-requires-2 : tie.Need-signed-at-requires-2
-signed-at-requires-2 c κs = search needs
-
-enum-known-high : tie.Need-enum-known-high
-enum-known-high c = search needs
-
-enum-told-2 : tie.Need-enum-told-2
-enum-told-2 c = search needs
 
 -- the numbers that were read, as equations of the definition
 low-at : (c : tie.After-known-told) → signedAt (c .before .before .before .before .before .args .image .now) (c .before .before .before .before .before .args .at) ≡ got (c .before .low .given .0 .0) (c .before .low .given .0 .1 .0)
@@ -50,15 +32,6 @@ returns-3 c =
     let e₂ = high-at (c .before) in
     let q = rw (same32 (signed-fits _ _ _ _ e₂), same32 (signed-fits _ _ _ _ e₁)) at (c .if1 .taken) in
     (rw (low-over _ _ _ _ e₁ _ _ e₂ q), signed-within _ _ _ _ e₁ .inside)
-
-signed-at-requires-3 : tie.Need-signed-at-requires-3
-signed-at-requires-3 c κs = search needs
-
-enum-known-start : tie.Need-enum-known-start
-enum-known-start c = search needs
-
-enum-told-3 : tie.Need-enum-told-3
-enum-told-3 c = search needs
 
 returns-4 : tie.Need-returns-4
 returns-4 c =
@@ -99,20 +72,6 @@ returns-7 c =
 pub check-range-spec : {M : Type 1} → statement M
 check-range-spec =
     tie.close
-    (tie.spec
-    signed-at-requires
-    enum-known-low
-    enum-told
-    returns
-    signed-at-requires-2
-    enum-known-high
-    enum-told-2
-    returns-2
-    returns-3
-    signed-at-requires-3
-    enum-known-start
-    enum-told-3
-    returns-4
-    returns-5
-    returns-6
+    (tie.spec (λ c κs. search needs) (λ c. search needs) (λ c. search needs) returns (λ c κs. search needs) (λ c. search needs)
+    (λ c. search needs) returns-2 returns-3 (λ c κs. search needs) (λ c. search needs) (λ c. search needs) returns-4 returns-5 returns-6
     returns-7)

@@ -20,28 +20,22 @@ loop-holds c = heading-begins _ _ _ _ (c .before .pre .inside)
 check-range-requires : tie.Need-check-range-requires Inv-loop μ-loop
 check-range-requires c κs = c .before .loop .inv .inside
 
-enum-known-at : tie.Need-enum-known-at Inv-loop μ-loop
-enum-known-at c = search needs
-
 returns : tie.Need-returns Inv-loop μ-loop
-returns c = (
-  heading-breaks (c .before .before .before .before .before .loop .inv) _ (c .before .before .before .before .loop-test .taken) (sym (ap rangedAnswer (c .before .at .given .1)) ∙ c .before .before .before .check-range .ensures .0),
-  subst (RangedWithin (length (c .before .before .before .before .before .before .before .args .image .now))) (c .before .at .given .1) (c .before .before .before .check-range .ensures .1),
-)
-
-enum-known-next : tie.Need-enum-known-next Inv-loop μ-loop
-enum-known-next c = search needs
-
-add-i : tie.Need-add-i Inv-loop μ-loop
-add-i c = search needs
-
-loop-less : tie.Need-loop-less Inv-loop μ-loop
-loop-less c = search needs
+returns c =
+    let at-check-range = c .before .before .before in
+    let at-loop = at-check-range .before .before in
+    let start = at-loop .before .before in (
+      heading-breaks (at-loop .loop .inv) _ (c .before .before .before .before .loop-test .taken) (sym (ap rangedAnswer (c .before .at .given .1)) ∙ at-check-range .check-range .ensures .0),
+      subst (RangedWithin (length (start .args .image .now))) (c .before .at .given .1) (at-check-range .check-range .ensures .1),
+    )
 
 loop-again : tie.Need-loop-again Inv-loop μ-loop
 loop-again c =
-    heading-goes (c .before .before .before .before .before .loop .inv) _ (c .before .before .before .before .loop-test .taken) (subst (RangedWithin (length (c .before .before .before .before .before .before .before .args .image .now))) (c .before .next .given .1) (c .before .before .before .check-range .ensures .1))
-    (sym (ap rangedAnswer (c .before .next .given .1)) ∙ c .before .before .before .check-range .ensures .0)
+    let at-check-range = c .before .before .before in
+    let at-loop = at-check-range .before .before in
+    let start = at-loop .before .before in
+    heading-goes (at-loop .loop .inv) _ (c .before .before .before .before .loop-test .taken) (subst (RangedWithin (length (start .args .image .now))) (c .before .next .given .1) (at-check-range .check-range .ensures .1))
+    (sym (ap rangedAnswer (c .before .next .given .1)) ∙ at-check-range .check-range .ensures .0)
 
 returns-2 : tie.Need-returns-2 Inv-loop μ-loop
 returns-2 c =
@@ -51,15 +45,5 @@ returns-2 c =
 pub check-ranges-spec : {M : Type 1} → statement M
 check-ranges-spec =
     tie.close
-    (tie.spec
-    Inv-loop
-    μ-loop
-    loop-holds
-    check-range-requires
-    enum-known-at
-    returns
-    enum-known-next
-    add-i
-    loop-less
-    loop-again
-    returns-2)
+    (tie.spec Inv-loop μ-loop loop-holds check-range-requires (λ c. search needs) returns (λ c. search needs) (λ c. search needs)
+    (λ c. search needs) loop-again returns-2)

@@ -8,33 +8,17 @@ use Rattle.bytecode.proofs.Heading.{no-inputs, many-inputs, no-variable
 use Rattle.bytecode.proofs.counts.Statement.{statement}
 use Rattle.bytecode.proofs.counts.Tie as tie
 
-unsigned-at-requires : tie.Need-unsigned-at-requires
-unsigned-at-requires c κs = search needs
-
-enum-known-inputs : tie.Need-enum-known-inputs
-enum-known-inputs c = search needs
-
-enum-told : tie.Need-enum-told
-enum-told c = search needs
-
 returns : tie.Need-returns
 returns c = (sym (no-inputs _ (sym (c .before .before .unsigned-at .ensures) ∙ ap unsignedRead (c .enum-told .given .1))), omega arith)
 
 returns-2 : tie.Need-returns-2
 returns-2 c = (sym (many-inputs _ _ _ (sym (c .before .before .before .before .unsigned-at .ensures) ∙ ap unsignedRead (c .before .before .inputs .given .1)) (c .if1 .taken)), omega arith)
 
-unsigned-at-requires-2 : tie.Need-unsigned-at-requires-2
-unsigned-at-requires-2 c κs = search needs
-
-enum-known-variables : tie.Need-enum-known-variables
-enum-known-variables c = search needs
-
-enum-told-2 : tie.Need-enum-told-2
-enum-told-2 c = search needs
-
 returns-3 : tie.Need-returns-3
 returns-3 c =
-    let e₁ = sym (c .before .before .before .before .before .before .before .unsigned-at .ensures) ∙ ap unsignedRead (c .before .before .before .before .before .inputs .given .1) in
+    let at-inputs = c .before .before .before .before .before in
+    let at-unsigned-at = at-inputs .before .before in
+    let e₁ = sym (at-unsigned-at .unsigned-at .ensures) ∙ ap unsignedRead (at-inputs .inputs .given .1) in
     (sym (no-variables _ _ _ e₁ (c .before .before .before .if1 .left) (sym (c .before .before .unsigned-at2 .ensures) ∙ ap unsignedRead (c .enum-told2 .given .1))), number-within _ _ _ _ e₁ .inside)
 
 add-names : tie.Need-add-names
@@ -44,28 +28,23 @@ add-names c =
 
 returns-4 : tie.Need-returns-4
 returns-4 c =
-    let e₁ = sym (c .before .before .before .before .before .before .before .before .before .unsigned-at .ensures) ∙ ap unsignedRead (c .before .before .before .before .before .before .before .inputs .given .1) in
-    (sym (many-names _ _ _ e₁ (c .before .before .before .before .before .if1 .left) _ _ (sym (c .before .before .before .before .unsigned-at2 .ensures) ∙ ap unsignedRead (c .before .before .variables .given .1)) (c .if2 .taken)), number-within _ _ _ _ e₁ .inside)
+    let at-if1 = c .before .before .before .before .before in
+    let at-inputs = at-if1 .before .before in
+    let at-unsigned-at = at-inputs .before .before in
+    let e₁ = sym (at-unsigned-at .unsigned-at .ensures) ∙ ap unsignedRead (at-inputs .inputs .given .1) in
+    (sym (many-names _ _ _ e₁ (at-if1 .if1 .left) _ _ (sym (c .before .before .before .before .unsigned-at2 .ensures) ∙ ap unsignedRead (c .before .before .variables .given .1)) (c .if2 .taken)), number-within _ _ _ _ e₁ .inside)
 
 returns-5 : tie.Need-returns-5
 returns-5 c =
-    let e₁ = sym (c .before .before .before .before .before .before .before .before .before .unsigned-at .ensures) ∙ ap unsignedRead (c .before .before .before .before .before .before .before .inputs .given .1) in
+    let at-if1 = c .before .before .before .before .before in
+    let at-inputs = at-if1 .before .before in
+    let at-unsigned-at = at-inputs .before .before in
+    let e₁ = sym (at-unsigned-at .unsigned-at .ensures) ∙ ap unsignedRead (at-inputs .inputs .given .1) in
     let e₂ = sym (c .before .before .before .before .unsigned-at2 .ensures) ∙ ap unsignedRead (c .before .before .variables .given .1) in
-    (sym (counts-read _ _ _ e₁ (c .before .before .before .before .before .if1 .left) _ _ e₂ (c .if2 .left)), record { inputs-named = omega arith; few = c .if2 .left; inside = number-within _ _ _ _ e₂ .inside })
+    (sym (counts-read _ _ _ e₁ (at-if1 .if1 .left) _ _ e₂ (c .if2 .left)), record { inputs-named = omega arith; few = c .if2 .left; inside = number-within _ _ _ _ e₂ .inside })
 
 pub counts-spec : {M : Type 1} → statement M
 counts-spec =
     tie.close
-    (tie.spec
-    unsigned-at-requires
-    enum-known-inputs
-    enum-told
-    returns
-    returns-2
-    unsigned-at-requires-2
-    enum-known-variables
-    enum-told-2
-    returns-3
-    add-names
-    returns-4
-    returns-5)
+    (tie.spec (λ c κs. search needs) (λ c. search needs) (λ c. search needs) returns returns-2 (λ c κs. search needs) (λ c. search needs)
+    (λ c. search needs) returns-3 add-names returns-4 returns-5)

@@ -10,33 +10,17 @@ use Rattle.bytecode.proofs.fetch.Tie as tie
 returns : tie.Need-returns
 returns c = (sym (fetch-none _ _ (c .if1 .taken)), tt)
 
-shared-slice-read-byte : tie.Need-shared-slice-read-byte
-shared-slice-read-byte c = search needs
-
-add-behind : tie.Need-add-behind
-add-behind c = search needs
-
-has-operand-requires : tie.Need-has-operand-requires
-has-operand-requires c κs = search needs
-
-unsigned-at-requires : tie.Need-unsigned-at-requires
-unsigned-at-requires c κs = search needs
-
-enum-known-n : tie.Need-enum-known-n
-enum-known-n c = search needs
-
-enum-told : tie.Need-enum-told
-enum-told c = search needs
-
 returns-2 : tie.Need-returns-2
 returns-2 c =
     (sym (fetch-malformed _ _ (c .before .before .before .before .before .before .if1 .left) (sym (c .before .before .before .before .has-operand .ensures) ∙ c .before .before .before .if2 .taken) (sym (c .before .before .unsigned-at .ensures) ∙ ap unsignedRead (c .enum-told .given .1))), tt)
 
 returns-3 : tie.Need-returns-3
 returns-3 c =
+    let at-has-operand = c .before .before .before .before .before in
+    let at-if1 = at-has-operand .before .before in
     let e = sym (c .before .before .before .unsigned-at .ensures) ∙ ap unsignedRead (c .before .n .given .1) in
     let w = number-within _ _ _ _ e in (
-      sym (fetch-number _ _ _ _ (c .before .before .before .before .before .before .before .if1 .left) (sym (c .before .before .before .before .before .has-operand .ensures) ∙ c .before .before .before .before .if2 .taken) e),
+      sym (fetch-number _ _ _ _ (at-if1 .if1 .left) (sym (at-has-operand .has-operand .ensures) ∙ c .before .before .before .before .if2 .taken) e),
       record { operand = w .operand; behind = omega (arith, w .behind); inside = w .inside },
     )
 
@@ -48,14 +32,5 @@ returns-4 c =
 pub fetch-spec : {M : Type 1} → statement M
 fetch-spec =
     tie.close
-    (tie.spec
-    returns
-    shared-slice-read-byte
-    add-behind
-    has-operand-requires
-    unsigned-at-requires
-    enum-known-n
-    enum-told
-    returns-2
-    returns-3
-    returns-4)
+    (tie.spec returns (λ c. search needs) (λ c. search needs) (λ c κs. search needs) (λ c κs. search needs) (λ c. search needs)
+    (λ c. search needs) returns-2 returns-3 returns-4)

@@ -31,15 +31,6 @@ abbrev μ-loop : tie.MeasureT-loop
 loop-holds : tie.Need-loop-holds Inv-loop μ-loop
 loop-holds c = record { lower = filling-begins _ _ _ _ _; upper = filling-begins _ _ _ _ _; first = filling-begins _ _ _ _ _ }
 
-range-at-requires : tie.Need-range-at-requires Inv-loop μ-loop
-range-at-requires c κs = search needs
-
-enum-known-l : tie.Need-enum-known-l Inv-loop μ-loop
-enum-known-l c = search needs
-
-enum-told : tie.Need-enum-told Inv-loop μ-loop
-enum-told c = search needs
-
 same-length : tie.Need-same-length Inv-loop μ-loop
 same-length c = c .before .before .before .before .loop .inv .lower .same-length
 
@@ -55,15 +46,6 @@ returns c =
     let e = sym (c .before .before .range-at .ensures) ∙ ap rangeRead (c .enum-told .given .1) in
     let f = filling-stops (v .lower) e in
     (f .end, (f .all, (filling-stops (v .upper) e .all, filling-stops (v .first) e .all)))
-
-put-requires : tie.Need-put-requires Inv-loop μ-loop
-put-requires c κs = search needs
-
-put-requires-2 : tie.Need-put-requires-2 Inv-loop μ-loop
-put-requires-2 c κs = search needs
-
-put-requires-3 : tie.Need-put-requires-3 Inv-loop μ-loop
-put-requires-3 c κs = search needs
 
 add-i : tie.Need-add-i Inv-loop μ-loop
 add-i c = omega (arith, c .before .before .before .before .before .before .before .before .before .before .before .before .before .loop-test .taken)
@@ -106,24 +88,6 @@ returns-2 c =
 pub ranges-spec : {M : Type 1} → statement M
 ranges-spec =
     tie.close
-    (tie.spec
-    Inv-loop
-    μ-loop
-    loop-holds
-    range-at-requires
-    enum-known-l
-    enum-told
-    same-length
-    same-length-2
-    same-length-3
-    returns
-    put-requires
-    put-requires-2
-    put-requires-3
-    add-i
-    loop-less
-    loop-again
-    same-length-4
-    same-length-5
-    same-length-6
-    returns-2)
+    (tie.spec Inv-loop μ-loop loop-holds (λ c κs. search needs) (λ c. search needs) (λ c. search needs) same-length same-length-2
+    same-length-3 returns (λ c κs. search needs) (λ c κs. search needs) (λ c κs. search needs) add-i loop-less loop-again same-length-4
+    same-length-5 same-length-6 returns-2)

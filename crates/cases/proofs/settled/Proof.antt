@@ -1,4 +1,5 @@
-use mathlib.Core.Path.{_≡_, sym, ap, _∙_}
+-- `cases::settled` meets its contract. Assumes nothing.
+use mathlib.Core.Path.{sym, ap, _∙_}
 use Rattle.grammar.specs.Rules.{settled}
 use Rattle.phrases.specs.Results.{expectedOf}
 use Rattle.cases.specs.Results.{placeOnly}
@@ -6,24 +7,10 @@ use Rattle.cases.proofs.Ways.{place-accepted, place-refused, settled-be
 use borrow.Author.Needs.{needs}
 use Rattle.cases.proofs.settled.Statement.{statement}
 use Rattle.cases.proofs.settled.Tie as tie
-use Rattle.cases.proofs.settled.Reads as reads
-use Rattle.cases.proofs.settled.Lts as lts
-
-enum-known-compared : tie.Need-enum-known-compared
-enum-known-compared c = search needs
-
-enum-told : tie.Need-enum-told
-enum-told c = search needs
 
 returns : tie.Need-returns
 unfolding settled placeOnly
 returns c = λ p e. rw (c .enum-told .given .1) e
-
-enum-known-read : tie.Need-enum-known-read
-enum-known-read c = search needs
-
-enum-told-2 : tie.Need-enum-told-2
-enum-told-2 c = search needs
 
 returns-2 : tie.Need-returns-2
 unfolding placeOnly
@@ -48,14 +35,5 @@ returns-6 c = λ p e. let r = place-refused p (sym e ∙ ap expectedOf (c .befor
 pub settled-spec : {M : Type 1} → statement M
 settled-spec =
     tie.close
-    (tie.spec
-    enum-known-compared
-    enum-told
-    returns
-    enum-known-read
-    enum-told-2
-    returns-2
-    returns-3
-    returns-4
-    returns-5
-    returns-6)
+    (tie.spec (λ c. search needs) (λ c. search needs) returns (λ c. search needs) (λ c. search needs) returns-2 returns-3 returns-4
+    returns-5 returns-6)

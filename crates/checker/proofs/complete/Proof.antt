@@ -14,13 +14,12 @@ returns-2 c = rw (c .before .before .if1 .left, sorts-none, open-yes (c .before 
 returns-3 : tie.Need-returns-3
 returns-3 c = rw (c .before .before .before .before .if1 .left, sorts-none, c .before .before .if2 .left, closed-not (c .before .before .before .before .before .before .args .w .picking) (c .if3 .taken))
 
-ones-requires : tie.Need-ones-requires
-ones-requires c κs = search needs
-
 returns-4 : tie.Need-returns-4
 returns-4 c =
-    let w = c .before .before .before .before .before .before .before .before .args .w in
-    rw (c .before .before .before .before .before .before .if1 .left, sorts-none, c .before .before .before .before .if2 .left, c .before .before .if3 .left, c .before .ones .ensures, flags-all (w .names) (w .known) (c .before .before .before .before .before .before .before .before .pre .known-low))
+    let at-if1 = c .before .before .before .before .before .before in
+    let start = at-if1 .before .before in
+    let w = start .args .w in
+    rw (at-if1 .if1 .left, sorts-none, c .before .before .before .before .if2 .left, c .before .before .if3 .left, c .before .ones .ensures, flags-all (w .names) (w .known) (start .pre .known-low))
 
 pub complete-spec : {M : Type 1} → statement M
-complete-spec = tie.close (tie.spec returns returns-2 returns-3 ones-requires returns-4)
+complete-spec = tie.close (tie.spec returns returns-2 returns-3 (λ c κs. search needs) returns-4)

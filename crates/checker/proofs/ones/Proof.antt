@@ -9,9 +9,6 @@ use Rattle.checker.proofs.ones.Tie as tie
 returns : tie.Need-returns
 returns c = rw (c .if1 .taken)
 
-shl-result : tie.Need-shl-result
-shl-result c = search needs
-
 sub-result : tie.Need-sub-result
 sub-result c = rw (shifted (c .before .args .k) (omega arith)) (pow-pos (c .before .args .k))
 
@@ -19,4 +16,4 @@ returns-2 : tie.Need-returns-2
 returns-2 c = rw (shifted (c .before .args .k) (omega arith))
 
 pub ones-spec : {M : Type 1} → statement M
-ones-spec = tie.close (tie.spec returns shl-result sub-result returns-2)
+ones-spec = tie.close (tie.spec returns (λ c. search needs) sub-result returns-2)

@@ -13,10 +13,9 @@ returns c = passed (c .before .before .before .before .expression .ensures) (c .
 
 returns-2 : tie.Need-returns-2
 returns-2 c =
-    let at-comparison-code = c .before in
-    let at-first = at-comparison-code .before .before in
+    let at-first = c .before .before .before in
     let at-expression = at-first .before .before .before .before in
-    refuses (refused-now (comparison-none _ _ _ (accepted-by (at-expression .expression .ensures) (at-first .first .given .1)) (at-comparison-code .comparison-code .ensures) (c .if1 .taken)))
+    refuses (refused-now (comparison-none _ _ _ (accepted-by (at-expression .expression .ensures) (at-first .first .given .1)) (c .before .comparison-code .ensures) (c .if1 .taken)))
 
 expression-requires-2 : tie.Need-expression-requires-2
 expression-requires-2 c κs =
@@ -37,15 +36,14 @@ returns-3 c =
 
 put-byte-requires : tie.Need-put-byte-requires
 put-byte-requires c κs =
-    let at-second = c .before .before in
-    let at-expression2 = at-second .before .before .before .before in
+    let at-expression2 = c .before .before .before .before .before .before in
     let at-if1 = at-expression2 .before .before in
     let at-comparison-code = at-if1 .before in
     let at-first = at-comparison-code .before .before in
     let at-expression = at-first .before .before .before .before in
     let start = at-expression .before .before .before .before .before .before in
     let a = accepted-by (at-expression .expression .ensures) (at-first .first .given .1) in
-    let b = accepted-by (at-expression2 .expression2 .ensures) (at-second .second .given .1) in
+    let b = accepted-by (at-expression2 .expression2 .ensures) (c .before .before .second .given .1) in
     let r = room-after (start .pre .1) (expression-grows (start .pre .0) _ (start .pre .1)) a in
     let s = second-room _ _ _ a (at-comparison-code .comparison-code .ensures) (at-if1 .if1 .left) b r (expression-grows (start .pre .0) _ (room-next r (known (a .stands)))) in
     omega (arith, s .short, s .within, s .room)

@@ -13,25 +13,13 @@ returns : tie.Need-returns
 unfolding kindNumber
 returns c = no-digits _ _ (c .before .before .fits .low) (c .before .before .fits .high) (c .before .before .args .text .now) (c .before .before .args .negative) _ _ (c .before .before .args .end) (kind-is-not _ digits-kind (c .before .before .pre) (c .if1 .taken))
 
-name-requires : tie.Need-name-requires
-name-requires c κs = search needs
-
-value-requires : tie.Need-value-requires
-value-requires c κs = search needs
-
-signed-requires : tie.Need-signed-requires
-signed-requires c κs = search needs
-
-enum-known-z : tie.Need-enum-known-z
-enum-known-z c = search needs
-
-enum-told : tie.Need-enum-told
-enum-told c = search needs
-
 returns-2 : tie.Need-returns-2
 unfolding kindNumber
-returns-2 c = digits-out _ _ (c .before .before .before .before .before .before .before .fits .low) (c .before .before .before .before .before .before .before .fits .high) _ (c .before .before .before .before .before .before .before .args .negative) _ _ _ _ (kind-is _ digits-kind (c .before .before .before .before .before .if1 .left)) (rw (c .before .before .before .before .name .ensures) at (c .before .before .before .value .ensures))
-    (rw (same32 (c .before .before .before .before .before .before .before .fits .low), same32 (c .before .before .before .before .before .before .before .fits .high)) at (c .before .before .signed .ensures)) (c .enum-told .given .1)
+returns-2 c =
+    let at-if1 = c .before .before .before .before .before in
+    let start = at-if1 .before .before in
+    digits-out _ _ (start .fits .low) (start .fits .high) _ (start .args .negative) _ _ _ _ (kind-is _ digits-kind (at-if1 .if1 .left)) (rw (c .before .before .before .before .name .ensures) at (c .before .before .before .value .ensures))
+    (rw (same32 (start .fits .low), same32 (start .fits .high)) at (c .before .before .signed .ensures)) (c .enum-told .given .1)
 
 returns-3 : tie.Need-returns-3
 unfolding kindNumber
@@ -44,12 +32,5 @@ returns-3 c =
 pub digits-spec : {M : Type 1} → statement M
 digits-spec =
     tie.close
-    (tie.spec
-    returns
-    name-requires
-    value-requires
-    signed-requires
-    enum-known-z
-    enum-told
-    returns-2
+    (tie.spec returns (λ c κs. search needs) (λ c κs. search needs) (λ c κs. search needs) (λ c. search needs) (λ c. search needs) returns-2
     returns-3)

@@ -3,17 +3,8 @@ use borrow.Author.Needs.{needs}
 use Rattle.declarations.proofs.stopped.Statement.{statement}
 use Rattle.declarations.proofs.stopped.Tie as tie
 
-enum-told : tie.Need-enum-told
-enum-told c = search needs
-
-enum-known-s : tie.Need-enum-known-s
-enum-known-s c = search needs
-
-returns : tie.Need-returns
-returns c = search needs
-
 returns-2 : tie.Need-returns-2
 returns-2 c = rw (c .before .s .given .1)
 
 pub stopped-spec : {M : Type 1} → statement M
-stopped-spec = tie.close (tie.spec enum-told enum-known-s returns returns-2)
+stopped-spec = tie.close (tie.spec (λ c. search needs) (λ c. search needs) (λ c. search needs) returns-2)

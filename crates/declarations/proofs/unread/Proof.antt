@@ -3,17 +3,8 @@ use borrow.Author.Needs.{needs}
 use Rattle.declarations.proofs.unread.Statement.{statement}
 use Rattle.declarations.proofs.unread.Tie as tie
 
-enum-told : tie.Need-enum-told
-enum-told c = search needs
-
-enum-known-e : tie.Need-enum-known-e
-enum-known-e c = search needs
-
-returns : tie.Need-returns
-returns c = search needs
-
 returns-2 : tie.Need-returns-2
 returns-2 c = rw (c .before .e .given .1)
 
 pub unread-spec : {M : Type 1} → statement M
-unread-spec = tie.close (tie.spec enum-told enum-known-e returns returns-2)
+unread-spec = tie.close (tie.spec (λ c. search needs) (λ c. search needs) (λ c. search needs) returns-2)

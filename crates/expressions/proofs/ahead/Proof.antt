@@ -6,9 +6,8 @@ use Rattle.expressions.proofs.ahead.Tie as tie
 
 returns : tie.Need-returns
 returns c =
-    let at-read = c .before in
-    let at-token-at = at-read .before .before in
-    ahead-done _ _ _ (at-token-at .token-at .ensures .0) (at-token-at .token-at .ensures .1) (at-read .read .given .1)
+    let at-token-at = c .before .before .before in
+    ahead-done _ _ _ (at-token-at .token-at .ensures .0) (at-token-at .token-at .ensures .1) (c .before .read .given .1)
 
 returns-2 : tie.Need-returns-2
 returns-2 c = ahead-none _ _ _ (c .before .before .before .token-at .ensures .0) (c .before .read2 .given .1)

@@ -15,17 +15,15 @@ returns c = refuses (refused-now (current-long _ _ _ (sym (c .before .is-over-lo
 
 returns-2 : tie.Need-returns-2
 returns-2 c =
-    let at-find = c .before .before in
-    let at-if1 = at-find .before in
+    let at-if1 = c .before .before .before in
     let at-is-over-long = at-if1 .before in
-    refuses (refused-now (current-unknown _ _ _ (sym (at-is-over-long .is-over-long .ensures) ∙ at-if1 .if1 .left) (sym (at-find .find .ensures) ∙ ap foundId (c .enum-told .given .1))))
+    refuses (refused-now (current-unknown _ _ _ (sym (at-is-over-long .is-over-long .ensures) ∙ at-if1 .if1 .left) (sym (c .before .before .find .ensures) ∙ ap foundId (c .enum-told .given .1))))
 
 bit-requires : tie.Need-bit-requires
 bit-requires c κs =
-    let at-found = c .before in
-    let at-find = at-found .before .before in
+    let at-find = c .before .before .before in
     let start = at-find .before .before .before .before .before .before .before in
-    id-few _ (start .pre .0) _ (sym (at-find .find .ensures) ∙ ap foundId (at-found .found .given .1))
+    id-few _ (start .pre .0) _ (sym (at-find .find .ensures) ∙ ap foundId (c .before .found .given .1))
 
 instruction-requires : tie.Need-instruction-requires
 instruction-requires c κs =
@@ -36,8 +34,7 @@ instruction-requires c κs =
 
 returns-3 : tie.Need-returns-3
 returns-3 c =
-    let at-instruction = c .before .before in
-    let at-if2 = at-instruction .before .before in
+    let at-if2 = c .before .before .before .before in
     let at-bit = at-if2 .before in
     let at-found = at-bit .before .before in
     let at-find = at-found .before .before in
@@ -46,18 +43,17 @@ returns-3 c =
     let start = at-is-over-long .before .before .before .before .before in
     let e = sym (at-find .find .ensures) ∙ ap foundId (at-found .found .given .1) in
     same-part (current-known _ _ _ (sym (at-is-over-long .is-over-long .ensures) ∙ at-if1 .if1 .left) _ e (bit-known _ (start .pre .0) _ e (at-bit .bit .ensures) ∙ at-if2 .if2 .taken))
-    (recoded (current _) (at-instruction .instruction .ensures) (current-code _))
+    (recoded (current _) (c .before .before .instruction .ensures) (current-code _))
 
 returns-4 : tie.Need-returns-4
 returns-4 c =
-    let at-bit = c .before in
-    let at-found = at-bit .before .before in
+    let at-found = c .before .before .before in
     let at-find = at-found .before .before in
     let at-if1 = at-find .before in
     let at-is-over-long = at-if1 .before in
     let start = at-is-over-long .before .before .before .before .before in
     let e = sym (at-find .find .ensures) ∙ ap foundId (at-found .found .given .1) in
-    refuses (refused-now (current-early _ _ _ (sym (at-is-over-long .is-over-long .ensures) ∙ at-if1 .if1 .left) _ e (bit-known _ (start .pre .0) _ e (at-bit .bit .ensures) ∙ c .if2 .left)))
+    refuses (refused-now (current-early _ _ _ (sym (at-is-over-long .is-over-long .ensures) ∙ at-if1 .if1 .left) _ e (bit-known _ (start .pre .0) _ e (c .before .bit .ensures) ∙ c .if2 .left)))
 
 pub current-spec : {M : Type 1} → statement M
 current-spec =

@@ -20,13 +20,12 @@ returns c = refuses (refused-now (number-large _ _ _ _ (c .before .value .ensure
 
 returns-2 : tie.Need-returns-2
 returns-2 c =
-    let at-instruction = c .before .before in
-    let at-zigzag = at-instruction .before .before in
+    let at-zigzag = c .before .before .before .before in
     let at-if1 = at-zigzag .before in
     let at-value = at-if1 .before in
     let at-name = at-value .before in
     same-part (number-fits _ _ _ _ (at-value .value .ensures ∙ ap (λ (l : List ℕ). min (valueOf l) 4294967296) (at-name .name .ensures)) (at-if1 .if1 .left))
-    (recoded (constant (pos _)) (at-instruction .instruction .ensures) (constant-code (at-value .value .result) (at-zigzag .zigzag .ensures .0 ∙ ap zigzag (toZ-pos w32 (omega (arith, at-if1 .if1 .left))))))
+    (recoded (constant (pos _)) (c .before .before .instruction .ensures) (constant-code (at-value .value .result) (at-zigzag .zigzag .ensures .0 ∙ ap zigzag (toZ-pos w32 (omega (arith, at-if1 .if1 .left))))))
 
 pub number-spec : {M : Type 1} → statement M
 number-spec =

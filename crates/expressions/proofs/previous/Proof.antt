@@ -15,27 +15,24 @@ returns c = refuses (refused-now (previous-long _ _ _ (sym (c .before .is-over-l
 
 returns-2 : tie.Need-returns-2
 returns-2 c =
-    let at-find = c .before .before in
-    let at-if1 = at-find .before in
+    let at-if1 = c .before .before .before in
     let at-is-over-long = at-if1 .before in
-    refuses (refused-now (previous-unknown _ _ _ (sym (at-is-over-long .is-over-long .ensures) ∙ at-if1 .if1 .left) (sym (at-find .find .ensures) ∙ ap foundId (c .enum-told .given .1))))
+    refuses (refused-now (previous-unknown _ _ _ (sym (at-is-over-long .is-over-long .ensures) ∙ at-if1 .if1 .left) (sym (c .before .before .find .ensures) ∙ ap foundId (c .enum-told .given .1))))
 
 instruction-requires : tie.Need-instruction-requires
 instruction-requires c κs =
-    let at-found = c .before .before in
-    let at-find = at-found .before .before in
+    let at-find = c .before .before .before .before in
     let start = at-find .before .before .before .before .before .before .before in
-    (start .pre .1 .1, omega (arith, id-few _ (start .pre .0) _ (sym (at-find .find .ensures) ∙ ap foundId (at-found .found .given .1))))
+    (start .pre .1 .1, omega (arith, id-few _ (start .pre .0) _ (sym (at-find .find .ensures) ∙ ap foundId (c .before .before .found .given .1))))
 
 returns-3 : tie.Need-returns-3
 returns-3 c =
-    let at-instruction = c .before .before in
-    let at-found = at-instruction .before .before .before in
+    let at-found = c .before .before .before .before .before in
     let at-find = at-found .before .before in
     let at-if1 = at-find .before in
     let at-is-over-long = at-if1 .before in
     same-part (previous-known _ _ _ (sym (at-is-over-long .is-over-long .ensures) ∙ at-if1 .if1 .left) _ (sym (at-find .find .ensures) ∙ ap foundId (at-found .found .given .1)))
-    (recoded (previous _) (at-instruction .instruction .ensures) (previous-code _))
+    (recoded (previous _) (c .before .before .instruction .ensures) (previous-code _))
 
 pub previous-spec : {M : Type 1} → statement M
 previous-spec =

@@ -7,15 +7,6 @@ use native.Mathlib.Omega.{arith}
 use Rattle.ffi.proofs.rolvenko_check.Statement.{statement}
 use Rattle.ffi.proofs.rolvenko_check.Tie as tie
 
-check-requires : tie.Need-check-requires
-check-requires c κs = search needs
-
-enum-told : tie.Need-enum-told
-enum-told c = search needs
-
-enum-known-number : tie.Need-enum-known-number
-enum-known-number c = search needs
-
 pack-requires : tie.Need-pack-requires
 pack-requires c κs =
     let l = subst CheckedWithin (c .before .number .given .1) (c .before .before .before .check .ensures .1) in
@@ -29,4 +20,5 @@ returns-2 c = c .pack .ensures ∙ ap packedCheck (sym (ap checkedAnswer (c .bef
 
 pub rolvenko-check-spec : {M : Type 1} → statement M
 rolvenko-check-spec =
-    tie.close (tie.spec check-requires enum-told enum-known-number pack-requires returns returns-2)
+    tie.close
+    (tie.spec (λ c κs. search needs) (λ c. search needs) (λ c. search needs) pack-requires returns returns-2)

@@ -15,35 +15,20 @@ use Rattle.ffi.proofs.rolvenko_scan.Tie as tie
 answered : {r q : Scanned} {left : State} {d : AfterScan} → r ≡ q → afterScan r left ≡ d → packedScan (afterScan q left) ≡ packedScan d
 answered {left = left} e h = ap (λ (x : Scanned). packedScan (afterScan x left)) (sym e) ∙ ap packedScan h
 
-scan-requires : tie.Need-scan-requires
-scan-requires c κs = search needs
-
-enum-known-steps : tie.Need-enum-known-steps
-enum-known-steps c = search needs
-
 pack-requires : tie.Need-pack-requires
 pack-requires c κs =
     let l = subst (ScannedWithin imageLimit) (c .before .steps .given .1) (c .before .before .before .before .scan .ensures .1) in
     (omega arith, omega (arith, l))
-
-enum-known-number : tie.Need-enum-known-number
-enum-known-number c = search needs
 
 pack-requires-2 : tie.Need-pack-requires-2
 pack-requires-2 c κs =
     let l = subst (ScannedWithin imageLimit) (c .before .number .given .1) (c .before .before .before .before .scan .ensures .1) in
     (omega (arith, l .0), omega (arith, l .1))
 
-same-length : tie.Need-same-length
-same-length c = search needs
-
 returns : tie.Need-returns
 returns c =
     let e = c .before .before .before .before .before .scan .ensures .0 in
     (c .pack .ensures ∙ answered (c .before .before .steps .given .1) e, ap {A = AfterScan} (λ x. x .state) e)
-
-same-length-2 : tie.Need-same-length-2
-same-length-2 c = search needs
 
 returns-2 : tie.Need-returns-2
 returns-2 c =
@@ -53,13 +38,5 @@ returns-2 c =
 pub rolvenko-scan-spec : {M : Type 1} → statement M
 rolvenko-scan-spec =
     tie.close
-    (tie.spec
-    scan-requires
-    enum-known-steps
-    pack-requires
-    enum-known-number
-    pack-requires-2
-    same-length
-    returns
-    same-length-2
-    returns-2)
+    (tie.spec (λ c κs. search needs) (λ c. search needs) pack-requires (λ c. search needs) pack-requires-2 (λ c. search needs) returns
+    (λ c. search needs) returns-2)

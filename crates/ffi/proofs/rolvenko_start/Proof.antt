@@ -15,30 +15,15 @@ use Rattle.ffi.proofs.rolvenko_start.Tie as tie
 answered : {r q : Started} {left : State} {d : AfterStart} → r ≡ q → afterStart r left ≡ d → packedCheck (afterStart q left .answer) ≡ packedCheck (d .answer)
 answered {left = left} e h = ap (λ (x : Started). packedCheck (afterStart x left .answer)) (sym e) ∙ ap {A = AfterStart} (λ x. packedCheck (x .answer)) h
 
-start-requires : tie.Need-start-requires
-start-requires c κs = search needs
-
-enum-told : tie.Need-enum-told
-enum-told c = search needs
-
-enum-known-number : tie.Need-enum-known-number
-enum-known-number c = search needs
-
 pack-requires : tie.Need-pack-requires
 pack-requires c κs =
     let l = subst (StartedWithin imageLimit) (c .before .number .given .1) (c .before .before .before .before .start .ensures .1) in
     (omega (arith, l), omega arith)
 
-same-length : tie.Need-same-length
-same-length c = search needs
-
 returns : tie.Need-returns
 returns c =
     let e = c .before .before .before .start .ensures .0 in
     (answered (c .enum-told .given .1) e, ap {A = AfterStart} (λ x. x .state) e)
-
-same-length-2 : tie.Need-same-length-2
-same-length-2 c = search needs
 
 returns-2 : tie.Need-returns-2
 returns-2 c =
@@ -47,4 +32,6 @@ returns-2 c =
 
 pub rolvenko-start-spec : {M : Type 1} → statement M
 rolvenko-start-spec =
-    tie.close (tie.spec start-requires enum-told enum-known-number pack-requires same-length returns same-length-2 returns-2)
+    tie.close
+    (tie.spec (λ c κs. search needs) (λ c. search needs) (λ c. search needs) pack-requires (λ c. search needs) returns (λ c. search needs)
+    returns-2)

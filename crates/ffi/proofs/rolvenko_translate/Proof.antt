@@ -11,27 +11,15 @@ use Rattle.ffi.specs.Packed.{packedTranslation}
 use Rattle.ffi.proofs.rolvenko_translate.Statement.{statement}
 use Rattle.ffi.proofs.rolvenko_translate.Tie as tie
 
-translate-requires : tie.Need-translate-requires
-translate-requires c κs = search needs
-
-enum-known-length : tie.Need-enum-known-length
-enum-known-length c = search needs
-
 pack-requires : tie.Need-pack-requires
 pack-requires c κs =
     let l = subst TranslatedWithin (c .before .length .given .1) (c .before .before .before .before .before .translate .ensures .1) in
     (omega arith, omega (arith, l))
 
-enum-known-number : tie.Need-enum-known-number
-enum-known-number c = search needs
-
 pack-requires-2 : tie.Need-pack-requires-2
 pack-requires-2 c κs =
     let l = subst TranslatedWithin (c .before .number .given .1) (c .before .before .before .before .before .translate .ensures .1) in
     (omega (arith, l), omega arith)
-
-same-length : tie.Need-same-length
-same-length c = search needs
 
 -- the answer r with the buffer left is the definition's
 answered : {r q : Translated} {left : List ℕ} {d : AfterTranslation} → r ≡ q → afterTranslation r left ≡ d → packedTranslation (afterTranslation q left .answer) ≡ packedTranslation (d .answer)
@@ -42,9 +30,6 @@ returns c =
     let e = c .before .before .before .before .before .before .translate .ensures .0 in
     (c .pack .ensures ∙ answered (c .before .before .length .given .1) e, ap {A = AfterTranslation} (λ x. x .buffer) e)
 
-same-length-2 : tie.Need-same-length-2
-same-length-2 c = search needs
-
 returns-2 : tie.Need-returns-2
 returns-2 c =
     let e = c .before .before .before .before .before .before .translate .ensures .0 in
@@ -53,13 +38,5 @@ returns-2 c =
 pub rolvenko-translate-spec : {M : Type 1} → statement M
 rolvenko-translate-spec =
     tie.close
-    (tie.spec
-    translate-requires
-    enum-known-length
-    pack-requires
-    enum-known-number
-    pack-requires-2
-    same-length
-    returns
-    same-length-2
-    returns-2)
+    (tie.spec (λ c κs. search needs) (λ c. search needs) pack-requires (λ c. search needs) pack-requires-2 (λ c. search needs) returns
+    (λ c. search needs) returns-2)

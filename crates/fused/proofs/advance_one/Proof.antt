@@ -14,7 +14,9 @@ use Rattle.fused.proofs.advance_one.Statement.{statement}
 use Rattle.fused.proofs.advance_one.Tie as tie
 
 returns : tie.Need-returns
-returns c = over-moves-by (c .before .before .before .args .code .now) (c .before .before .before .pre .0) (c .before .if1 .taken) (c .pass .result) (c .pass .ensures)
+returns c =
+    let start = c .before .before .before in
+    over-moves-by (start .args .code .now) (start .pre .0) (c .before .if1 .taken) (c .pass .result) (c .pass .ensures)
 
 -- what the arm of a code byte may assume
 at-byte : (c : tie.After-shared-slice-known2) (byte : ℕ) (operand : Bool) → let a = c .before .before .before .args in

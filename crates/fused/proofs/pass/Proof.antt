@@ -8,7 +8,7 @@ use Rattle.leb128.specs.Results.{unsignedRead}
 use Rattle.bytecode.specs.Instructions.{instructionOf, hasOperand}
 use Rattle.bytecode.proofs.Fetching.{number-within}
 use Rattle.fused.specs.declared.Moved.{Moved}
-use Rattle.fused.specs.Together.{AtByte, OverBy, PassesBy}
+use Rattle.fused.specs.Together.{OverBy, PassesBy}
 use Rattle.fused.proofs.Passing.{GoesOn, passes-alone, passes-operand}
 use borrow.Author.Needs.{needs}
 use Rattle.fused.proofs.pass.Statement.{statement}

@@ -21,40 +21,39 @@ abbrev μ-loop : tie.MeasureT-loop
 loop-holds : tie.Need-loop-holds Inv-loop μ-loop
 loop-holds c = resting-begins _ _ _ (c .before .pre)
 
-fetch-requires : tie.Need-fetch-requires Inv-loop μ-loop
-fetch-requires c κs = search needs
-
-enum-known-byte : tie.Need-enum-known-byte Inv-loop μ-loop
-enum-known-byte c = search needs
-
-enum-told : tie.Need-enum-told Inv-loop μ-loop
-enum-told c = search needs
-
 returns : tie.Need-returns Inv-loop μ-loop
 returns c = λ e. absurd (false≢true e)
 
 advance-requires : tie.Need-advance-requires Inv-loop μ-loop
-advance-requires c κs = (c .before .before .before .before .before .loop .inv .small, subst (FetchedWithin (length (c .before .before .before .before .before .before .before .args .code .now)) (c .before .before .before .before .before .loop .at)) (c .before .byte .given .1) (c .before .before .before .fetch .ensures .1) .operand)
-
-enum-known-k : tie.Need-enum-known-k Inv-loop μ-loop
-enum-known-k c = search needs
-
-enum-told-2 : tie.Need-enum-told-2 Inv-loop μ-loop
-enum-told-2 c = search needs
+advance-requires c κs =
+    let at-loop = c .before .before .before .before .before in
+    let start = at-loop .before .before in
+    (at-loop .loop .inv .small, subst (FetchedWithin (length (start .args .code .now)) (at-loop .loop .at)) (c .before .byte .given .1) (c .before .before .before .fetch .ensures .1) .operand)
 
 returns-2 : tie.Need-returns-2 Inv-loop μ-loop
 returns-2 c = λ e. absurd (false≢true e)
 
 loop-less : tie.Need-loop-less Inv-loop μ-loop
 loop-less c =
-    let b = subst (FetchedWithin (length (c .before .before .before .before .before .before .before .before .before .before .before .args .code .now)) (c .before .before .before .before .before .before .before .before .before .loop .at)) (c .before .before .before .before .before .byte .given .1) (c .before .before .before .before .before .before .before .fetch .ensures .1) in
-    omega (arith, b .behind, c .before .before .before .before .before .before .before .before .loop-test .taken)
+    let at-byte = c .before .before .before .before .before in
+    let at-fetch = at-byte .before .before in
+    let at-loop-test = at-fetch .before in
+    let at-loop = at-loop-test .before in
+    let start = at-loop .before .before in
+    let b = subst (FetchedWithin (length (start .args .code .now)) (at-loop .loop .at)) (at-byte .byte .given .1) (at-fetch .fetch .ensures .1) in
+    omega (arith, b .behind, at-loop-test .loop-test .taken)
 
 loop-again : tie.Need-loop-again Inv-loop μ-loop
 loop-again c =
-    let b = subst (FetchedWithin (length (c .before .before .before .before .before .before .before .before .before .before .before .args .code .now)) (c .before .before .before .before .before .before .before .before .before .loop .at)) (c .before .before .before .before .before .byte .given .1) (c .before .before .before .before .before .before .before .fetch .ensures .1) in
-    resting-goes (c .before .before .before .before .before .before .before .before .before .loop .inv) (instructionOf (c .before .before .before .before .before .byte .given .0 .0) (c .before .before .before .before .before .byte .given .0 .1 .0)) (c .before .before .before .before .before .byte .given .0 .1 .1 .0) (c .before .before .before .before .before .before .before .before .loop-test .taken) (sym (c .before .before .before .before .before .before .before .fetch .ensures .0) ∙ ap fetchedRead (c .before .before .before .before .before .byte .given .1)) (b .behind)
-    _ (sym (c .before .before .before .advance .ensures .0) ∙ ap advancedKnown (c .before .k .given .1)) (subst SmallAfter (c .before .k .given .1) (c .before .before .before .advance .ensures .1))
+    let at-advance = c .before .before .before in
+    let at-byte = at-advance .before .before in
+    let at-fetch = at-byte .before .before in
+    let at-loop-test = at-fetch .before in
+    let at-loop = at-loop-test .before in
+    let start = at-loop .before .before in
+    let b = subst (FetchedWithin (length (start .args .code .now)) (at-loop .loop .at)) (at-byte .byte .given .1) (at-fetch .fetch .ensures .1) in
+    resting-goes (at-loop .loop .inv) (instructionOf (at-byte .byte .given .0 .0) (at-byte .byte .given .0 .1 .0)) (at-byte .byte .given .0 .1 .1 .0) (at-loop-test .loop-test .taken) (sym (at-fetch .fetch .ensures .0) ∙ ap fetchedRead (at-byte .byte .given .1)) (b .behind)
+    _ (sym (at-advance .advance .ensures .0) ∙ ap advancedKnown (c .before .k .given .1)) (subst SmallAfter (c .before .k .given .1) (at-advance .advance .ensures .1))
 
 complete-requires : tie.Need-complete-requires Inv-loop μ-loop
 complete-requires c κs = c .before .loop .inv .small
@@ -65,19 +64,5 @@ returns-3 c = λ e. resting-ends (c .before .before .loop .inv) (c .before .loop
 pub rest-is-sound-spec : {M : Type 1} → statement M
 rest-is-sound-spec =
     tie.close
-    (tie.spec
-    Inv-loop
-    μ-loop
-    loop-holds
-    fetch-requires
-    enum-known-byte
-    enum-told
-    returns
-    advance-requires
-    enum-known-k
-    enum-told-2
-    returns-2
-    loop-less
-    loop-again
-    complete-requires
-    returns-3)
+    (tie.spec Inv-loop μ-loop loop-holds (λ c κs. search needs) (λ c. search needs) (λ c. search needs) returns advance-requires
+    (λ c. search needs) (λ c. search needs) returns-2 loop-less loop-again complete-requires returns-3)

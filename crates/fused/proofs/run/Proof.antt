@@ -29,21 +29,24 @@ advance-one-requires c κs = (c .before .before .before .before .loop .inv .read
 add-steps : tie.Need-add-steps Inv-loop μ-loop
 add-steps c =
     let at-if1 = c .before .before .before .before .before .before .before .before in
-    omega (arith, at-if1 .before .before .loop .inv .few, at-if1 .if1 .taken)
+    let at-loop = at-if1 .before .before in
+    omega (arith, at-loop .loop .inv .few, at-if1 .if1 .taken)
 
 -- a turn that goes on
 loop-less : tie.Need-loop-less Inv-loop μ-loop
 loop-less c =
     let at-one = c .before .before .before .before .before in
     let at-if1 = at-one .before .before .before in
-    let m = moved (at-if1 .before .before .loop .inv) _ _ (at-one .advance-one .result) _ (at-one .advance-one .ensures) (c .before .m .given .1) in
+    let at-loop = at-if1 .before .before in
+    let m = moved (at-loop .loop .inv) _ _ (at-one .advance-one .result) _ (at-one .advance-one .ensures) (c .before .m .given .1) in
     omega (arith, fetch-next _ _ _ _ (m .fetched) .1, at-if1 .if1 .taken)
 
 loop-again : tie.Need-loop-again Inv-loop μ-loop
 loop-again c =
     let at-one = c .before .before .before .before .before in
     let at-if1 = at-one .before .before .before in
-    let inv = at-if1 .before .before .loop .inv in
+    let at-loop = at-if1 .before .before in
+    let inv = at-loop .loop .inv in
     fusing-goes inv _ _ _ (at-if1 .if1 .taken) (moved inv _ _ (at-one .advance-one .result) _ (at-one .advance-one .ensures) (c .before .m .given .1))
     (at-one .advance-one .kept .1 .1 .1 .1 .1 .0) (at-one .advance-one .kept .1 .1 .1 .1 .0)
 
@@ -52,18 +55,21 @@ add-refused : tie.Need-add-refused Inv-loop μ-loop
 add-refused c =
     let at-if1 = c .before .before .before .before .before .before .before .before .before in
     let at-loop = at-if1 .before .before in
-    omega (arith, at-loop .loop .inv .few, at-if1 .if1 .taken, at-loop .before .before .before .good .0)
+    let start = at-loop .before .before .before in
+    omega (arith, at-loop .loop .inv .few, at-if1 .if1 .taken, start .good .0)
 
 refused-requires : tie.Need-refused-requires Inv-loop μ-loop
 refused-requires c κs =
     let at-one = c .before .before .before .before .before .before in
-    moved-refused (at-one .before .before .before .before .before .loop .inv) _ _ (at-one .advance-one .result) _ _ (at-one .advance-one .ensures) (c .before .before .m2 .given .1) .small
+    let at-loop = at-one .before .before .before .before .before in
+    moved-refused (at-loop .loop .inv) _ _ (at-one .advance-one .result) _ _ (at-one .advance-one .ensures) (c .before .before .m2 .given .1) .small
 
 returns : tie.Need-returns Inv-loop μ-loop
 returns c =
     let at-one = c .before .before .before .before .before .before .before in
     let at-if1 = at-one .before .before .before in
-    let inv = at-if1 .before .before .loop .inv in
+    let at-loop = at-if1 .before .before in
+    let inv = at-loop .loop .inv in
     fusing-stops inv _ _ (at-if1 .if1 .taken) (moved-refused inv _ _ (at-one .advance-one .result) _ _ (at-one .advance-one .ensures) (c .before .before .before .m2 .given .1)) _
     (c .refused .result) (c .refused .ensures)
 

@@ -1,5 +1,4 @@
 -- `fused::take_alone` meets its contract. Assumes nothing.
-use native.Mathlib.Omega.{arith}
 use Rattle.fused.proofs.Joining.{moves-alone}
 use borrow.Author.Needs.{needs}
 use Rattle.fused.proofs.take_alone.Statement.{statement}

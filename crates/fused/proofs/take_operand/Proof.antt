@@ -8,10 +8,15 @@ use Rattle.fused.proofs.take_operand.Statement.{statement}
 use Rattle.fused.proofs.take_operand.Tie as tie
 
 both-requires : tie.Need-both-requires
-both-requires c κs = (c .before .before .before .before .before .before .pre .0, (c .before .before .before .before .before .before .pre .1 .0 .1, number-within _ _ _ _ (sym (c .before .before .before .before .before .before .pre .1 .1) ∙ ap unsignedRead (c .before .before .before .read .given .1)) .operand))
+both-requires c κs =
+    let start = c .before .before .before .before .before .before in
+    (start .pre .0, (start .pre .1 .0 .1, number-within _ _ _ _ (sym (start .pre .1 .1) ∙ ap unsignedRead (c .before .before .before .read .given .1)) .operand))
 
 returns-2 : tie.Need-returns-2
-returns-2 c = moves-operand _ _ _ _ _ _ _ _ _ _ (c .before .before .before .before .before .before .before .before .before .pre .1 .0 .0) _ _ (sym (c .before .before .before .before .before .before .before .before .before .pre .1 .1) ∙ ap unsignedRead (c .before .before .before .before .before .before .read .given .1)) (c .before .before .both .result) (c .before .before .both .ensures)
+returns-2 c =
+    let at-read = c .before .before .before .before .before .before in
+    let start = at-read .before .before .before in
+    moves-operand _ _ _ _ _ _ _ _ _ _ (start .pre .1 .0 .0) _ _ (sym (start .pre .1 .1) ∙ ap unsignedRead (at-read .read .given .1)) (c .before .before .both .result) (c .before .before .both .ensures)
 
 pub take-operand-spec : {M : Type 1} → statement M
 take-operand-spec =

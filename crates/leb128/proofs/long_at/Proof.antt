@@ -14,15 +14,6 @@ is-trimmed : (c : tie.After-group) → numberAt (c .before .before .args .s .now
 unfolding numberAt
 is-trimmed c = rw (c .group .ensures) (sym (five-enough _ _ (sized-at (c .before .before .args .s .now) (c .before .before .args .at) (λ i. omega (arith, c .before .shared-slice-known .given i)))))
 
-group-requires : tie.Need-group-requires
-group-requires c κs = search needs
-
-enum-known-v : tie.Need-enum-known-v
-enum-known-v c = search needs
-
-enum-told : tie.Need-enum-told
-enum-told c = search needs
-
 returns : tie.Need-returns
 returns c = rw (is-trimmed (c .before .before), c .enum-told .given .1)
 
@@ -33,4 +24,4 @@ returns-3 : tie.Need-returns-3
 returns-3 c = rw (is-trimmed (c .before .before .before .before), c .before .before .v .given .1, le-ltb _ _ (c .if1 .left))
 
 pub long-at-spec : {M : Type 1} → statement M
-long-at-spec = tie.close (tie.spec group-requires enum-known-v enum-told returns returns-2 returns-3)
+long-at-spec = tie.close (tie.spec (λ c κs. search needs) (λ c. search needs) (λ c. search needs) returns returns-2 returns-3)

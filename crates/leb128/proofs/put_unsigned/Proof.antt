@@ -1,19 +1,16 @@
 -- `leb128::put_unsigned` meets its contract. The loop's invariant: the groups of what is left, stored from here, make the whole.
 -- Assumes nothing.
-use mathlib.Core.Path.{_≡_, refl, sym, ap, _∙_}
-use Prim.Native.Nat.{ℕ, _+_, _*_, _/_, _%_, _^_, _≤_, _<_}
+use mathlib.Core.Path.{_≡_, refl, ap, _∙_}
+use Prim.Native.Nat.{ℕ, _+_, _/_, _^_, _≤_, _<_}
 use native.Mathlib.Numerals.{add-one}
 use native.Mathlib.Omega.{arith}
-use lib.ListN.{length, set, length-set}
+use lib.ListN.{length}
 use lib.Seq.{sets, length-sets}
 use borrow.Author.Needs.{needs}
 use Rattle.leb128.specs.Numbers.{number}
 use Rattle.leb128.proofs.Laws.{groups-one, groups-more, at-most-five}
 use Rattle.leb128.proofs.put_unsigned.Statement.{statement}
 use Rattle.leb128.proofs.put_unsigned.Tie as tie
-use Rattle.leb128.proofs.put_unsigned.Reads as reads
-use Rattle.leb128.proofs.put_unsigned.Lts as lts
-use Rattle.leb128.proofs.put_byte.Reads as put-byte-reads
 
 abbrev Inv-loop : tie.InvT-loop
 Inv-loop out₀ at n rest₀ i₀ out rest i =

@@ -1,5 +1,5 @@
 -- `leb128::signed_at` meets its contract. Assumes nothing.
-use mathlib.Core.Path.{_≡_, sym, ap, subst, _∙_}
+use mathlib.Core.Path.{sym, ap, subst, _∙_}
 use Prim.Native.Nat.{ℕ}
 use lib.IntN.{ℤ}
 use borrow.Author.Needs.{needs}
@@ -15,15 +15,6 @@ use Rattle.leb128.proofs.signed_at.Tie as tie
 -- the definition, of what is read unsigned
 abbrev signed : Read ℕ → Read ℤ
 signed r = r then λ u next. got (unzigzag u) next
-
-unsigned-at-requires : tie.Need-unsigned-at-requires
-unsigned-at-requires c κs = search needs
-
-enum-known-u : tie.Need-enum-known-u
-enum-known-u c = search needs
-
-enum-told : tie.Need-enum-told
-enum-told c = search needs
 
 returns : tie.Need-returns
 unfolding signedAt
@@ -43,4 +34,4 @@ returns-2 c =
     (ap signed (sym (ap unsignedRead (c .before .before .u .given .1)) ∙ r .unsigned-at .ensures))
 
 pub signed-at-spec : {M : Type 1} → statement M
-signed-at-spec = tie.close (tie.spec unsigned-at-requires enum-known-u enum-told returns unzigzag-requires returns-2)
+signed-at-spec = tie.close (tie.spec (λ c κs. search needs) (λ c. search needs) (λ c. search needs) returns unzigzag-requires returns-2)

@@ -1,8 +1,7 @@
 -- `leb128::unzigzag` meets its contract. Assumes nothing.
-use mathlib.Core.Path.{_≡_}
-use Prim.Native.Nat.{ℕ, _/_, _%_, _^_, _<_}
+use Prim.Native.Nat.{ℕ, _/_, _^_, _<_}
 use native.Mathlib.Omega.{arith}
-use lib.IntN.{ℤ, pos, negsuc}
+use lib.IntN.{negsuc}
 use borrow.Author.Needs.{needs}
 use borrow.Author.Tests.{eq-eqb, ne-eqb}
 use mir.Syntax.{w32}
@@ -19,9 +18,6 @@ half u h = omega arith
 half-fits : (u : ℕ) → u < 2 ^ 32 → SFits w32 (negsuc (u / 2))
 half-fits u h = record { sfits = half u h }
 
-cast-h : tie.Need-cast-h
-cast-h c = search needs
-
 returns : tie.Need-returns
 unfolding unzigzagOf
 returns c = rw (toZ-pos w32 (half _ (c .before .pre)), eq-eqb _ _ (c .if1 .taken))
@@ -35,4 +31,4 @@ returns-2 c =
     rw (toZ-pos w32 (half _ (c .before .pre)), mirror-pos, same32 (half-fits _ (c .before .pre)), ne-eqb _ _ (c .if1 .left))
 
 pub unzigzag-spec : {M : Type 1} → statement M
-unzigzag-spec = tie.close (tie.spec cast-h returns sub-result returns-2)
+unzigzag-spec = tie.close (tie.spec (λ c. search needs) returns sub-result returns-2)

@@ -21,31 +21,28 @@ loop-holds : tie.Need-loop-holds Inv-loop μ-loop
 loop-holds c = id-start _ _ _ _ _
 
 mul-s : tie.Need-mul-s Inv-loop μ-loop
-mul-s c = omega (arith, c .before .before .before .before .before .good .1 .0 .1, c .before .before .before .before .before .pre .in-starts)
+mul-s c =
+    let start = c .before .before .before .before .before in
+    omega (arith, start .good .1 .0 .1, start .pre .in-starts)
 
 shared-slice-read-s : tie.Need-shared-slice-read-s Inv-loop μ-loop
 shared-slice-read-s c = omega (arith, c .before .before .before .before .before .before .pre .in-starts)
 
 mul-e : tie.Need-mul-e Inv-loop μ-loop
-mul-e c = omega (arith, c .before .before .before .before .before .before .good .1 .1 .0 .1, c .before .before .before .before .before .before .pre .in-ends)
+mul-e c =
+    let start = c .before .before .before .before .before .before in
+    omega (arith, start .good .1 .1 .0 .1, start .pre .in-ends)
 
 shared-slice-read-e : tie.Need-shared-slice-read-e Inv-loop μ-loop
 shared-slice-read-e c = omega (arith, c .before .before .before .before .before .before .before .pre .in-ends)
 
-name-requires : tie.Need-name-requires Inv-loop μ-loop
-name-requires c κs = search needs
-
-name-requires-2 : tie.Need-name-requires-2 Inv-loop μ-loop
-name-requires-2 c κs = search needs
-
-same-name-requires : tie.Need-same-name-requires Inv-loop μ-loop
-same-name-requires c κs = search needs
-
 returns : tie.Need-returns Inv-loop μ-loop
 returns c =
     let l = c .before .before .before .before .before .before in
-    sym (id-here _ _ _ _ _ (l .before .before .before .before .before .pre) _ (l .loop-test .taken)
-    (ap₂ sameName (sym (c .before .before .before .name .ensures)) (sym (c .before .before .name2 .ensures)) ∙ sym (c .before .same-name .ensures) ∙ c .if1 .taken)) ∙ l .before .loop .inv
+    let at-loop = l .before in
+    let start = at-loop .before .before .before .before in
+    sym (id-here _ _ _ _ _ (start .pre) _ (l .loop-test .taken)
+    (ap₂ sameName (sym (c .before .before .before .name .ensures)) (sym (c .before .before .name2 .ensures)) ∙ sym (c .before .same-name .ensures) ∙ c .if1 .taken)) ∙ at-loop .loop .inv
 
 add-i : tie.Need-add-i Inv-loop μ-loop
 add-i c = omega (arith, c .before .before .before .before .before .before .before .before .before .before .before .pre .in-starts)
@@ -56,8 +53,10 @@ loop-less c = omega arith
 loop-again : tie.Need-loop-again Inv-loop μ-loop
 loop-again c =
     let l = c .before .before .before .before .before .before in
-    sym (id-next _ _ _ _ _ (l .before .before .before .before .before .pre) _ (l .loop-test .taken)
-    (ap₂ sameName (sym (c .before .before .before .name .ensures)) (sym (c .before .before .name2 .ensures)) ∙ sym (c .before .same-name .ensures) ∙ c .if1 .left)) ∙ l .before .loop .inv
+    let at-loop = l .before in
+    let start = at-loop .before .before .before .before in
+    sym (id-next _ _ _ _ _ (start .pre) _ (l .loop-test .taken)
+    (ap₂ sameName (sym (c .before .before .before .name .ensures)) (sym (c .before .before .name2 .ensures)) ∙ sym (c .before .same-name .ensures) ∙ c .if1 .left)) ∙ at-loop .loop .inv
 
 returns-2 : tie.Need-returns-2 Inv-loop μ-loop
 returns-2 c = sym (id-none _ _ _ _ _ (c .before .before .before .before .before .pre) _ (c .loop-test .left)) ∙ c .before .loop .inv
@@ -65,19 +64,5 @@ returns-2 c = sym (id-none _ _ _ _ _ (c .before .before .before .before .before 
 pub find-spec : {M : Type 1} → statement M
 find-spec =
     tie.close
-    (tie.spec
-    Inv-loop
-    μ-loop
-    loop-holds
-    mul-s
-    shared-slice-read-s
-    mul-e
-    shared-slice-read-e
-    name-requires
-    name-requires-2
-    same-name-requires
-    returns
-    add-i
-    loop-less
-    loop-again
-    returns-2)
+    (tie.spec Inv-loop μ-loop loop-holds mul-s shared-slice-read-s mul-e shared-slice-read-e (λ c κs. search needs) (λ c κs. search needs)
+    (λ c κs. search needs) returns add-i loop-less loop-again returns-2)

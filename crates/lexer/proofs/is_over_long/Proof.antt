@@ -11,12 +11,9 @@ returns : tie.Need-returns
 unfolding overLong
 returns c = let z : c .before .args .end - c .before .args .start ≡ 0 = omega arith in rw z
 
-sub-result : tie.Need-sub-result
-sub-result c = search needs
-
 returns-2 : tie.Need-returns-2
 unfolding overLong
 returns-2 c = refl
 
 pub is-over-long-spec : {M : Type 1} → statement M
-is-over-long-spec = tie.close (tie.spec returns sub-result returns-2)
+is-over-long-spec = tie.close (tie.spec returns (λ c. search needs) returns-2)

@@ -9,34 +9,20 @@ use Rattle.lexer.proofs.Tokens.{previous-lone, previous-name, previous-
 use Rattle.lexer.proofs.previous.Statement.{statement}
 use Rattle.lexer.proofs.previous.Tie as tie
 
-add-from : tie.Need-add-from
-add-from c = search needs
-
-byte-at-requires : tie.Need-byte-at-requires
-byte-at-requires c κs = search needs
-
-is-letter-requires : tie.Need-is-letter-requires
-is-letter-requires c κs = search needs
-
-run-requires : tie.Need-run-requires
-run-requires c κs = search needs
-
-name-requires : tie.Need-name-requires
-name-requires c κs = search needs
-
-word-requires : tie.Need-word-requires
-word-requires c κs = search needs
-
 returns : tie.Need-returns
 returns c =
     let l = c .before .before .before .before in
-    previous-name _ _ _ (l .before .before .byte-at .ensures) _ _ (sym (l .before .is-letter .ensures) ∙ l .if1 .taken) (c .before .before .before .run .ensures)
+    let at-is-letter = l .before in
+    let at-byte-at = at-is-letter .before in
+    previous-name _ _ _ (at-byte-at .byte-at .ensures) _ _ (sym (at-is-letter .is-letter .ensures) ∙ l .if1 .taken) (c .before .before .before .run .ensures)
     (c .before .word .ensures ∙ ap (λ (w : List ℕ). kindNumber (wordOf w)) (c .before .before .name .ensures)) (c .if2 .taken)
 
 returns-2 : tie.Need-returns-2
 returns-2 c =
     let l = c .before .before .before .before in
-    previous-word _ _ _ (l .before .before .byte-at .ensures) _ _ (sym (l .before .is-letter .ensures) ∙ l .if1 .taken) (c .before .before .before .run .ensures)
+    let at-is-letter = l .before in
+    let at-byte-at = at-is-letter .before in
+    previous-word _ _ _ (at-byte-at .byte-at .ensures) _ _ (sym (at-is-letter .is-letter .ensures) ∙ l .if1 .taken) (c .before .before .before .run .ensures)
     (c .before .word .ensures ∙ ap (λ (w : List ℕ). kindNumber (wordOf w)) (c .before .before .name .ensures)) (c .if2 .left)
 
 returns-3 : tie.Need-returns-3
@@ -45,13 +31,5 @@ returns-3 c = previous-lone _ _ _ (c .before .before .byte-at .ensures) (sym (c 
 pub previous-spec : {M : Type 1} → statement M
 previous-spec =
     tie.close
-    (tie.spec
-    add-from
-    byte-at-requires
-    is-letter-requires
-    run-requires
-    name-requires
-    word-requires
-    returns
-    returns-2
-    returns-3)
+    (tie.spec (λ c. search needs) (λ c κs. search needs) (λ c κs. search needs) (λ c κs. search needs) (λ c κs. search needs)
+    (λ c κs. search needs) returns returns-2 returns-3)

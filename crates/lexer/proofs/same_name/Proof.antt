@@ -4,12 +4,9 @@ use Rattle.lexer.specs.Lexer.{sameName}
 use Rattle.lexer.proofs.same_name.Statement.{statement}
 use Rattle.lexer.proofs.same_name.Tie as tie
 
-same-bytes-requires : tie.Need-same-bytes-requires
-same-bytes-requires c κs = search needs
-
 returns : tie.Need-returns
 unfolding sameName
 returns c = c .same-bytes .ensures
 
 pub same-name-spec : {M : Type 1} → statement M
-same-name-spec = tie.close (tie.spec same-bytes-requires returns)
+same-name-spec = tie.close (tie.spec (λ c κs. search needs) returns)

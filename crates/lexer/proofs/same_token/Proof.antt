@@ -11,18 +11,10 @@ returns c =
     let a = c .before .before in
     sym (other-kind _ _ _ _ _ _ _ (a .pre .0) (a .pre .1) (c .if1 .taken))
 
-name-requires : tie.Need-name-requires
-name-requires c κs = search needs
-
-name-requires-2 : tie.Need-name-requires-2
-name-requires-2 c κs = search needs
-
-same-name-requires : tie.Need-same-name-requires
-same-name-requires c κs = search needs
-
 returns-2 : tie.Need-returns-2
 returns-2 c = c .same-name .ensures ∙ ap₂ sameName (c .before .before .name .ensures) (c .before .name2 .ensures) ∙ sym (one-kind _ _ _ _ _ _ _ (c .before .before .before .if1 .left))
 
 pub same-token-spec : {M : Type 1} → statement M
 same-token-spec =
-    tie.close (tie.spec returns name-requires name-requires-2 same-name-requires returns-2)
+    tie.close
+    (tie.spec returns (λ c κs. search needs) (λ c κs. search needs) (λ c κs. search needs) returns-2)

@@ -4,20 +4,8 @@ use Rattle.lexer.proofs.Tokens.{sign-two, sign-one, sign-none}
 use Rattle.lexer.proofs.sign_at.Statement.{statement}
 use Rattle.lexer.proofs.sign_at.Tie as tie
 
-pair-requires : tie.Need-pair-requires
-pair-requires c κs = search needs
-
-add-t7 : tie.Need-add-t7
-add-t7 c = search needs
-
 returns : tie.Need-returns
 returns c = sign-two _ _ _ _ (c .before .pair .ensures) (c .if1 .taken)
-
-sign-requires : tie.Need-sign-requires
-sign-requires c κs = search needs
-
-add-t8 : tie.Need-add-t8
-add-t8 c = search needs
 
 returns-2 : tie.Need-returns-2
 returns-2 c = sign-one _ _ _ _ (c .before .before .before .pair .ensures) (c .before .before .if1 .left) _ (c .before .sign .ensures) (c .if2 .taken)
@@ -27,4 +15,5 @@ returns-3 c = sign-none _ _ _ _ (c .before .before .before .pair .ensures) (c .b
 
 pub sign-at-spec : {M : Type 1} → statement M
 sign-at-spec =
-    tie.close (tie.spec pair-requires add-t7 returns sign-requires add-t8 returns-2 returns-3)
+    tie.close
+    (tie.spec (λ c κs. search needs) (λ c. search needs) returns (λ c κs. search needs) (λ c. search needs) returns-2 returns-3)

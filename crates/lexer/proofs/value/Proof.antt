@@ -25,9 +25,6 @@ mul-v c = omega arith
 shared-slice-read-wide : tie.Need-shared-slice-read-wide Inv-loop μ-loop
 shared-slice-read-wide c = omega arith
 
-wide-requires : tie.Need-wide-requires Inv-loop μ-loop
-wide-requires c κs = search needs
-
 add-v : tie.Need-add-v Inv-loop μ-loop
 add-v c = omega arith
 
@@ -49,16 +46,5 @@ returns-2 c = value-whole _ _ _ (c .before .loop .inv .1) (c .loop-test .left) (
 pub value-spec : {M : Type 1} → statement M
 value-spec =
     tie.close
-    (tie.spec
-    Inv-loop
-    μ-loop
-    loop-holds
-    mul-v
-    shared-slice-read-wide
-    wide-requires
-    add-v
-    returns
-    add-i
-    loop-less
-    loop-again
+    (tie.spec Inv-loop μ-loop loop-holds mul-v shared-slice-read-wide (λ c κs. search needs) add-v returns add-i loop-less loop-again
     returns-2)

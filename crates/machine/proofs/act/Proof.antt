@@ -12,51 +12,6 @@ use Rattle.bytecode.specs.Instructions.{instructionOf}
 use Rattle.machine.proofs.act.Statement.{statement}
 use Rattle.machine.proofs.act.Tie as tie
 
-unzigzag-requires : tie.Need-unzigzag-requires
-unzigzag-requires c κs = search needs
-
-push-requires : tie.Need-push-requires
-push-requires c κs = search needs
-
-load-requires : tie.Need-load-requires
-load-requires c κs = search needs
-
-load-requires-2 : tie.Need-load-requires-2
-load-requires-2 c κs = search needs
-
-negate-requires : tie.Need-negate-requires
-negate-requires c κs = search needs
-
-invert-requires : tie.Need-invert-requires
-invert-requires c κs = search needs
-
-relate-requires : tie.Need-relate-requires
-relate-requires c κs = search needs
-
-relate-requires-2 : tie.Need-relate-requires-2
-relate-requires-2 c κs = search needs
-
-gate-requires : tie.Need-gate-requires
-gate-requires c κs = search needs
-
-pick-requires : tie.Need-pick-requires
-pick-requires c κs = search needs
-
-assign-requires : tie.Need-assign-requires
-assign-requires c κs = search needs
-
-settle-requires : tie.Need-settle-requires
-settle-requires c κs = search needs
-
-calculate-requires : tie.Need-calculate-requires
-calculate-requires c κs = search needs
-
-relate-requires-3 : tie.Need-relate-requires-3
-relate-requires-3 c κs = search needs
-
-same-length : tie.Need-same-length
-same-length c = search needs
-
 returns : tie.Need-returns
 unfolding instructionOf
 returns c =
@@ -64,31 +19,21 @@ returns c =
     let f : SFits w32 (c .before .before .unzigzag .result) = search needs in
     (λ ns r. c .before .push .ensures .0 ns (a .prev .now) (a .cur .now) ∙ rw (toZ-ofZ f, c .before .before .unzigzag .ensures, c .before .before .before .before .match .keys1), c .before .push .ensures .1)
 
-same-length-2 : tie.Need-same-length-2
-same-length-2 c = search needs
-
-same-length-3 : tie.Need-same-length-3
-same-length-3 c = search needs
-
 returns-2 : tie.Need-returns-2
 unfolding instructionOf
 returns-2 c =
-    let a = c .before .before .before .before .before .args in
-    let current = c .before .before .before .before .before .pre .1 .0 .current in
+    let start = c .before .before .before .before .before in
+    let a = start .args in
+    let current = start .pre .1 .0 .current in
     (λ ns r. c .before .load .ensures .0 (a .cur .now) ∙ rw (c .before .before .before .before .match .keys2, names-length ns (a .low .now) (a .high .now) r, current), c .before .load .ensures .1)
-
-same-length-4 : tie.Need-same-length-4
-same-length-4 c = search needs
 
 returns-3 : tie.Need-returns-3
 unfolding instructionOf
 returns-3 c =
-    let a = c .before .before .before .before .args in
-    let previous = c .before .before .before .before .pre .1 .0 .previous in
+    let start = c .before .before .before .before in
+    let a = start .args in
+    let previous = start .pre .1 .0 .previous in
     (λ ns r. c .before .load2 .ensures .0 (a .cur .now) ∙ rw (c .before .before .before .match .keys3, names-length ns (a .low .now) (a .high .now) r, previous), c .before .load2 .ensures .1)
-
-same-length-5 : tie.Need-same-length-5
-same-length-5 c = search needs
 
 returns-4 : tie.Need-returns-4
 unfolding instructionOf
@@ -96,17 +41,11 @@ returns-4 c =
     let a = c .before .before .before .before .args in
     (λ ns r. c .before .negate .ensures .0 ns (a .prev .now) (a .cur .now) ∙ rw (c .before .before .before .match .keys4), c .before .negate .ensures .1)
 
-same-length-6 : tie.Need-same-length-6
-same-length-6 c = search needs
-
 returns-5 : tie.Need-returns-5
 unfolding instructionOf
 returns-5 c =
     let a = c .before .before .before .before .args in
     (λ ns r. c .before .invert .ensures .0 ns (a .prev .now) (a .cur .now) ∙ rw (c .before .before .before .match .keys5), c .before .invert .ensures .1)
-
-same-length-7 : tie.Need-same-length-7
-same-length-7 c = search needs
 
 returns-6 : tie.Need-returns-6
 unfolding instructionOf truthOf
@@ -114,17 +53,11 @@ returns-6 c =
     let a = c .before .before .before .before .args in
     (λ ns r. c .before .relate .ensures .0 (a .cur .now) ∙ rw (c .before .before .before .match .keys6), c .before .relate .ensures .1)
 
-same-length-8 : tie.Need-same-length-8
-same-length-8 c = search needs
-
 returns-7 : tie.Need-returns-7
 unfolding instructionOf truthOf
 returns-7 c =
     let a = c .before .before .before .before .args in
     (λ ns r. c .before .relate2 .ensures .0 (a .cur .now) ∙ rw (c .before .before .before .match .keys7), c .before .relate2 .ensures .1)
-
-same-length-9 : tie.Need-same-length-9
-same-length-9 c = search needs
 
 returns-8 : tie.Need-returns-8
 unfolding instructionOf
@@ -132,56 +65,40 @@ returns-8 c =
     let a = c .before .before .before .args in
     (λ ns r. c .gate .ensures .0 ns (a .prev .now) (a .cur .now) ∙ rw (c .before .before .match .keys8), c .gate .ensures .1)
 
-same-length-10 : tie.Need-same-length-10
-same-length-10 c = search needs
-
-same-length-11 : tie.Need-same-length-11
-same-length-11 c = search needs
-
 returns-9 : tie.Need-returns-9
 unfolding instructionOf
 returns-9 c = (λ ns r. c .before .pick .ensures .0 ns r ∙ rw (c .before .before .before .before .match .keys9), c .before .pick .ensures .1)
-
-same-length-12 : tie.Need-same-length-12
-same-length-12 c = search needs
-
-same-length-13 : tie.Need-same-length-13
-same-length-13 c = search needs
 
 returns-10 : tie.Need-returns-10
 unfolding instructionOf
 returns-10 c = (λ ns r. c .before .assign .ensures .0 ns (c .before .before .before .before .before .args .prev .now) r ∙ rw (c .before .before .before .before .match .keys10), c .before .assign .ensures .1)
 
-same-length-14 : tie.Need-same-length-14
-same-length-14 c = search needs
-
 returns-11 : tie.Need-returns-11
 unfolding instructionOf
 returns-11 c =
-    let a = c .before .before .before .before .args in
-    let size = sym (c .before .before .before .before .pre .1 .0 .previous) in
+    let start = c .before .before .before .before in
+    let a = start .args in
+    let size = sym (start .pre .1 .0 .previous) in
     (λ ns r. c .before .settle .ensures .0 ns (a .vals .now) (names-length ns (a .low .now) (a .high .now) r ∙ size) ∙ rw (c .before .before .before .match .keys11), c .before .settle .ensures .1)
-
-same-length-15 : tie.Need-same-length-15
-same-length-15 c = search needs
 
 returns-12 : tie.Need-returns-12
 returns-12 c =
-    let a = c .before .before .before .before .before .before .args in
-    let r = c .before .before .before .before .before .match .rest in
+    let at-match = c .before .before .before .before .before in
+    let start = at-match .before in
+    let a = start .args in
+    let r = at-match .match .rest in
     let e =
     operation-code (a .code) (a .n) (c .before .before .before .before .if1 .left) (c .before .before .before .if2 .taken)
     (r .0 .0 .0 .0 .0 .0 .0 .0 .0 .0 .1) (r .0 .0 .0 .0 .0 .0 .0 .0 .0 .1) (r .0 .0 .0 .0 .0 .0 .0 .0 .1) in
     (λ ns q. c .before .calculate .ensures .0 ns (a .prev .now) (a .cur .now) ∙ rw e, c .before .calculate .ensures .1)
 
-same-length-16 : tie.Need-same-length-16
-same-length-16 c = search needs
-
 returns-13 : tie.Need-returns-13
 returns-13 c =
-    let a = c .before .before .before .before .before .before .before .args in
+    let at-match = c .before .before .before .before .before .before in
+    let start = at-match .before in
+    let a = start .args in
     let below = c .before .before .before .if3 .taken in
-    let e = comparison-code (a .code) (a .n) (c .before .before .before .before .if2 .left) below (c .before .before .before .before .before .before .match .rest .0 .0 .0 .0 .0 .0 .0 .1) in
+    let e = comparison-code (a .code) (a .n) (c .before .before .before .before .if2 .left) below (at-match .match .rest .0 .0 .0 .0 .0 .0 .0 .1) in
     (λ ns q. c .before .relate3 .ensures .0 (a .cur .now) ∙ related-same _ _ _ (heldOf (a .vals .now) (a .m .held)) (a .cur .now) (λ x y. truth-comparison (a .code) x y below) ∙ rw e, c .before .relate3 .ensures .1)
 
 returns-14 : tie.Need-returns-14
@@ -199,49 +116,10 @@ returns-15 c =
 pub act-spec : {M : Type 1} → statement M
 act-spec =
     tie.close
-    (tie.spec
-    unzigzag-requires
-    push-requires
-    load-requires
-    load-requires-2
-    negate-requires
-    invert-requires
-    relate-requires
-    relate-requires-2
-    gate-requires
-    pick-requires
-    assign-requires
-    settle-requires
-    calculate-requires
-    relate-requires-3
-    same-length
-    returns
-    same-length-2
-    same-length-3
-    returns-2
-    same-length-4
-    returns-3
-    same-length-5
-    returns-4
-    same-length-6
-    returns-5
-    same-length-7
-    returns-6
-    same-length-8
-    returns-7
-    same-length-9
-    returns-8
-    same-length-10
-    same-length-11
-    returns-9
-    same-length-12
-    same-length-13
-    returns-10
-    same-length-14
-    returns-11
-    same-length-15
-    returns-12
-    same-length-16
-    returns-13
-    returns-14
-    returns-15)
+    (tie.spec (λ c κs. search needs) (λ c κs. search needs) (λ c κs. search needs) (λ c κs. search needs) (λ c κs. search needs)
+    (λ c κs. search needs) (λ c κs. search needs) (λ c κs. search needs) (λ c κs. search needs) (λ c κs. search needs)
+    (λ c κs. search needs) (λ c κs. search needs) (λ c κs. search needs) (λ c κs. search needs) (λ c. search needs) returns
+    (λ c. search needs) (λ c. search needs) returns-2 (λ c. search needs) returns-3 (λ c. search needs) returns-4 (λ c. search needs)
+    returns-5 (λ c. search needs) returns-6 (λ c. search needs) returns-7 (λ c. search needs) returns-8 (λ c. search needs)
+    (λ c. search needs) returns-9 (λ c. search needs) (λ c. search needs) returns-10 (λ c. search needs) returns-11 (λ c. search needs)
+    returns-12 (λ c. search needs) returns-13 returns-14 returns-15)

@@ -11,8 +11,9 @@ returns c = (λ ns s vs t p. rw (p, c .match .keys1), c .before .pre)
 
 returns-2 : tie.Need-returns-2
 returns-2 c =
-    let a = c .before .before .before .args in
-    (λ ns s vs t p. rw p (pass-other ns s (a .code) (a .n) (a .m .picked) _ t (c .before .if1 .left) (c .if2 .taken) (c .before .before .match .rest .1)), c .before .before .before .pre)
+    let start = c .before .before .before in
+    let a = start .args in
+    (λ ns s vs t p. rw p (pass-other ns s (a .code) (a .n) (a .m .picked) _ t (c .before .if1 .left) (c .if2 .taken) (c .before .before .match .rest .1)), start .pre)
 
 returns-3 : tie.Need-returns-3
 returns-3 c = (λ ns s vs t p. rw (no-code-first (c .before .before .args .code) (c .before .before .args .n) (c .if1 .taken)), search needs)

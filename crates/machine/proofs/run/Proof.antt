@@ -23,34 +23,10 @@ loop-holds c =
     let e : a .budget - 0 ≡ a .budget = omega arith in
     record { stack = c .before .pre .0; named = c .before .pre .1; wide = refl; deep = refl; within = omega arith; goes = λ ns r. rw e }
 
-same-length : tie.Need-same-length Inv-loop μ-loop
-same-length c = search needs
-
-same-length-2 : tie.Need-same-length-2 Inv-loop μ-loop
-same-length-2 c = search needs
-
 returns : tie.Need-returns Inv-loop μ-loop
 returns c =
     let i = c .before .before .loop in
     (ended (i .inv) (c .if1 .taken), i .inv .within)
-
-add-done : tie.Need-add-done Inv-loop μ-loop
-add-done c = search needs
-
-fetch-requires : tie.Need-fetch-requires Inv-loop μ-loop
-fetch-requires c κs = search needs
-
-enum-known-f : tie.Need-enum-known-f Inv-loop μ-loop
-enum-known-f c = search needs
-
-enum-told : tie.Need-enum-told Inv-loop μ-loop
-enum-told c = search needs
-
-same-length-3 : tie.Need-same-length-3 Inv-loop μ-loop
-same-length-3 c = search needs
-
-same-length-4 : tie.Need-same-length-4 Inv-loop μ-loop
-same-length-4 c = search needs
 
 returns-2 : tie.Need-returns-2 Inv-loop μ-loop
 returns-2 c =
@@ -62,38 +38,26 @@ returns-2 c =
 step-requires : tie.Need-step-requires Inv-loop μ-loop
 step-requires c κs =
     let p = c .before .before .before .before .before in
-    let l = p .before .before .before in (
+    let l = p .before .before .before in
+    let start = l .before .before in (
       l .loop .inv .stack,
       (
         l .loop .inv .named,
-        subst (FetchedWithin (length (l .before .before .args .code .now)) (l .loop .at)) (c .before .before .before .f .given .1) (p .fetch .ensures .1) .operand,
+        subst (FetchedWithin (length (start .args .code .now)) (l .loop .at)) (c .before .before .before .f .given .1) (p .fetch .ensures .1) .operand,
       ),
     )
 
-enum-known-s : tie.Need-enum-known-s Inv-loop μ-loop
-enum-known-s c = search needs
-
-loop-less : tie.Need-loop-less Inv-loop μ-loop
-loop-less c = search needs
-
 loop-again : tie.Need-loop-again Inv-loop μ-loop
 loop-again c =
-    let f = c .before .before .before .before .before .before .before .before .before .f .given in
+    let at-step = c .before .before .before .before .before in
+    let at-f = at-step .before .before .before .before in
+    let f = at-f .f .given in
     let p = c .before .before .before .before .before .before .before .before .before .before .before in
-    let st = c .before .before .before .before .before .step in
+    let st = at-step .step in
     again (p .before .before .before .loop .inv) (p .before .before .loop-test .taken) (p .before .if1 .left)
     (instructionOf (f .0 .0) (f .0 .1 .0)) (f .0 .1 .1 .0) (sym (ap fetchedRead (f .1)) ∙ p .fetch .ensures .0)
     (st .result) (st .last .1 .1 .1 .1 .0) (st .last .1 .1 .1 .0) (st .ensures .0)
     (c .before .s .given .0 .0) (c .before .s .given .1) (st .ensures .1) (st .kept .1 .1 .1 .1 .0) (st .kept .1 .1 .1 .0)
-
-enum-known-s-2 : tie.Need-enum-known-s-2 Inv-loop μ-loop
-enum-known-s-2 c = search needs
-
-same-length-5 : tie.Need-same-length-5 Inv-loop μ-loop
-same-length-5 c = search needs
-
-same-length-6 : tie.Need-same-length-6 Inv-loop μ-loop
-same-length-6 c = search needs
 
 returns-3 : tie.Need-returns-3 Inv-loop μ-loop
 returns-3 c =
@@ -107,12 +71,6 @@ returns-3 c =
       search needs,
     )
 
-same-length-7 : tie.Need-same-length-7 Inv-loop μ-loop
-same-length-7 c = search needs
-
-same-length-8 : tie.Need-same-length-8 Inv-loop μ-loop
-same-length-8 c = search needs
-
 returns-4 : tie.Need-returns-4 Inv-loop μ-loop
 returns-4 c =
     let i = c .before .loop in
@@ -121,28 +79,7 @@ returns-4 c =
 pub run-spec : {M : Type 1} → statement M
 run-spec =
     tie.close
-    (tie.spec
-    Inv-loop
-    μ-loop
-    loop-holds
-    same-length
-    same-length-2
-    returns
-    add-done
-    fetch-requires
-    enum-known-f
-    enum-told
-    same-length-3
-    same-length-4
-    returns-2
-    step-requires
-    enum-known-s
-    loop-less
-    loop-again
-    enum-known-s-2
-    same-length-5
-    same-length-6
-    returns-3
-    same-length-7
-    same-length-8
-    returns-4)
+    (tie.spec Inv-loop μ-loop loop-holds (λ c. search needs) (λ c. search needs) returns (λ c. search needs) (λ c κs. search needs)
+    (λ c. search needs) (λ c. search needs) (λ c. search needs) (λ c. search needs) returns-2 step-requires (λ c. search needs)
+    (λ c. search needs) loop-again (λ c. search needs) (λ c. search needs) (λ c. search needs) returns-3 (λ c. search needs)
+    (λ c. search needs) returns-4)

@@ -6,30 +6,21 @@ use Rattle.bytecode.specs.Instructions.{instructionOf}
 use Rattle.machine.proofs.step.Statement.{statement}
 use Rattle.machine.proofs.step.Tie as tie
 
-pass-requires : tie.Need-pass-requires
-pass-requires c κs = search needs
-
 returns : tie.Need-returns
 returns c =
     let a = c .before .before .args in
     (λ ns r. c .pass .ensures .0 ns (a .prev .now) (a .vals .now) (a .cur .now) (c .before .if1 .taken), c .pass .ensures .1)
 
-act-requires : tie.Need-act-requires
-act-requires c κs = search needs
-
-same-length : tie.Need-same-length
-same-length c = search needs
-
-same-length-2 : tie.Need-same-length-2
-same-length-2 c = search needs
-
 returns-2 : tie.Need-returns-2
 returns-2 c =
-    let a = c .before .before .before .before .before .before .args in
+    let at-if1 = c .before .before .before .before .before in
+    let start = at-if1 .before in
+    let a = start .args in
     let r = c .before .before .act .ensures in
-    let go = c .before .before .before .before .before .if1 .left in
+    let go = at-if1 .if1 .left in
     (λ ns q. r .0 ns q ∙ act-stepped ns (a .prev .now) (instructionOf (a .code) (a .n)) (a .m .passing) (a .m .picked) _ (a .cur .now) go, r .1)
 
 pub step-spec : {M : Type 1} → statement M
 step-spec =
-    tie.close (tie.spec pass-requires returns act-requires same-length same-length-2 returns-2)
+    tie.close
+    (tie.spec (λ c κs. search needs) returns (λ c κs. search needs) (λ c. search needs) (λ c. search needs) returns-2)

@@ -39,46 +39,16 @@ past-closing : (c : tie.After-known-told3) {q : Parsed (Unit {0})} → Left (c .
 unfolding kindOf
 past-closing c h = past-value (c .before .before .before .before) (goes-on _ _ _ _ (c .before .before .before .expect2 .ensures) (c .before .third .given .1) h)
 
-expect-requires : tie.Need-expect-requires
-expect-requires c κs = search needs
-
-enum-known-first : tie.Need-enum-known-first
-enum-known-first c = search needs
-
-enum-told : tie.Need-enum-told
-enum-told c = search needs
-
 returns : tie.Need-returns
 unfolding kindOf
 returns c = stops _ _ _ _ (c .before .before .expect .ensures) (c .enum-told .given .1)
 
-unchanged-value-requires : tie.Need-unchanged-value-requires
-unchanged-value-requires c κs = search needs
-
-enum-known-second : tie.Need-enum-known-second
-enum-known-second c = search needs
-
-enum-told-2 : tie.Need-enum-told-2
-enum-told-2 c = search needs
-
 returns-2 : tie.Need-returns-2
 returns-2 c = past-opening (c .before .before .before) (stops-in _ _ from-closing _ (c .before .before .unchanged-value .ensures) (c .enum-told2 .given .1))
-
-expect-requires-2 : tie.Need-expect-requires-2
-expect-requires-2 c κs = search needs
-
-enum-known-third : tie.Need-enum-known-third
-enum-known-third c = search needs
-
-enum-told-3 : tie.Need-enum-told-3
-enum-told-3 c = search needs
 
 returns-3 : tie.Need-returns-3
 unfolding kindOf
 returns-3 c = past-value (c .before .before .before) (stops _ _ _ _ (c .before .before .expect2 .ensures) (c .enum-told3 .given .1))
-
-expect-requires-3 : tie.Need-expect-requires-3
-expect-requires-3 c κs = search needs
 
 returns-4 : tie.Need-returns-4
 unfolding kindOf
@@ -87,18 +57,5 @@ returns-4 c = past-closing (c .before) (last _ _ _ (c .expect3 .ensures))
 pub change-opening-spec : {M : Type 1} → statement M
 change-opening-spec =
     tie.close
-    (tie.spec
-    expect-requires
-    enum-known-first
-    enum-told
-    returns
-    unchanged-value-requires
-    enum-known-second
-    enum-told-2
-    returns-2
-    expect-requires-2
-    enum-known-third
-    enum-told-3
-    returns-3
-    expect-requires-3
-    returns-4)
+    (tie.spec (λ c κs. search needs) (λ c. search needs) (λ c. search needs) returns (λ c κs. search needs) (λ c. search needs)
+    (λ c. search needs) returns-2 (λ c κs. search needs) (λ c. search needs) (λ c. search needs) returns-3 (λ c κs. search needs) returns-4)

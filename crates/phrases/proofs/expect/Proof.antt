@@ -5,18 +5,6 @@ use borrow.Author.Needs.{needs}
 use Rattle.phrases.proofs.expect.Statement.{statement}
 use Rattle.phrases.proofs.expect.Tie as tie
 
-token-at-requires : tie.Need-token-at-requires
-token-at-requires c κs = search needs
-
-enum-known-read : tie.Need-enum-known-read
-enum-known-read c = search needs
-
-enum-told : tie.Need-enum-told
-enum-told c = search needs
-
-fault-requires : tie.Need-fault-requires
-fault-requires c κs = search needs
-
 returns : tie.Need-returns
 returns c = faulty _ _ _ (c .before .before .before .token-at .ensures) (c .before .enum-told .given .1) (c .fault .ensures)
 
@@ -25,17 +13,12 @@ returns-2 c = wanted _ _ _ (c .before .before .before .before .token-at .ensures
 
 returns-3 : tie.Need-returns-3
 returns-3 c =
-    let t = is-token _ _ _ (c .before .before .before .before .token-at .ensures) _ _ _ (c .before .before .read .given .1) in
-    unwanted _ _ _ (c .before .before .before .before .token-at .ensures) (c .before .before .read .given .1) (other-kinds _ _ (t .1 .known-kind) (c .before .before .before .before .before .before .pre) (c .if1 .left))
+    let at-token-at = c .before .before .before .before in
+    let start = at-token-at .before .before in
+    let t = is-token _ _ _ (at-token-at .token-at .ensures) _ _ _ (c .before .before .read .given .1) in
+    unwanted _ _ _ (at-token-at .token-at .ensures) (c .before .before .read .given .1) (other-kinds _ _ (t .1 .known-kind) (start .pre) (c .if1 .left))
 
 pub expect-spec : {M : Type 1} → statement M
 expect-spec =
     tie.close
-    (tie.spec
-    token-at-requires
-    enum-known-read
-    enum-told
-    fault-requires
-    returns
-    returns-2
-    returns-3)
+    (tie.spec (λ c κs. search needs) (λ c. search needs) (λ c. search needs) (λ c κs. search needs) returns returns-2 returns-3)

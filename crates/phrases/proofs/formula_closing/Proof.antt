@@ -5,21 +5,9 @@ use Rattle.phrases.proofs.Laws.{last, stops, goes-on}
 use Rattle.phrases.proofs.formula_closing.Statement.{statement}
 use Rattle.phrases.proofs.formula_closing.Tie as tie
 
-expect-requires : tie.Need-expect-requires
-expect-requires c κs = search needs
-
-enum-known-first : tie.Need-enum-known-first
-enum-known-first c = search needs
-
-enum-told : tie.Need-enum-told
-enum-told c = search needs
-
 returns : tie.Need-returns
 unfolding kindOf
 returns c = stops _ _ _ _ (c .before .before .expect .ensures) (c .enum-told .given .1)
-
-expect-requires-2 : tie.Need-expect-requires-2
-expect-requires-2 c κs = search needs
 
 returns-2 : tie.Need-returns-2
 unfolding kindOf
@@ -28,4 +16,4 @@ returns-2 c = goes-on _ _ _ _ (c .before .before .before .before .expect .ensure
 pub formula-closing-spec : {M : Type 1} → statement M
 formula-closing-spec =
     tie.close
-    (tie.spec expect-requires enum-known-first enum-told returns expect-requires-2 returns-2)
+    (tie.spec (λ c κs. search needs) (λ c. search needs) (λ c. search needs) returns (λ c κs. search needs) returns-2)

@@ -5,21 +5,9 @@ use Rattle.phrases.proofs.Laws.{stops, goes-on}
 use Rattle.phrases.proofs.function_closing.Statement.{statement}
 use Rattle.phrases.proofs.function_closing.Tie as tie
 
-expect-requires : tie.Need-expect-requires
-expect-requires c κs = search needs
-
-enum-known-first : tie.Need-enum-known-first
-enum-known-first c = search needs
-
-enum-told : tie.Need-enum-told
-enum-told c = search needs
-
 returns : tie.Need-returns
 unfolding kindOf
 returns c = stops _ _ _ _ (c .before .before .expect .ensures) (c .enum-told .given .1)
-
-formula-closing-requires : tie.Need-formula-closing-requires
-formula-closing-requires c κs = search needs
 
 returns-2 : tie.Need-returns-2
 unfolding kindOf
@@ -28,4 +16,4 @@ returns-2 c = goes-on _ _ _ _ (c .before .before .before .before .expect .ensure
 pub function-closing-spec : {M : Type 1} → statement M
 function-closing-spec =
     tie.close
-    (tie.spec expect-requires enum-known-first enum-told returns formula-closing-requires returns-2)
+    (tie.spec (λ c κs. search needs) (λ c. search needs) (λ c. search needs) returns (λ c κs. search needs) returns-2)

@@ -57,82 +57,25 @@ past-tilde : (c : tie.After-known-told6) {q : Parsed (Unit {0})} → Left (c .be
 unfolding kindOf
 past-tilde c h = past-arrow (c .before .before .before .before) (goes-on _ _ _ _ (c .before .before .before .expect2 .ensures) (c .before .sixth .given .1) h)
 
-formula-closing-requires : tie.Need-formula-closing-requires
-formula-closing-requires c κs = search needs
-
-enum-known-first : tie.Need-enum-known-first
-enum-known-first c = search needs
-
-enum-told : tie.Need-enum-told
-enum-told c = search needs
-
 returns : tie.Need-returns
 returns c = stops-in _ _ (from-name _) _ (c .before .before .formula-closing .ensures) (c .enum-told .given .1)
-
-expect-name-requires : tie.Need-expect-name-requires
-expect-name-requires c κs = search needs
-
-enum-known-second : tie.Need-enum-known-second
-enum-known-second c = search needs
-
-enum-told-2 : tie.Need-enum-told-2
-enum-told-2 c = search needs
 
 returns-2 : tie.Need-returns-2
 returns-2 c = past-closing (c .before .before .before) (stops _ _ _ _ (c .before .before .expect-name .ensures) (c .enum-told2 .given .1))
 
-rule-opening-requires : tie.Need-rule-opening-requires
-rule-opening-requires c κs = search needs
-
-enum-known-third : tie.Need-enum-known-third
-enum-known-third c = search needs
-
-enum-told-3 : tie.Need-enum-told-3
-enum-told-3 c = search needs
-
 returns-3 : tie.Need-returns-3
 returns-3 c = past-name (c .before .before .before) (stops-in _ _ (from-value _) _ (c .before .before .rule-opening .ensures) (c .enum-told3 .given .1))
 
-unchanged-value-requires : tie.Need-unchanged-value-requires
-unchanged-value-requires c κs = search needs
-
-enum-known-fourth : tie.Need-enum-known-fourth
-enum-known-fourth c = search needs
-
-enum-told-4 : tie.Need-enum-told-4
-enum-told-4 c = search needs
-
 returns-4 : tie.Need-returns-4
 returns-4 c = past-opening (c .before .before .before) (stops-in _ _ from-arrow _ (c .before .before .unchanged-value .ensures) (c .enum-told4 .given .1))
-
-expect-requires : tie.Need-expect-requires
-expect-requires c κs = search needs
-
-enum-known-fifth : tie.Need-enum-known-fifth
-enum-known-fifth c = search needs
-
-enum-told-5 : tie.Need-enum-told-5
-enum-told-5 c = search needs
 
 returns-5 : tie.Need-returns-5
 unfolding kindOf
 returns-5 c = past-value (c .before .before .before) (stops _ _ _ _ (c .before .before .expect .ensures) (c .enum-told5 .given .1))
 
-expect-requires-2 : tie.Need-expect-requires-2
-expect-requires-2 c κs = search needs
-
-enum-known-sixth : tie.Need-enum-known-sixth
-enum-known-sixth c = search needs
-
-enum-told-6 : tie.Need-enum-told-6
-enum-told-6 c = search needs
-
 returns-6 : tie.Need-returns-6
 unfolding kindOf
 returns-6 c = past-arrow (c .before .before .before) (stops _ _ _ _ (c .before .before .expect2 .ensures) (c .enum-told6 .given .1))
-
-expect-requires-3 : tie.Need-expect-requires-3
-expect-requires-3 c κs = search needs
 
 returns-7 : tie.Need-returns-7
 unfolding kindOf
@@ -141,30 +84,7 @@ returns-7 c = past-tilde (c .before) (last _ _ _ (c .expect3 .ensures))
 pub no-change-opening-spec : {M : Type 1} → statement M
 no-change-opening-spec =
     tie.close
-    (tie.spec
-    formula-closing-requires
-    enum-known-first
-    enum-told
-    returns
-    expect-name-requires
-    enum-known-second
-    enum-told-2
-    returns-2
-    rule-opening-requires
-    enum-known-third
-    enum-told-3
-    returns-3
-    unchanged-value-requires
-    enum-known-fourth
-    enum-told-4
-    returns-4
-    expect-requires
-    enum-known-fifth
-    enum-told-5
-    returns-5
-    expect-requires-2
-    enum-known-sixth
-    enum-told-6
-    returns-6
-    expect-requires-3
-    returns-7)
+    (tie.spec (λ c κs. search needs) (λ c. search needs) (λ c. search needs) returns (λ c κs. search needs) (λ c. search needs)
+    (λ c. search needs) returns-2 (λ c κs. search needs) (λ c. search needs) (λ c. search needs) returns-3 (λ c κs. search needs)
+    (λ c. search needs) (λ c. search needs) returns-4 (λ c κs. search needs) (λ c. search needs) (λ c. search needs) returns-5
+    (λ c κs. search needs) (λ c. search needs) (λ c. search needs) returns-6 (λ c κs. search needs) returns-7)

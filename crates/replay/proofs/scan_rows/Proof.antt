@@ -31,21 +31,12 @@ loop-less c = omega (arith, c .before .before .before .before .before .before .s
 
 loop-again : tie.Need-loop-again Inv-loop μ-loop
 loop-again c =
-    let v = c .before .before .before .before .before .before .before .before .before .before .before .before .before .loop .inv in
-    let r = c .before .before .before .before .before .before .scan-row in
-    (scanning-goes (v .0) (r .result) _ (c .before .before .before .before .before .before .before .before .before .before .before .if1 .taken) (r .ensures), r .kept .1 .0 ∙ v .1, r .kept .1 .1 .1 .1 .1 .0 ∙ v .2, r .kept .1 .1 .1 .1 .1 .1 .0 ∙ v .3, r .kept .1 .1 .1 .1 .1 .1 .1 .0 ∙ v .4)
-
-same-length : tie.Need-same-length Inv-loop μ-loop
-same-length c = search needs
-
-same-length-2 : tie.Need-same-length-2 Inv-loop μ-loop
-same-length-2 c = search needs
-
-same-length-3 : tie.Need-same-length-3 Inv-loop μ-loop
-same-length-3 c = search needs
-
-same-length-4 : tie.Need-same-length-4 Inv-loop μ-loop
-same-length-4 c = search needs
+    let at-scan-row = c .before .before .before .before .before .before in
+    let at-if1 = at-scan-row .before .before .before .before .before in
+    let at-loop = at-if1 .before .before in
+    let v = at-loop .loop .inv in
+    let r = at-scan-row .scan-row in
+    (scanning-goes (v .0) (r .result) _ (at-if1 .if1 .taken) (r .ensures), r .kept .1 .0 ∙ v .1, r .kept .1 .1 .1 .1 .1 .0 ∙ v .2, r .kept .1 .1 .1 .1 .1 .1 .0 ∙ v .3, r .kept .1 .1 .1 .1 .1 .1 .1 .0 ∙ v .4)
 
 returns : tie.Need-returns Inv-loop μ-loop
 returns c = scanning-ends (c .before .before .loop .inv .0) (c .if1 .left)
@@ -53,15 +44,5 @@ returns c = scanning-ends (c .before .before .loop .inv .0) (c .if1 .left)
 pub scan-rows-spec : {M : Type 1} → statement M
 scan-rows-spec =
     tie.close
-    (tie.spec
-    Inv-loop
-    μ-loop
-    loop-holds
-    scan-row-requires
-    loop-less
-    loop-again
-    same-length
-    same-length-2
-    same-length-3
-    same-length-4
-    returns)
+    (tie.spec Inv-loop μ-loop loop-holds scan-row-requires loop-less loop-again (λ c. search needs) (λ c. search needs) (λ c. search needs)
+    (λ c. search needs) returns)

@@ -5,17 +5,8 @@ use borrow.Author.Needs.{needs}
 use Rattle.replay.proofs.store_number.Statement.{statement}
 use Rattle.replay.proofs.store_number.Tie as tie
 
-slice-write-numbers : tie.Need-slice-write-numbers
-slice-write-numbers c = search needs
-
-same-length : tie.Need-same-length
-same-length c = search needs
-
-returns : tie.Need-returns
-returns c = search needs
-
 returns-2 : tie.Need-returns-2
 returns-2 c = sym (set-out _ _ _ (c .if1 .left))
 
 pub store-number-spec : {M : Type 1} → statement M
-store-number-spec = tie.close (tie.spec slice-write-numbers same-length returns returns-2)
+store-number-spec = tie.close (tie.spec (λ c. search needs) (λ c. search needs) (λ c. search needs) returns-2)

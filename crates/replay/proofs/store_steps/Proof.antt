@@ -5,20 +5,8 @@ use borrow.Author.Needs.{needs}
 use Rattle.replay.proofs.store_steps.Statement.{statement}
 use Rattle.replay.proofs.store_steps.Tie as tie
 
-mul-steps : tie.Need-mul-steps
-mul-steps c = search needs
-
-slice-write-steps : tie.Need-slice-write-steps
-slice-write-steps c = search needs
-
-same-length : tie.Need-same-length
-same-length c = search needs
-
-returns : tie.Need-returns
-returns c = search needs
-
 returns-2 : tie.Need-returns-2
 returns-2 c = sym (set-out _ _ _ (c .if1 .left))
 
 pub store-steps-spec : {M : Type 1} → statement M
-store-steps-spec = tie.close (tie.spec mul-steps slice-write-steps same-length returns returns-2)
+store-steps-spec = tie.close (tie.spec (λ c. search needs) (λ c. search needs) (λ c. search needs) (λ c. search needs) returns-2)

@@ -1,17 +1,13 @@
+-- `rules::finish` meets its contract. Assumes nothing.
 use Rattle.rules.specs.Post.{endOf}
 use borrow.Author.Tests.{eq-eqb, ne-eqb}
 use borrow.Author.Needs.{needs}
 use Rattle.rules.proofs.finish.Statement.{statement}
 use Rattle.rules.proofs.finish.Tie as tie
-use Rattle.rules.proofs.finish.Reads as reads
-use Rattle.rules.proofs.finish.Lts as lts
 
 returns : tie.Need-returns
 unfolding endOf
 returns c = rw (ne-eqb _ _ (c .if1 .taken))
-
-all-known-requires : tie.Need-all-known-requires
-all-known-requires c κs = search needs
 
 returns-2 : tie.Need-returns-2
 unfolding endOf
@@ -22,4 +18,4 @@ unfolding endOf
 returns-3 c = rw (eq-eqb _ _ (c .before .before .if1 .left), ← c .before .all-known .ensures, c .if2 .left)
 
 pub finish-spec : {M : Type 1} → statement M
-finish-spec = tie.close (tie.spec returns all-known-requires returns-2 returns-3)
+finish-spec = tie.close (tie.spec returns (λ c κs. search needs) returns-2 returns-3)

@@ -24,54 +24,33 @@ abbrev μ-loop : tie.MeasureT-loop
 loop-holds : tie.Need-loop-holds Inv-loop μ-loop
 loop-holds c = record { among = omega arith; goes = λ ns r. refl }
 
-mul-in-range : tie.Need-mul-in-range Inv-loop μ-loop
-mul-in-range c = search needs
-
-shared-slice-copy-out-in-range : tie.Need-shared-slice-copy-out-in-range Inv-loop μ-loop
-shared-slice-copy-out-in-range c = search needs
-
-mul-in-range-2 : tie.Need-mul-in-range-2 Inv-loop μ-loop
-mul-in-range-2 c = search needs
-
-shared-slice-copy-out-in-range-2 : tie.Need-shared-slice-copy-out-in-range-2 Inv-loop μ-loop
-shared-slice-copy-out-in-range-2 c = search needs
-
-mul-in-range-3 : tie.Need-mul-in-range-3 Inv-loop μ-loop
-mul-in-range-3 c = search needs
-
-shared-slice-copy-out-in-range-3 : tie.Need-shared-slice-copy-out-in-range-3 Inv-loop μ-loop
-shared-slice-copy-out-in-range-3 c = search needs
-
-in-range-requires : tie.Need-in-range-requires Inv-loop μ-loop
-in-range-requires c κs = search needs
-
 returns : tie.Need-returns Inv-loop μ-loop
 returns c =
-    let a = c .before .before .before .before .before .before .before .args in
-    let i = c .before .before .before .before .before .before .loop .i in
+    let at-loop-test = c .before .before .before .before .before in
+    let at-loop = at-loop-test .before in
+    let start = at-loop .before in
+    let a = start .args in
+    let i = at-loop .loop .i in
     let fl : SFits w32 (at (a .low .now) i) = record { sfits = c .before .before .before .before .in-range-arg .given } in
     let fh : SFits w32 (at (a .high .now) i) = record { sfits = c .before .before .before .in-range-arg2 .given } in
     let fv : SFits w32 (at (a .values .now) i) = record { sfits = c .before .before .in-range-arg3 .given } in
     let e : (leZ (at (a .low .now) i) (at (a .values .now) i) && leZ (at (a .values .now) i) (at (a .high .now) i)) ≡ false =
     rw (toZ-ofZ fl, toZ-ofZ fh, toZ-ofZ fv) at (sym (c .before .in-range .ensures) ∙ not-true _ (c .if1 .taken)) in
-    testing-fails (c .before .before .before .before .before .before .loop .inv) (c .before .before .before .before .before .loop-test .taken) (c .before .before .before .before .before .before .before .pre .0) e
-
-add-i : tie.Need-add-i Inv-loop μ-loop
-add-i c = search needs
-
-loop-less : tie.Need-loop-less Inv-loop μ-loop
-loop-less c = search needs
+    testing-fails (at-loop .loop .inv) (at-loop-test .loop-test .taken) (start .pre .0) e
 
 loop-again : tie.Need-loop-again Inv-loop μ-loop
 loop-again c =
-    let a = c .before .before .before .before .before .before .before .args in
-    let i = c .before .before .before .before .before .before .loop .i in
+    let at-loop-test = c .before .before .before .before .before in
+    let at-loop = at-loop-test .before in
+    let start = at-loop .before in
+    let a = start .args in
+    let i = at-loop .loop .i in
     let fl : SFits w32 (at (a .low .now) i) = record { sfits = c .before .before .before .before .in-range-arg .given } in
     let fh : SFits w32 (at (a .high .now) i) = record { sfits = c .before .before .before .in-range-arg2 .given } in
     let fv : SFits w32 (at (a .values .now) i) = record { sfits = c .before .before .in-range-arg3 .given } in
     let e : (leZ (at (a .low .now) i) (at (a .values .now) i) && leZ (at (a .values .now) i) (at (a .high .now) i)) ≡ true =
     rw (toZ-ofZ fl, toZ-ofZ fh, toZ-ofZ fv) at (sym (c .before .in-range .ensures) ∙ not-false _ (c .if1 .left)) in
-    testing-goes (c .before .before .before .before .before .before .loop .inv) (c .before .before .before .before .before .loop-test .taken) (c .before .before .before .before .before .before .before .pre .0) e
+    testing-goes (at-loop .loop .inv) (at-loop-test .loop-test .taken) (start .pre .0) e
 
 returns-2 : tie.Need-returns-2 Inv-loop μ-loop
 returns-2 c = testing-ends (c .before .loop .inv) (c .loop-test .left)
@@ -79,19 +58,5 @@ returns-2 c = testing-ends (c .before .loop .inv) (c .loop-test .left)
 pub all-in-range-spec : {M : Type 1} → statement M
 all-in-range-spec =
     tie.close
-    (tie.spec
-    Inv-loop
-    μ-loop
-    loop-holds
-    mul-in-range
-    shared-slice-copy-out-in-range
-    mul-in-range-2
-    shared-slice-copy-out-in-range-2
-    mul-in-range-3
-    shared-slice-copy-out-in-range-3
-    in-range-requires
-    returns
-    add-i
-    loop-less
-    loop-again
-    returns-2)
+    (tie.spec Inv-loop μ-loop loop-holds (λ c. search needs) (λ c. search needs) (λ c. search needs) (λ c. search needs) (λ c. search needs)
+    (λ c. search needs) (λ c κs. search needs) returns (λ c. search needs) (λ c. search needs) loop-again returns-2)

@@ -11,86 +11,61 @@ use borrow.Author.Needs.{needs}
 use Rattle.scan.proofs.scan_from_fused.Statement.{statement}
 use Rattle.scan.proofs.scan_from_fused.Tie as tie
 
-ranges-requires : tie.Need-ranges-requires
-ranges-requires c κs = search needs
-
-enum-known-place : tie.Need-enum-known-place
-enum-known-place c = search needs
-
-enum-told : tie.Need-enum-told
-enum-told c = search needs
-
-same-length : tie.Need-same-length
-same-length c = search needs
-
-same-length-2 : tie.Need-same-length-2
-same-length-2 c = search needs
-
-returns : tie.Need-returns
-returns c = search needs
-
 sub-scan-fused : tie.Need-sub-scan-fused
-sub-scan-fused c = omega (arith, stands (c .before .before .before .before .before .before .before .before .before .args .image .now) (length (c .before .before .before .before .before .before .before .before .before .args .state .now)) (c .before .before .before .before .before .before .before .before .before .args .first) (c .before .before .before .before .before .before .before .before .before .args .low .now) (c .before .before .before .before .before .before .before .before .before .args .high .now) (c .before .before .before .before .before .ranges .last .1 .1 .1 .0) (c .before .before .before .before .before .ranges .last .1 .1 .1 .1 .0) (c .before .before .before .before .before .ranges .result) (c .before .place .given .0 .0) (c .before .before .before .before .before .ranges .ensures) (c .before .place .given .1) .inside)
+sub-scan-fused c =
+    let at-ranges = c .before .before .before .before .before in
+    let start = at-ranges .before .before .before .before in
+    omega (arith, stands (start .args .image .now) (length (start .args .state .now)) (start .args .first) (start .args .low .now) (start .args .high .now) (at-ranges .ranges .last .1 .1 .1 .0) (at-ranges .ranges .last .1 .1 .1 .1 .0) (at-ranges .ranges .result) (c .before .place .given .0 .0) (at-ranges .ranges .ensures) (c .before .place .given .1) .inside)
 
 part-scan-fused-start : tie.Need-part-scan-fused-start
-part-scan-fused-start c = omega (arith, stands (c .before .before .before .before .before .before .before .before .before .args .image .now) (length (c .before .before .before .before .before .before .before .before .before .args .state .now)) (c .before .before .before .before .before .before .before .before .before .args .first) (c .before .before .before .before .before .before .before .before .before .args .low .now) (c .before .before .before .before .before .before .before .before .before .args .high .now) (c .before .before .before .before .before .ranges .last .1 .1 .1 .0) (c .before .before .before .before .before .ranges .last .1 .1 .1 .1 .0) (c .before .before .before .before .before .ranges .result) (c .before .place .given .0 .0) (c .before .before .before .before .before .ranges .ensures) (c .before .place .given .1) .inside)
-
-part-scan-fused-end : tie.Need-part-scan-fused-end
-part-scan-fused-end c = search needs
-
-slice-reshare-prefix-scan-fused : tie.Need-slice-reshare-prefix-scan-fused
-slice-reshare-prefix-scan-fused c = search needs
+part-scan-fused-start c =
+    let at-ranges = c .before .before .before .before .before in
+    let start = at-ranges .before .before .before .before in
+    omega (arith, stands (start .args .image .now) (length (start .args .state .now)) (start .args .first) (start .args .low .now) (start .args .high .now) (at-ranges .ranges .last .1 .1 .1 .0) (at-ranges .ranges .last .1 .1 .1 .1 .0) (at-ranges .ranges .result) (c .before .place .given .0 .0) (at-ranges .ranges .ensures) (c .before .place .given .1) .inside)
 
 slice-aggregate-scan-fused : tie.Need-slice-aggregate-scan-fused
-slice-aggregate-scan-fused c = sym (length-take-le _ _ (omega (arith, c .before .before .before .before .before .before .before .before .before .before .before .before .pre .0 .few, c .before .before .before .before .before .before .before .before .before .before .before .before .pre .1 .lows, c .before .before .before .before .before .before .before .before .ranges .kept .1 .1 .1 .0)))
-
-slice-reshare-prefix-scan-fused-2 : tie.Need-slice-reshare-prefix-scan-fused-2
-slice-reshare-prefix-scan-fused-2 c = search needs
+slice-aggregate-scan-fused c =
+    let at-ranges = c .before .before .before .before .before .before .before .before in
+    let start = at-ranges .before .before .before .before in
+    sym (length-take-le _ _ (omega (arith, start .pre .0 .few, start .pre .1 .lows, at-ranges .ranges .kept .1 .1 .1 .0)))
 
 slice-aggregate-scan-fused-2 : tie.Need-slice-aggregate-scan-fused-2
-slice-aggregate-scan-fused-2 c = sym (length-take-le _ _ (omega (arith, c .before .before .before .before .before .before .before .before .before .before .before .before .before .pre .0 .few, c .before .before .before .before .before .before .before .before .before .before .before .before .before .pre .1 .highs, c .before .before .before .before .before .before .before .before .before .ranges .kept .1 .1 .1 .1 .0)))
-
-slice-relend-prefix-scan-fused : tie.Need-slice-relend-prefix-scan-fused
-slice-relend-prefix-scan-fused c = search needs
+slice-aggregate-scan-fused-2 c =
+    let at-ranges = c .before .before .before .before .before .before .before .before .before in
+    let start = at-ranges .before .before .before .before in
+    sym (length-take-le _ _ (omega (arith, start .pre .0 .few, start .pre .1 .highs, at-ranges .ranges .kept .1 .1 .1 .1 .0)))
 
 slice-aggregate-scan-fused-3 : tie.Need-slice-aggregate-scan-fused-3
-slice-aggregate-scan-fused-3 c = sym (length-take-le _ _ (omega (arith, c .before .before .before .before .before .before .before .before .before .before .before .before .before .before .pre .0 .few, c .before .before .before .before .before .before .before .before .before .before .before .before .before .before .pre .1 .copies)))
+slice-aggregate-scan-fused-3 c =
+    let start = c .before .before .before .before .before .before .before .before .before .before .before .before .before .before in
+    sym (length-take-le _ _ (omega (arith, start .pre .0 .few, start .pre .1 .copies)))
 
 scan-fused-requires : tie.Need-scan-fused-requires
-scan-fused-requires c κs = (record { rows = c .before .before .before .before .before .before .before .before .before .before .before .before .before .before .before .pre .0 .rows; lows = length-take-le _ _ (omega (arith, c .before .before .before .before .before .before .before .before .before .before .before .before .before .before .before .pre .0 .few, c .before .before .before .before .before .before .before .before .before .before .before .before .before .before .before .pre .1 .lows, c .before .before .before .before .before .before .before .before .before .before .before .ranges .kept .1 .1 .1 .0)); highs = length-take-le _ _ (omega (arith, c .before .before .before .before .before .before .before .before .before .before .before .before .before .before .before .pre .0 .few, c .before .before .before .before .before .before .before .before .before .before .before .before .before .before .before .pre .1 .highs, c .before .before .before .before .before .before .before .before .before .before .before .ranges .kept .1 .1 .1 .1 .0)); copy = length-take-le _ _ (omega (arith, c .before .before .before .before .before .before .before .before .before .before .before .before .before .before .before .pre .0 .few, c .before .before .before .before .before .before .before .before .before .before .before .before .before .before .before .pre .1 .copies)); room = c .before .before .before .before .before .before .before .before .before .before .before .before .before .before .before .pre .1 .room }, omega (arith, length-take-le (length (c .before .before .before .before .before .before .before .before .before .before .before .before .before .before .before .args .state .now)) (c .before .before .before .before .before .before .before .before .before .before .before .ranges .last .1 .1 .1 .0) (omega (arith, c .before .before .before .before .before .before .before .before .before .before .before .before .before .before .before .pre .0 .few, c .before .before .before .before .before .before .before .before .before .before .before .before .before .before .before .pre .1 .lows, c .before .before .before .before .before .before .before .before .before .before .before .ranges .kept .1 .1 .1 .0)), c .before .before .before .before .before .before .before .before .before .before .before .before .before .before .before .pre .0 .few))
-
-same-length-3 : tie.Need-same-length-3
-same-length-3 c = search needs
-
-same-length-4 : tie.Need-same-length-4
-same-length-4 c = search needs
-
-same-length-5 : tie.Need-same-length-5
-same-length-5 c = search needs
-
-same-length-6 : tie.Need-same-length-6
-same-length-6 c = search needs
-
-same-length-7 : tie.Need-same-length-7
-same-length-7 c = search needs
+scan-fused-requires c κs =
+    let at-ranges = c .before .before .before .before .before .before .before .before .before .before .before in
+    let start = at-ranges .before .before .before .before in
+    (record { rows = start .pre .0 .rows; lows = length-take-le _ _ (omega (arith, start .pre .0 .few, start .pre .1 .lows, at-ranges .ranges .kept .1 .1 .1 .0)); highs = length-take-le _ _ (omega (arith, start .pre .0 .few, start .pre .1 .highs, at-ranges .ranges .kept .1 .1 .1 .1 .0)); copy = length-take-le _ _ (omega (arith, start .pre .0 .few, start .pre .1 .copies)); room = start .pre .1 .room }, omega (arith, length-take-le (length (start .args .state .now)) (at-ranges .ranges .last .1 .1 .1 .0) (omega (arith, start .pre .0 .few, start .pre .1 .lows, at-ranges .ranges .kept .1 .1 .1 .0)), start .pre .0 .few))
 
 returns-2 : tie.Need-returns-2
 returns-2 c =
-    let a = c .before .before .before .before .before .before .before .before .before .before .before .before .before .before .before .before .before .before .before .args in
-    let p = c .before .before .before .before .before .before .before .before .before .before .before .before .before .before .before .before .before .before .before .pre in
+    let at-place = c .before .before .before .before .before .before .before .before .before .before .before in
+    let at-ranges = at-place .before .before .before .before in
+    let start = at-ranges .before .before .before .before in
+    let a = start .args in
+    let p = start .pre in
     let s = c .before .before .before .scan-fused in
     let image = a .image .now in
     let n = length (a .state .now) in
-    let t = stands (c .before .before .before .before .before .before .before .before .before .before .before .before .before .before .before .before .before .before .before .args .image .now) (length (c .before .before .before .before .before .before .before .before .before .before .before .before .before .before .before .before .before .before .before .args .state .now)) (c .before .before .before .before .before .before .before .before .before .before .before .before .before .before .before .before .before .before .before .args .first) (c .before .before .before .before .before .before .before .before .before .before .before .before .before .before .before .before .before .before .before .args .low .now) (c .before .before .before .before .before .before .before .before .before .before .before .before .before .before .before .before .before .before .before .args .high .now) (c .before .before .before .before .before .before .before .before .before .before .before .before .before .before .before .ranges .last .1 .1 .1 .0) (c .before .before .before .before .before .before .before .before .before .before .before .before .before .before .before .ranges .last .1 .1 .1 .1 .0) (c .before .before .before .before .before .before .before .before .before .before .before .before .before .before .before .ranges .result) (c .before .before .before .before .before .before .before .before .before .before .before .place .given .0 .0) (c .before .before .before .before .before .before .before .before .before .before .before .before .before .before .before .ranges .ensures) (c .before .before .before .before .before .before .before .before .before .before .before .place .given .1) in
+    let t = stands (start .args .image .now) (length (start .args .state .now)) (start .args .first) (start .args .low .now) (start .args .high .now) (at-ranges .ranges .last .1 .1 .1 .0) (at-ranges .ranges .last .1 .1 .1 .1 .0) (at-ranges .ranges .result) (at-place .place .given .0 .0) (at-ranges .ranges .ensures) (at-place .place .given .1) in
     let ns = rangesFrom image n (a .first) in
-    let place = c .before .before .before .before .before .before .before .before .before .before .before .place .given .0 .0 in
+    let place = at-place .place .given .0 .0 in
     let stored =
-    ranges-stored ns n (a .low .now) (c .before .before .before .before .before .before .before .before .before .before .before .before .before .before .before .ranges .last .1 .1 .1 .0) (a .high .now) (c .before .before .before .before .before .before .before .before .before .before .before .before .before .before .before .ranges .last .1 .1 .1 .1 .0) (t .many) (omega (arith, p .0 .few, p .1 .lows)) (omega (arith, p .0 .few, p .1 .highs)) (t .lower) (t .upper) in
+    ranges-stored ns n (a .low .now) (at-ranges .ranges .last .1 .1 .1 .0) (a .high .now) (at-ranges .ranges .last .1 .1 .1 .1 .0) (t .many) (omega (arith, p .0 .few, p .1 .lows)) (omega (arith, p .0 .few, p .1 .highs)) (t .lower) (t .upper) in
     let rest : take (length image - place) (drop place image) ≡ drop place image = rest-from image place place refl in
     let less : length (take (length image - place) (drop place image)) ≤ length image = rw rest (simp length-drop (omega arith)) in (
       rw (rest, t .end) at (s .ensures .0 ns stored),
       (
-        sound-from image (a .first) (length (a .row .now)) n place _ _ (s .result) (t .fits (length (a .row .now))) rest (length-take-le _ _ (omega (arith, c .before .before .before .before .before .before .before .before .before .before .before .before .before .before .before .before .before .before .before .pre .0 .few, c .before .before .before .before .before .before .before .before .before .before .before .before .before .before .before .before .before .before .before .pre .1 .lows, c .before .before .before .before .before .before .before .before .before .before .before .before .before .before .before .ranges .kept .1 .1 .1 .0))) (s .ensures .1 .0),
+        sound-from image (a .first) (length (a .row .now)) n place _ _ (s .result) (t .fits (length (a .row .now))) rest (length-take-le _ _ (omega (arith, start .pre .0 .few, start .pre .1 .lows, at-ranges .ranges .kept .1 .1 .1 .0))) (s .ensures .1 .0),
         attempt-more _ (length image) (s .result) less (s .ensures .1 .1),
       ),
     )
@@ -98,26 +73,7 @@ returns-2 c =
 pub scan-from-fused-spec : {M : Type 1} → statement M
 scan-from-fused-spec =
     tie.close
-    (tie.spec
-    ranges-requires
-    enum-known-place
-    enum-told
-    same-length
-    same-length-2
-    returns
-    sub-scan-fused
-    part-scan-fused-start
-    part-scan-fused-end
-    slice-reshare-prefix-scan-fused
-    slice-aggregate-scan-fused
-    slice-reshare-prefix-scan-fused-2
-    slice-aggregate-scan-fused-2
-    slice-relend-prefix-scan-fused
-    slice-aggregate-scan-fused-3
-    scan-fused-requires
-    same-length-3
-    same-length-4
-    same-length-5
-    same-length-6
-    same-length-7
-    returns-2)
+    (tie.spec (λ c κs. search needs) (λ c. search needs) (λ c. search needs) (λ c. search needs) (λ c. search needs) (λ c. search needs)
+    sub-scan-fused part-scan-fused-start (λ c. search needs) (λ c. search needs) slice-aggregate-scan-fused (λ c. search needs)
+    slice-aggregate-scan-fused-2 (λ c. search needs) slice-aggregate-scan-fused-3 scan-fused-requires (λ c. search needs)
+    (λ c. search needs) (λ c. search needs) (λ c. search needs) (λ c. search needs) returns-2)

@@ -22,34 +22,13 @@ module _ (c : tie.After-ranges) where
   work-room : length (c .before .before .before .before .before .args .state .now) ≤ length (c .ranges .last .1 .1 .1 .1 .1 .0)
   work-room = omega (arith, c .before .before .before .before .before .pre .0 .few, c .before .before .before .before .before .pre .1 .copies, c .ranges .kept .1 .1 .1 .1 .1 .0)
 
-ranges-requires : tie.Need-ranges-requires
-ranges-requires c κs = search needs
-
-sub-scan-ranges : tie.Need-sub-scan-ranges
-sub-scan-ranges c = search needs
-
-part-scan-ranges-start : tie.Need-part-scan-ranges-start
-part-scan-ranges-start c = search needs
-
-part-scan-ranges-end : tie.Need-part-scan-ranges-end
-part-scan-ranges-end c = search needs
-
-slice-reshare-prefix-scan-ranges : tie.Need-slice-reshare-prefix-scan-ranges
-slice-reshare-prefix-scan-ranges c = search needs
-
 slice-aggregate-scan-ranges : tie.Need-slice-aggregate-scan-ranges
 slice-aggregate-scan-ranges c =
     sym (length-take-le _ _ (low-room (c .before .before .before .before .before .before)))
 
-slice-reshare-prefix-scan-ranges-2 : tie.Need-slice-reshare-prefix-scan-ranges-2
-slice-reshare-prefix-scan-ranges-2 c = search needs
-
 slice-aggregate-scan-ranges-2 : tie.Need-slice-aggregate-scan-ranges-2
 slice-aggregate-scan-ranges-2 c =
     sym (length-take-le _ _ (high-room (c .before .before .before .before .before .before .before)))
-
-slice-relend-prefix-scan-ranges : tie.Need-slice-relend-prefix-scan-ranges
-slice-relend-prefix-scan-ranges c = search needs
 
 slice-aggregate-scan-ranges-3 : tie.Need-slice-aggregate-scan-ranges-3
 slice-aggregate-scan-ranges-3 c =
@@ -58,29 +37,17 @@ slice-aggregate-scan-ranges-3 c =
 scan-ranges-requires : tie.Need-scan-ranges-requires
 scan-ranges-requires c κs =
     let r = c .before .before .before .before .before .before .before .before .before in
-    let p = c .before .before .before .before .before .before .before .before .before .before .before .before .before .before .pre in
+    let start = r .before .before .before .before .before in
+    let p = start .pre in
     record { rows = p .0 .rows; lows = length-take-le _ _ (low-room r); highs = length-take-le _ _ (high-room r); copy = length-take-le _ _ (work-room r); room = p .1 .room }
-
-same-length : tie.Need-same-length
-same-length c = search needs
-
-same-length-2 : tie.Need-same-length-2
-same-length-2 c = search needs
-
-same-length-3 : tie.Need-same-length-3
-same-length-3 c = search needs
-
-same-length-4 : tie.Need-same-length-4
-same-length-4 c = search needs
-
-same-length-5 : tie.Need-same-length-5
-same-length-5 c = search needs
 
 returns : tie.Need-returns
 returns c =
-    let a = c .before .before .before .before .before .before .before .before .before .before .before .before .before .before .before .before .before .before .args in
-    let p = c .before .before .before .before .before .before .before .before .before .before .before .before .before .before .before .before .before .before .pre in
-    let r = c .before .before .before .before .before .before .before .before .before .before .before .before .before .ranges in
+    let at-ranges = c .before .before .before .before .before .before .before .before .before .before .before .before .before in
+    let start = at-ranges .before .before .before .before .before in
+    let a = start .args in
+    let p = start .pre in
+    let r = at-ranges .ranges in
     let s = c .before .before .before .scan-ranges in
     let image = a .image .now in
     let n = length (a .state .now) in
@@ -95,21 +62,6 @@ returns c =
 pub scan-names-spec : {M : Type 1} → statement M
 scan-names-spec =
     tie.close
-    (tie.spec
-    ranges-requires
-    sub-scan-ranges
-    part-scan-ranges-start
-    part-scan-ranges-end
-    slice-reshare-prefix-scan-ranges
-    slice-aggregate-scan-ranges
-    slice-reshare-prefix-scan-ranges-2
-    slice-aggregate-scan-ranges-2
-    slice-relend-prefix-scan-ranges
-    slice-aggregate-scan-ranges-3
-    scan-ranges-requires
-    same-length
-    same-length-2
-    same-length-3
-    same-length-4
-    same-length-5
-    returns)
+    (tie.spec (λ c κs. search needs) (λ c. search needs) (λ c. search needs) (λ c. search needs) (λ c. search needs)
+    slice-aggregate-scan-ranges (λ c. search needs) slice-aggregate-scan-ranges-2 (λ c. search needs) slice-aggregate-scan-ranges-3
+    scan-ranges-requires (λ c. search needs) (λ c. search needs) (λ c. search needs) (λ c. search needs) (λ c. search needs) returns)

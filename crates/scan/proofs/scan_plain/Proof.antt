@@ -26,24 +26,6 @@ counted c =
     sound-counts _ (sound (c .before .before .before .before)) (k .0 .0) (k .0 .1 .0) (k .0 .1 .1 .0) (sym (ap countedAnswer (k .1)) ∙ r .0)
     (subst (CountedWithin (length (c .before .before .before .before .before .before .before .before .args .image .now))) (k .1) (r .1))
 
-check-requires : tie.Need-check-requires
-check-requires c κs = search needs
-
-enum-known-checked : tie.Need-enum-known-checked
-enum-known-checked c = search needs
-
-enum-told : tie.Need-enum-told
-enum-told c = search needs
-
-counts-requires : tie.Need-counts-requires
-counts-requires c κs = search needs
-
-enum-known-counted : tie.Need-enum-known-counted
-enum-known-counted c = search needs
-
-enum-told-2 : tie.Need-enum-told-2
-enum-told-2 c = search needs
-
 returns : tie.Need-returns
 returns c =
     let told = c .enum-told2 .given in
@@ -63,9 +45,11 @@ returns-3 c =
 scan-names-requires : tie.Need-scan-names-requires
 scan-names-requires c κs =
     let e = c .before .before .before .before .before in
-    let a = c .before .before .before .before .before .before .before .before .before .before .before .before .before .before .before .args in
+    let at-if1 = e .before in
+    let start = at-if1 .before .before .before .before .before .before .before .before .before in
+    let a = start .args in
     let s = sound (c .before .before .before .before .before .before .before .before .before .before .before) in
-    (announced (a .image .now) (a .state .now) (a .row .now) s (counted (e .before .before)) (e .before .if1 .left) (e .if2 .left), c .before .before .before .before .before .before .before .before .before .before .before .before .before .before .before .pre)
+    (announced (a .image .now) (a .state .now) (a .row .now) s (counted (c .before .before .before .before .before .before .before)) (at-if1 .if1 .left) (e .if2 .left), start .pre)
 
 returns-4 : tie.Need-returns-4
 returns-4 c =
@@ -74,49 +58,22 @@ returns-4 c =
     let r = c .before .before .before .check .ensures in
     (scan-refused (a .image .now) (a .state .now) (a .row .now) (k .0 .0) (k .0 .1 .0) (sym (ap checkedAnswer (k .1)) ∙ r .0), (subst CheckedWithin (k .1) (r .1), omega arith))
 
-same-length : tie.Need-same-length
-same-length c = search needs
-
-same-length-2 : tie.Need-same-length-2
-same-length-2 c = search needs
-
-same-length-3 : tie.Need-same-length-3
-same-length-3 c = search needs
-
-same-length-4 : tie.Need-same-length-4
-same-length-4 c = search needs
-
-same-length-5 : tie.Need-same-length-5
-same-length-5 c = search needs
-
 returns-5 : tie.Need-returns-5
 returns-5 c =
-    let e = c .before .before .before .before .before .before .before .before .before .before .before in
-    let a = c .before .before .before .before .before .before .before .before .before .before .before .before .before .before .before .before .before .before .before .before .before .args in
-    let r = c .before .before .before .before .before .scan-names in
+    let at-scan-names = c .before .before .before .before .before in
+    let e = at-scan-names .before .before .before .before .before .before in
+    let at-if1 = e .before in
+    let start = at-if1 .before .before .before .before .before .before .before .before .before in
+    let a = start .args in
+    let r = at-scan-names .scan-names in
     let s = sound (c .before .before .before .before .before .before .before .before .before .before .before .before .before .before .before .before .before) in (
-      r .ensures .0 ∙ scan-from (a .image .now) (a .state .now) (a .row .now) s (counted (e .before .before)) (e .before .if1 .left) (e .if2 .left),
+      r .ensures .0 ∙ scan-from (a .image .now) (a .state .now) (a .row .now) s (counted (c .before .before .before .before .before .before .before .before .before .before .before .before .before)) (at-if1 .if1 .left) (e .if2 .left),
       within-more (length (a .image .now)) 65536 (r .result) (check-sound (a .image .now) s .short) (r .ensures .1),
     )
 
 pub scan-plain-spec : {M : Type 1} → statement M
 scan-plain-spec =
     tie.close
-    (tie.spec
-    check-requires
-    enum-known-checked
-    enum-told
-    counts-requires
-    enum-known-counted
-    enum-told-2
-    returns
-    returns-2
-    returns-3
-    scan-names-requires
-    returns-4
-    same-length
-    same-length-2
-    same-length-3
-    same-length-4
-    same-length-5
-    returns-5)
+    (tie.spec (λ c κs. search needs) (λ c. search needs) (λ c. search needs) (λ c κs. search needs) (λ c. search needs) (λ c. search needs)
+    returns returns-2 returns-3 scan-names-requires returns-4 (λ c. search needs) (λ c. search needs) (λ c. search needs)
+    (λ c. search needs) (λ c. search needs) returns-5)

@@ -24,24 +24,6 @@ counted c =
     sound-counts _ (sound (c .before .before .before .before)) (k .0 .0) (k .0 .1 .0) (k .0 .1 .1 .0) (sym (ap countedAnswer (k .1)) ∙ r .0)
     (subst (CountedWithin (length (c .before .before .before .before .before .before .before .before .args .image .now))) (k .1) (r .1))
 
-check-requires : tie.Need-check-requires
-check-requires c κs = search needs
-
-enum-known-checked : tie.Need-enum-known-checked
-enum-known-checked c = search needs
-
-enum-told : tie.Need-enum-told
-enum-told c = search needs
-
-counts-requires : tie.Need-counts-requires
-counts-requires c κs = search needs
-
-enum-known-counted : tie.Need-enum-known-counted
-enum-known-counted c = search needs
-
-enum-told-2 : tie.Need-enum-told-2
-enum-told-2 c = search needs
-
 returns : tie.Need-returns
 returns c =
     let told = c .enum-told2 .given in
@@ -52,9 +34,6 @@ returns-2 c =
     let a = c .before .before .before .before .before .before .before .before .before .args in
     (start-wrong-length (a .image .now) (a .state .now) (sound (c .before .before .before .before .before)) (counted (c .before)) (c .if1 .taken), omega arith)
 
-ranges-requires : tie.Need-ranges-requires
-ranges-requires c κs = search needs
-
 returns-3 : tie.Need-returns-3
 returns-3 c =
     let a = c .before .before .before .before .before .args in
@@ -62,38 +41,17 @@ returns-3 c =
     let r = c .before .before .before .check .ensures in
     (start-refused (a .image .now) (a .state .now) (k .0 .0) (k .0 .1 .0) (sym (ap checkedAnswer (k .1)) ∙ r .0), subst CheckedWithin (k .1) (r .1))
 
-same-length : tie.Need-same-length
-same-length c = search needs
-
-same-length-2 : tie.Need-same-length-2
-same-length-2 c = search needs
-
-same-length-3 : tie.Need-same-length-3
-same-length-3 c = search needs
-
 returns-4 : tie.Need-returns-4
 returns-4 c =
     let e = c .before .before .before .before .before .before .before in
-    let a = c .before .before .before .before .before .before .before .before .before .before .before .before .before .before .before .before .args in
+    let start = e .before .before .before .before .before .before .before .before .before in
+    let a = start .args in
     let r = c .before .before .before .ranges in
     let s = sound (c .before .before .before .before .before .before .before .before .before .before .before .before) in
-    (start-done (a .image .now) (a .state .now) s (counted (e .before)) (r .last .1 .1 .1 .1 .1 .0) (e .if1 .left) (r .ensures .1 .1 .1), tt)
+    (start-done (a .image .now) (a .state .now) s (counted (c .before .before .before .before .before .before .before .before)) (r .last .1 .1 .1 .1 .1 .0) (e .if1 .left) (r .ensures .1 .1 .1), tt)
 
 pub start-in-spec : {M : Type 1} → statement M
 start-in-spec =
     tie.close
-    (tie.spec
-    check-requires
-    enum-known-checked
-    enum-told
-    counts-requires
-    enum-known-counted
-    enum-told-2
-    returns
-    returns-2
-    ranges-requires
-    returns-3
-    same-length
-    same-length-2
-    same-length-3
-    returns-4)
+    (tie.spec (λ c κs. search needs) (λ c. search needs) (λ c. search needs) (λ c κs. search needs) (λ c. search needs) (λ c. search needs)
+    returns returns-2 (λ c κs. search needs) returns-3 (λ c. search needs) (λ c. search needs) (λ c. search needs) returns-4)

@@ -1,6 +1,6 @@
 -- `trace::read_text`. Assumes nothing.
 use borrow.Author.Needs.{needs}
-use mathlib.Core.Path.{_≡_, refl, sym, _∙_}
+use mathlib.Core.Path.{_≡_, refl}
 use Prim.Native.Nat.{_≤_}
 use native.Mathlib.Omega.{arith}
 use lib.ListN.{length}
@@ -8,12 +8,6 @@ use Rattle.trace_text.proofs.Within.{put-within}
 use Rattle.trace.proofs.Parts.{rows-in-part}
 use Rattle.trace.proofs.read_text.Statement.{statement}
 use Rattle.trace.proofs.read_text.Tie as tie
-use Rattle.trace.proofs.read_text.Reads as reads
-use Rattle.trace.proofs.read_text.Lts as lts
-use Rattle.trace.proofs.read_chunk.Reads as read-chunk-reads
-use Rattle.trace_text.proofs.is_rows.Reads as is-rows-reads
-use Rattle.trace_text.proofs.split_chunk.Reads as split-chunk-reads
-use Rattle.trace_text.proofs.split_start.Reads as split-start-reads
 
 abbrev Inv-loop : tie.InvT-loop
 Inv-loop text₀ chunk₀ split₀ turns₀ text chunk split turns = (split .length ≤ length text) × ((length text ≡ length text₀) × (length chunk ≡ length chunk₀))
@@ -42,18 +36,14 @@ split-chunk-requires c κs = tt
 is-rows-requires : tie.Need-is-rows-requires Inv-loop μ-loop
 is-rows-requires c κs = tt
 
-same-length : tie.Need-same-length Inv-loop μ-loop
-same-length c = search needs
-
-same-length-2 : tie.Need-same-length-2 Inv-loop μ-loop
-same-length-2 c = search needs
-
 returns : tie.Need-returns Inv-loop μ-loop
-returns c = (
-  put-within (c .before .before .before .before .before .split-chunk .ensures .1 .0),
-  rows-in-part _ _ _ _ (c .before .before .before .before .before .split-chunk .ensures .1 .1),
-  c .before .before .before .before .before .before .before .before .before .before .before .read-chunk .ensures .0,
-)
+returns c =
+    let at-split-chunk = c .before .before .before .before .before in
+    let at-read-chunk = at-split-chunk .before .before .before .before .before .before in (
+      put-within (at-split-chunk .split-chunk .ensures .1 .0),
+      rows-in-part _ _ _ _ (at-split-chunk .split-chunk .ensures .1 .1),
+      at-read-chunk .read-chunk .ensures .0,
+    )
 
 sub-turns : tie.Need-sub-turns Inv-loop μ-loop
 sub-turns c = omega arith
@@ -64,20 +54,8 @@ loop-less c = omega arith
 loop-again : tie.Need-loop-again Inv-loop μ-loop
 loop-again c = (put-within (c .before .before .before .before .before .split-chunk .ensures .1 .0), (search needs, search needs))
 
-same-length-3 : tie.Need-same-length-3 Inv-loop μ-loop
-same-length-3 c = search needs
-
-same-length-4 : tie.Need-same-length-4 Inv-loop μ-loop
-same-length-4 c = search needs
-
 returns-2 : tie.Need-returns-2 Inv-loop μ-loop
 returns-2 c = (c .before .loop .inv .0, omega arith, omega arith)
-
-same-length-5 : tie.Need-same-length-5 Inv-loop μ-loop
-same-length-5 c = search needs
-
-same-length-6 : tie.Need-same-length-6 Inv-loop μ-loop
-same-length-6 c = search needs
 
 returns-3 : tie.Need-returns-3 Inv-loop μ-loop
 returns-3 c = (c .before .before .before .before .before .before .loop .inv .0, omega arith, omega arith)
@@ -85,25 +63,6 @@ returns-3 c = (c .before .before .before .before .before .before .loop .inv .0, 
 pub read-text-spec : {M : Type 1} → statement M
 read-text-spec =
     tie.close
-    (tie.spec
-    Inv-loop
-    μ-loop
-    split-start-requires
-    loop-holds
-    read-chunk-requires
-    slice-reshare-prefix-split-chunk
-    slice-aggregate-split-chunk
-    split-chunk-requires
-    is-rows-requires
-    same-length
-    same-length-2
-    returns
-    sub-turns
-    loop-less
-    loop-again
-    same-length-3
-    same-length-4
-    returns-2
-    same-length-5
-    same-length-6
-    returns-3)
+    (tie.spec Inv-loop μ-loop split-start-requires loop-holds read-chunk-requires slice-reshare-prefix-split-chunk
+    slice-aggregate-split-chunk split-chunk-requires is-rows-requires (λ c. search needs) (λ c. search needs) returns sub-turns loop-less
+    loop-again (λ c. search needs) (λ c. search needs) returns-2 (λ c. search needs) (λ c. search needs) returns-3)

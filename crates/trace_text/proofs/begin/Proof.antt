@@ -5,9 +5,6 @@ use Rattle.trace_text.specs.Internal.{numberBegins}
 use Rattle.trace_text.proofs.begin.Statement.{statement}
 use Rattle.trace_text.proofs.begin.Tie as tie
 
-digit-requires : tie.Need-digit-requires
-digit-requires c κs = search needs
-
 returns : tie.Need-returns
 unfolding numberBegins
 returns c = rw (eq-eqb _ 45 (c .match .keys1))
@@ -17,4 +14,4 @@ unfolding numberBegins
 returns-2 c = rw (ne-eqb _ 45 (c .before .match .rest .1)) (c .digit .ensures)
 
 pub begin-spec : {M : Type 1} → statement M
-begin-spec = tie.close (tie.spec digit-requires returns returns-2)
+begin-spec = tie.close (tie.spec (λ c κs. search needs) returns returns-2)

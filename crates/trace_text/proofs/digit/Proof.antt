@@ -16,16 +16,11 @@ returns-2 : tie.Need-returns-2
 unfolding digitAfter isDigit
 returns-2 c = rw (le-leb 48 _ (c .before .if1 .left), le-ltb _ 58 (c .if2 .taken))
 
-wide-requires : tie.Need-wide-requires
-wide-requires c κs = search needs
-
-longer-requires : tie.Need-longer-requires
-longer-requires c κs = search needs
-
 returns-3 : tie.Need-returns-3
 unfolding digitAfter isDigit
 returns-3 c =
-    rw (le-leb 48 _ (c .before .before .before .if1 .left), lt-ltb _ 58 (c .before .before .if2 .left)) (c .longer .ensures ∙ ap (λ (x : ℕ). longerBy (c .before .before .before .before .args .n) (c .before .before .before .before .args .negative) (c .before .before .before .before .args .v) (x % 16)) (c .before .wide .ensures))
+    let start = c .before .before .before .before in
+    rw (le-leb 48 _ (c .before .before .before .if1 .left), lt-ltb _ 58 (c .before .before .if2 .left)) (c .longer .ensures ∙ ap (λ (x : ℕ). longerBy (start .args .n) (start .args .negative) (start .args .v) (x % 16)) (c .before .wide .ensures))
 
 pub digit-spec : {M : Type 1} → statement M
-digit-spec = tie.close (tie.spec returns returns-2 wide-requires longer-requires returns-3)
+digit-spec = tie.close (tie.spec returns returns-2 (λ c κs. search needs) (λ c κs. search needs) returns-3)

@@ -10,17 +10,8 @@ use Rattle.trace_text.specs.Internal.{cellsEnd}
 use Rattle.trace_text.proofs.end_number.Statement.{statement}
 use Rattle.trace_text.proofs.end_number.Tie as tie
 
-in-range-requires : tie.Need-in-range-requires
-in-range-requires c κs = search needs
-
 signed-requires : tie.Need-signed-requires
 signed-requires c κs = sym (c .before .before .before .in-range .ensures) ∙ c .before .before .if1 .taken
-
-store-requires : tie.Need-store-requires
-store-requires c κs = search needs
-
-same-length : tie.Need-same-length
-same-length c = search needs
 
 returns : tie.Need-returns
 unfolding cellsEnd
@@ -39,11 +30,4 @@ returns-3 c = rw (sym (c .before .in-range .ensures) ∙ c .if1 .left) (refl, re
 pub end-number-spec : {M : Type 1} → statement M
 end-number-spec =
     tie.close
-    (tie.spec
-    in-range-requires
-    signed-requires
-    store-requires
-    same-length
-    returns
-    returns-2
-    returns-3)
+    (tie.spec (λ c κs. search needs) signed-requires (λ c κs. search needs) (λ c. search needs) returns returns-2 returns-3)

@@ -6,12 +6,6 @@ use Rattle.trace_text.specs.Internal.{longerBy}
 use Rattle.trace_text.proofs.longer.Statement.{statement}
 use Rattle.trace_text.proofs.longer.Tie as tie
 
-mul-t7 : tie.Need-mul-t7
-mul-t7 c = search needs
-
-add-t8 : tie.Need-add-t8
-add-t8 c = search needs
-
 returns : tie.Need-returns
 unfolding longerBy
 returns c = rw (le-leb (c .before .args .v) 214748364 (omega arith))
@@ -21,4 +15,4 @@ unfolding longerBy
 returns-2 c = rw (lt-leb (c .before .args .v) 214748364 (omega arith))
 
 pub longer-spec : {M : Type 1} → statement M
-longer-spec = tie.close (tie.spec mul-t7 add-t8 returns returns-2)
+longer-spec = tie.close (tie.spec (λ c. search needs) (λ c. search needs) returns returns-2)

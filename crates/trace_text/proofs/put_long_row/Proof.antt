@@ -25,16 +25,14 @@ loop-holds c = (omega arith, refl)
 store-requires : tie.Need-store-requires Inv-loop μ-loop
 store-requires c κs = tt
 
-add-i : tie.Need-add-i Inv-loop μ-loop
-add-i c = search needs
-
 loop-less : tie.Need-loop-less Inv-loop μ-loop
 loop-less c = omega arith
 
 loop-again : tie.Need-loop-again Inv-loop μ-loop
 loop-again c =
-    let e : 65 - c .before .before .before .before .loop .i ≡ suc (65 - (c .before .before .before .before .loop .i + 1)) = omega arith in
-    (omega arith, rw (c .before .store .ensures, add-one) (rw (e, add-one) at (c .before .before .before .before .loop .inv .1)))
+    let at-loop = c .before .before .before .before in
+    let e : 65 - at-loop .loop .i ≡ suc (65 - (at-loop .loop .i + 1)) = omega arith in
+    (omega arith, rw (c .before .store .ensures, add-one) (rw (e, add-one) at (at-loop .loop .inv .1)))
 
 -- the cells at the end
 stored : (c : tie.After-loop Inv-loop μ-loop) → c .before .loop .cells ≡ sets (c .before .before .args .cells .now) 0 longRow
@@ -49,13 +47,4 @@ returns c = (omega arith, stored c)
 pub put-long-row-spec : {M : Type 1} → statement M
 put-long-row-spec =
     tie.close
-    (tie.spec
-    Inv-loop
-    μ-loop
-    loop-holds
-    store-requires
-    add-i
-    loop-less
-    loop-again
-    same-length
-    returns)
+    (tie.spec Inv-loop μ-loop loop-holds store-requires (λ c. search needs) loop-less loop-again same-length returns)

@@ -19,14 +19,8 @@ abbrev μ-loop : tie.MeasureT-loop
 loop-holds : tie.Need-loop-holds Inv-loop μ-loop
 loop-holds c = record { line = refl; memory = refl; same = refl }
 
-shared-slice-read-line-byte : tie.Need-shared-slice-read-line-byte Inv-loop μ-loop
-shared-slice-read-line-byte c = search needs
-
 line-byte-requires : tie.Need-line-byte-requires Inv-loop μ-loop
 line-byte-requires c κs = tt
-
-add-i : tie.Need-add-i Inv-loop μ-loop
-add-i c = search needs
 
 loop-less : tie.Need-loop-less Inv-loop μ-loop
 loop-less c = omega arith
@@ -42,23 +36,14 @@ same-length c = c .before .line-end .kept .0 ∙ c .before .before .before .befo
 
 returns : tie.Need-returns Inv-loop μ-loop
 returns c =
+    let start = c .before .before .before .before .before .before in
     let w = whole-end (c .before .before .before .before .loop .inv) (c .before .before .before .loop-test .left) in
-    let r = row-ends (c .before .before .before .before .before .before .args .cells .now) (c .before .before .before .before .before .before .args .line .now) in
+    let r = row-ends (start .args .cells .now) (start .args .line .now) in
     let e = c .before .line-end .ensures in
     (e .0 ∙ ap countOf (w .0) ∙ r .0, e .1 ∙ ap₂ cellsOf (w .0) (w .1) ∙ r .1)
 
 pub read-row-spec : {M : Type 1} → statement M
 read-row-spec =
     tie.close
-    (tie.spec
-    Inv-loop
-    μ-loop
-    loop-holds
-    shared-slice-read-line-byte
-    line-byte-requires
-    add-i
-    loop-less
-    loop-again
-    line-end-requires
-    same-length
-    returns)
+    (tie.spec Inv-loop μ-loop loop-holds (λ c. search needs) line-byte-requires (λ c. search needs) loop-less loop-again line-end-requires
+    same-length returns)

@@ -40,9 +40,6 @@ negated (suc v) n = ap negsuc (omega arith)
 returns : tie.Need-returns
 returns c = rw (c .if1 .taken) (sign-of-zero (c .before .args .negative))
 
-sub-before : tie.Need-sub-before
-sub-before c = search needs
-
 cast-before : tie.Need-cast-before
 cast-before c = record { sfits = before (c .before .before .args .v) (in-32 (c .before .before .args .negative) (c .before .before .args .v) (c .before .before .pre)) (c .before .if1 .left) }
 
@@ -63,4 +60,5 @@ returns-3 c = rw (toZ-pos w32 (plain (c .before .before .args .v) (rw (c .if2 .l
 
 pub signed-spec : {M : Type 1} → statement M
 signed-spec =
-    tie.close (tie.spec returns sub-before cast-before sub-result returns-2 cast-result returns-3)
+    tie.close
+    (tie.spec returns (λ c. search needs) cast-before sub-result returns-2 cast-result returns-3)

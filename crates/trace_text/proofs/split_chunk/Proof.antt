@@ -34,23 +34,22 @@ returns c =
     let w = divide-rows (c .before .before .before .loop .inv) (sym (c .before .is-rows .ensures) ∙ c .if1 .taken) in
     (w .0, (put-clip (rw (c .before .before .before .before .clip .ensures) at (w .1 .0)), w .1 .1))
 
-shared-slice-read-b : tie.Need-shared-slice-read-b Inv-loop μ-loop
-shared-slice-read-b c = search needs
-
 put-text-requires : tie.Need-put-text-requires Inv-loop μ-loop
 put-text-requires c κs = tt
 
 stage-after-requires : tie.Need-stage-after-requires Inv-loop μ-loop
 stage-after-requires c κs = tt
 
-add-i : tie.Need-add-i Inv-loop μ-loop
-add-i c = search needs
-
 loop-less : tie.Need-loop-less Inv-loop μ-loop
 loop-less c = omega arith
 
 loop-again : tie.Need-loop-again Inv-loop μ-loop
-loop-again c = divide-byte (c .before .before .before .before .before .before .before .before .before .loop .inv) (c .before .before .before .before .before .before .before .before .loop-test .taken) (sym (c .before .before .before .before .before .before .before .is-rows .ensures) ∙ c .before .before .before .before .before .before .if1 .left) (c .stage-after .ensures) (c .before .before .before .put-text .ensures)
+loop-again c =
+    let at-if1 = c .before .before .before .before .before .before in
+    let at-is-rows = at-if1 .before in
+    let at-loop-test = at-is-rows .before in
+    let at-loop = at-loop-test .before in
+    divide-byte (at-loop .loop .inv) (at-loop-test .loop-test .taken) (sym (at-is-rows .is-rows .ensures) ∙ at-if1 .if1 .left) (c .stage-after .ensures) (c .before .before .before .put-text .ensures)
 
 same-length-2 : tie.Need-same-length-2 Inv-loop μ-loop
 same-length-2 c = c .before .loop .inv .put .same
@@ -63,19 +62,5 @@ returns-2 c =
 pub split-chunk-spec : {M : Type 1} → statement M
 split-chunk-spec =
     tie.close
-    (tie.spec
-    Inv-loop
-    μ-loop
-    clip-requires
-    loop-holds
-    is-rows-requires
-    same-length
-    returns
-    shared-slice-read-b
-    put-text-requires
-    stage-after-requires
-    add-i
-    loop-less
-    loop-again
-    same-length-2
-    returns-2)
+    (tie.spec Inv-loop μ-loop clip-requires loop-holds is-rows-requires same-length returns (λ c. search needs) put-text-requires
+    stage-after-requires (λ c. search needs) loop-less loop-again same-length-2 returns-2)

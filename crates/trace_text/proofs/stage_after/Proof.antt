@@ -5,31 +5,13 @@ use Rattle.trace_text.specs.Internal.{stageAfter}
 use Rattle.trace_text.proofs.stage_after.Statement.{statement}
 use Rattle.trace_text.proofs.stage_after.Tie as tie
 
-enum-told : tie.Need-enum-told
-enum-told c = search needs
-
 returns : tie.Need-returns
 unfolding stageAfter
 returns c = rw (c .before .enum-told .given .1, eq-eqb _ 35 (c .if1 .taken))
 
-text-stage-requires : tie.Need-text-stage-requires
-text-stage-requires c κs = search needs
-
-enum-told-2 : tie.Need-enum-told-2
-enum-told-2 c = search needs
-
-text-stage-requires-2 : tie.Need-text-stage-requires-2
-text-stage-requires-2 c κs = search needs
-
-enum-told-3 : tie.Need-enum-told-3
-enum-told-3 c = search needs
-
 returns-2 : tie.Need-returns-2
 unfolding stageAfter
 returns-2 c = rw (c .before .enum-told3 .given .1, eq-eqb _ 10 (c .if2 .taken))
-
-enum-told-4 : tie.Need-enum-told-4
-enum-told-4 c = search needs
 
 returns-3 : tie.Need-returns-3
 unfolding stageAfter
@@ -50,16 +32,5 @@ returns-6 c = rw (c .enum-told4 .given .1)
 pub stage-after-spec : {M : Type 1} → statement M
 stage-after-spec =
     tie.close
-    (tie.spec
-    enum-told
-    returns
-    text-stage-requires
-    enum-told-2
-    text-stage-requires-2
-    enum-told-3
-    returns-2
-    enum-told-4
-    returns-3
-    returns-4
-    returns-5
-    returns-6)
+    (tie.spec (λ c. search needs) returns (λ c κs. search needs) (λ c. search needs) (λ c κs. search needs) (λ c. search needs) returns-2
+    (λ c. search needs) returns-3 returns-4 returns-5 returns-6)

@@ -7,8 +7,6 @@ use lib.ListN.{length}
 use Rattle.translate.proofs.Stores.{Storing, storing-goes, storing-ends}
 use Rattle.translate.proofs.store.Statement.{statement}
 use Rattle.translate.proofs.store.Tie as tie
-use Rattle.translate.proofs.store.Reads as reads
-use Rattle.translate.proofs.store.Lts as lts
 
 abbrev Inv-loop : tie.InvT-loop
 Inv-loop to₀ from i₀ to i = Storing 0 to₀ from to i
@@ -18,18 +16,6 @@ abbrev μ-loop : tie.MeasureT-loop
 
 loop-holds : tie.Need-loop-holds Inv-loop μ-loop
 loop-holds c = record { among = omega arith; same-length = refl; so = refl }
-
-shared-slice-read-to : tie.Need-shared-slice-read-to Inv-loop μ-loop
-shared-slice-read-to c = search needs
-
-slice-write-to : tie.Need-slice-write-to Inv-loop μ-loop
-slice-write-to c = search needs
-
-add-i : tie.Need-add-i Inv-loop μ-loop
-add-i c = search needs
-
-loop-less : tie.Need-loop-less Inv-loop μ-loop
-loop-less c = search needs
 
 loop-again : tie.Need-loop-again Inv-loop μ-loop
 loop-again c = storing-goes (c .before .before .loop .inv) (c .before .loop-test .taken) (c .before .before .before .pre)
@@ -43,14 +29,5 @@ returns c = storing-ends (c .before .loop .inv) (c .loop-test .left)
 pub store-spec : {M : Type 1} → statement M
 store-spec =
     tie.close
-    (tie.spec
-    Inv-loop
-    μ-loop
-    loop-holds
-    shared-slice-read-to
-    slice-write-to
-    add-i
-    loop-less
-    loop-again
-    same-length
-    returns)
+    (tie.spec Inv-loop μ-loop loop-holds (λ c. search needs) (λ c. search needs) (λ c. search needs) (λ c. search needs) loop-again
+    same-length returns)

@@ -8,45 +8,6 @@ use native.Mathlib.Omega.{arith}
 use Rattle.checker.proofs.advance.advance.Statement.{statement}
 use Rattle.checker.proofs.advance.advance.Tie as tie
 
-push-requires : tie.Need-push-requires
-push-requires c κs = search needs
-
-current-requires : tie.Need-current-requires
-current-requires c κs = search needs
-
-previous-requires : tie.Need-previous-requires
-previous-requires c κs = search needs
-
-keep-requires : tie.Need-keep-requires
-keep-requires c κs = search needs
-
-negate-test-requires : tie.Need-negate-test-requires
-negate-test-requires c κs = search needs
-
-test-requires : tie.Need-test-requires
-test-requires c κs = search needs
-
-test-requires-2 : tie.Need-test-requires-2
-test-requires-2 c κs = search needs
-
-gate-requires : tie.Need-gate-requires
-gate-requires c κs = search needs
-
-pick-requires : tie.Need-pick-requires
-pick-requires c κs = search needs
-
-assign-requires : tie.Need-assign-requires
-assign-requires c κs = search needs
-
-settle-requires : tie.Need-settle-requires
-settle-requires c κs = search needs
-
-join-requires : tie.Need-join-requires
-join-requires c κs = search needs
-
-test-requires-3 : tie.Need-test-requires-3
-test-requires-3 c κs = search needs
-
 returns : tie.Need-returns
 unfolding instructionOf
 returns c = (rw (c .before .match .keys1) (c .push .ensures .0 ∙ sym (constant-is (c .before .before .args .n) (knownOf (c .before .before .args .w)) (c .before .before .pre .1))), c .push .ensures .1)
@@ -116,32 +77,7 @@ returns-15 c =
 pub advance-spec : {M : Type 1} → statement M
 advance-spec =
     tie.close
-    (tie.spec
-    push-requires
-    current-requires
-    previous-requires
-    keep-requires
-    negate-test-requires
-    test-requires
-    test-requires-2
-    gate-requires
-    pick-requires
-    assign-requires
-    settle-requires
-    join-requires
-    test-requires-3
-    returns
-    returns-2
-    returns-3
-    returns-4
-    returns-5
-    returns-6
-    returns-7
-    returns-8
-    returns-9
-    returns-10
-    returns-11
-    returns-12
-    returns-13
-    returns-14
-    returns-15)
+    (tie.spec (λ c κs. search needs) (λ c κs. search needs) (λ c κs. search needs) (λ c κs. search needs) (λ c κs. search needs)
+    (λ c κs. search needs) (λ c κs. search needs) (λ c κs. search needs) (λ c κs. search needs) (λ c κs. search needs)
+    (λ c κs. search needs) (λ c κs. search needs) (λ c κs. search needs) returns returns-2 returns-3 returns-4 returns-5 returns-6 returns-7
+    returns-8 returns-9 returns-10 returns-11 returns-12 returns-13 returns-14 returns-15)

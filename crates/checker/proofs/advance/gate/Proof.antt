@@ -10,9 +10,6 @@ use Rattle.checker.proofs.advance.gate.Tie as tie
 returns : tie.Need-returns
 returns c = (rw (gate-is, open-yes (c .before .before .args .w .gate) (c .if1 .taken)), tt)
 
-holds-only-requires : tie.Need-holds-only-requires
-holds-only-requires c κs = search needs
-
 returns-2 : tie.Need-returns-2
 returns-2 c =
     let p = c .before .before .before .before .pre in
@@ -22,4 +19,4 @@ returns-3 : tie.Need-returns-3
 returns-3 c = (rw (gate-is, c .before .before .if1 .left, sym (c .before .holds-only .ensures) ∙ c .if2 .left), tt)
 
 pub gate-spec : {M : Type 1} → statement M
-gate-spec = tie.close (tie.spec returns holds-only-requires returns-2 returns-3)
+gate-spec = tie.close (tie.spec returns (λ c κs. search needs) returns-2 returns-3)

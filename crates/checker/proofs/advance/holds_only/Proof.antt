@@ -12,8 +12,9 @@ returns c =
 
 returns-2 : tie.Need-returns-2
 returns-2 c =
-    let a = c .before .before .before .args in
-    let p = c .before .before .before .pre in
+    let start = c .before .before .before in
+    let a = start .args in
+    let p = start .pre in
     rw (c .before .if1 .left) (sym (only-one (a .w .sorts) (a .sort) p))
 
 pub holds-only-spec : {M : Type 1} → statement M

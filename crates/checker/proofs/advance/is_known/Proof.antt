@@ -8,11 +8,8 @@ use Rattle.checker.proofs.advance.is_known.Tie as tie
 returns : tie.Need-returns
 returns c = sym (flag-out _ _ _ (c .if1 .taken))
 
-shr-result : tie.Need-shr-result
-shr-result c = search needs
-
 returns-2 : tie.Need-returns-2
 returns-2 c = sym (flag-at _ _ _ (c .before .if1 .left))
 
 pub is-known-spec : {M : Type 1} → statement M
-is-known-spec = tie.close (tie.spec returns shr-result returns-2)
+is-known-spec = tie.close (tie.spec returns (λ c. search needs) returns-2)

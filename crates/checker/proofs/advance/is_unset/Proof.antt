@@ -9,9 +9,6 @@ use Rattle.checker.proofs.advance.is_unset.Tie as tie
 returns : tie.Need-returns
 returns c = rw (length-flags, le-ltb _ _ (c .if1 .taken))
 
-shr-result : tie.Need-shr-result
-shr-result c = search needs
-
 returns-2 : tie.Need-returns-2
 returns-2 c =
     let a = c .before .before .before .args in
@@ -19,4 +16,4 @@ returns-2 c =
     rw (length-flags, lt-ltb _ _ l, flag-at (a .w .names) (a .w .known) (a .id) l) (bit-not (a .w .known / 2 ^ a .id))
 
 pub is-unset-spec : {M : Type 1} → statement M
-is-unset-spec = tie.close (tie.spec returns shr-result returns-2)
+is-unset-spec = tie.close (tie.spec returns (λ c. search needs) returns-2)

@@ -15,29 +15,24 @@ returns c =
 
 returns-2 : tie.Need-returns-2
 returns-2 c =
-    let a = c .before .before .before .before .args in
-    (sym (joined-first (a .w) (a .sort) (sortOf (a .result)) (c .before .before .before .before .pre .1) (c .before .before .if1 .left) (c .if2 .taken)), tt)
+    let start = c .before .before .before .before in
+    let a = start .args in
+    (sym (joined-first (a .w) (a .sort) (sortOf (a .result)) (start .pre .1) (c .before .before .if1 .left) (c .if2 .taken)), tt)
 
 returns-3 : tie.Need-returns-3
 returns-3 c =
-    let a = c .before .before .before .before .before .before .args in
-    (sym (joined-second (a .w) (a .sort) (sortOf (a .result)) (c .before .before .before .before .before .before .pre .1) (c .before .before .before .before .if1 .left) (c .before .before .if2 .left) (c .if3 .taken)), tt)
-
-sub-k : tie.Need-sub-k
-sub-k c = search needs
-
-mul-k : tie.Need-mul-k
-mul-k c = search needs
-
-add-k : tie.Need-add-k
-add-k c = search needs
+    let start = c .before .before .before .before .before .before in
+    let a = start .args in
+    (sym (joined-second (a .w) (a .sort) (sortOf (a .result)) (start .pre .1) (c .before .before .before .before .if1 .left) (c .before .before .if2 .left) (c .if3 .taken)), tt)
 
 returns-4 : tie.Need-returns-4
 returns-4 c =
-    let p = c .before .before .before .before .before .before .before .pre in
-    let a = c .before .before .before .before .before .before .before .args in
+    let at-if1 = c .before .before .before .before .before in
+    let start = at-if1 .before .before in
+    let p = start .pre in
+    let a = start .args in
     let w = a .w in
-    let h = c .before .before .before .before .before .if1 .left in (
+    let h = at-if1 .if1 .left in (
       rw (joined-both w (a .sort) (sortOf (a .result)) (p .1) h (c .before .before .before .if2 .left) (c .before .if3 .left), sorts-join (w .held) (w .sorts) (a .result) h (p .2)),
       record {
         few-held = omega (arith, p .0 .few-held);
@@ -48,4 +43,4 @@ returns-4 c =
     )
 
 pub join-spec : {M : Type 1} → statement M
-join-spec = tie.close (tie.spec returns returns-2 returns-3 sub-k mul-k add-k returns-4)
+join-spec = tie.close (tie.spec returns returns-2 returns-3 (λ c. search needs) (λ c. search needs) (λ c. search needs) returns-4)

@@ -11,13 +11,15 @@ returns c =
 
 returns-2 : tie.Need-returns-2
 returns-2 c =
-    let a = c .before .before .before .before .args in
-    (sym (kept-other (a .w) (a .sort) (c .before .before .before .before .pre .1) (c .before .before .if1 .left) (c .if2 .taken)), tt)
+    let start = c .before .before .before .before in
+    let a = start .args in
+    (sym (kept-other (a .w) (a .sort) (start .pre .1) (c .before .before .if1 .left) (c .if2 .taken)), tt)
 
 returns-3 : tie.Need-returns-3
 returns-3 c =
-    let a = c .before .before .before .before .args in
-    (sym (kept-same (a .w) (a .sort) (c .before .before .if1 .left) (c .if2 .left)), c .before .before .before .before .pre .0)
+    let start = c .before .before .before .before in
+    let a = start .args in
+    (sym (kept-same (a .w) (a .sort) (c .before .before .if1 .left) (c .if2 .left)), start .pre .0)
 
 pub keep-spec : {M : Type 1} → statement M
 keep-spec = tie.close (tie.spec returns returns-2 returns-3)

@@ -9,11 +9,8 @@ use Rattle.checker.proofs.advance.negate_test.Tie as tie
 returns : tie.Need-returns
 returns c = (rw (open-yes (c .before .before .args .w .gate) (c .if1 .taken)), tt)
 
-keep-requires : tie.Need-keep-requires
-keep-requires c κs = search needs
-
 returns-2 : tie.Need-returns-2
 returns-2 c = (c .keep .ensures .0 ∙ outside-no (openOf (c .before .before .before .args .w .gate)) _ (ap openOf (c .before .if1 .left)), c .keep .ensures .1)
 
 pub negate-test-spec : {M : Type 1} → statement M
-negate-test-spec = tie.close (tie.spec returns keep-requires returns-2)
+negate-test-spec = tie.close (tie.spec returns (λ c κs. search needs) returns-2)

@@ -11,9 +11,6 @@ returns : tie.Need-returns
 unfolding pushed
 returns c = (rw (length-sorts, le-ltb _ _ (c .if1 .taken)), tt)
 
-add-k : tie.Need-add-k
-add-k c = search needs
-
 mul-k : tie.Need-mul-k
 mul-k c =
     let p = c .before .before .before .before .pre in
@@ -22,11 +19,12 @@ mul-k c =
 returns-2 : tie.Need-returns-2
 unfolding pushed
 returns-2 c =
-    let p = c .before .before .before .before .pre in
-    let w = c .before .before .before .before .args .w in (
+    let start = c .before .before .before .before in
+    let p = start .pre in
+    let w = start .args .w in (
       rw (length-sorts, lt-ltb _ _ (c .before .before .if1 .left), sorts-number),
       record { few-held = omega (arith, c .before .before .if1 .left); sorts-low = number-low (w .held) (w .sorts) (p .sorts-low); few-names = p .few-names; known-low = p .known-low },
     )
 
 pub push-spec : {M : Type 1} → statement M
-push-spec = tie.close (tie.spec returns add-k mul-k returns-2)
+push-spec = tie.close (tie.spec returns (λ c. search needs) mul-k returns-2)

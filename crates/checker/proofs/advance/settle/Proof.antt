@@ -14,14 +14,8 @@ returns c = (rw (open-yes (c .before .before .args .w .gate) (c .if1 .taken)), t
 returns-2 : tie.Need-returns-2
 returns-2 c = (rw (c .before .before .if1 .left, empty-not _ _ (c .if2 .taken)), tt)
 
-is-unset-requires : tie.Need-is-unset-requires
-is-unset-requires c κs = search needs
-
 returns-3 : tie.Need-returns-3
 returns-3 c = (rw (c .before .before .before .before .if1 .left, c .before .before .if2 .left, sorts-none, sym (c .before .is-unset .ensures) ∙ not-true _ (c .if3 .taken)), tt)
-
-add-if4 : tie.Need-add-if4
-add-if4 c = search needs
 
 returns-4 : tie.Need-returns-4
 returns-4 c = (rw (c .before .before .before .before .before .before .if1 .left, c .before .before .before .before .if2 .left, sorts-none, sym (c .before .before .before .is-unset .ensures) ∙ not-false _ (c .before .before .if3 .left), opened-not _ _ (c .if4 .taken)), tt)
@@ -30,17 +24,12 @@ ruled-requires : tie.Need-ruled-requires
 ruled-requires c κs = (c .before .before .before .before .before .before .before .before .pre .0, sym (c .before .before .before .is-unset .ensures) ∙ not-false _ (c .before .before .if3 .left))
 
 returns-5 : tie.Need-returns-5
-returns-5 c = (rw (c .before .before .before .before .before .before .before .if1 .left, c .before .before .before .before .before .if2 .left, sorts-none, sym (c .before .before .before .before .is-unset .ensures) ∙ not-false _ (c .before .before .before .if3 .left), opened-yes _ _ (c .before .if4 .left)) (ap some (c .ruled .ensures .0)), c .ruled .ensures .1)
+returns-5 c =
+    let at-if2 = c .before .before .before .before .before in
+    let at-if1 = at-if2 .before .before in
+    (rw (at-if1 .if1 .left, at-if2 .if2 .left, sorts-none, sym (c .before .before .before .before .is-unset .ensures) ∙ not-false _ (c .before .before .before .if3 .left), opened-yes _ _ (c .before .if4 .left)) (ap some (c .ruled .ensures .0)), c .ruled .ensures .1)
 
 pub settle-spec : {M : Type 1} → statement M
 settle-spec =
     tie.close
-    (tie.spec
-    returns
-    returns-2
-    is-unset-requires
-    returns-3
-    add-if4
-    returns-4
-    ruled-requires
-    returns-5)
+    (tie.spec returns returns-2 (λ c κs. search needs) returns-3 (λ c. search needs) returns-4 ruled-requires returns-5)

@@ -9,11 +9,8 @@ use Rattle.checker.proofs.advance.test.Tie as tie
 returns : tie.Need-returns
 returns c = (rw (open-yes (c .before .before .args .w .gate) (c .if1 .taken)), tt)
 
-join-requires : tie.Need-join-requires
-join-requires c κs = search needs
-
 returns-2 : tie.Need-returns-2
 returns-2 c = (c .join .ensures .0 ∙ outside-no (openOf (c .before .before .before .args .w .gate)) _ (ap openOf (c .before .if1 .left)), c .join .ensures .1)
 
 pub test-spec : {M : Type 1} → statement M
-test-spec = tie.close (tie.spec returns join-requires returns-2)
+test-spec = tie.close (tie.spec returns (λ c κs. search needs) returns-2)

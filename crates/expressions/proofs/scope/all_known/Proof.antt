@@ -30,17 +30,13 @@ loop-less c = omega arith
 
 loop-again : tie.Need-loop-again Inv-loop μ-loop
 loop-again c =
-    let at-is-known = c .before in
-    let at-if1 = at-is-known .before in
-    let at-loop = at-if1 .before .before in
-    (omega arith, all-next _ _ _ (at-if1 .if1 .taken) (sym (at-is-known .is-known .ensures) ∙ c .if2 .taken) ∙ at-loop .loop .inv .1)
+    let at-loop = c .before .before .before .before in
+    (omega arith, all-next _ _ _ (c .before .before .if1 .taken) (sym (c .before .is-known .ensures) ∙ c .if2 .taken) ∙ at-loop .loop .inv .1)
 
 returns : tie.Need-returns Inv-loop μ-loop
 returns c =
-    let at-is-known = c .before in
-    let at-if1 = at-is-known .before in
-    let at-loop = at-if1 .before .before in
-    all-stop _ _ _ (at-if1 .if1 .taken) (sym (at-is-known .is-known .ensures) ∙ c .if2 .left) ∙ at-loop .loop .inv .1
+    let at-loop = c .before .before .before .before in
+    all-stop _ _ _ (c .before .before .if1 .taken) (sym (c .before .is-known .ensures) ∙ c .if2 .left) ∙ at-loop .loop .inv .1
 
 returns-2 : tie.Need-returns-2 Inv-loop μ-loop
 returns-2 c = all-end _ _ _ (c .if1 .left) ∙ c .before .before .loop .inv .1

@@ -15,9 +15,10 @@ returns-3 c = λ e. absurd (false≢true e)
 
 returns-4 : tie.Need-returns-4
 returns-4 c =
-    let l = same32 (c .before .before .before .fits .low) in
-    let h = same32 (c .before .before .before .fits .high) in
-    let z = same32 (c .before .before .before .fits .start) in
+    let start-2 = c .before .before .before in
+    let l = same32 (start-2 .fits .low) in
+    let h = same32 (start-2 .fits .high) in
+    let z = same32 (start-2 .fits .start) in
     λ e. (rw (h, l) at (c .before .before .if1 .left), rw (z, l) at (c .before .if2 .left), rw (h, z) at (c .if3 .left))
 
 pub is-range-spec : {M : Type 1} → statement M

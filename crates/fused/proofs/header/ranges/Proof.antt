@@ -22,15 +22,6 @@ abbrev μ-loop : tie.MeasureT-loop
 loop-holds : tie.Need-loop-holds Inv-loop μ-loop
 loop-holds c = ranging-begins _ _ _ _ _ (c .before .pre .0)
 
-range-at-requires : tie.Need-range-at-requires Inv-loop μ-loop
-range-at-requires c κs = search needs
-
-enum-known-l : tie.Need-enum-known-l Inv-loop μ-loop
-enum-known-l c = search needs
-
-enum-told : tie.Need-enum-told Inv-loop μ-loop
-enum-told c = search needs
-
 same-length : tie.Need-same-length Inv-loop μ-loop
 same-length c = c .before .before .before .before .loop .inv .lower .same-length
 
@@ -39,9 +30,6 @@ same-length-2 c = c .before .before .before .before .loop .inv .upper .same-leng
 
 returns : tie.Need-returns Inv-loop μ-loop
 returns c = tt
-
-is-range-requires : tie.Need-is-range-requires Inv-loop μ-loop
-is-range-requires c κs = search needs
 
 same-length-3 : tie.Need-same-length-3 Inv-loop μ-loop
 same-length-3 c = c .before .before .before .before .before .before .before .loop .inv .lower .same-length
@@ -52,17 +40,19 @@ same-length-4 c = c .before .before .before .before .before .before .before .loo
 returns-2 : tie.Need-returns-2 Inv-loop μ-loop
 returns-2 c = tt
 
-mul-l : tie.Need-mul-l Inv-loop μ-loop
-mul-l c = search needs
-
 slice-set-from-l : tie.Need-slice-set-from-l Inv-loop μ-loop
-slice-set-from-l c = omega (arith, c .before .before .before .before .before .before .loop-test .taken, c .before .before .before .before .before .before .before .before .before .pre .1, c .before .before .before .before .before .before .before .loop .inv .lower .same-length)
-
-mul-h : tie.Need-mul-h Inv-loop μ-loop
-mul-h c = search needs
+slice-set-from-l c =
+    let at-loop-test = c .before .before .before .before .before .before in
+    let at-loop = at-loop-test .before in
+    let start = at-loop .before .before in
+    omega (arith, at-loop-test .loop-test .taken, start .pre .1, at-loop .loop .inv .lower .same-length)
 
 slice-set-from-h : tie.Need-slice-set-from-h Inv-loop μ-loop
-slice-set-from-h c = omega (arith, c .before .before .before .before .before .before .loop-test .taken, c .before .before .before .before .before .before .before .before .before .pre .2, c .before .before .before .before .before .before .before .loop .inv .upper .same-length)
+slice-set-from-h c =
+    let at-loop-test = c .before .before .before .before .before .before in
+    let at-loop = at-loop-test .before in
+    let start = at-loop .before .before in
+    omega (arith, at-loop-test .loop-test .taken, start .pre .2, at-loop .loop .inv .upper .same-length)
 
 add-i : tie.Need-add-i Inv-loop μ-loop
 add-i c = omega (arith, c .before .before .before .before .before .before .loop-test .taken)
@@ -93,27 +83,6 @@ returns-3 c = ranging-ends (c .before .loop .inv) (c .loop-test .left)
 pub ranges-spec : {M : Type 1} → statement M
 ranges-spec =
     tie.close
-    (tie.spec
-    Inv-loop
-    μ-loop
-    loop-holds
-    range-at-requires
-    enum-known-l
-    enum-told
-    same-length
-    same-length-2
-    returns
-    is-range-requires
-    same-length-3
-    same-length-4
-    returns-2
-    mul-l
-    slice-set-from-l
-    mul-h
-    slice-set-from-h
-    add-i
-    loop-less
-    loop-again
-    same-length-5
-    same-length-6
-    returns-3)
+    (tie.spec Inv-loop μ-loop loop-holds (λ c κs. search needs) (λ c. search needs) (λ c. search needs) same-length same-length-2 returns
+    (λ c κs. search needs) same-length-3 same-length-4 returns-2 (λ c. search needs) slice-set-from-l (λ c. search needs) slice-set-from-h
+    add-i loop-less loop-again same-length-5 same-length-6 returns-3)

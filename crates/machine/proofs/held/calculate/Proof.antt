@@ -18,30 +18,6 @@ use Rattle.machine.proofs.held.calculate.Tie as tie
 returns : tie.Need-returns
 returns c = (λ ns s t. two-few (arithmetic (operationOf (c .before .args .code))) (c .before .args .vals .now) (c .before .args .m .held) (c .before .args .m .picked) t (c .if1 .taken), search needs)
 
-sub-right : tie.Need-sub-right
-sub-right c = search needs
-
-mul-calculated : tie.Need-mul-calculated
-mul-calculated c = search needs
-
-slice-copy-out-calculated : tie.Need-slice-copy-out-calculated
-slice-copy-out-calculated c = search needs
-
-mul-calculated-2 : tie.Need-mul-calculated-2
-mul-calculated-2 c = search needs
-
-slice-copy-out-calculated-2 : tie.Need-slice-copy-out-calculated-2
-slice-copy-out-calculated-2 c = search needs
-
-calculated-requires : tie.Need-calculated-requires
-calculated-requires c κs = search needs
-
-enum-known-x : tie.Need-enum-known-x
-enum-known-x c = search needs
-
-enum-told : tie.Need-enum-told
-enum-told c = search needs
-
 returns-2 : tie.Need-returns-2
 returns-2 c =
     let a = c .before .before .before .before .before .before .args in
@@ -52,15 +28,6 @@ returns-2 c =
     let fb : SFits w32 (getD l (n - 1) (pos 0)) = record { sfits = c .before .before .before .calculated-arg2 .given } in
     let e : f (getD l (n - 2) (pos 0)) (getD l (n - 1) (pos 0)) ≡ refusal 14 = rw (toZ-ofZ fa, toZ-ofZ fb) at (sym (c .before .before .calculated .ensures) ∙ ap outcomeOf (c .enum-told .given .1)) in
     (λ ns s t. two-refused f l n (a .m .picked) t 14 (c .before .before .before .before .before .if1 .left) e, search needs)
-
-mul-v : tie.Need-mul-v
-mul-v c = search needs
-
-slice-set-from-v : tie.Need-slice-set-from-v
-slice-set-from-v c = search needs
-
-same-length : tie.Need-same-length
-same-length c = search needs
 
 returns-3 : tie.Need-returns-3
 returns-3 c =
@@ -80,18 +47,6 @@ returns-3 c =
 pub calculate-spec : {M : Type 1} → statement M
 calculate-spec =
     tie.close
-    (tie.spec
-    returns
-    sub-right
-    mul-calculated
-    slice-copy-out-calculated
-    mul-calculated-2
-    slice-copy-out-calculated-2
-    calculated-requires
-    enum-known-x
-    enum-told
-    returns-2
-    mul-v
-    slice-set-from-v
-    same-length
+    (tie.spec returns (λ c. search needs) (λ c. search needs) (λ c. search needs) (λ c. search needs) (λ c. search needs)
+    (λ c κs. search needs) (λ c. search needs) (λ c. search needs) returns-2 (λ c. search needs) (λ c. search needs) (λ c. search needs)
     returns-3)

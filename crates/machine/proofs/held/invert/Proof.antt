@@ -18,30 +18,6 @@ use Rattle.machine.proofs.held.invert.Tie as tie
 returns : tie.Need-returns
 returns c = (λ ns s t. pop-none (c .before .args .vals .now) (c .before .args .m .held) _ (c .if1 .taken), search needs)
 
-sub-top : tie.Need-sub-top
-sub-top c = search needs
-
-mul-is-yes : tie.Need-mul-is-yes
-mul-is-yes c = search needs
-
-slice-copy-out-is-yes : tie.Need-slice-copy-out-is-yes
-slice-copy-out-is-yes c = search needs
-
-is-yes-requires : tie.Need-is-yes-requires
-is-yes-requires c κs = search needs
-
-bit-of-requires : tie.Need-bit-of-requires
-bit-of-requires c κs = search needs
-
-mul-v : tie.Need-mul-v
-mul-v c = search needs
-
-slice-set-from-v : tie.Need-slice-set-from-v
-slice-set-from-v c = search needs
-
-same-length : tie.Need-same-length
-same-length c = search needs
-
 returns-2 : tie.Need-returns-2
 returns-2 c =
     let a = c .before .before .before .before .args in
@@ -57,14 +33,5 @@ returns-2 c =
 pub invert-spec : {M : Type 1} → statement M
 invert-spec =
     tie.close
-    (tie.spec
-    returns
-    sub-top
-    mul-is-yes
-    slice-copy-out-is-yes
-    is-yes-requires
-    bit-of-requires
-    mul-v
-    slice-set-from-v
-    same-length
-    returns-2)
+    (tie.spec returns (λ c. search needs) (λ c. search needs) (λ c. search needs) (λ c κs. search needs) (λ c κs. search needs)
+    (λ c. search needs) (λ c. search needs) (λ c. search needs) returns-2)

@@ -14,18 +14,6 @@ use Rattle.machine.proofs.held.load.Tie as tie
 returns : tie.Need-returns
 returns c = (λ t. rw (le-ltb _ _ (c .if1 .taken)), search needs)
 
-mul-push : tie.Need-mul-push
-mul-push c = search needs
-
-shared-slice-copy-out-push : tie.Need-shared-slice-copy-out-push
-shared-slice-copy-out-push c = search needs
-
-push-requires : tie.Need-push-requires
-push-requires c κs = search needs
-
-same-length : tie.Need-same-length
-same-length c = search needs
-
 returns-2 : tie.Need-returns-2
 returns-2 c =
     let a = c .before .before .before .before .before .args in
@@ -35,4 +23,4 @@ returns-2 c =
 pub load-spec : {M : Type 1} → statement M
 load-spec =
     tie.close
-    (tie.spec returns mul-push shared-slice-copy-out-push push-requires same-length returns-2)
+    (tie.spec returns (λ c. search needs) (λ c. search needs) (λ c κs. search needs) (λ c. search needs) returns-2)

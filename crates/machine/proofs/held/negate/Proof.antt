@@ -17,24 +17,6 @@ use Rattle.machine.proofs.held.negate.Tie as tie
 returns : tie.Need-returns
 returns c = (λ ns s t. pop-none (c .before .args .vals .now) (c .before .args .m .held) _ (c .if1 .taken), search needs)
 
-sub-top : tie.Need-sub-top
-sub-top c = search needs
-
-mul-negated : tie.Need-mul-negated
-mul-negated c = search needs
-
-slice-copy-out-negated : tie.Need-slice-copy-out-negated
-slice-copy-out-negated c = search needs
-
-negated-requires : tie.Need-negated-requires
-negated-requires c κs = search needs
-
-enum-known-x : tie.Need-enum-known-x
-enum-known-x c = search needs
-
-enum-told : tie.Need-enum-told
-enum-told c = search needs
-
 returns-2 : tie.Need-returns-2
 returns-2 c =
     let a = c .before .before .before .before .before .args in
@@ -43,15 +25,6 @@ returns-2 c =
     let fa : SFits w32 (getD l (n - 1) (pos 0)) = record { sfits = c .before .before .before .negated-arg .given } in
     let e : negation (getD l (n - 1) (pos 0)) ≡ refusal 14 = rw (toZ-ofZ fa) at (sym (c .before .before .negated .ensures) ∙ ap outcomeOf (c .enum-told .given .1)) in
     (λ ns s t. one-refused negation l n (a .m .picked) t (c .before .before .before .before .if1 .left) 14 e, search needs)
-
-mul-v : tie.Need-mul-v
-mul-v c = search needs
-
-slice-set-from-v : tie.Need-slice-set-from-v
-slice-set-from-v c = search needs
-
-same-length : tie.Need-same-length
-same-length c = search needs
 
 returns-3 : tie.Need-returns-3
 returns-3 c =
@@ -69,16 +42,5 @@ returns-3 c =
 pub negate-spec : {M : Type 1} → statement M
 negate-spec =
     tie.close
-    (tie.spec
-    returns
-    sub-top
-    mul-negated
-    slice-copy-out-negated
-    negated-requires
-    enum-known-x
-    enum-told
-    returns-2
-    mul-v
-    slice-set-from-v
-    same-length
-    returns-3)
+    (tie.spec returns (λ c. search needs) (λ c. search needs) (λ c. search needs) (λ c κs. search needs) (λ c. search needs)
+    (λ c. search needs) returns-2 (λ c. search needs) (λ c. search needs) (λ c. search needs) returns-3)

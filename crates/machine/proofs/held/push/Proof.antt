@@ -9,20 +9,8 @@ use Rattle.machine.proofs.held.push.Tie as tie
 returns : tie.Need-returns
 returns c = (λ ns s t. push-full (c .before .args .vals .now) (c .before .args .m .held) (c .before .args .v) (c .before .args .m .picked) t (c .if1 .taken), search needs)
 
-mul-v : tie.Need-mul-v
-mul-v c = search needs
-
-slice-set-from-v : tie.Need-slice-set-from-v
-slice-set-from-v c = search needs
-
-add-t6 : tie.Need-add-t6
-add-t6 c = search needs
-
-same-length : tie.Need-same-length
-same-length c = search needs
-
 returns-2 : tie.Need-returns-2
 returns-2 c = (λ ns s t. rw (toZ-ofZ (c .before .fits .v)) (push-put (c .before .args .vals .now) (c .before .args .m .held) (c .before .args .v) (c .before .args .m .picked) t (c .if1 .left) (c .before .pre .room)), omega arith)
 
 pub push-spec : {M : Type 1} → statement M
-push-spec = tie.close (tie.spec returns mul-v slice-set-from-v add-t6 same-length returns-2)
+push-spec = tie.close (tie.spec returns (λ c. search needs) (λ c. search needs) (λ c. search needs) (λ c. search needs) returns-2)

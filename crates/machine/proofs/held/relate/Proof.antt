@@ -18,36 +18,6 @@ use Rattle.machine.proofs.held.relate.Tie as tie
 returns : tie.Need-returns
 returns c = (λ t. two-few (λ x y. ok (bit (truthOf (c .before .args .code) x y))) (c .before .args .vals .now) (c .before .args .m .held) (c .before .args .m .picked) t (c .if1 .taken), search needs)
 
-sub-right : tie.Need-sub-right
-sub-right c = search needs
-
-mul-truth : tie.Need-mul-truth
-mul-truth c = search needs
-
-slice-copy-out-truth : tie.Need-slice-copy-out-truth
-slice-copy-out-truth c = search needs
-
-mul-truth-2 : tie.Need-mul-truth-2
-mul-truth-2 c = search needs
-
-slice-copy-out-truth-2 : tie.Need-slice-copy-out-truth-2
-slice-copy-out-truth-2 c = search needs
-
-truth-requires : tie.Need-truth-requires
-truth-requires c κs = search needs
-
-bit-of-requires : tie.Need-bit-of-requires
-bit-of-requires c κs = search needs
-
-mul-v : tie.Need-mul-v
-mul-v c = search needs
-
-slice-set-from-v : tie.Need-slice-set-from-v
-slice-set-from-v c = search needs
-
-same-length : tie.Need-same-length
-same-length c = search needs
-
 returns-2 : tie.Need-returns-2
 returns-2 c =
     let a = c .before .before .before .before .before .args in
@@ -65,16 +35,5 @@ returns-2 c =
 pub relate-spec : {M : Type 1} → statement M
 relate-spec =
     tie.close
-    (tie.spec
-    returns
-    sub-right
-    mul-truth
-    slice-copy-out-truth
-    mul-truth-2
-    slice-copy-out-truth-2
-    truth-requires
-    bit-of-requires
-    mul-v
-    slice-set-from-v
-    same-length
-    returns-2)
+    (tie.spec returns (λ c. search needs) (λ c. search needs) (λ c. search needs) (λ c. search needs) (λ c. search needs)
+    (λ c κs. search needs) (λ c κs. search needs) (λ c. search needs) (λ c. search needs) (λ c. search needs) returns-2)

@@ -7,16 +7,11 @@ use Rattle.machine.specs.Step.{yes}
 use Rattle.machine.proofs.values.both_yes.Statement.{statement}
 use Rattle.machine.proofs.values.both_yes.Tie as tie
 
-is-yes-requires : tie.Need-is-yes-requires
-is-yes-requires c κs = search needs
-
-is-yes-requires-2 : tie.Need-is-yes-requires-2
-is-yes-requires-2 c κs = search needs
-
 returns : tie.Need-returns
 returns c =
-    let h : yes (c .before .before .before .args .a) ≡ true = rw (toZ-ofZ (c .before .before .before .fits .a)) at (sym (c .before .before .is-yes .ensures) ∙ c .before .if1 .taken) in
-    rw (h, c .is-yes2 .ensures, toZ-ofZ (c .before .before .before .fits .b))
+    let start = c .before .before .before in
+    let h : yes (start .args .a) ≡ true = rw (toZ-ofZ (start .fits .a)) at (sym (c .before .before .is-yes .ensures) ∙ c .before .if1 .taken) in
+    rw (h, c .is-yes2 .ensures, toZ-ofZ (start .fits .b))
 
 returns-2 : tie.Need-returns-2
 returns-2 c =
@@ -24,4 +19,4 @@ returns-2 c =
     rw h
 
 pub both-yes-spec : {M : Type 1} → statement M
-both-yes-spec = tie.close (tie.spec is-yes-requires is-yes-requires-2 returns returns-2)
+both-yes-spec = tie.close (tie.spec (λ c κs. search needs) (λ c κs. search needs) returns returns-2)

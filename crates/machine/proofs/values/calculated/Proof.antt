@@ -6,21 +6,6 @@ use Rattle.arith.proofs.Laws.{same32}
 use Rattle.machine.proofs.values.calculated.Statement.{statement}
 use Rattle.machine.proofs.values.calculated.Tie as tie
 
-sum-requires : tie.Need-sum-requires
-sum-requires c κs = search needs
-
-difference-requires : tie.Need-difference-requires
-difference-requires c κs = search needs
-
-product-requires : tie.Need-product-requires
-product-requires c κs = search needs
-
-quotient-requires : tie.Need-quotient-requires
-quotient-requires c κs = search needs
-
-remainder-requires : tie.Need-remainder-requires
-remainder-requires c κs = search needs
-
 returns : tie.Need-returns
 returns c = c .sum .ensures ∙ rw (same32 (c .before .before .fits .a), same32 (c .before .before .fits .b), c .before .match .keys1)
 
@@ -41,14 +26,5 @@ returns-5 c =
 pub calculated-spec : {M : Type 1} → statement M
 calculated-spec =
     tie.close
-    (tie.spec
-    sum-requires
-    difference-requires
-    product-requires
-    quotient-requires
-    remainder-requires
-    returns
-    returns-2
-    returns-3
-    returns-4
-    returns-5)
+    (tie.spec (λ c κs. search needs) (λ c κs. search needs) (λ c κs. search needs) (λ c κs. search needs) (λ c κs. search needs) returns
+    returns-2 returns-3 returns-4 returns-5)

@@ -6,12 +6,9 @@ use Rattle.arith.specs.Values.{compares}
 use Rattle.machine.proofs.values.is_yes.Statement.{statement}
 use Rattle.machine.proofs.values.is_yes.Tie as tie
 
-is-not-equal-requires : tie.Need-is-not-equal-requires
-is-not-equal-requires c κs = search needs
-
 returns : tie.Need-returns
 unfolding compares yes
 returns c = rw (toZ-ofZ (c .before .fits .z)) at (c .is-not-equal .ensures)
 
 pub is-yes-spec : {M : Type 1} → statement M
-is-yes-spec = tie.close (tie.spec is-not-equal-requires returns)
+is-yes-spec = tie.close (tie.spec (λ c κs. search needs) returns)

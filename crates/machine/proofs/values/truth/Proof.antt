@@ -7,30 +7,6 @@ use Rattle.arith.proofs.Laws.{same32}
 use Rattle.machine.proofs.values.truth.Statement.{statement}
 use Rattle.machine.proofs.values.truth.Tie as tie
 
-is-equal-requires : tie.Need-is-equal-requires
-is-equal-requires c κs = search needs
-
-is-not-equal-requires : tie.Need-is-not-equal-requires
-is-not-equal-requires c κs = search needs
-
-is-less-requires : tie.Need-is-less-requires
-is-less-requires c κs = search needs
-
-is-less-equal-requires : tie.Need-is-less-equal-requires
-is-less-equal-requires c κs = search needs
-
-is-greater-requires : tie.Need-is-greater-requires
-is-greater-requires c κs = search needs
-
-both-yes-requires : tie.Need-both-yes-requires
-both-yes-requires c κs = search needs
-
-either-yes-requires : tie.Need-either-yes-requires
-either-yes-requires c κs = search needs
-
-is-greater-equal-requires : tie.Need-is-greater-equal-requires
-is-greater-equal-requires c κs = search needs
-
 returns : tie.Need-returns
 unfolding truthOf
 returns c = c .is-equal .ensures ∙ rw (same32 (c .before .before .fits .a), same32 (c .before .before .fits .b), c .before .match .keys1)
@@ -79,20 +55,6 @@ returns-8 c =
 pub truth-spec : {M : Type 1} → statement M
 truth-spec =
     tie.close
-    (tie.spec
-    is-equal-requires
-    is-not-equal-requires
-    is-less-requires
-    is-less-equal-requires
-    is-greater-requires
-    both-yes-requires
-    either-yes-requires
-    is-greater-equal-requires
-    returns
-    returns-2
-    returns-3
-    returns-4
-    returns-5
-    returns-6
-    returns-7
+    (tie.spec (λ c κs. search needs) (λ c κs. search needs) (λ c κs. search needs) (λ c κs. search needs) (λ c κs. search needs)
+    (λ c κs. search needs) (λ c κs. search needs) (λ c κs. search needs) returns returns-2 returns-3 returns-4 returns-5 returns-6 returns-7
     returns-8)

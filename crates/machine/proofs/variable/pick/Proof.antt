@@ -18,29 +18,11 @@ use Rattle.machine.proofs.variable.pick.Tie as tie
 returns : tie.Need-returns
 returns c = (λ ns r. pop-none (c .before .args .vals .now) (c .before .args .m .held) _ (c .if1 .taken), search needs)
 
-sub-top : tie.Need-sub-top
-sub-top c = search needs
-
 returns-2 : tie.Need-returns-2
 returns-2 c =
     let a = c .before .before .args in
     let h : length (a .low .now) ≤ a .id = omega (arith, c .before .before .pre .1 .previous, c .if2 .taken) in
     (λ ns r. pick-undeclared ns (a .low .now) (a .high .now) r (a .prev .now) (a .vals .now) (a .m .held) (a .m .picked) (a .cur .now) (a .id) (c .before .if1 .left) h, search needs)
-
-mul-is-equal : tie.Need-mul-is-equal
-mul-is-equal c = search needs
-
-shared-slice-copy-out-is-equal : tie.Need-shared-slice-copy-out-is-equal
-shared-slice-copy-out-is-equal c = search needs
-
-mul-is-equal-2 : tie.Need-mul-is-equal-2
-mul-is-equal-2 c = search needs
-
-shared-slice-copy-out-is-equal-2 : tie.Need-shared-slice-copy-out-is-equal-2
-shared-slice-copy-out-is-equal-2 c = search needs
-
-is-equal-requires : tie.Need-is-equal-requires
-is-equal-requires c κs = search needs
 
 returns-3 : tie.Need-returns-3
 unfolding compares
@@ -54,39 +36,27 @@ returns-3 c =
     let h : a .id < length (a .low .now) = omega (arith, c .before .before .before .before .before .before .pre .1 .previous, c .before .before .before .before .if2 .left) in
     (λ ns r. pick-equal ns (a .low .now) (a .high .now) r (a .prev .now) (a .vals .now) (a .m .held) (a .m .picked) (a .cur .now) (a .id) (c .before .before .before .before .before .if1 .left) h e, search needs)
 
-assign-requires : tie.Need-assign-requires
-assign-requires c κs = search needs
-
-same-length : tie.Need-same-length
-same-length c = search needs
-
 returns-4 : tie.Need-returns-4
 unfolding compares
 returns-4 c =
-    let a = c .before .before .before .before .before .before .before .before .before .args in
+    let at-is-equal-arg2 = c .before .before .before .before .before in
+    let at-is-equal-arg = at-is-equal-arg2 .before in
+    let at-if2 = at-is-equal-arg .before in
+    let at-if1 = at-if2 .before in
+    let start = at-if1 .before in
+    let a = start .args in
     let v = at (a .vals .now) (a .m .held - 1) in
     let p = at (a .prev .now) (a .id) in
-    let fv : SFits w32 v = record { sfits = c .before .before .before .before .before .before .is-equal-arg .given } in
-    let fp : SFits w32 p = record { sfits = c .before .before .before .before .before .is-equal-arg2 .given } in
+    let fv : SFits w32 v = record { sfits = at-is-equal-arg .is-equal-arg .given } in
+    let fp : SFits w32 p = record { sfits = at-is-equal-arg2 .is-equal-arg2 .given } in
     let e : eqZ v p ≡ false = rw (toZ-ofZ fv, toZ-ofZ fp) at (sym (c .before .before .before .before .is-equal .ensures) ∙ c .before .before .before .if3 .left) in
-    let h : a .id < length (a .low .now) = omega (arith, c .before .before .before .before .before .before .before .before .before .pre .1 .previous, c .before .before .before .before .before .before .before .if2 .left) in
-    let some = c .before .before .before .before .before .before .before .before .if1 .left in
+    let h : a .id < length (a .low .now) = omega (arith, start .pre .1 .previous, at-if2 .if2 .left) in
+    let some = at-if1 .if1 .left in
     let done = c .before .assign .ensures in
     (λ ns r. done .0 ns (a .prev .now) r ∙ pick-other ns (a .low .now) (a .high .now) r (a .prev .now) (a .vals .now) (a .m .held) (a .m .picked) (a .cur .now) (a .id) some h e, done .1)
 
 pub pick-spec : {M : Type 1} → statement M
 pick-spec =
     tie.close
-    (tie.spec
-    returns
-    sub-top
-    returns-2
-    mul-is-equal
-    shared-slice-copy-out-is-equal
-    mul-is-equal-2
-    shared-slice-copy-out-is-equal-2
-    is-equal-requires
-    returns-3
-    assign-requires
-    same-length
-    returns-4)
+    (tie.spec returns (λ c. search needs) returns-2 (λ c. search needs) (λ c. search needs) (λ c. search needs) (λ c. search needs)
+    (λ c κs. search needs) returns-3 (λ c κs. search needs) (λ c. search needs) returns-4)

@@ -18,36 +18,15 @@ returns-2 c =
     let a = c .before .before .args in
     (λ ns vs e. settle-picked ns (a .prev .now) vs (a .m .held) (a .id) (a .cur .now) e (a .m .picked) (c .before .if1 .left) (c .if2 .taken), c .before .before .pre .0)
 
-mul-cur : tie.Need-mul-cur
-mul-cur c = search needs
-
-shared-slice-copy-out-cur : tie.Need-shared-slice-copy-out-cur
-shared-slice-copy-out-cur c = search needs
-
-mul-t11 : tie.Need-mul-t11
-mul-t11 c = search needs
-
-slice-set-from-cur : tie.Need-slice-set-from-cur
-slice-set-from-cur c = search needs
-
-same-length : tie.Need-same-length
-same-length c = search needs
-
 returns-3 : tie.Need-returns-3
 returns-3 c =
-    let a = c .before .before .before .args in
+    let start = c .before .before .before in
+    let a = start .args in
     let f : SFits w32 (at (a .prev .now) (a .id)) = record { sfits = c .cur .given } in
-    (λ ns vs e. rw (toZ-ofZ f) (settle-kept ns (a .prev .now) vs (a .m .held) (a .id) (a .cur .now) e (a .m .picked) (c .before .before .if1 .left) (c .before .if2 .left)), c .before .before .before .pre .0)
+    (λ ns vs e. rw (toZ-ofZ f) (settle-kept ns (a .prev .now) vs (a .m .held) (a .id) (a .cur .now) e (a .m .picked) (c .before .before .if1 .left) (c .before .if2 .left)), start .pre .0)
 
 pub settle-spec : {M : Type 1} → statement M
 settle-spec =
     tie.close
-    (tie.spec
-    returns
-    returns-2
-    mul-cur
-    shared-slice-copy-out-cur
-    mul-t11
-    slice-set-from-cur
-    same-length
+    (tie.spec returns returns-2 (λ c. search needs) (λ c. search needs) (λ c. search needs) (λ c. search needs) (λ c. search needs)
     returns-3)

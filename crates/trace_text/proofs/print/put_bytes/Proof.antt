@@ -22,21 +22,18 @@ clip-requires c κs = tt
 loop-holds : tie.Need-loop-holds Inv-loop μ-loop
 loop-holds c = let e = c .clip .ensures in putting _ _ _ (omega arith)
 
-shared-slice-read-put-byte : tie.Need-shared-slice-read-put-byte Inv-loop μ-loop
-shared-slice-read-put-byte c = search needs
-
 put-byte-requires : tie.Need-put-byte-requires Inv-loop μ-loop
 put-byte-requires c κs = tt
-
-add-i : tie.Need-add-i Inv-loop μ-loop
-add-i c = search needs
 
 loop-less : tie.Need-loop-less Inv-loop μ-loop
 loop-less c = omega arith
 
 loop-again : tie.Need-loop-again Inv-loop μ-loop
 loop-again c =
-    putting-next (getD (c .before .before .before .before .before .before .before .before .before .before .args .word .now) (c .before .before .before .before .before .before .loop .i) 0 ∷ []) (c .before .before .before .before .before .before .loop .inv) (rw add-one (drop-cons (c .before .before .before .before .before .before .before .before .before .before .args .word .now) (c .before .before .before .before .before .before .loop .i) 0 (c .before .before .before .before .before .loop-test .taken))) (c .before .before .put-byte .ensures)
+    let at-loop-test = c .before .before .before .before .before in
+    let at-loop = at-loop-test .before in
+    let start = at-loop .before .before .before .before in
+    putting-next (getD (start .args .word .now) (at-loop .loop .i) 0 ∷ []) (at-loop .loop .inv) (rw add-one (drop-cons (start .args .word .now) (at-loop .loop .i) 0 (at-loop-test .loop-test .taken))) (c .before .before .put-byte .ensures)
 
 same-length : tie.Need-same-length Inv-loop μ-loop
 same-length c = c .before .loop .inv .same
@@ -47,15 +44,5 @@ returns c = put-clip (rw (c .before .before .clip .ensures) at (putting-done (c 
 pub put-bytes-spec : {M : Type 1} → statement M
 put-bytes-spec =
     tie.close
-    (tie.spec
-    Inv-loop
-    μ-loop
-    clip-requires
-    loop-holds
-    shared-slice-read-put-byte
-    put-byte-requires
-    add-i
-    loop-less
-    loop-again
-    same-length
-    returns)
+    (tie.spec Inv-loop μ-loop clip-requires loop-holds (λ c. search needs) put-byte-requires (λ c. search needs) loop-less loop-again
+    same-length returns)

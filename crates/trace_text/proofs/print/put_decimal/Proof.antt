@@ -47,53 +47,44 @@ module _ (z : ℤ) (f : SFits w32 z) where
     printed-2 = ap decimalOf at-neg
 
 cast-put-unsigned-decimal : tie.Need-cast-put-unsigned-decimal
-cast-put-unsigned-decimal c = rw (read (c .before .before .before .args .z) (c .before .before .before .fits .z) (c .before .if1 .taken)) (tt, omega (arith, c .before .before .before .fits .z .sfits))
-
-put-unsigned-decimal-requires : tie.Need-put-unsigned-decimal-requires
-put-unsigned-decimal-requires c κs = search needs
-
-same-length : tie.Need-same-length
-same-length c = search needs
+cast-put-unsigned-decimal c =
+    let start = c .before .before .before in
+    rw (read (start .args .z) (start .fits .z) (c .before .if1 .taken)) (tt, omega (arith, start .fits .z .sfits))
 
 returns : tie.Need-returns
 returns c =
-    rw (printed (c .before .before .before .before .before .before .args .z) (c .before .before .before .before .before .before .fits .z) (c .before .before .before .before .if1 .taken)) (rw (read (c .before .before .before .before .before .before .args .z) (c .before .before .before .before .before .before .fits .z) (c .before .before .before .before .if1 .taken)) at (c .before .before .put-unsigned-decimal .ensures))
-
-put-byte-requires : tie.Need-put-byte-requires
-put-byte-requires c κs = search needs
+    let at-if1 = c .before .before .before .before in
+    let start = at-if1 .before .before in
+    rw (printed (start .args .z) (start .fits .z) (at-if1 .if1 .taken)) (rw (read (start .args .z) (start .fits .z) (at-if1 .if1 .taken)) at (c .before .before .put-unsigned-decimal .ensures))
 
 sub-n : tie.Need-sub-n
-sub-n c = rw (mirrored (c .before .before .before .before .before .before .args .z) (c .before .before .before .before .before .before .fits .z) (c .before .before .before .before .if1 .left)) (fits (c .before .before .before .before .before .before .args .z) (c .before .before .before .before .before .before .fits .z) (c .before .before .before .before .if1 .left))
+sub-n c =
+    let at-if1 = c .before .before .before .before in
+    let start = at-if1 .before .before in
+    rw (mirrored (start .args .z) (start .fits .z) (at-if1 .if1 .left)) (fits (start .args .z) (start .fits .z) (at-if1 .if1 .left))
 
 cast-put-unsigned-decimal-2 : tie.Need-cast-put-unsigned-decimal-2
-cast-put-unsigned-decimal-2 c = rw (read-2 (c .before .before .before .before .before .before .before .args .z) (c .before .before .before .before .before .before .before .fits .z) (c .before .before .before .before .before .if1 .left)) (tt, omega (arith, c .before .before .before .before .before .before .before .fits .z .sfits))
+cast-put-unsigned-decimal-2 c =
+    let at-if1 = c .before .before .before .before .before in
+    let start = at-if1 .before .before in
+    rw (read-2 (start .args .z) (start .fits .z) (at-if1 .if1 .left)) (tt, omega (arith, start .fits .z .sfits))
 
 add-put-unsigned-decimal : tie.Need-add-put-unsigned-decimal
-add-put-unsigned-decimal c = rw (read-2 (c .before .before .before .before .before .before .before .args .z) (c .before .before .before .before .before .before .before .fits .z) (c .before .before .before .before .before .if1 .left)) (omega (arith, c .before .before .before .before .before .before .before .fits .z .sfits))
-
-put-unsigned-decimal-requires-2 : tie.Need-put-unsigned-decimal-requires-2
-put-unsigned-decimal-requires-2 c κs = search needs
-
-same-length-2 : tie.Need-same-length-2
-same-length-2 c = search needs
+add-put-unsigned-decimal c =
+    let at-if1 = c .before .before .before .before .before in
+    let start = at-if1 .before .before in
+    rw (read-2 (start .args .z) (start .fits .z) (at-if1 .if1 .left)) (omega (arith, start .fits .z .sfits))
 
 returns-2 : tie.Need-returns-2
 returns-2 c =
-    rw (printed-2 (c .before .before .before .before .before .before .before .before .before .before .args .z) (c .before .before .before .before .before .before .before .before .before .before .fits .z) (c .before .before .before .before .before .before .before .before .if1 .left))
-    (put-then (c .before .before .before .before .before .before .put-byte .ensures) (rw (read-2 (c .before .before .before .before .before .before .before .before .before .before .args .z) (c .before .before .before .before .before .before .before .before .before .before .fits .z) (c .before .before .before .before .before .before .before .before .if1 .left)) at (c .before .before .put-unsigned-decimal2 .ensures)))
+    let at-put-byte = c .before .before .before .before .before .before in
+    let at-if1 = at-put-byte .before .before in
+    let start = at-if1 .before .before in
+    rw (printed-2 (start .args .z) (start .fits .z) (at-if1 .if1 .left))
+    (put-then (at-put-byte .put-byte .ensures) (rw (read-2 (start .args .z) (start .fits .z) (at-if1 .if1 .left)) at (c .before .before .put-unsigned-decimal2 .ensures)))
 
 pub put-decimal-spec : {M : Type 1} → statement M
 put-decimal-spec =
     tie.close
-    (tie.spec
-    cast-put-unsigned-decimal
-    put-unsigned-decimal-requires
-    same-length
-    returns
-    put-byte-requires
-    sub-n
-    cast-put-unsigned-decimal-2
-    add-put-unsigned-decimal
-    put-unsigned-decimal-requires-2
-    same-length-2
-    returns-2)
+    (tie.spec cast-put-unsigned-decimal (λ c κs. search needs) (λ c. search needs) returns (λ c κs. search needs) sub-n
+    cast-put-unsigned-decimal-2 add-put-unsigned-decimal (λ c κs. search needs) (λ c. search needs) returns-2)

@@ -27,44 +27,35 @@ same-length : tie.Need-same-length Inv-loop μ-loop
 same-length c = c .before .before .loop .inv .same ∙ put-length (c .before .before .before .before .before .put-byte .ensures)
 
 returns : tie.Need-returns Inv-loop μ-loop
-returns c = put-then (c .before .before .before .before .before .put-byte .ensures) (putting-done (c .before .before .loop .inv) (part-past (c .before .before .before .before .before .before .before .before .before .args .text .now) (c .before .before .loop .i) (c .before .before .before .before .before .before .before .before .before .args .end) (c .if1 .taken)))
-
-shared-slice-read-put-byte : tie.Need-shared-slice-read-put-byte Inv-loop μ-loop
-shared-slice-read-put-byte c = search needs
+returns c =
+    let at-put-byte = c .before .before .before .before .before in
+    let start = at-put-byte .before .before .before .before in
+    put-then (at-put-byte .put-byte .ensures) (putting-done (c .before .before .loop .inv) (part-past (start .args .text .now) (c .before .before .loop .i) (start .args .end) (c .if1 .taken)))
 
 put-byte-requires-2 : tie.Need-put-byte-requires-2 Inv-loop μ-loop
 put-byte-requires-2 c κs = tt
-
-add-i : tie.Need-add-i Inv-loop μ-loop
-add-i c = search needs
 
 loop-less : tie.Need-loop-less Inv-loop μ-loop
 loop-less c = omega arith
 
 loop-again : tie.Need-loop-again Inv-loop μ-loop
 loop-again c =
-    putting-next (getD (c .before .before .before .before .before .before .before .before .before .before .before .before .before .before .args .text .now) (c .before .before .before .before .before .before .before .loop .i) 0 ∷ []) (c .before .before .before .before .before .before .before .loop .inv) (part-next (c .before .before .before .before .before .before .before .before .before .before .before .before .before .before .args .text .now) (c .before .before .before .before .before .before .before .loop .i) (c .before .before .before .before .before .before .before .before .before .before .before .before .before .before .args .end) (c .before .before .before .before .before .before .loop-test .taken) (c .before .before .before .before .before .if1 .left)) (c .before .before .put-byte2 .ensures)
+    let at-if1 = c .before .before .before .before .before in
+    let at-loop-test = at-if1 .before in
+    let at-loop = at-loop-test .before in
+    let start = at-loop .before .before .before .before .before .before .before in
+    putting-next (getD (start .args .text .now) (at-loop .loop .i) 0 ∷ []) (at-loop .loop .inv) (part-next (start .args .text .now) (at-loop .loop .i) (start .args .end) (at-loop-test .loop-test .taken) (at-if1 .if1 .left)) (c .before .before .put-byte2 .ensures)
 
 same-length-2 : tie.Need-same-length-2 Inv-loop μ-loop
 same-length-2 c = c .before .loop .inv .same ∙ put-length (c .before .before .before .before .put-byte .ensures)
 
 returns-2 : tie.Need-returns-2 Inv-loop μ-loop
-returns-2 c = put-then (c .before .before .before .before .put-byte .ensures) (putting-done (c .before .loop .inv) (part-end (c .before .before .before .before .before .before .before .before .args .text .now) (c .before .loop .i) (c .before .before .before .before .before .before .before .before .args .end) (c .loop-test .left)))
+returns-2 c =
+    let start = c .before .before .before .before .before .before .before .before in
+    put-then (c .before .before .before .before .put-byte .ensures) (putting-done (c .before .loop .inv) (part-end (start .args .text .now) (c .before .loop .i) (start .args .end) (c .loop-test .left)))
 
 pub put-name-spec : {M : Type 1} → statement M
 put-name-spec =
     tie.close
-    (tie.spec
-    Inv-loop
-    μ-loop
-    put-byte-requires
-    loop-holds
-    same-length
-    returns
-    shared-slice-read-put-byte
-    put-byte-requires-2
-    add-i
-    loop-less
-    loop-again
-    same-length-2
-    returns-2)
+    (tie.spec Inv-loop μ-loop put-byte-requires loop-holds same-length returns (λ c. search needs) put-byte-requires-2 (λ c. search needs)
+    loop-less loop-again same-length-2 returns-2)

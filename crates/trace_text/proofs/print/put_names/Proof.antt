@@ -24,7 +24,9 @@ clip-requires : tie.Need-clip-requires Inv-loop μ-loop
 clip-requires c κs = tt
 
 loop-holds : tie.Need-loop-holds Inv-loop μ-loop
-loop-holds c = let e = c .clip .ensures in let z : c .before .before .before .before .before .args .count - 0 ≡ c .before .before .before .before .before .args .count = omega arith in rw z (putting _ _ _ (omega arith))
+loop-holds c =
+    let start = c .before .before .before .before .before in
+    let e = c .clip .ensures in let z : start .args .count - 0 ≡ start .args .count = omega arith in rw z (putting _ _ _ (omega arith))
 
 same-length : tie.Need-same-length Inv-loop μ-loop
 same-length c = c .before .before .loop .inv .same
@@ -39,31 +41,21 @@ same-length-2 c = c .before .before .before .loop .inv .same
 returns-2 : tie.Need-returns-2 Inv-loop μ-loop
 returns-2 c = put-clip (rw (c .before .before .before .before .clip .ensures) at (putting-done (c .before .before .before .loop .inv) (rw (drop-of-length-le (c .before .before .before .before .before .before .before .before .before .args .ends .now) (c .if2 .taken), no-ends))))
 
-mul-s : tie.Need-mul-s Inv-loop μ-loop
-mul-s c = search needs
-
-shared-slice-read-s : tie.Need-shared-slice-read-s Inv-loop μ-loop
-shared-slice-read-s c = search needs
-
-mul-e : tie.Need-mul-e Inv-loop μ-loop
-mul-e c = search needs
-
-shared-slice-read-e : tie.Need-shared-slice-read-e Inv-loop μ-loop
-shared-slice-read-e c = search needs
-
 put-name-requires : tie.Need-put-name-requires Inv-loop μ-loop
 put-name-requires c κs = tt
-
-add-i : tie.Need-add-i Inv-loop μ-loop
-add-i c = search needs
 
 loop-less : tie.Need-loop-less Inv-loop μ-loop
 loop-less c = omega arith
 
 loop-again : tie.Need-loop-again Inv-loop μ-loop
 loop-again c =
-    putting-next (32 ∷ part (c .before .before .before .before .before .before .before .before .before .before .before .before .before .before .before .args .text .now) (getD (c .before .before .before .before .before .before .before .before .before .before .before .before .before .before .before .args .starts .now) (c .before .before .before .before .before .before .before .before .before .loop .i) 0) (getD (c .before .before .before .before .before .before .before .before .before .before .before .before .before .before .before .args .ends .now) (c .before .before .before .before .before .before .before .before .before .loop .i) 0)) (c .before .before .before .before .before .before .before .before .before .loop .inv)
-    (rw (spelled-next (c .before .before .before .before .before .before .before .before .before .before .before .before .before .before .before .args .text .now) (c .before .before .before .before .before .before .before .before .before .before .before .before .before .before .before .args .starts .now) (c .before .before .before .before .before .before .before .before .before .before .before .before .before .before .before .args .ends .now) (c .before .before .before .before .before .before .before .before .before .before .before .before .before .before .before .args .count) (c .before .before .before .before .before .before .before .before .before .loop .i) (c .before .before .before .before .before .before .before .before .loop-test .taken) (c .before .before .before .before .before .before .before .if1 .left) (c .before .before .before .before .before .before .if2 .left))) (c .before .before .put-name .ensures)
+    let at-if2 = c .before .before .before .before .before .before in
+    let at-if1 = at-if2 .before in
+    let at-loop-test = at-if1 .before in
+    let at-loop = at-loop-test .before in
+    let start = at-loop .before .before .before .before .before .before in
+    putting-next (32 ∷ part (start .args .text .now) (getD (start .args .starts .now) (at-loop .loop .i) 0) (getD (start .args .ends .now) (at-loop .loop .i) 0)) (at-loop .loop .inv)
+    (rw (spelled-next (start .args .text .now) (start .args .starts .now) (start .args .ends .now) (start .args .count) (at-loop .loop .i) (at-loop-test .loop-test .taken) (at-if1 .if1 .left) (at-if2 .if2 .left))) (c .before .before .put-name .ensures)
 
 same-length-3 : tie.Need-same-length-3 Inv-loop μ-loop
 same-length-3 c = c .before .loop .inv .same
@@ -75,22 +67,5 @@ returns-3 c =
 pub put-names-spec : {M : Type 1} → statement M
 put-names-spec =
     tie.close
-    (tie.spec
-    Inv-loop
-    μ-loop
-    clip-requires
-    loop-holds
-    same-length
-    returns
-    same-length-2
-    returns-2
-    mul-s
-    shared-slice-read-s
-    mul-e
-    shared-slice-read-e
-    put-name-requires
-    add-i
-    loop-less
-    loop-again
-    same-length-3
-    returns-3)
+    (tie.spec Inv-loop μ-loop clip-requires loop-holds same-length returns same-length-2 returns-2 (λ c. search needs) (λ c. search needs)
+    (λ c. search needs) (λ c. search needs) put-name-requires (λ c. search needs) loop-less loop-again same-length-3 returns-3)

@@ -27,20 +27,11 @@ clip-requires c κs = tt
 loop-holds : tie.Need-loop-holds Inv-loop μ-loop
 loop-holds c = let e = c .clip .ensures in putting _ _ _ (omega arith)
 
-mul-z : tie.Need-mul-z Inv-loop μ-loop
-mul-z c = search needs
-
-shared-slice-copy-out-z : tie.Need-shared-slice-copy-out-z Inv-loop μ-loop
-shared-slice-copy-out-z c = search needs
-
 put-byte-requires : tie.Need-put-byte-requires Inv-loop μ-loop
 put-byte-requires c κs = tt
 
 put-decimal-requires : tie.Need-put-decimal-requires Inv-loop μ-loop
 put-decimal-requires c κs = tt
-
-add-i : tie.Need-add-i Inv-loop μ-loop
-add-i c = search needs
 
 loop-less : tie.Need-loop-less Inv-loop μ-loop
 loop-less c = omega arith
@@ -60,17 +51,5 @@ returns c = put-clip (rw (c .before .before .clip .ensures) at (putting-done (c 
 pub put-values-spec : {M : Type 1} → statement M
 put-values-spec =
     tie.close
-    (tie.spec
-    Inv-loop
-    μ-loop
-    clip-requires
-    loop-holds
-    mul-z
-    shared-slice-copy-out-z
-    put-byte-requires
-    put-decimal-requires
-    add-i
-    loop-less
-    loop-again
-    same-length
-    returns)
+    (tie.spec Inv-loop μ-loop clip-requires loop-holds (λ c. search needs) (λ c. search needs) put-byte-requires put-decimal-requires
+    (λ c. search needs) loop-less loop-again same-length returns)
