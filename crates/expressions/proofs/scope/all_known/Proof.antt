@@ -1,4 +1,4 @@
--- `expressions::all_known` meets its contract: what is left of the list is all known exactly if the whole is. Assumes nothing.
+-- `expressions::scope::all_known` meets its contract: what is left of the list is all known exactly if the whole is. Assumes nothing.
 use mathlib.Core.Path.{_≡_, refl, sym, _∙_}
 use Prim.Native.Nat.{_-_, _≤_}
 use native.Mathlib.Omega.{arith}

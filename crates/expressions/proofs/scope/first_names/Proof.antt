@@ -1,4 +1,4 @@
--- `expressions::first_names` meets its contract. Assumes nothing.
+-- `expressions::scope::first_names` meets its contract. Assumes nothing.
 use mathlib.Core.Path.{refl}
 use native.Mathlib.Omega.{arith}
 use lib.Pow.{pow-pos}

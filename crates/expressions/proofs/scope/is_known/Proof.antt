@@ -1,4 +1,4 @@
--- `expressions::is_known` meets its contract. Assumes nothing.
+-- `expressions::scope::is_known` meets its contract. Assumes nothing.
 use mathlib.Core.Path.{sym, _∙_}
 use borrow.Author.Needs.{needs}
 use Rattle.expressions.proofs.Scopes.{known-bit}

@@ -1,4 +1,4 @@
--- `expressions::ruled` meets its contract. Assumes nothing.
+-- `expressions::scope::ruled` meets its contract. Assumes nothing.
 use mathlib.Core.Path.{refl}
 use borrow.Author.Needs.{needs}
 use Rattle.expressions.proofs.Scopes.{shifted, known-set}

@@ -1,4 +1,4 @@
--- `lexer::byte_at` meets its contract. Assumes nothing.
+-- `lexer::classes::byte_at` meets its contract. Assumes nothing.
 use borrow.Author.Needs.{needs}
 use mathlib.Core.Path.{sym}
 use lib.ListN.{List·getD-eq-default}

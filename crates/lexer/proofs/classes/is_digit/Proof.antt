@@ -1,4 +1,4 @@
--- `lexer::is_digit` meets its contract. Assumes nothing.
+-- `lexer::classes::is_digit` meets its contract. Assumes nothing.
 use borrow.Author.Tests.{lt-leb, le-leb}
 use Rattle.lexer.specs.Lexer.{isDigit}
 use Rattle.lexer.proofs.classes.is_digit.Statement.{statement}

@@ -1,4 +1,4 @@
--- `lexer::is_in` meets its contract. Assumes nothing.
+-- `lexer::classes::is_in` meets its contract. Assumes nothing.
 use borrow.Author.Needs.{needs}
 use mathlib.Core.Path.{sym, _∙_}
 use borrow.Author.Tests.{ne-eqb}

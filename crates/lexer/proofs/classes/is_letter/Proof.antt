@@ -1,4 +1,4 @@
--- `lexer::is_letter` meets its contract. Assumes nothing.
+-- `lexer::classes::is_letter` meets its contract. Assumes nothing.
 use native.Mathlib.Omega.{arith}
 use borrow.Author.Tests.{lt-ltb, le-ltb, lt-leb, le-leb}
 use Rattle.lexer.specs.Lexer.{isLetter}

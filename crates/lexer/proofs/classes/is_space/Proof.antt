@@ -1,4 +1,4 @@
--- `lexer::is_space` meets its contract. Assumes nothing.
+-- `lexer::classes::is_space` meets its contract. Assumes nothing.
 use borrow.Author.Tests.{eq-eqb, ne-eqb}
 use Rattle.lexer.specs.Lexer.{isSpace}
 use Rattle.lexer.proofs.classes.is_space.Statement.{statement}

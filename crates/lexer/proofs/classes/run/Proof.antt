@@ -1,4 +1,4 @@
--- `lexer::run` meets its contract. The loop's invariant: the run that goes on from `i` ends where the whole does. Assumes nothing.
+-- `lexer::classes::run` meets its contract. The loop's invariant: the run that goes on from `i` ends where the whole does. Assumes nothing.
 use borrow.Author.Needs.{needs}
 use mathlib.Core.Path.{_≡_, refl, sym, _∙_}
 use Prim.Native.Nat.{_-_}

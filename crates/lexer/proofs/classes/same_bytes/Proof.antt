@@ -1,4 +1,4 @@
--- `lexer::same_bytes` meets its contract. The loop's invariant: what is left decides. Assumes nothing.
+-- `lexer::classes::same_bytes` meets its contract. The loop's invariant: what is left decides. Assumes nothing.
 use mathlib.Core.Path.{_≡_, refl, sym, _∙_}
 use Prim.Native.Nat.{_≤_, _-_}
 use native.Mathlib.Omega.{arith}

@@ -1,4 +1,4 @@
--- `machine::bit_of` meets its contract. Assumes nothing.
+-- `machine::values::bit_of` meets its contract. Assumes nothing.
 use mathlib.Core.Path.{ap, sym}
 use Rattle.machine.specs.Step.{bit}
 use Rattle.machine.proofs.values.bit_of.Statement.{statement}

@@ -1,4 +1,4 @@
--- `machine::calculated` meets its contract. Assumes nothing.
+-- `machine::values::calculated` meets its contract. Assumes nothing.
 use mathlib.Core.Path.{_∙_}
 use borrow.Author.Tests.{ne-eqb}
 use borrow.Author.Needs.{needs}

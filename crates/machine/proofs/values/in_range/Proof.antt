@@ -1,4 +1,4 @@
--- `machine::in_range` meets its contract. Assumes nothing.
+-- `machine::values::in_range` meets its contract. Assumes nothing.
 use mathlib.Core.Path.{_≡_}
 use mathlib.Core.Bool.{true, false}
 use lib.Signed.{leZ}

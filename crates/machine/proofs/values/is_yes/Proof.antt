@@ -1,4 +1,4 @@
--- `machine::is_yes` meets its contract. Assumes nothing.
+-- `machine::values::is_yes` meets its contract. Assumes nothing.
 use borrow.Author.Needs.{needs}
 use mir.Facts.{toZ-ofZ}
 use Rattle.machine.specs.Step.{yes}

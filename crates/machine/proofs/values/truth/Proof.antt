@@ -1,4 +1,4 @@
--- `machine::truth` meets its contract. Assumes nothing.
+-- `machine::values::truth` meets its contract. Assumes nothing.
 use mathlib.Core.Path.{_∙_}
 use borrow.Author.Tests.{ne-eqb}
 use borrow.Author.Needs.{needs}
