@@ -9,7 +9,7 @@
 
 enum { STACK = 1 << 18, FILL = 0xA5, BOUND = 98304 };
 
-static uint8_t text[4096], image[ROLVENKO_IMAGE_ROOM];
+static uint8_t text[16384], image[ROLVENKO_IMAGE_ROOM];
 static size_t text_len, image_len;
 static int32_t state[2], row[1];
 static uint64_t answer;
@@ -68,10 +68,10 @@ static void nested(int square) {
                                 condition, condition);
 }
 
-/* The same rule in a text of 2,048 bytes: over 1,024 translate takes scratch memory for the longest image. */
-static void lengthen(void) {
-    memset(text + text_len, ' ', 2048 - text_len);
-    text_len = 2048;
+/* The same rule in a longer text: over 1,024 bytes, and again over 8,192, translate takes larger scratch memory. */
+static void lengthen(size_t length) {
+    memset(text + text_len, ' ', length - text_len);
+    text_len = length;
 }
 
 static void measure(const char *name, void *(*call)(void *), size_t idle, size_t *most) {
@@ -90,7 +90,9 @@ int main(void) {
         nested(square);
         measure("translate", translate, idle, &most[0]);
         image_len = rolvenko_count(answer);
-        lengthen();
+        lengthen(2048);
+        measure("translate", translate, idle, &most[0]);
+        lengthen(8193);
         measure("translate", translate, idle, &most[0]);
         measure("check", check, idle, &most[1]);
         measure("start", start, idle, &most[2]);

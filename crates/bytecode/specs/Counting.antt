@@ -41,7 +41,7 @@ rangesThen nothing k = []
 rangesThen (got n next) k = n ∷ k next
 
 -- The ranges of at most m names from a place on; what is malformed ends them. Behind the counts of a header that is accepted, they
--- are its ranges (proofs: Heading.ranges-of).
+-- are its ranges (proofs: Heading.header-parts).
 unfoldable pub rangesFrom : List ℕ → ℕ → ℕ → List Range
 rangesFrom bytes zero at = []
 rangesFrom bytes (suc m) at = rangesThen (rangeAt bytes at) λ next. rangesFrom bytes m next

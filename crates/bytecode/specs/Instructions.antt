@@ -99,6 +99,6 @@ decoded (some i) next = got i next
 abbrev pub fetchCode : List ℕ → ℕ → ℕ → Read Instruction
 fetchCode bytes code at = cond (hasOperand code) (numberAt bytes at then λ n next. decoded (instructionOf code n) next) (decoded (instructionOf code 0) at)
 
--- the instruction at a place, and the place behind it: the only way in which code is read
+-- the instruction at a place, and the place behind it: every definition reads code through it
 unfoldable pub fetch : List ℕ → ℕ → Read Instruction
 fetch bytes at = cond (ltb at (length bytes)) (fetchCode bytes (getD bytes at 0) (at + 1)) nothing

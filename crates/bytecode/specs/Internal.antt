@@ -1,5 +1,5 @@
 -- What instructions leave, how bytes spell ranges and instructions (Sound cites these), and soundness place by place, as a walk
--- meets it: a shape for proofs. Document 01, "The image" (Sound). Assumes nothing.
+-- meets it: auxiliary definitions for proofs. Document 01, "The image" (Sound). Assumes nothing.
 use Prim.Native.Nat.{ℕ, _+_, _≤_, _<_}
 use mathlib.Core.Path.{_≡_}
 use mathlib.Core.Bool.{Bool, true, false}

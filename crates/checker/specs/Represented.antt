@@ -1,4 +1,4 @@
--- The walk's numbers, and what they stand for in the definition of soundness: a shape for proofs. Assumes nothing.
+-- The walk's numbers, and what they stand for in the definition of soundness: auxiliary definitions for proofs. Assumes nothing.
 use Prim.Native.Nat.{ℕ, zero, suc, _/_, _%_, _^_, _≤_, _<_}
 use mathlib.Core.Bool.{Bool, true, false}
 use mathlib.Core.List.{List, [], _∷_}

@@ -2,9 +2,9 @@
 use Prim.Native.Nat.{ℕ}
 use mathlib.Core.Path.{_≡_, refl, ap, ap₂}
 use mathlib.Core.Bool.{Bool, true, false, _&&_}
-use mathlib.Core.List.{List, [], _∷_}
+use mathlib.Core.List.{List, [], _∷_, map}
 use lib.Dec.{T, eqb, eqb→eq}
-use lib.IntN.{ℤ}
+use lib.IntN.{ℤ, negsuc}
 use Rattle.limits.specs.Answer.{Answer, accepted, refused}
 use Rattle.arith.specs.Values.{eqZ, arithmetic, negation, compares}
 use Rattle.semantics.specs.Program.{within}
@@ -16,8 +16,7 @@ use Rattle.bytecode.specs.Translation.{imageOf}
 use Rattle.bytecode.specs.Check.{checkCounts, checkRange, checkHeader, checkBody, checkOf}
 use Rattle.bytecode.specs.Counting.{headerOf, codeOf}
 use Rattle.machine.specs.Step.{bit, yes}
-use Rattle.machine.specs.Names.{startingState}
-use Rattle.scan.specs.Services.{AfterScan, scanCode, scanOf}
+use Rattle.scan.specs.Services.{AfterStart, AfterScan, startOf, scanCode, scanOf}
 use Rattle.correctness.specs.TraceCorrect.{scansOf}
 use Rattle.translate.specs.Services.{translationOf}
 use Rattle.grammar.specs.Parse.{program, parse, programOf}
@@ -109,15 +108,32 @@ image-same (accepted u) (refused m q) h = absurd h
 image-same (refused n p) (accepted w) h = absurd h
 image-same (refused n p) (refused m q) h = ap₂ refused (eqb→eq n m (and-left (eqb n m) _ h)) (eqb→eq p q (and-right (eqb n m) _ h))
 
+abbrev sameStart : AfterStart → AfterStart → Bool
+sameStart a b = sameAnswer (a .answer) (b .answer) && sameState (a .state) (b .state)
+
+start-made : (x y : Answer (Unit {0})) (s t : List ℤ) → x ≡ y → s ≡ t → _≡_ {A = AfterStart} (record { answer = x; state = s }) (record { answer = y; state = t })
+start-made x y s t e f = rw (e, f)
+
+start-same : (a b : AfterStart) → T (sameStart a b) → a ≡ b
+start-same a b h =
+    start-made (a .answer) (b .answer) (a .state) (b .state) (answer-same (a .answer) (b .answer) (and-left (sameAnswer (a .answer) (b .answer)) _ h))
+    (state-same (a .state) (b .state) (and-right (sameAnswer (a .answer) (b .answer)) _ h))
+
+-- what start leaves of minus ones, and what it should
+abbrev starts : List ℕ → Example → Bool
+starts b e = sameStart (startOf b (map (λ z. negsuc 0) (e .first))) (record { answer = e .verdict; state = e .first })
+
 abbrev testOn : Answer (List ℕ) → Example → Bool
-testOn (accepted b) e = sameAnswer (checkOf b) (e .verdict) && sameScans (scansOf b (startingState (headerOf b)) (e .rows)) (e .results)
+testOn (accepted b) e = sameAnswer (checkOf b) (e .verdict) && (starts b e && sameScans (scansOf b (e .first) (e .rows)) (e .results))
 testOn (refused number place) e = true
 
 on-holds : (a : Answer (List ℕ)) (e : Example) → T (testOn a e) → HoldsOn a e
-on-holds (accepted b) e h = (
-  answer-same (checkOf b) (e .verdict) (and-left (sameAnswer (checkOf b) (e .verdict)) _ h),
-  scans-same _ (e .results) (and-right (sameAnswer (checkOf b) (e .verdict)) _ h),
-)
+on-holds (accepted b) e h =
+    let k = and-right (sameAnswer (checkOf b) (e .verdict)) _ h in (
+      answer-same (checkOf b) (e .verdict) (and-left (sameAnswer (checkOf b) (e .verdict)) _ h),
+      start-same _ (record { answer = e .verdict; state = e .first }) (and-left (starts b e) _ k),
+      scans-same _ (e .results) (and-right (starts b e) _ k),
+    )
 on-holds (refused number place) e h = tt
 
 abbrev test : Example → Bool
@@ -138,7 +154,7 @@ all-hold [] h = tt
 all-hold (e ∷ es) h = (test-holds e (and-left (test e) _ h), all-hold es (and-right (test e) _ h))
 
 computed : T (testAll examples)
-unfolding sameBytesOf kindNumber is isSpace isDigit isLetter isAlphanumeric runOn runEnd sameName wordOf overLong pairOf signOf readOf signAt wordAt digitsAt previousAt tokenOf tokenPast tokenAt sameToken valueOn valueOf expected phrase followed rest chain idFrom idOf withId currentAt previousValueAt literalAt primary negative factor productOf sumOf term expression bracket wholeExpression comparisonOf compared comparisonAt opposite inverted atom connect andOf orOf conjunction condition square wholeCondition listed inRange signedLiteralAt boundAt newName startAt declaration declarationsFrom declarations caseAt casesFrom listFrom plainList partFrom kindAt partsFrom settled agreeingList functionAt changeAt formulas ruleAt rulesFrom program parse groups number zigzag unzigzag grouped numberIn below32 numberAt signedAt instructionOf hasOperand fetch imageOf checkCounts checkRange checkHeader checkBody checkOf headerOf codeOf bit yes within picked arithmetic negation compares programOf translationOf scanCode scanOf
+unfolding sameBytesOf kindNumber is isSpace isDigit isLetter isAlphanumeric runOn runEnd sameName wordOf overLong pairOf signOf readOf signAt wordAt digitsAt previousAt tokenOf tokenPast tokenAt sameToken valueOn valueOf expected phrase followed rest chain idFrom idOf withId currentAt previousValueAt literalAt primary negative factor productOf sumOf term expression bracket wholeExpression comparisonOf compared comparisonAt opposite inverted atom connect andOf orOf conjunction condition square wholeCondition listed inRange signedLiteralAt boundAt newName startAt declaration declarationsFrom declarations caseAt casesFrom listFrom plainList partFrom kindAt partsFrom settled agreeingList functionAt changeAt formulas ruleAt rulesFrom program parse groups number zigzag unzigzag grouped numberIn below32 numberAt signedAt instructionOf hasOperand fetch imageOf checkCounts checkRange checkHeader checkBody checkOf headerOf codeOf bit yes within picked arithmetic negation compares programOf translationOf startOf scanCode scanOf
 computed = tt
 
 pub examples-hold : AllHold examples

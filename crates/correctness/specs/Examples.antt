@@ -1,17 +1,15 @@
 -- The worked examples as one table under one statement. Document 01, "Latches to try". Assumes nothing.
 use Prim.Native.Nat.{ℕ}
 use mathlib.Core.Path.{_≡_}
-use mathlib.Core.List.{List, [], _∷_}
+use mathlib.Core.List.{List, [], _∷_, map}
 use lib.IntN.{ℤ, pos, negsuc}
 use lib.ListN.{take, replicate}
 use Rattle.limits.specs.Answer.{Answer, accepted, refused}
 use Rattle.semantics.specs.Formula.{State}
 use Rattle.lexer.specs.Bytes.{bytes}
 use Rattle.bytecode.specs.Check.{checkOf}
-use Rattle.bytecode.specs.Counting.{headerOf}
-use Rattle.machine.specs.Names.{startingState}
 use Rattle.translate.specs.Services.{AfterTranslation, translationOf}
-use Rattle.scan.specs.Services.{AfterScan}
+use Rattle.scan.specs.Services.{AfterScan, startOf}
 use Rattle.correctness.specs.TraceCorrect.{scansOf}
 
 -- an example gives a text, or the bytes of an image
@@ -32,17 +30,20 @@ abbrev pub imageGiven : Given → Answer (List ℕ)
 imageGiven (text t) = translated (translationOf t (replicate 128 255))
 imageGiven (image b) = accepted b
 
--- the image, or the refusal of the text; what check answers of it; the rows, and what each scan answers and leaves
+-- the image, or the refusal of the text; what check and start answer of it; the state after start; the rows, and what each scan answers
+-- and leaves
 pub record Example : Type 0 where
   pub given : Given
   pub translation : Answer (List ℕ)
   pub verdict : Answer (Unit {0})
+  pub first : State
   pub rows : List (List ℤ)
   pub results : List AfterScan
 
--- of an image: check's answer, and the scans from the declared starts
+-- of an image: check's answer; start, lent a state of minus ones; the scans from the state that it left
 abbrev pub HoldsOn : Answer (List ℕ) → Example → Type 0
-HoldsOn (accepted b) e = (checkOf b ≡ e .verdict) × (scansOf b (startingState (headerOf b)) (e .rows) ≡ e .results)
+HoldsOn (accepted b) e =
+    (checkOf b ≡ e .verdict) × (startOf b (map (λ z. negsuc 0) (e .first)) ≡ record { answer = e .verdict; state = e .first }) × (scansOf b (e .first) (e .rows) ≡ e .results)
 HoldsOn (refused number place) e = Unit {0}
 
 -- the definitions of the services give what the table says
@@ -62,18 +63,19 @@ abbrev pub stopped : ℕ → ℕ → State → AfterScan
 stopped k n s = record { answer = refused k 0; steps = n; state = s }
 
 -- a text whose image is sound
-abbrev pub sound : List ℕ → List ℕ → List (List ℤ) → List AfterScan → Example
-sound t b rows results = record { given = text t; translation = accepted b; verdict = accepted tt; rows = rows; results = results }
+abbrev pub sound : List ℕ → List ℕ → State → List (List ℤ) → List AfterScan → Example
+sound t b first rows results = record { given = text t; translation = accepted b; verdict = accepted tt; first = first; rows = rows; results = results }
 
 -- L1 the empty text: image 00 00
 abbrev pub L1 : Example
-L1 = sound (bytes "") (0x00 ∷ 0x00 ∷ []) ([] ∷ (pos 1 ∷ []) ∷ []) (done 0 [] ∷ stopped 12 0 [] ∷ [])
+L1 = sound (bytes "") (0x00 ∷ 0x00 ∷ []) [] ([] ∷ (pos 1 ∷ []) ∷ []) (done 0 [] ∷ stopped 12 0 [] ∷ [])
 
 -- L2 17 bytes, 7 instructions; v runs 0, 1, 1
 abbrev pub L2 : Example
 L2 = sound
     (bytes "var v 0..1; v: GX(~(v = _v) -> [_v = 0] & v = (1)); v: GX(v = _v -> ~([_v = 0]));")
     (0x00 ∷ 0x01 ∷ 0x00 ∷ 0x02 ∷ 0x00 ∷ 0x03 ∷ 0x00 ∷ 0x01 ∷ 0x00 ∷ 0x0A ∷ 0x13 ∷ 0x01 ∷ 0x02 ∷ 0x14 ∷ 0x00 ∷ 0x16 ∷ 0x00 ∷ [])
+    (pos 0 ∷ [])
     ([] ∷ [] ∷ [])
     (done 7 (pos 1 ∷ []) ∷ done 7 (pos 1 ∷ []) ∷ [])
 
@@ -85,6 +87,7 @@ L3 = sound
     ∷ 0x01 ∷ 0x0E ∷ 0x09 ∷ 0x01 ∷ 0x04 ∷ 0x07 ∷ 0x15 ∷ 0x00
     ∷ 0x01 ∷ 0x0E ∷ 0x09 ∷ 0x01 ∷ 0x04 ∷ 0x08 ∷ 0x15 ∷ 0x01
     ∷ 0x01 ∷ 0x0E ∷ 0x01 ∷ 0x04 ∷ 0x09 ∷ 0x08 ∷ 0x15 ∷ 0x02 ∷ [])
+    (pos 0 ∷ pos 0 ∷ pos 0 ∷ [])
     ([] ∷ [])
     (done 15 (negsuc 2 ∷ negsuc 0 ∷ pos 1 ∷ []) ∷ [])
 
@@ -98,6 +101,7 @@ L4 = sound
     ∷ 0x02 ∷ 0x00 ∷ 0x01 ∷ 0x02 ∷ 0x0A ∷ 0x13
     ∷ 0x01 ∷ 0xFE ∷ 0xFF ∷ 0xFF ∷ 0xFF ∷ 0x0F ∷ 0x09 ∷ 0x01 ∷ 0x02 ∷ 0x05 ∷ 0x01 ∷ 0x02 ∷ 0x09 ∷ 0x07 ∷ 0x14 ∷ 0x01
     ∷ 0x16 ∷ 0x01 ∷ [])
+    (pos 0 ∷ pos 5 ∷ [])
     ((pos 1 ∷ []) ∷ (pos 0 ∷ []) ∷ [])
     (stopped 14 23 (pos 0 ∷ pos 5 ∷ []) ∷ done 25 (pos 0 ∷ pos 0 ∷ []) ∷ [])
 
@@ -106,15 +110,17 @@ abbrev pub L5 : Example
 L5 = sound
     (bytes "var v 0..1; v: GX(v = (((((((((((((((((0))))))))))))))))));")
     (0x00 ∷ 0x01 ∷ 0x00 ∷ 0x02 ∷ 0x00 ∷ 0x01 ∷ 0x00 ∷ 0x15 ∷ 0x00 ∷ [])
+    (pos 0 ∷ [])
     ([] ∷ [])
     (done 2 (pos 0 ∷ []) ∷ [])
 
--- 17 give 8, at the 17th
+-- 17 give 8, at the 17th (of a refused text only the translation is stated; the other fields are unused)
 abbrev pub L5-deeper : Example
 L5-deeper = record {
   given = text (bytes "var v 0..1; v: GX(v = ((((((((((((((((((0)))))))))))))))))));");
   translation = refused 8 39;
   verdict = accepted tt;
+  first = [];
   rows = [];
   results = [];
 }
@@ -127,6 +133,7 @@ L6 = sound
     ∷ 0x03 ∷ 0x00 ∷ 0x01 ∷ 0x00 ∷ 0x0A ∷ 0x13 ∷ 0x01 ∷ 0x02 ∷ 0x14 ∷ 0x00
     ∷ 0x03 ∷ 0x00 ∷ 0x01 ∷ 0x00 ∷ 0x0A ∷ 0x13 ∷ 0x01 ∷ 0x02 ∷ 0x14 ∷ 0x00
     ∷ 0x16 ∷ 0x00 ∷ [])
+    (pos 0 ∷ [])
     ([] ∷ [])
     (stopped 15 10 (pos 0 ∷ []) ∷ [])
 
@@ -136,6 +143,7 @@ L7 = sound
     (bytes "input i 0..1; var v 0..1; v: GX(~(v = _v) -> [i = 1] & v = (_v)); v: GX(v = _v -> ~([i = 1]));")
     (0x01 ∷ 0x01 ∷ 0x00 ∷ 0x02 ∷ 0x00 ∷ 0x00 ∷ 0x02 ∷ 0x00
     ∷ 0x02 ∷ 0x00 ∷ 0x01 ∷ 0x02 ∷ 0x0A ∷ 0x13 ∷ 0x03 ∷ 0x01 ∷ 0x14 ∷ 0x01 ∷ 0x16 ∷ 0x01 ∷ [])
+    (pos 0 ∷ pos 0 ∷ [])
     ((pos 0 ∷ []) ∷ (pos 1 ∷ []) ∷ (pos 2 ∷ []) ∷ [])
     (done 7 (pos 0 ∷ pos 0 ∷ []) ∷ stopped 16 6 (pos 0 ∷ pos 0 ∷ []) ∷ stopped 13 0 (pos 0 ∷ pos 0 ∷ []) ∷ [])
 
@@ -144,6 +152,7 @@ abbrev pub L8 : Example
 L8 = sound
     (bytes "var v 64..64 init 64; v: GX(v = (_v));")
     (0x00 ∷ 0x01 ∷ 0x80 ∷ 0x01 ∷ 0x80 ∷ 0x01 ∷ 0x80 ∷ 0x01 ∷ 0x03 ∷ 0x00 ∷ 0x15 ∷ 0x00 ∷ [])
+    (pos 64 ∷ [])
     ([] ∷ [])
     (done 2 (pos 64 ∷ []) ∷ [])
 
@@ -156,6 +165,7 @@ L8-unsound = record {
   given = image longer;
   translation = accepted longer;
   verdict = refused 11 2;
+  first = [];
   rows = [] ∷ [];
   results = record { answer = refused 11 2; steps = 0; state = [] } ∷ [];
 }
@@ -168,6 +178,7 @@ launch = sound
     ∷ 0x03 ∷ 0x01 ∷ 0x01 ∷ 0x00 ∷ 0x0A ∷ 0x02 ∷ 0x00 ∷ 0x01 ∷ 0x02 ∷ 0x0A ∷ 0x11 ∷ 0x13 ∷ 0x01 ∷ 0x02 ∷ 0x14 ∷ 0x01
     ∷ 0x03 ∷ 0x01 ∷ 0x01 ∷ 0x02 ∷ 0x0A ∷ 0x02 ∷ 0x00 ∷ 0x01 ∷ 0x00 ∷ 0x0A ∷ 0x11 ∷ 0x13 ∷ 0x01 ∷ 0x00 ∷ 0x14 ∷ 0x01
     ∷ 0x16 ∷ 0x01 ∷ [])
+    (pos 0 ∷ pos 0 ∷ [])
     ((pos 1 ∷ []) ∷ (pos 1 ∷ []) ∷ (pos 2 ∷ []) ∷ (pos 0 ∷ []) ∷ [])
     (done 21 (pos 1 ∷ pos 1 ∷ []) ∷ done 21 (pos 1 ∷ pos 1 ∷ []) ∷ stopped 13 0 (pos 1 ∷ pos 1 ∷ []) ∷ done 21 (pos 0 ∷ pos 0 ∷ []) ∷ [])
 

@@ -65,7 +65,8 @@ pub record TraceCorrect (p : Program) (image : List ℕ) (lent : State) (rows : 
   pub steps : StepsAre (instructionsIn image) (scansOf image (begun image lent) rows)
 
 -- Demand 3 for a text whose translation into a buffer succeeded with n bytes: the image is the first n bytes of the buffer left,
--- and start is lent a state of the right length with any values.
+-- and start is lent a state of the right length with any values. That the translation succeeded is the premise of `trace-correct`, not a
+-- field.
 pub record Demand3 (text buffer : List ℕ) (n : ℕ) (lent : State) (rows : List (List ℤ)) : Type 0 where
   pub program : Program
   pub parsed : programOf text ≡ accepted program

@@ -1,4 +1,4 @@
--- The ranges of a header as they are checked and stored in one pass: a shape for proofs. Assumes nothing.
+-- The ranges of a header as they are checked and stored in one pass: auxiliary definitions for proofs. Assumes nothing.
 use mathlib.Core.Path.{_≡_}
 use mathlib.Core.List.{List}
 use Prim.Native.Nat.{ℕ, _≤_}

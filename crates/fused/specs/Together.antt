@@ -1,4 +1,4 @@
--- What the walk and the machine do together on one instruction, and over the code: shapes for proofs. Nothing is said of an answer
+-- What the walk and the machine do together on one instruction, and over the code: auxiliary definitions for proofs. Nothing is said of an answer
 -- Doubt. Assumes nothing.
 use mathlib.Core.Path.{_≡_}
 use mathlib.Core.Bool.{Bool, true, false, not, cond}

@@ -1,4 +1,4 @@
--- The bytes of each part of a program, as a translator writes them while it reads: a shape for proofs and contracts. The law
+-- The bytes of each part of a program, as a translator writes them while it reads: auxiliary definitions for proofs and inner contracts. The law
 -- `image-emitted` says that they make bytecode's `imageOf`. Document 01, "The image". Assumes nothing.
 use Prim.Native.Nat.{ℕ, _-_}
 use mathlib.Core.List.{List, [], _∷_, _++_}

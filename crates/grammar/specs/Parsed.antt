@@ -61,6 +61,7 @@ rest join operator operand text (suc f) a n =
     onToken (tokenAt text n)
     (λ k s m. onOption (operator k) (accepted a n) (λ o. andThen (operand m) (λ b l. rest join operator operand text f (join o a b) l)))
 
--- an operand, then operators and operands. No text holds as many operators as it has bytes, and one more
+-- an operand, then operators and operands. The bound on the recursion, one more than the bytes of the text, is never reached: each
+-- operator has a byte
 unfoldable pub chain : {O A : Type 0} → (O → A → A → A) → (Kind → Option O) → (ℕ → Parsed A) → List ℕ → ℕ → Parsed A
 chain join operator operand text at = andThen (operand at) (λ a n. rest join operator operand text (suc (length text)) a n)

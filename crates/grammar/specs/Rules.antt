@@ -76,11 +76,12 @@ abbrev pub onCompared : Compared → (ℕ → Compared) → Compared
 onCompared (agrees n) f = f n
 onCompared (differs p) f = differs p
 
--- the token t at hand, where a token of kind k is wanted, and if the test holds of the one found then `next` from after it
+-- the token found: if it passes the test, `next` from the place after it; else it is the first that differs
 abbrev pub onFound : Read → (Kind → ℕ → ℕ → Bool) → (ℕ → Compared) → Compared
 onFound (token k s n) test next = let more = next n in pick (test k s n) more (differs s)
 onFound (fault p) test next = differs p
 
+-- the token wanted, from the first list (which was accepted, so it is a token)
 abbrev pub onWanted : Read → (Kind → ℕ → ℕ → Compared) → Compared
 onWanted (token k s n) f = f k s n
 onWanted (fault p) f = differs p

@@ -1,4 +1,4 @@
--- The reader's inside: a number of at most so many groups. A shape for proofs. Assumes nothing.
+-- The reader's inside: a number of at most so many groups. Auxiliary definitions for proofs. Assumes nothing.
 use Prim.Native.Nat.{ℕ, _+_}
 use mathlib.Core.Bool.{cond}
 use lib.Dec.{leb}

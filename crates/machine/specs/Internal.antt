@@ -1,4 +1,4 @@
--- The machine's instructions in groups, as the running code works them: shapes for proofs. Assumes nothing.
+-- The machine's instructions in groups, as the running code works them: auxiliary definitions for proofs. Assumes nothing.
 use mathlib.Core.Path.{_≡_}
 use mathlib.Core.Bool.{Bool, false, _&&_, _||_, cond}
 use mathlib.Core.List.{List, _∷_}

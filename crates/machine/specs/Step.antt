@@ -1,4 +1,5 @@
--- One instruction of the machine that runs an image's code. It is total: on anything that no sound image has, it answers 11.
+-- One instruction of the machine that runs an image's code. It is total: a missing operand, a 41st value, an id that is not declared
+-- and a code that is not listed are 11. It looks for no other fault of unsound code (sorts, gates, second rules): scan checks the image first.
 -- Document 01, "The image" and "Values and formulas". Assumes nothing.
 use Prim.Native.Nat.{ℕ}
 use mathlib.Core.Bool.{Bool, true, false, not, _&&_, _||_, cond}

@@ -1,4 +1,4 @@
--- The scans of a list of rows as the running code records them: shapes for proofs. Assumes nothing.
+-- The scans of a list of rows as the running code records them: auxiliary definitions for proofs. Assumes nothing.
 use Prim.Native.Nat.{ℕ, _+_, _≤_, _<_, min}
 use mathlib.Core.Path.{_≡_}
 use mathlib.Core.List.{List, [], _∷_}

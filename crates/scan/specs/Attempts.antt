@@ -1,4 +1,4 @@
--- What an attempt to check and scan in one pass stands for: shapes for proofs. Of a doubt it is only said that the state is as found.
+-- What an attempt to check and scan in one pass stands for: auxiliary definitions for proofs. Of a doubt it is only said that the state is as found.
 -- Assumes nothing.
 use mathlib.Core.Path.{_≡_}
 use mathlib.Core.List.{List}

@@ -1,4 +1,4 @@
--- The parts of a scan as the running code works them: shapes for proofs. Assumes nothing.
+-- The parts of a scan as the running code works them: auxiliary definitions for proofs. Assumes nothing.
 use mathlib.Core.Path.{_≡_}
 use mathlib.Core.Bool.{false}
 use mathlib.Core.List.{List, []}

@@ -1,4 +1,4 @@
--- The descent over a whole text in two parts, the declarations and the rules: shapes for the contracts of the functions inside.
+-- The descent over a whole text in two parts, the declarations and the rules: auxiliary definitions for the contracts of the functions inside.
 -- Assumes nothing.
 use Prim.Native.Nat.{ℕ, _+_}
 use mathlib.Core.Path.{_≡_}

@@ -25,24 +25,30 @@ highest-fits = record { sfits = omega arith }
 low-fits : (c : tie.After-known-told) → SFits w32 (c .before .first .given .0 .0)
 low-fits c = search needs
 
-low-is : (c : tie.After-known-told) → boundAt (inRange lowest highest) (c .before .before .before .before .before .before .args .text .now) (c .before .before .before .before .before .before .args .at) ≡ accepted (c .before .first .given .0 .0) (c .before .first .given .0 .1 .0)
+low-is : (c : tie.After-known-told) → let a = c .before .before .before .before .before .before .args in let low = c .before .first .given .0 in
+    boundAt (inRange lowest highest) (a .text .now) (a .at) ≡ accepted (low .0) (low .1 .0)
 low-is c = sym (c .before .before .before .bound-at .ensures) ∙ ap boundOf (c .before .first .given .1)
 
-dots-is : (c : tie.After-known-told2) → expected (c .before .before .before .before .before .before .before .before .before .before .args .text .now) (sign dots) (c .before .before .before .before .before .first .given .0 .1 .0) ≡ accepted tt (c .before .between .given .0 .0)
+dots-is : (c : tie.After-known-told2) → let at-low = c .before .before .before .before in let a = at-low .before .before .before .before .before .before .args in
+    expected (a .text .now) (sign dots) (at-low .before .first .given .0 .1 .0) ≡ accepted tt (c .before .between .given .0 .0)
 unfolding kindOf
 dots-is c = sym (c .before .before .before .expect .ensures) ∙ ap expectedOf (c .before .between .given .1)
 
 high-fits : (c : tie.After-known-told3) → SFits w32 (c .before .second .given .0 .0)
 high-fits c = search needs
 
-high-is : (c : tie.After-known-told3) → boundAt (inRange (c .before .before .before .before .before .before .before .before .before .first .given .0 .0) highest) (c .before .before .before .before .before .before .before .before .before .before .before .before .before .before .args .text .now) (c .before .before .before .before .before .between .given .0 .0) ≡ accepted (c .before .second .given .0 .0) (c .before .second .given .0 .1 .0)
+high-is : (c : tie.After-known-told3) → let at-dots = c .before .before .before .before in let at-low = at-dots .before .before .before .before in let a = at-low .before .before .before .before .before .before .args in let high = c .before .second .given .0 in
+    boundAt (inRange (at-low .before .first .given .0 .0) highest) (a .text .now) (at-dots .before .between .given .0 .0) ≡ accepted (high .0) (high .1 .0)
 high-is c = sym (bound-kept _ _ (low-fits (c .before .before .before .before .before .before .before .before)) highest-fits _ _ (c .before .before .before .bound-at2 .ensures)) ∙ ap boundOf (c .before .second .given .1)
 
 start-fits : (c : tie.After-known-told4) → SFits w32 (c .before .third .given .0 .0)
 start-fits c = search needs
 
-start-is : (c : tie.After-known-told4) → startAt (c .before .before .before .before .before .before .before .before .before .before .before .before .before .before .before .before .before .before .args .text .now) (c .before .before .before .before .before .before .before .before .before .before .before .before .before .first .given .0 .0) (c .before .before .before .before .before .second .given .0 .0) (c .before .before .before .before .before .second .given .0 .1 .0) ≡ accepted (c .before .third .given .0 .0) (c .before .third .given .0 .1 .0)
-start-is c = sym (start-kept _ _ (low-fits (c .before .before .before .before .before .before .before .before .before .before .before .before)) (high-fits (c .before .before .before .before)) _ _ (c .before .before .before .start-at .ensures)) ∙ ap boundOf (c .before .third .given .1)
+start-is : (c : tie.After-known-told4) → let at-high = c .before .before .before .before in let at-low = at-high .before .before .before .before .before .before .before .before in let a = at-low .before .before .before .before .before .before .args in let start = c .before .third .given .0 in
+    startAt (a .text .now) (at-low .before .first .given .0 .0) (at-high .before .second .given .0 .0) (at-high .before .second .given .0 .1 .0) ≡ accepted (start .0) (start .1 .0)
+start-is c =
+    let at-high = c .before .before .before .before in
+    sym (start-kept _ _ (low-fits (at-high .before .before .before .before .before .before .before .before)) (high-fits at-high) _ _ (c .before .before .before .start-at .ensures)) ∙ ap boundOf (c .before .third .given .1)
 
 returns : tie.Need-returns
 returns c = refuses-bound _ _ _ _ _ (c .before .enum-told .given .1) (c .out-of-limit .ensures) (no-low _ _ _ _ (sym (c .before .before .before .bound-at .ensures) ∙ ap boundOf (c .before .enum-told .given .1)))
@@ -55,18 +61,29 @@ returns-2 c =
 
 returns-3 : tie.Need-returns-3
 returns-3 c =
+    let at-dots = c .before .before .before .before in
+    let at-low = at-dots .before .before .before .before in
     refuses-bound _ _ _ _ _ (c .before .enum-told3 .given .1) (c .out-of-limit2 .ensures)
-    (no-high _ _ _ _ (low-is (c .before .before .before .before .before .before .before .before)) _ (dots-is (c .before .before .before .before)) _ _ (sym (bound-kept _ _ (low-fits (c .before .before .before .before .before .before .before .before)) highest-fits _ _ (c .before .before .before .bound-at2 .ensures)) ∙ ap boundOf (c .before .enum-told3 .given .1)))
+    (no-high _ _ _ _ (low-is at-low) _ (dots-is at-dots) _ _
+    (sym (bound-kept _ _ (low-fits at-low) highest-fits _ _ (c .before .before .before .bound-at2 .ensures)) ∙ ap boundOf (c .before .enum-told3 .given .1)))
 
 returns-4 : tie.Need-returns-4
 returns-4 c =
+    let at-high = c .before .before .before .before in
+    let at-dots = at-high .before .before .before .before in
+    let at-low = at-dots .before .before .before .before in
     refuses-bound _ _ _ _ _ (c .before .enum-told4 .given .1) (c .out-of-limit3 .ensures)
-    (no-start _ _ _ _ (low-is (c .before .before .before .before .before .before .before .before .before .before .before .before)) _ (dots-is (c .before .before .before .before .before .before .before .before)) _ _ (high-is (c .before .before .before .before)) _ _ (sym (start-kept _ _ (low-fits (c .before .before .before .before .before .before .before .before .before .before .before .before)) (high-fits (c .before .before .before .before)) _ _ (c .before .before .before .start-at .ensures)) ∙ ap boundOf (c .before .enum-told4 .given .1)))
+    (no-start _ _ _ _ (low-is at-low) _ (dots-is at-dots) _ _ (high-is at-high) _ _
+    (sym (start-kept _ _ (low-fits at-low) (high-fits at-high) _ _ (c .before .before .before .start-at .ensures)) ∙ ap boundOf (c .before .enum-told4 .given .1)))
 
 returns-5 : tie.Need-returns-5
 returns-5 c =
-    writes _ _ _ _ _ _ _ _ (whole-range _ _ _ _ (low-is (c .before .before .before .before .before .before .before .before .before .before .before .before .before .before .before .before)) _ (dots-is (c .before .before .before .before .before .before .before .before .before .before .before .before)) _ _ (high-is (c .before .before .before .before .before .before .before .before)) _ _ (start-is (c .before .before .before .before)))
-    (rw (same32 (low-fits (c .before .before .before .before .before .before .before .before .before .before .before .before .before .before .before .before)), same32 (high-fits (c .before .before .before .before .before .before .before .before)), same32 (start-fits (c .before .before .before .before))) at (c .before .before .put-range .ensures))
+    let at-start = c .before .before .before .before in
+    let at-high = at-start .before .before .before .before in
+    let at-dots = at-high .before .before .before .before in
+    let at-low = at-dots .before .before .before .before in
+    writes _ _ _ _ _ _ _ _ (whole-range _ _ _ _ (low-is at-low) _ (dots-is at-dots) _ _ (high-is at-high) _ _ (start-is at-start))
+    (rw (same32 (low-fits at-low), same32 (high-fits at-high), same32 (start-fits at-start)) at (c .before .before .put-range .ensures))
 
 pub range-spec : {M : Type 1} → statement M
 range-spec =

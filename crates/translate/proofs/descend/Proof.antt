@@ -48,7 +48,7 @@ ruled : (c : tie.After-rules) →
 ruled c =
     let at-head = c .before .before .before .before .before .before in
     let at-read-heading = at-head .before .before .before .before .before .before .before .before in
-    let x = declared (at-head) in
+    let x = declared at-head in
     subst (λ (sc : Scope). Writes codeR length (rulesFrom 65 sc [] (at-head .head .given .0 .0)) (at-head .head .given .0 .1 .0) (at-read-heading .read-heading .last .1 .1 .1 .0) (c .rules .last .1 .1 .1 .1 .1 .0) (c .rules .result))
     (scope-is _ _ _ (x .read) _ _ _ (x .held) (x .counted) (x .named) (c .before .before .before .before .first-names .ensures)) (c .rules .ensures)
 
@@ -59,13 +59,25 @@ returns-2 c =
     rw (c .unruled .ensures, e) (no-rules _ _ _ _ _ (x .read) _ _ _ (x .is-read) (rules-refused _ _ _ _ (ruled (c .before .before .before .before .before)) e))
 
 cast-put-byte : tie.Need-cast-put-byte
-cast-put-byte c = let x = declared (c .before .before .before .before .before .before .before .before .before .before .before .before) in let f = few (c .before .before .before .before .before .before .before .before .before .before .before .before) in omega (arith, x .counted, f .inputs, f .names)
+cast-put-byte c =
+    let at-heading = c .before .before .before .before .before .before .before .before .before .before .before .before in
+    let x = declared at-heading in
+    let f = few at-heading in
+    omega (arith, x .counted, f .inputs, f .names)
 
 sub-put-byte : tie.Need-sub-put-byte
-sub-put-byte c = let x = declared (c .before .before .before .before .before .before .before .before .before .before .before .before .before .before .before .before) in let f = few (c .before .before .before .before .before .before .before .before .before .before .before .before .before .before .before .before) in omega (arith, x .counted, x .named, f .inputs)
+sub-put-byte c =
+    let at-heading = c .before .before .before .before .before .before .before .before .before .before .before .before .before .before .before .before in
+    let x = declared at-heading in
+    let f = few at-heading in
+    omega (arith, x .counted, x .named, f .inputs)
 
 cast-put-byte-2 : tie.Need-cast-put-byte-2
-cast-put-byte-2 c = let x = declared (c .before .before .before .before .before .before .before .before .before .before .before .before .before .before .before .before) in let f = few (c .before .before .before .before .before .before .before .before .before .before .before .before .before .before .before .before) in omega (arith, x .counted, x .named, f .inputs, f .names)
+cast-put-byte-2 c =
+    let at-heading = c .before .before .before .before .before .before .before .before .before .before .before .before .before .before .before .before in
+    let x = declared at-heading in
+    let f = few at-heading in
+    omega (arith, x .counted, x .named, f .inputs, f .names)
 
 same-length-7 : tie.Need-same-length-7
 same-length-7 c = c .before .before .before .before .before .before .before .before .before .before .before .before .before .before .before .before .before .before .before .before .before .before .before .before .before .before .before .read-heading .kept .1 .0
@@ -74,9 +86,11 @@ returns-3 : tie.Need-returns-3
 returns-3 c =
     let at-put-byte = c .before .before .before .before .before .before in
     let at-read = at-put-byte .before .before .before in
-    let x = declared (c .before .before .before .before .before .before .before .before .before .before .before .before .before .before .before .before .before .before .before) in
-    let y = rules-read _ _ _ _ (ruled (c .before .before .before .before .before .before .before .before .before .before .before .before .before)) (at-read .read .given .1) in
-    rw (c .before .before .put-byte2 .ensures .1, at-put-byte .put-byte .ensures .1) (descends-whole _ _ _ _ _ _ _ _ _ _ _ _ x (few (c .before .before .before .before .before .before .before .before .before .before .before .before .before .before .before .before .before .before .before)) (y .0) (y .1) (y .2) (y .3))
+    let at-rules = at-read .before .before .before .before in
+    let at-heading = at-rules .before .before .before .before .before .before in
+    let x = declared at-heading in
+    let y = rules-read _ _ _ _ (ruled at-rules) (at-read .read .given .1) in
+    rw (c .before .before .put-byte2 .ensures .1, at-put-byte .put-byte .ensures .1) (descends-whole _ _ _ _ _ _ _ _ _ _ _ _ x (few at-heading) (y .0) (y .1) (y .2) (y .3))
 
 pub descend-spec : {M : Type 1} → statement M
 descend-spec =

@@ -29,7 +29,7 @@ unfolding headerAfter
 declarations-requires-2 c κs =
     let at-first = c .before .before .before .before in
     let start = at-first .before .before .before .before .before .before .before .before .before .before .before .before .before .before .before .before in
-    let x = all-inputs (at-first) in
+    let x = all-inputs at-first in
     let f = inputs-few (start .args .text .now) (start .pre .0) (x .all) (at-first .first .given .0 .0) (x .read) in
     let r = start .pre .1 in (
       (omega arith, omega (arith, x .ended, f .1, f .2, start .pre .0)),
