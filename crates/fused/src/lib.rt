@@ -41,6 +41,14 @@ pub enum Attempt {
     Doubt,
 }
 
+// The operand of the instruction at a place.
+fn operand(code: &[u8], at: usize) -> leb128::Unsigned
+    requires { ⌜ at < length (now code) ⌝ }
+    ensures { λ r. ⌜ unsignedRead r ≡ numberAt (now (code .entry)) (at + 1) ⌝ }
+{
+    leb128::unsigned_at(code, at + 1)
+}
+
 // An instruction that is passed over: only the walk moves.
 fn over(b: Progress, code: u8, n: u64, next: usize, passing: bool) -> Moved
     requires { ⌜ Small (b .walk) × (n < 2 ^ 32) ⌝ }
@@ -68,19 +76,19 @@ fn pass(code: &[u8], b: Progress) -> Moved
     let behind = at + 1;
     match byte {
         1 => {
-            let leb128::Unsigned::Number(n, next) = leb128::unsigned_at(code, behind) else {
+            let leb128::Unsigned::Number(n, next) = operand(code, at) else {
                 return Moved::Doubt;
             };
             over(b, 1, n, next, true)
         }
         2 => {
-            let leb128::Unsigned::Number(n, next) = leb128::unsigned_at(code, behind) else {
+            let leb128::Unsigned::Number(n, next) = operand(code, at) else {
                 return Moved::Doubt;
             };
             over(b, 2, n, next, true)
         }
         3 => {
-            let leb128::Unsigned::Number(n, next) = leb128::unsigned_at(code, behind) else {
+            let leb128::Unsigned::Number(n, next) = operand(code, at) else {
                 return Moved::Doubt;
             };
             over(b, 3, n, next, true)
@@ -92,7 +100,7 @@ fn pass(code: &[u8], b: Progress) -> Moved
         8 => over(b, 8, 0, behind, true),
         9 => over(b, 9, 0, behind, true),
         20 => {
-            let leb128::Unsigned::Number(n, next) = leb128::unsigned_at(code, behind) else {
+            let leb128::Unsigned::Number(n, next) = operand(code, at) else {
                 return Moved::Doubt;
             };
             over(b, 20, n, next, false)
@@ -207,41 +215,10 @@ fn advance_one(
     }
     let at = b.at;
     let byte = code[at];
-    let behind = at + 1;
     match byte {
-        1 => take_operand(
-            code,
-            low,
-            high,
-            prev,
-            cur,
-            vals,
-            b,
-            1,
-            leb128::unsigned_at(code, behind),
-        ),
-        2 => take_operand(
-            code,
-            low,
-            high,
-            prev,
-            cur,
-            vals,
-            b,
-            2,
-            leb128::unsigned_at(code, behind),
-        ),
-        3 => take_operand(
-            code,
-            low,
-            high,
-            prev,
-            cur,
-            vals,
-            b,
-            3,
-            leb128::unsigned_at(code, behind),
-        ),
+        1 => take_operand(code, low, high, prev, cur, vals, b, 1, operand(code, at)),
+        2 => take_operand(code, low, high, prev, cur, vals, b, 2, operand(code, at)),
+        3 => take_operand(code, low, high, prev, cur, vals, b, 3, operand(code, at)),
         4 => take_alone(code, low, high, prev, cur, vals, b, 4),
         5 => take_alone(code, low, high, prev, cur, vals, b, 5),
         6 => take_alone(code, low, high, prev, cur, vals, b, 6),
@@ -258,39 +235,9 @@ fn advance_one(
         17 => take_alone(code, low, high, prev, cur, vals, b, 17),
         18 => take_alone(code, low, high, prev, cur, vals, b, 18),
         19 => take_alone(code, low, high, prev, cur, vals, b, 19),
-        20 => take_operand(
-            code,
-            low,
-            high,
-            prev,
-            cur,
-            vals,
-            b,
-            20,
-            leb128::unsigned_at(code, behind),
-        ),
-        21 => take_operand(
-            code,
-            low,
-            high,
-            prev,
-            cur,
-            vals,
-            b,
-            21,
-            leb128::unsigned_at(code, behind),
-        ),
-        22 => take_operand(
-            code,
-            low,
-            high,
-            prev,
-            cur,
-            vals,
-            b,
-            22,
-            leb128::unsigned_at(code, behind),
-        ),
+        20 => take_operand(code, low, high, prev, cur, vals, b, 20, operand(code, at)),
+        21 => take_operand(code, low, high, prev, cur, vals, b, 21, operand(code, at)),
+        22 => take_operand(code, low, high, prev, cur, vals, b, 22, operand(code, at)),
         _ => Moved::Doubt,
     }
 }

@@ -25,20 +25,20 @@ at-byte : (c : tie.After-shared-slice-known2) (byte : ℕ) (operand : Bool) → 
 at-byte c byte operand is has = let pre = c .before .before .before .pre in (pre .0, (record { inside = pre .1; is = is; has = has }, c .before .if1 .left))
 
 -- and of one with an operand, once that is read
-at-operand : (c : tie.After-shared-slice-known2) (byte : ℕ) → let a = c .before .before .before .args in
+with-operand : (c : tie.After-shared-slice-known2) (byte : ℕ) → let a = c .before .before .before .args in
     getD (a .code .now) (a .b .at) 0 ≡ byte → hasOperand byte ≡ true → (read : Unsigned) → unsignedRead read ≡ numberAt (a .code .now) (a .b .at + 1)
     → Ready (a .low .now) (a .high .now) (a .prev .now) (a .cur .now) (a .vals .now) (a .b)
     × ((AtByte (a .code .now) (a .b) byte true × (a .b .passing ≡ false)) × (unsignedRead read ≡ numberAt (a .code .now) (a .b .at + 1)))
-at-operand c byte is has read e = let h = at-byte c byte true is has in (h .0, (h .1, e))
+with-operand c byte is has read e = let h = at-byte c byte true is has in (h .0, (h .1, e))
 
 pub advance-one-spec : {M : Type 1} → statement M
 unfolding hasOperand
 advance-one-spec =
     tie.close
-    (tie.spec (λ c κs. search needs) returns (λ c. search needs) (λ c. search needs)
-    (λ c κs. search needs) (λ c κs. at-operand (c .before .before .before .before) 1 (c .before .before .before .match .keys1) refl (c .unsigned-at .result) (c .unsigned-at .ensures))
-    (λ c κs. search needs) (λ c κs. at-operand (c .before .before .before .before) 2 (c .before .before .before .match .keys2) refl (c .unsigned-at2 .result) (c .unsigned-at2 .ensures))
-    (λ c κs. search needs) (λ c κs. at-operand (c .before .before .before .before) 3 (c .before .before .before .match .keys3) refl (c .unsigned-at3 .result) (c .unsigned-at3 .ensures))
+    (tie.spec (λ c κs. search needs) returns (λ c. search needs)
+    (λ c κs. search needs) (λ c κs. with-operand (c .before .before .before .before) 1 (c .before .before .before .match .keys1) refl (c .operand .result) (c .operand .ensures))
+    (λ c κs. search needs) (λ c κs. with-operand (c .before .before .before .before) 2 (c .before .before .before .match .keys2) refl (c .operand2 .result) (c .operand2 .ensures))
+    (λ c κs. search needs) (λ c κs. with-operand (c .before .before .before .before) 3 (c .before .before .before .match .keys3) refl (c .operand3 .result) (c .operand3 .ensures))
     (λ c κs. at-byte (c .before .before .before) 4 false (c .before .before .match .keys4) refl)
     (λ c κs. at-byte (c .before .before .before) 5 false (c .before .before .match .keys5) refl)
     (λ c κs. at-byte (c .before .before .before) 6 false (c .before .before .match .keys6) refl)
@@ -55,9 +55,9 @@ advance-one-spec =
     (λ c κs. at-byte (c .before .before .before) 17 false (c .before .before .match .keys17) refl)
     (λ c κs. at-byte (c .before .before .before) 18 false (c .before .before .match .keys18) refl)
     (λ c κs. at-byte (c .before .before .before) 19 false (c .before .before .match .keys19) refl)
-    (λ c κs. search needs) (λ c κs. at-operand (c .before .before .before .before) 20 (c .before .before .before .match .keys20) refl (c .unsigned-at4 .result) (c .unsigned-at4 .ensures))
-    (λ c κs. search needs) (λ c κs. at-operand (c .before .before .before .before) 21 (c .before .before .before .match .keys21) refl (c .unsigned-at5 .result) (c .unsigned-at5 .ensures))
-    (λ c κs. search needs) (λ c κs. at-operand (c .before .before .before .before) 22 (c .before .before .before .match .keys22) refl (c .unsigned-at6 .result) (c .unsigned-at6 .ensures))
+    (λ c κs. search needs) (λ c κs. with-operand (c .before .before .before .before) 20 (c .before .before .before .match .keys20) refl (c .operand4 .result) (c .operand4 .ensures))
+    (λ c κs. search needs) (λ c κs. with-operand (c .before .before .before .before) 21 (c .before .before .before .match .keys21) refl (c .operand5 .result) (c .operand5 .ensures))
+    (λ c κs. search needs) (λ c κs. with-operand (c .before .before .before .before) 22 (c .before .before .before .match .keys22) refl (c .operand6 .result) (c .operand6 .ensures))
     (λ c. search needs) (λ c. search needs) (λ c. search needs)
     (λ c. search needs) (λ c. search needs) (λ c. search needs)
     (λ c. search needs) (λ c. search needs) (λ c. search needs)
