@@ -1,7 +1,5 @@
 //! Texts at the limits and hand-made unsound images.
 
-mod common;
-
 use std::collections::BTreeSet;
 
 use rolvenko_model::generate::{limit_texts, unsound_images};

@@ -72,7 +72,6 @@ fn white_space_has_no_influence() {
         };
         let ((number, place), (same, other)) = (answer(&text), answer(&again));
         assert_eq!(number, same);
-        assert_eq!(number == 0, same == 0);
         if number != 0 {
             assert_eq!(index(&list, place), index(&second, other));
         }

@@ -5,6 +5,9 @@ use std::collections::BTreeMap;
 use std::path::PathBuf;
 use std::time::{Duration, Instant};
 
+/// What can be compared.
+pub const SERVICES: [&str; 5] = ["translate", "check", "scan", "trace", "program"];
+
 /// What the command line asks for.
 pub struct Options {
     pub seed: u64,
@@ -37,8 +40,12 @@ impl Options {
                 "--least" => options.least = number()?,
                 "--program" => options.program = Some(words.next().ok_or("--program wants a path")?.into()),
                 _ if word.starts_with('-') => return Err(format!("unknown option {word}")),
-                _ => options.services.push(word),
+                _ if SERVICES.contains(&word.as_str()) => options.services.push(word),
+                _ => return Err(format!("unknown service {word}; there are {}", SERVICES.join(", "))),
             }
+        }
+        if options.program.is_none() && options.services.iter().any(|s| s == "program") {
+            return Err("program wants --program PATH".into());
         }
         Ok(options)
     }

@@ -1,6 +1,6 @@
 //! Compares every service of the archive with the reference model on generated, mutated, damaged and random input.
 //!
-//!     compare [--seed N] [--seconds S] [--least N] [--program PATH] [SERVICE ..]
+//!     rolvenko-tests [--seed N] [--seconds S] [--least N] [--program PATH] [SERVICE ..]
 //!
 //! Services: translate, check, scan (and start), trace (lists of rows), and program, a trace program at PATH; all by default, S seconds
 //! and at least N calls each. Prints how often each answer was met. A difference is shrunk to a small input and printed, and the

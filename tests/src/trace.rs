@@ -14,7 +14,7 @@ struct List {
     rows: Vec<Vec<i32>>,
 }
 
-/// The states of the trace found, as whole numbers.
+/// A state as whole numbers.
 fn whole(state: &[i32]) -> Vec<i64> {
     state.iter().map(|&z| i64::from(z)).collect()
 }
@@ -41,7 +41,7 @@ fn only_next(program: &Program, ranges: &[Range], before: &[i64], next: &[i64]) 
     Ok(())
 }
 
-/// One row against the plain scan: the number answered, and the next state of the trace where it is accepted.
+/// One row against the plain scan: the number answered.
 fn one_row(image: &[u8], program: &Program, state: &mut [i32], line: &[i32]) -> Result<u8, String> {
     let mut plain = state.to_vec();
     let answer = rolvenko::scan(image, state, line);

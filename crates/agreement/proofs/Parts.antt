@@ -110,7 +110,7 @@ parts-spans text (c ∷ d ∷ cs) at =
 pub separator-known : (i count w : ℕ) → w ≡ pick (ltb i count) 23 18 → w ≤ 30
 separator-known i count w e = rw e (pick-prop (λ (x : ℕ). x ≤ 30) (ltb i count) 23 18 (λ t. omega arith) (λ t. omega arith))
 
-spans-none : (from to : List ℕ) → spansIn from to 0 ≡ []
+pub spans-none : (from to : List ℕ) → spansIn from to 0 ≡ []
 unfolding spansIn
 spans-none [] to = refl
 spans-none (f ∷ from) [] = refl

@@ -1,6 +1,5 @@
 -- Before the end of a text each token takes the reader on. Assumes nothing.
 use mathlib.Core.Path.{_≡_, subst}
-use mathlib.Core.Bool.{true}
 use mathlib.Core.List.{List}
 use Prim.Native.Nat.{ℕ, _+_, _≤_, _<_}
 use native.Mathlib.Omega.{arith}
@@ -10,16 +9,12 @@ use borrow.Author.Tests.{ltb-true, ltb-false}
 use Rattle.lexer.specs.Bytes.{part}
 use Rattle.lexer.specs.Token.{Kind, name, unknown, is, Read, token, fault}
 use Rattle.lexer.specs.Lexer.{isSpace, isDigit, isLetter, isAlphanumeric, runEnd, wordOf, pairOf, signOf, readOf, signAt, wordAt, digitsAt, previousAt, tokenOf, tokenPast, tokenAt}
-use Rattle.lexer.proofs.Laws.{pick-prop, run-from, run-some}
+use Rattle.lexer.proofs.Laws.{pick-prop, run-from, run-some, letter-in-run}
 
 -- a token ends after s
 abbrev Beyond : ℕ → Read → Type 0
 Beyond s (token k t n) = s < n
 Beyond s (fault p) = Unit {0}
-
-letter-in-run : (b : ℕ) → isLetter b ≡ true → isAlphanumeric b ≡ true
-unfolding isAlphanumeric
-letter-in-run b e = rw e
 
 module _ (text : List ℕ) (s : ℕ) (l : s < length text) where
   sign-beyond : (a b : ℕ) → Beyond s (signAt a b s)

@@ -1,4 +1,4 @@
--- Laws of signed numbers that the proofs of this crate share. Assumes nothing.
+-- Laws of signed numbers, for this crate and those above. Assumes nothing.
 use mathlib.Core.Path.{_≡_, refl, sym, ap, _∙_}
 use mathlib.Core.Bool.{Bool, true, false, cond}
 use Prim.Native.Nat.{ℕ, zero, suc, _+_, _*_, _-_, _/_, _%_, _^_, _≤_, _<_}
@@ -153,7 +153,7 @@ remainder-is (negsuc a) (pos b) = rw (neg-times b (suc a / b), take-back a (b * 
 remainder-is (negsuc a) (negsuc b) = rw (take-back a (suc b * (suc a / suc b)) (left (suc a) (suc b) .0), left (suc a) (suc b) .1)
 
 -- ---- equality of bits is equality of numbers
-same-bool : (s t : Bool) → (s ≡ true → t ≡ true) → (t ≡ true → s ≡ true) → s ≡ t
+pub same-bool : (s t : Bool) → (s ≡ true → t ≡ true) → (t ≡ true → s ≡ true) → s ≡ t
 same-bool true t p q = sym (p refl)
 same-bool false true p q = q refl
 same-bool false false p q = refl

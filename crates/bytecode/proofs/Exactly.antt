@@ -25,7 +25,7 @@ use Rattle.bytecode.proofs.Walk.{check-sound, Stepped, check-stepped, c
 
 -- ---- one instruction
 
-some-inj : {A : Type 0} {a b : A} → some a ≡ some b → a ≡ b
+pub some-inj : {A : Type 0} {a b : A} → some a ≡ some b → a ≡ b
 some-inj e = cc
 
 one-shape : (x : Sort) (vs : List Sort) (k : List Sort → Option Known) (d : Known) → one x vs k ≡ some d → (rest : List Sort) × (vs ≡ x ∷ rest) × (k rest ≡ some d)

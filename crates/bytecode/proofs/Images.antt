@@ -1,22 +1,22 @@
--- The laws of images, each once as it is read; the proofs stand in the files cited. Bytes are numbers below 256. Assumes nothing.
+-- The laws of images, each once as it is read. Bytes are numbers below 256. Assumes nothing.
 use Prim.Native.Nat.{ℕ, _+_, _-_}
 use native.Mathlib.Omega.{arith}
-use mathlib.Core.Path.{_≡_, refl, sym, _∙_}
+use mathlib.Core.Path.{_≡_, sym, _∙_}
 use mathlib.Core.List.{List, [], _∷_, _++_, append-assoc}
 use lib.ListN.{length, drop}
 use lib.Seq.{getD-drop}
 use Rattle.limits.specs.Answer.{accepted}
-use Rattle.semantics.specs.Program.{Range, Program, rangesOf}
-use Rattle.leb128.specs.Numbers.{number, got}
+use Rattle.semantics.specs.Program.{Range, Program}
+use Rattle.leb128.specs.Numbers.{number}
 use Rattle.leb128.proofs.Laws.{Bytes}
 use Rattle.leb128.proofs.RoundTrip.{drop-behind, one-spelling}
-use Rattle.bytecode.specs.Instructions.{Instruction, encode, encodeAll, fetch}
+use Rattle.bytecode.specs.Instructions.{Instruction, encode, encodeAll}
 use Rattle.bytecode.specs.Translation.{codeRules, encodeRanges, imageOf, Translatable}
 use Rattle.bytecode.specs.Check.{checkOf}
 use Rattle.bytecode.specs.Counting.{headerOf, codeOf}
 use Rattle.bytecode.specs.Internal.{Spells}
 use Rattle.bytecode.specs.Sound.{Sound}
-use Rattle.bytecode.proofs.RoundTrip.{Small, AllSmall, fetch-encoded}
+use Rattle.bytecode.proofs.RoundTrip.{AllSmall, fetch-encoded}
 use Rattle.bytecode.proofs.Soundness.{programHeader, header-of, code-of, translated-small, check-translated, past-end}
 use Rattle.bytecode.proofs.Spelling.{spells-encoded, ranges-encoded}
 use Rattle.bytecode.proofs.Paragraph.{check-if-sound, sound-if-checked}
@@ -31,10 +31,6 @@ pub check-exact : (bytes : List ℕ) → Exactly bytes
 check-exact bytes = record { sound-accepted = check-if-sound bytes; accepted-sound = sound-if-checked bytes }
 
 -- ---- reading what was encoded gives it back
-
--- an instruction, wherever it stands
-pub instruction-read-back : (bytes : List ℕ) (at : ℕ) (i : Instruction) (rest : List ℕ) → Small i → drop at bytes ≡ encode i ++ rest → fetch bytes at ≡ got i (at + length (encode i))
-instruction-read-back = fetch-encoded
 
 spelled : (code : List ℕ) (at : ℕ) (is : List Instruction) → AllSmall is → drop at code ≡ encodeAll is → Spells code at is
 spelled code at [] s h = past-end code at h
@@ -61,10 +57,6 @@ translated-sound p t = sound-if-checked (imageOf p) (check-translated p t)
 -- the bytes of a header and its code: those of a program's image (`imageOf`), for any header and any code
 abbrev pub spelling : ℕ → List Range → List Instruction → List ℕ
 spelling inputs ranges code = (number inputs ++ (number (length ranges - inputs) ++ encodeRanges ranges)) ++ encodeAll code
-
-pub spelling-of-program : (p : Program) → imageOf p ≡ spelling (p .inputs) (rangesOf p) (codeRules (p .rules))
-unfolding imageOf
-spelling-of-program p = refl
 
 pub one-image : (bytes : List ℕ) → Bytes bytes → (x : Sound bytes) → bytes ≡ spelling (x .header .inputs) (x .header .ranges) (x .code)
 one-image bytes h x =

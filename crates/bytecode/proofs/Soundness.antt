@@ -16,10 +16,10 @@ use Rattle.semantics.specs.Program.{Program, Range, Expression, Condition, Case
 use Rattle.semantics.specs.Program as P
 use Rattle.arith.proofs.Basics.{T-true, and-left, and-right}
 use Rattle.semantics.proofs.Reference.{length-known}
-use Rattle.leb128.specs.Numbers.{got, number, zigzag}
+use Rattle.leb128.specs.Numbers.{number, zigzag}
 use Rattle.bytecode.specs.Instructions.{Instruction, constant, current, previous, operation, negate, comparison, negated, both, either, gate, pick, assign, settle, encode, encodeAll}
 use Rattle.bytecode.specs.Translation.{codeE, codeC, codeCase, codeK, codeR, codeRules, encodeRanges, encodeHeader, imageOf, depthE, depthC, ShallowK, ShallowR, Shallow, RangeFits, RangesFit, Translatable}
-use Rattle.bytecode.specs.Check.{Sort, truth, Known, known, guard, one, empty, unset, closed, fresh, opened, advance, complete, item, checkRange, checkRanges, Header, checkCounts, checkHeader, checkCode, checkBody, checkOf}
+use Rattle.bytecode.specs.Check.{Sort, truth, Known, known, guard, one, empty, unset, closed, fresh, opened, advance, complete, checkRange, checkRanges, Header, checkCounts, checkHeader, checkCode, checkBody, checkOf}
 use Rattle.bytecode.specs.Counting.{headerOf, codeOf}
 use Rattle.leb128.proofs.RoundTrip.{drop-behind, number-at, signed-at}
 use Rattle.bytecode.proofs.RoundTrip.{Small, AllSmall, fetch-encoded, length-encode, encoded-inside}
@@ -34,10 +34,6 @@ some c continue f = f c
 abbrev pub advances : List Instruction → Known → Option Known
 advances [] c = some c
 advances (i ∷ is) c = advance i c continue λ c₁. advances is c₁
-
-continue-assoc : (o : Option Known) (f g : Known → Option Known) → (o continue f continue g) ≡ (o continue λ c. f c continue g)
-continue-assoc none f g = refl
-continue-assoc (some c) f g = refl
 
 advances-append : (is js : List Instruction) (c : Known) → advances (is ++ js) c ≡ (advances is c continue λ c₁. advances js c₁)
 advances-append [] js c = refl
@@ -148,7 +144,7 @@ known-inside (b ∷ ids) (suc i) e = let h : i < length ids = known-inside ids i
 unset-inside : (ids : List Bool) (v : ℕ) → T (unset ids v) → v < length ids
 unset-inside ids v t = ltb→lt v (length ids) (and-left (ltb v (length ids)) (not (getD ids v false)) t)
 
-third : (a b c e : Bool) → T (a && b && c && e) → T c
+pub third : (a b c e : Bool) → T (a && b && c && e) → T c
 third a b c e h = and-right (a && b) c (and-left (a && b && c) e h)
 
 record Advanced (i : Instruction) (ids : List Bool) (d : Known) : Type 0 where
@@ -232,9 +228,6 @@ past-end code at h =
 
 past : (code : List ℕ) (at : ℕ) → drop at code ≡ [] → ltb at (length code) ≡ false
 past code at h = le-ltb at (length code) (past-end code at h)
-
-item-got : {A B : Type 0} (a : A) (next at : ℕ) (test : A → Bool) (k : A → ℕ → Answer B) → test a ≡ true → item (got a next) at test k ≡ k a next
-item-got a next at test k e = rw (e, item)
 
 pub check-code : (base : ℕ) (code : List ℕ) (f at : ℕ) (is : List Instruction) (c d : Known) → drop at code ≡ encodeAll is → length (encodeAll is) ≤ f → length (idsOf c) ≤ 64
     → advances is c ≡ some d → complete d ≡ true → checkCode base code f at c ≡ accepted tt

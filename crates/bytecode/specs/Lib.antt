@@ -5,4 +5,3 @@ pub mod Counting
 pub mod Results
 pub mod Internal
 pub mod Sound
-pub mod Nesting

@@ -24,6 +24,7 @@ use Rattle.grammar.proofs.Growth.{Grown, listed-grown}
 use Rattle.grammar.proofs.Size.{Pays, case-pays}
 use Rattle.expressions.specs.Steps.{Room}
 use Rattle.agreement.specs.Spans.{spansIn, spansOf, Spans}
+use Rattle.agreement.proofs.Parts.{spans-none}
 use Rattle.cases.specs.declared.Part.{Part}
 use Rattle.cases.specs.declared.Part.the-variants.{Done, Refused}
 use Rattle.cases.specs.Post.{Writes, codeOfCase, codeOfCases, endOfCondition, Lists}
@@ -32,12 +33,6 @@ use Rattle.cases.proofs.Ways.{then-bytes}
 use Rattle.cases.proofs.Listing.{Found}
 
 -- ---- spans
-
-spans-none : (from upto : List ℕ) → spansIn from upto 0 ≡ []
-unfolding spansIn
-spans-none [] upto = refl
-spans-none (f ∷ from) [] = refl
-spans-none (f ∷ from) (u ∷ upto) = refl
 
 -- one more
 spans-add : (from upto : List ℕ) (n f u : ℕ) → n < length from → n < length upto → spansIn (set from n f) (set upto n u) (suc n) ≡ spansIn from upto n ++ (record { from = f; to = u } ∷ [])

@@ -56,9 +56,6 @@ sorts-two n k h =
 pub sorts-join : (n k b : ℕ) → 2 ≤ n → b < 2 → sortsOf (n - 1) (k / 2 / 2 * 2 + b) ≡ sortOf b ∷ sortsOf (n - 2) (k / 2 / 2)
 sorts-join n k b h l = let e : n - 1 ≡ n - 2 + 1 = omega arith in rw e (sorts-push (n - 2) (k / 2 / 2) b l)
 
-pub push-low : (n k b : ℕ) → k < 2 ^ n → b < 2 → k * 2 + b < 2 ^ (n + 1)
-push-low n k b h l = rw (add-one n, pow-suc) (omega arith)
-
 pub number-low : (n k : ℕ) → k < 2 ^ n → k * 2 < 2 ^ (n + 1)
 number-low n k h = rw (add-one n, pow-suc) (omega arith)
 

@@ -128,7 +128,7 @@ fn test(w: Walk, sort: u64) -> Advanced
     join(w, sort, TRUTH)
 }
 
-fn negate_test(w: Walk) -> Advanced
+fn invert(w: Walk) -> Advanced
     requires { ⌜ Small w ⌝ }
     ensures { λ r. ⌜ advancedKnown r ≡ outside (openOf (w .gate)) (kept truth (knownOf w)) ⌝ }
     ensures { λ r. ⌜ SmallAfter r ⌝ }
@@ -290,7 +290,7 @@ pub fn advance(code: u8, n: u64, w: Walk) -> Advanced
         4..=8 => join(w, NUMBER, NUMBER),
         9 => keep(w, NUMBER),
         10..=15 => test(w, NUMBER),
-        16 => negate_test(w),
+        16 => invert(w),
         17 => test(w, TRUTH),
         18 => test(w, TRUTH),
         19 => gate(w),

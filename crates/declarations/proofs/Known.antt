@@ -2,8 +2,7 @@
 -- Assumes nothing.
 use mathlib.Core.Path.{_≡_, refl, sym, ap, subst, _∙_}
 use mathlib.Core.List.{List, [], _∷_, _++_, append-assoc, append-nil}
-use Prim.Native.Nat.{ℕ, zero, suc, _+_, _*_, _≤_}
-use native.Mathlib.Omega.{arith}
+use Prim.Native.Nat.{ℕ, zero, suc, _+_}
 use lib.ListN.{length}
 use lib.Seq.{sets, drop-append-seam}
 use Rattle.lexer.specs.Token.{Kind, is}
@@ -15,7 +14,6 @@ use Rattle.grammar.specs.Parsed.{Parsed, accepted, refused}
 use Rattle.grammar.specs.Declarations.{declaration, declarationsFrom, declarations}
 use Rattle.grammar.specs.Emitted.{header}
 use Rattle.grammar.proofs.Combine.{token-prop, then-prop}
-use Rattle.grammar.proofs.Size.{Pays, declarations-pay}
 use Rattle.declarations.specs.Results.{declaredOf}
 use Rattle.declarations.specs.Post.{Holds, headerAfter, DeclaresAll}
 use Rattle.declarations.specs.declared.Declared.{Declared}
@@ -86,8 +84,3 @@ module _ (word : Kind) (text : List ℕ) (names : List Name) (at : ℕ) {all : L
   header-joined =
       let x : (new : List Name) × (all ≡ names ++ new) = subst (Extends names) e (extends 65 word text names at) in
       rw (x .1, drop-append-seam names (x .0)) (header-append names (x .0))
-
-  -- it takes no more than three bytes for two of the text
-  pub header-room : at ≤ length text → 2 * length (header names) ≤ 3 * at → (2 * length (header all) ≤ 3 * n) × (n ≤ length text)
-  unfolding declarations
-  header-room h i = let p = subst (Pays (λ (l : List Name). length (header l)) (length text) 0) e (declarations-pay text 65 word names at h i) in (omega (arith, p .0), p .1)

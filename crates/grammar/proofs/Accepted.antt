@@ -3,13 +3,13 @@
 use mathlib.Core.Path.{_≡_, refl, ap, subst}
 use mathlib.Core.List.{List, [], _∷_, map}
 use mathlib.Core.Bool.{Bool, true, false, _&&_}
-use Prim.Native.Nat.{ℕ, _+_, _*_, _≤_, _<_, max}
+use Prim.Native.Nat.{ℕ, _+_, _*_, _≤_, max}
 use native.Mathlib.Omega.{arith}
 use lib.ListN.{length, set, length-map}
 use lib.Dec.{T, ltb, lt→ltb}
 use lib.Signed.{leZ}
-use borrow.Author.Tests.{ltb-false, lt-ltb}
-use Rattle.limits.specs.Limits.{textLimit, nameLimit, tooLong}
+use borrow.Author.Tests.{ltb-false}
+use Rattle.limits.specs.Limits.{textLimit, nameLimit}
 use Rattle.limits.specs.Answer as A
 use Rattle.arith.specs.Values.{isInt32}
 use Rattle.arith.proofs.Basics.{true-T, and-left, and-right, and-T}
@@ -111,11 +111,6 @@ rules-shallow known [] h = tt
 rules-shallow known (r ∷ rs) h = (rule-shallow known r (h .0), rules-shallow (set known (target r) true) rs (h .3))
 
 -- ---- accepted texts
-
--- a text over its limit is refused by 9 at place 0, before all else
-pub text-too-long : (text : List ℕ) → textLimit < length text → programOf text ≡ A.refused tooLong 0
-unfolding programOf parse
-text-too-long text h = rw (lt-ltb textLimit (length text) h)
 
 -- no accepted text is over its limit
 pub parse-short : (text : List ℕ) (p : Program) (n : ℕ) → parse text ≡ accepted p n → length text ≤ textLimit

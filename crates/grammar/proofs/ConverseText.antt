@@ -103,7 +103,7 @@ module _ (text : List ℕ) where
 made : (p : Program) (i : ℕ) (l : List Name) → p .inputs ≡ i → p .names ≡ l → p ≡ record { inputs = i; names = l; rules = p .rules }
 made p i l e f = ap₂ (λ (x : ℕ) (y : List Name). record { inputs = x; names = y; rules = p .rules }) e f
 
-short-parse : (text : List ℕ) → length text ≤ textLimit → parse text ≡ program text
+pub short-parse : (text : List ℕ) → length text ≤ textLimit → parse text ≡ program text
 unfolding parse
 short-parse text h = rw (le-ltb textLimit (length text) h)
 

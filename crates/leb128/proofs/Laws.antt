@@ -11,15 +11,11 @@ use lib.Dec.{leb, ltb, lit<}
 use lib.ListN.{length, getD, drop, drop-of-length-le}
 use lib.Seq.{drop-cons, getD-drop}
 use borrow.Author.Tests.{lt-ltb, le-ltb, le-leb, lt-leb, leb-true, leb-false, ltb-true}
+use Rattle.arith.proofs.Laws.{same-bool}
 use Rattle.leb128.specs.Numbers.{groups, number, Found, found, none, grouped, numberIn, Read, got, nothing, below32, numberAt}
 use Rattle.leb128.specs.Internal.{within}
 
 -- ---- two tests that agree
-
-same-bool : (s t : Bool) → (s ≡ true → t ≡ true) → (t ≡ true → s ≡ true) → s ≡ t
-same-bool true t p q = sym (p refl)
-same-bool false true p q = q refl
-same-bool false false p q = refl
 
 pub leb-same : (a b c d : ℕ) → (a ≤ b → c ≤ d) → (c ≤ d → a ≤ b) → leb a b ≡ leb c d
 leb-same a b c d p q = same-bool (leb a b) (leb c d) (λ e. le-leb c d (p (leb-true a b e))) (λ e. le-leb a b (q (leb-true c d e)))

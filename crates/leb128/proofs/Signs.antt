@@ -8,12 +8,8 @@ use lib.IntN.{ℤ, pos, negsuc, _-ℤ_}
 use lib.Signed.{mag, leZ}
 use borrow.Author.Tests.{le-ltb, eqb-true, eqb-false}
 use mir.Syntax.{w32}
-use mir.Val.{SFits, toZ, ofZ}
-use mir.Facts.{toZ-ofZ}
+use mir.Val.{SFits}
 use Rattle.leb128.specs.Numbers.{zigzag, unzigzag}
-
-pub same32 : {a : ℤ} → SFits w32 a → toZ w32 (ofZ w32 a) ≡ a
-same32 f = toZ-ofZ {w = w32} f
 
 false-true : false ≡ true → ⊥
 false-true e = subst T (sym e) tt

@@ -13,7 +13,7 @@ use Rattle.lexer.specs.Bytes.{part}
 use Rattle.lexer.specs.Lexer.{sameName}
 use Rattle.lexer.specs.Names.{idFrom, idOf, namesOf, Table}
 
-names-none : (text starts ends : List ℕ) → namesOf text starts ends 0 ≡ []
+pub names-none : (text starts ends : List ℕ) → namesOf text starts ends 0 ≡ []
 unfolding namesOf
 names-none text [] ends = refl
 names-none text (s ∷ starts) [] = refl

@@ -5,42 +5,25 @@ use mathlib.Core.List.{List, [], _∷_}
 use mathlib.Core.Option.{Option, none, some}
 use Prim.Native.Nat.{ℕ, suc, _≤_, _<_}
 use native.Mathlib.Omega.{arith}
-use borrow.Author.Tests.{le-leb, lt-leb, ne-eqb, eqb-true, eqb-false, leb-false}
+use borrow.Author.Tests.{le-leb, ne-eqb, eqb-true, eqb-false, leb-false}
 use lib.Dec.{eqb, leb}
 use lib.IntN.{ℤ}
 use Rattle.arith.specs.Values.{ok, compares}
 use Rattle.semantics.specs.Program.{Range}
 use Rattle.semantics.specs.Formula.{State}
 use Rattle.bytecode.specs.Instructions.{Instruction, operation, comparison, operationOf, comparisonOf, instructionOf}
+use Rattle.bytecode.proofs.Codes.{operation-of, comparison-of, past, from-four}
 use Rattle.machine.specs.Step.{machine, isPick}
 use Rattle.machine.specs.Internal.{truthOf, related, performed}
 use Rattle.machine.specs.Memory.{stepped}
 
 -- ---- arithmetic and comparisons
 
-from-four : (code : ℕ) → 1 ≤ code → (code ≡ 1 → ⊥) → (code ≡ 2 → ⊥) → (code ≡ 3 → ⊥) → 4 ≤ code
-from-four code h a b c = omega arith
-
 pub operation-code : (code n : ℕ) → 1 ≤ code → code < 9 → (code ≡ 1 → ⊥) → (code ≡ 2 → ⊥) → (code ≡ 3 → ⊥) → instructionOf code n ≡ some (operation (operationOf code))
-unfolding instructionOf
-operation-code code n h k a b c =
-    let f : 4 ≤ code = from-four code h a b c in
-    rw (ne-eqb code 1 a, ne-eqb code 2 b, ne-eqb code 3 c, le-leb 4 code f, le-leb code 8 (omega arith))
+operation-code code n h k a b c = operation-of code n (from-four code h a b c) (omega arith)
 
 pub comparison-code : (code n : ℕ) → 9 ≤ code → code < 16 → (code ≡ 9 → ⊥) → instructionOf code n ≡ some (comparison (comparisonOf code))
-unfolding instructionOf
-comparison-code code n h k a =
-    let f : 10 ≤ code = omega arith in
-    rw (
-      ne-eqb code 1 (λ e. omega arith),
-      ne-eqb code 2 (λ e. omega arith),
-      ne-eqb code 3 (λ e. omega arith),
-      le-leb 4 code (omega arith),
-      lt-leb code 8 (omega arith),
-      ne-eqb code 9 a,
-      le-leb 10 code f,
-      le-leb code 15 (omega arith),
-    )
+comparison-code code n h k a = comparison-of code n (past 9 code h a) (omega arith)
 
 pub truth-comparison : (code : ℕ) (a b : ℤ) → code < 16 → truthOf code a b ≡ compares (comparisonOf code) a b
 unfolding truthOf
@@ -50,39 +33,6 @@ pub related-same : (f g : ℤ → ℤ → Bool) (c : Bool) (vs : List ℤ) (t : 
 related-same f g c [] t h = refl
 related-same f g c (b ∷ []) t h = refl
 related-same f g c (b ∷ a ∷ vs) t h = rw (h a b)
-
--- ---- no instruction
-
-pub no-code-first : (code n : ℕ) → code < 1 → instructionOf code n ≡ none
-unfolding instructionOf
-no-code-first code n h = let e : code ≡ 0 = omega arith in rw e
-
--- each code byte from 16 on is one of those tested
-module _ (code n : ℕ) (h : 16 ≤ code) (a : code ≡ 16 → ⊥) (b : code ≡ 17 → ⊥) (c : code ≡ 18 → ⊥) (d : code ≡ 19 → ⊥) (e : code ≡ 20 → ⊥) (f : code ≡ 21 → ⊥) (g : code ≡ 22 → ⊥) where
-  pub no-code-last : instructionOf code n ≡ none
-  unfolding instructionOf
-  no-code-last =
-      rw (
-        ne-eqb code 1 (λ e. omega arith),
-        ne-eqb code 2 (λ e. omega arith),
-        ne-eqb code 3 (λ e. omega arith),
-        le-leb 4 code (omega arith),
-        lt-leb code 8 (omega arith),
-        ne-eqb code 9 (λ e. omega arith),
-        le-leb 10 code (omega arith),
-        lt-leb code 15 (omega arith),
-        ne-eqb code 16 a,
-        ne-eqb code 17 b,
-        ne-eqb code 18 c,
-        ne-eqb code 19 d,
-        ne-eqb code 20 e,
-        ne-eqb code 21 f,
-        ne-eqb code 22 g,
-      )
-
-pub no-code-over : (code n : ℕ) → 23 ≤ code → instructionOf code n ≡ none
-no-code-over code n h =
-    no-code-last code n (omega arith) (λ e. omega arith) (λ e. omega arith) (λ e. omega arith) (λ e. omega arith) (λ e. omega arith) (λ e. omega arith) (λ e. omega arith)
 
 -- ---- passing over: every instruction but a pick
 

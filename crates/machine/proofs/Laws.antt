@@ -1,5 +1,5 @@
--- Laws of a run: its end, one step, a refusal, a divided budget, its count of steps. Assumes nothing.
-use Prim.Native.Nat.{ℕ, zero, suc, _+_, _-_, _≤_, _<_}
+-- Laws of a run: its end, an instruction that is malformed, a divided budget, its count of steps. Assumes nothing.
+use Prim.Native.Nat.{ℕ, zero, suc, _+_, _≤_, _<_}
 use native.Mathlib.Omega.{arith}
 use mathlib.Core.Path.{_≡_, refl, sym}
 use mathlib.Core.Bool.{Bool, true, false, cond}
@@ -22,21 +22,6 @@ module _ (ns : List Range) (s : State) (code : List ℕ) where
   pub run-end : (budget at n : ℕ) (m : Machine) → length code ≤ at → run ns s code budget at n m ≡ ran n at (ok m)
   run-end zero at n m h = refl
   run-end (suc budget) at n m h = rw (le-ltb at (length code) h)
-
-  pub run-none : (at n : ℕ) (m : Machine) → run ns s code 0 at n m ≡ ran n at (ok m)
-  run-none at n m = refl
-
-  pub run-step : (budget at n : ℕ) (m m₁ : Machine) (i : Instruction) (next : ℕ) → fetch code at ≡ got i next → step ns s i m ≡ ok m₁ → 0 < budget
-      → run ns s code budget at n m ≡ run ns s code (budget - 1) next (n + 1) m₁
-  run-step zero at n m m₁ i next f e p = let b : ⊥ = omega arith in absurd b
-  run-step (suc budget) at n m m₁ i next f e p =
-      let q : suc budget - 1 ≡ budget = omega arith in
-      rw (lt-ltb at (length code) (fetch-next code at i next f .0), f, e, q)
-
-  pub run-refused : (budget at n : ℕ) (m : Machine) (i : Instruction) (next k : ℕ) → fetch code at ≡ got i next → step ns s i m ≡ refusal k → 0 < budget
-      → run ns s code budget at n m ≡ ran (n + 1) at (refusal k)
-  run-refused zero at n m i next k f e p = let b : ⊥ = omega arith in absurd b
-  run-refused (suc budget) at n m i next k f e p = rw (lt-ltb at (length code) (fetch-next code at i next f .0), f, e)
 
   pub run-broken : (budget at n : ℕ) (m : Machine) → at < length code → fetch code at ≡ nothing → 0 < budget → run ns s code budget at n m ≡ ran (n + 1) at (refusal 11)
   run-broken zero at n m l f p = let b : ⊥ = omega arith in absurd b

@@ -20,8 +20,9 @@ use Rattle.arith.proofs.Basics.{T-true, and-left, and-right, ok≢refusal}
 use Rattle.bytecode.specs.Instructions.{Instruction, constant, current, previous, operation, negate, comparison, negated, both, either, gate, pick, assign, settle}
 use Rattle.bytecode.specs.Check.{Sort, Known, known, held, one, empty, unset, closed, fresh, opened, advance, checkCode}
 use Rattle.bytecode.proofs.RoundTrip.{fetch-next}
-use Rattle.bytecode.proofs.Soundness.{none≢some, guard-some, one-some, idsOf, known-inside, advance-small}
+use Rattle.bytecode.proofs.Soundness.{none≢some, guard-some, one-some, idsOf, known-inside, advance-small, third}
 use Rattle.bytecode.proofs.Walk.{check-stepped}
+use Rattle.bytecode.proofs.Exactly.{some-inj}
 use Rattle.machine.specs.Step.{Machine, machine, bit, yes, push, pop, gated, settled, isPick, declared, perform, step}
 use Rattle.machine.specs.Runs.{afterStep, run}
 
@@ -125,9 +126,6 @@ empty-nil (v ∷ vs) ms l h = absurd h
 over : (vs : List Sort) (o : Option ℕ) (ids : List Bool) (d : Known) (c : Bool) (ms : List ℤ) (t : State) → known vs true o ids ≡ d → ms ≡ [] → Matches d (machine true c ms t)
 over vs o ids d c ms t e h = let x : Matches (known vs true o ids) (machine true c ms t) = (refl, h) in moved (known vs true o ids) d (machine true c ms t) e x
 
-some-inj : {A : Type 0} {a b : A} → some a ≡ some b → a ≡ b
-some-inj e = cc
-
 -- an instruction that is passed over
 over-keeps : (i : Instruction) (vs : List Sort) (o : Option ℕ) (ids : List Bool) (d : Known) (c : Bool) (ms : List ℤ) (t : State)
     → advance i (known vs true o ids) ≡ some d → ms ≡ [] → Matches d (machine (not (isPick i)) c ms t)
@@ -152,9 +150,6 @@ over-keeps (settle v) vs o ids d c ms t e h = none≢some d e
 
 second : (a b c e : Bool) → T (a && b && c && e) → T b
 second a b c e h = and-right a b (and-left (a && b) c (and-left (a && b && c) e h))
-
-third : (a b c e : Bool) → T (a && b && c && e) → T c
-third a b c e h = and-right (a && b) c (and-left (a && b && c) e h)
 
 none-held : (ms : List ℤ) → ms ≡ [] → length ms ≡ 0
 none-held ms h = rw h

@@ -1,9 +1,8 @@
 -- Laws of tokens that are expected: one, and one after another as the code goes. Assumes nothing.
-use mathlib.Core.Path.{_≡_, refl, sym, ap, _∙_, subst}
+use mathlib.Core.Path.{_≡_, refl, sym, ap, _∙_}
 use mathlib.Core.Bool.{true, false}
 use mathlib.Core.List.{List, [], _∷_, _++_}
 use Prim.Native.Nat.{ℕ, _≤_}
-use lib.ListN.{length}
 use borrow.Author.Tests.{eq-eqb}
 use Rattle.limits.specs.Limits.{notAllowed}
 use Rattle.lexer.specs.Token.{kindNumber, is}
@@ -13,7 +12,6 @@ use Rattle.lexer.specs.declared.Token.the-variants.{Is, Fault}
 use Rattle.lexer.proofs.KindNumbers.{kind-number, kind-is-not}
 use Rattle.lexer.proofs.Tokens.{Answers, is-token, is-fault}
 use Rattle.grammar.specs.Parsed.{Parsed, accepted, refused, andThen, Wanted, isWanted, expected, phrase}
-use Rattle.grammar.proofs.Growth.{Kept, phrase-kept}
 use Rattle.phrases.specs.Results.{expectedOf, faultOf}
 use Rattle.phrases.specs.declared.Expected.{Expected}
 use Rattle.phrases.specs.declared.Expected.the-variants.{After, Refused}
@@ -80,16 +78,3 @@ module _ (text : List ℕ) where
 
   pub goes-past : {r : Expected} {n : ℕ} {q : Parsed (Unit {0})} (xs ys : List Wanted) (at : ℕ) → expectedOf r ≡ phrase text xs at → r ≡ After n → q ≡ phrase text ys n → q ≡ phrase text (xs ++ ys) at
   goes-past xs ys at e g h = rw (phrase-append xs ys at, ← e, g) h
-
--- ---- for callers: what an answer says once it is taken apart
-
-module _ (text : List ℕ) (ws : List Wanted) (at : ℕ) {r : Expected} (e : expectedOf r ≡ phrase text ws at) where
-  pub is-after : {n : ℕ} → r ≡ After n → phrase text ws at ≡ accepted tt n
-  is-after g = sym e ∙ ap expectedOf g
-
-  pub is-refused : {k p : ℕ} → r ≡ Refused k p → phrase text ws at ≡ refused k p
-  is-refused g = sym e ∙ ap expectedOf g
-
-  -- the tokens end at or after where they begin, within the text
-  pub after-kept : {n : ℕ} → at ≤ length text → r ≡ After n → (at ≤ n) × (n ≤ length text)
-  after-kept h g = subst (Kept (length text) at) (is-after g) (phrase-kept text ws at h)

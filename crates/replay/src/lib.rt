@@ -1,4 +1,4 @@
-// A whole list of rows in one call: start, then a scan for each row, with records of them.
+// Translation, start and a list of rows in one call, with records of each scan.
 use scan::Scanned;
 use scan::Started;
 use translate::Translated;

@@ -24,10 +24,10 @@ use Rattle.scan.specs.Services.{AfterScan, scanOf}
 use Rattle.scan.specs.Results.{scanAnswer, afterScan}
 use Rattle.trace_text.specs.declared.Stage.{Stage}
 use Rattle.trace_text.specs.declared.Line.{Line}
-use Rattle.trace_text.specs.Internal.{bytesBefore, countOf, cellsOf}
+use Rattle.trace_text.specs.Internal.{bytesBefore, countOf, cellsOf, handedRow}
 use Rattle.trace_text.specs.Output.{Put, rowLine}
 use Rattle.trace_text.proofs.Within.{rows-within, count-within}
-use Rattle.trace.specs.Printed.{refusalOf, handedRow}
+use Rattle.trace.specs.Printed.{refusalOf}
 
 -- rows begin within the bytes read
 pub rows-in-part : (stage : Stage) (chunk : List ℕ) (n r : ℕ) → r ≡ 0 + bytesBefore stage (take n chunk) → r ≤ n

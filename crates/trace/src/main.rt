@@ -14,7 +14,8 @@ ghost use Rattle.io.specs.Counts.{Counts};
 ghost use Rattle.scan.specs.Services.{scanOf};
 ghost use Rattle.scan.specs.Results.{startAnswer, scanAnswer};
 ghost use Rattle.trace_text.specs.Output.{Put, rowLine};
-ghost use Rattle.trace.specs.Printed.{refusalOf, handedRow};
+ghost use Rattle.trace.specs.Printed.{refusalOf};
+ghost use Rattle.trace_text.specs.Internal.{handedRow};
 
 // Where standard input has come to after the text: the text's length, and the part of the chunk that holds rows.
 struct Taken {
@@ -132,7 +133,7 @@ fn trace_row(
 }
 
 // The same, and the output written out where the next line might not have room: a printed line has fewer than 1,024 bytes (at most
-// 64 values of 11, two more numbers, the spaces).
+// 64 values of 11, two more numbers, the spaces: trace_text's law `row-length`).
 fn trace_line(
     image: &[u8],
     state: &mut [i32],

@@ -1,7 +1,7 @@
 -- Standard input split byte by byte, in chunks. Assumes nothing.
-use mathlib.Core.Path.{_≡_, refl, sym, ap, _∙_}
+use mathlib.Core.Path.{_≡_, refl, sym, _∙_}
 use mathlib.Core.Bool.{true, false, false≢true}
-use mathlib.Core.List.{List, [], _∷_, _++_, append-assoc}
+use mathlib.Core.List.{List, [], _∷_}
 use Prim.Native.Nat.{ℕ, suc, _+_, _≤_, _<_}
 use native.Mathlib.Numerals.{add-one}
 use native.Mathlib.Omega.{arith}
@@ -14,17 +14,6 @@ use Rattle.trace_text.specs.Internal.{stageAfter, textAfter, stageOver, 
 use Rattle.trace_text.proofs.Puts.{Putting, putting-next, putting-done}
 
 -- ---- bytes split one after the other: what a ++ b comes to is what b comes to after a
-
-pub stage-append : (stage : Stage) (a b : List ℕ) → stageOver stage (a ++ b) ≡ stageOver (stageOver stage a) b
-unfolding stageOver
-stage-append stage [] b = refl
-stage-append stage (x ∷ a) b = stage-append (stageAfter stage x) a b
-
-pub text-append : (stage : Stage) (a b : List ℕ) → textOver stage (a ++ b) ≡ textOver stage a ++ textOver (stageOver stage a) b
-unfolding textOver stageOver
-text-append stage [] b = refl
-text-append stage (x ∷ a) b =
-    ap (λ (l : List ℕ). textAfter stage x ++ l) (text-append (stageAfter stage x) a b) ∙ sym (append-assoc (textAfter stage x) _ _)
 
 -- ---- past the line `#`
 

@@ -3,13 +3,14 @@ use mathlib.Core.Path.{_≡_, refl, sym, _∙_}
 use mathlib.Core.Bool.{Bool, true, false, _&&_, false≢true}
 use mathlib.Core.List.{List, [], _∷_, _++_}
 use mathlib.Core.Option.{none, some}
-use Prim.Native.Nat.{ℕ, zero, suc, _+_, _*_, _%_, _≤_, _<_}
+use Prim.Native.Nat.{ℕ, zero, suc, _+_, _*_, _%_, _<_}
 use native.Mathlib.Omega.{arith}
 use lib.Dec.{leb}
 use borrow.Author.Tests.{lt-leb, ne-eqb}
 use Rattle.arith.specs.Values.{isInt32}
 use Rattle.leb128.proofs.Laws.{leb-same}
 use Rattle.lexer.specs.Lexer.{isDigit, valueOf, valueOn}
+use Rattle.lexer.proofs.Values.{value-grows}
 use Rattle.trace_text.specs.Row.{allDigits, within32, numberOf}
 use Rattle.trace_text.specs.Internal.{signed, inRange}
 
@@ -37,11 +38,6 @@ pub value-append : (xs ys : List ℕ) (v : ℕ) → valueOn (xs ++ ys) v ≡ val
 unfolding valueOn
 value-append [] ys v = refl
 value-append (x ∷ xs) ys v = value-append xs ys (10 * v + x % 16)
-
-pub value-grows : (xs : List ℕ) (v : ℕ) → v ≤ valueOn xs v
-unfolding valueOn
-value-grows [] v = omega arith
-value-grows (x ∷ xs) v = omega (arith, value-grows xs (10 * v + x % 16))
 
 -- ---- a field: `-` or nothing, then digits
 

@@ -16,20 +16,16 @@ use Rattle.trace_text.specs.declared.Line.the-variants.{Start}
 use Rattle.trace_text.specs.declared.Stage.the-variants.{LineStart}
 use Rattle.trace_text.specs.Input.{linesOf, bare, rowLines}
 use Rattle.trace_text.specs.Row.{rowOf, longRow, handed, handedOf}
-use Rattle.trace_text.specs.Internal.{bytesBefore, lineAfter, cellsAfter, lineOver, cellsOver, countOf, cellsOf, isBegun, isEnded, bytesIn}
+use Rattle.trace_text.specs.Internal.{bytesBefore, lineAfter, cellsAfter, lineOver, cellsOver, countOf, cellsOf, handedRow, isBegun, isEnded, bytesIn}
 use Rattle.trace_text.proofs.Lines.{line-append, cells-append, over-cons, cells-cons, over-nil, cells-nil}
 use Rattle.trace_text.proofs.Rows.{row-ends, long-length}
 use Rattle.trace_text.proofs.Splitting.{rows-split, line-ended, line-open, open-bare, open-bytes, open-ended, line-begun}
 
--- the row that a line hands to scan where it ends
-abbrev row : Line → List ℤ → List ℤ
-row s cells = take (countOf s) (cellsOf s cells)
-
 -- what is handed to scan while bytes are read, line by line, and at the end of the input for a line that has begun
 pub rowsRead : Line → List ℤ → List ℕ → List (List ℤ)
-rowsRead s cells [] = pick (isBegun s) (row s cells ∷ []) []
+rowsRead s cells [] = pick (isBegun s) (handedRow s cells ∷ []) []
 rowsRead s cells (b ∷ l) =
-    let ended = row s cells ∷ rowsRead Start (cellsOf s cells) l in
+    let ended = handedRow s cells ∷ rowsRead Start (cellsOf s cells) l in
     let more = rowsRead (lineAfter s b) (cellsAfter s cells b) l in
     pick (eqb b 10) ended more
 
@@ -47,7 +43,7 @@ handed-length l = by (rowOf l) where
   by (some zs) = chosen zs (leb (length zs) 64) (leb-true (length zs) 64)
 
 module _ (cells : List ℤ) (room : 65 ≤ length cells) (l : List ℕ) where
-  row-is : row (lineOver Start l) (cellsOver Start cells l) ≡ handedOf l
+  row-is : handedRow (lineOver Start l) (cellsOver Start cells l) ≡ handedOf l
   row-is =
       let e = row-ends cells l in
       let h = handed-length l in

@@ -1,9 +1,9 @@
 -- How long printed decimals and lines are, and what a buffer with room for them holds. Assumes nothing.
 use mathlib.Core.Path.{_≡_, refl, sym, ap, _∙_}
-use mathlib.Core.Bool.{Bool, true, false, _&&_, false≢true}
+use mathlib.Core.Bool.{Bool, true, false}
 use mathlib.Core.List.{List, [], _∷_, map}
 use Prim.Native.Nat.{ℕ, zero, suc, _+_, _*_, _/_, _%_, _^_, _≤_, _<_, min}
-use native.Mathlib.Nat.{pow-suc, mul-le-mul-right}
+use native.Mathlib.Nat.{pow-suc}
 use native.Mathlib.Omega.{arith}
 use lib.Dec.{T, leb, ltb}
 use lib.IntN.{ℤ, pos, negsuc}
@@ -12,8 +12,6 @@ use lib.Seq.{sets, sets-eq, length-sets, take-at, take-all}
 use borrow.Author.Tests.{leb-true, leb-false, ltb-true, ltb-false}
 use Rattle.arith.specs.Values.{isInt32}
 use Rattle.arith.proofs.Laws.{int32-mag}
-use Rattle.lexer.specs.Lexer.{isDigit, valueOf, valueOn}
-use Rattle.trace_text.specs.Row.{allDigits}
 use Rattle.trace_text.specs.Output.{unsignedDecimal, decimalOf, spaced, headLine, rowLine, refusedLine, Put}
 use Rattle.trace_text.proofs.Puts.{sets-past, sets-append}
 use Rattle.trace_text.proofs.Printing.{decimal-small, decimal-more, head-is, row-is, refused-is}
@@ -31,36 +29,6 @@ digits-length (suc k) n h = by (ltb n 10) (ltb-true n 10) (ltb-false n 10) (digi
   by false y f g =
       let l = g (omega (arith, e)) in
       rw (decimal-more n (f refl), length-append (unsignedDecimal (n / 10)) ((48 + n % 10) ∷ [])) (omega arith)
-
--- ---- the decimal that is printed is the shortest
-
-and-both : (a b : Bool) → (a && b) ≡ true → (a ≡ true) × (b ≡ true)
-and-both true b e = (refl, e)
-and-both false b e = absurd (false≢true e)
-
-digit-value : (b : ℕ) → isDigit b ≡ true → b % 16 < 10
-unfolding isDigit
-digit-value b e =
-    let t = and-both (leb 48 b) (ltb b 58) e in
-    let h = leb-true 48 b (t .0) in
-    let g = ltb-true b 58 (t .1) in
-    omega arith
-
-value-below : (l : List ℕ) (v : ℕ) → allDigits l ≡ true → valueOn l v < (v + 1) * 10 ^ length l
-unfolding valueOn
-value-below [] v e = omega arith
-value-below (b ∷ l) v e =
-    let t = and-both (isDigit b) (allDigits l) e in
-    let d = digit-value b (t .0) in
-    let h = value-below l (10 * v + b % 16) (t .1) in
-    let g : (10 * v + b % 16 + 1) * 10 ^ length l ≤ (10 * v + 10) * 10 ^ length l = mul-le-mul-right (10 ^ length l) (omega arith) in
-    let p : 10 ^ suc (length l) ≡ 10 ^ length l * 10 = pow-suc 10 (length l) in
-    rw p (omega arith)
-
--- no digits of the same value are fewer
-pub decimal-shortest : (b : ℕ) (l : List ℕ) → allDigits (b ∷ l) ≡ true → length (unsignedDecimal (valueOf (b ∷ l))) ≤ length (b ∷ l)
-unfolding valueOf
-decimal-shortest b l e = digits-length (length l) (valueOf (b ∷ l)) (let h = value-below (b ∷ l) 0 e in omega arith)
 
 -- ---- signed numbers
 

@@ -7,8 +7,8 @@ use native.Mathlib.Numerals.{add-one}
 use native.Mathlib.Omega.{arith}
 use lib.Dec.{ltb}
 use lib.IntN.{ℤ, pos, negsuc}
-use lib.ListN.{length, getD, drop, length-append, drop-of-length-le}
-use lib.Seq.{drop-cons, take-nil}
+use lib.ListN.{length, getD, drop, length-append}
+use lib.Seq.{drop-cons}
 use borrow.Author.Tests.{lt-ltb, le-ltb, le-leb, ltb-true, ltb-false}
 use Rattle.lexer.specs.Bytes.{pick, bytes, part}
 use Rattle.lexer.specs.Lexer.{isDigit, valueOf, valueOn}
@@ -109,12 +109,6 @@ refused-is number place = simp (append-assoc, append-nil)
 
 -- ---- a table of names
 
-pub no-names : (text starts ends : List ℕ) → namesOf text starts ends 0 ≡ []
-unfolding namesOf
-no-names text [] ends = refl
-no-names text (s ∷ starts) [] = refl
-no-names text (s ∷ starts) (e ∷ ends) = refl
-
 pub no-starts : (text ends : List ℕ) (n : ℕ) → namesOf text [] ends n ≡ []
 unfolding namesOf
 no-starts text ends n = refl
@@ -136,9 +130,3 @@ spelled-next text starts ends n i h s e =
 
 pub part-next : (text : List ℕ) (i e : ℕ) → i < e → i < length text → part text i e ≡ getD text i 0 ∷ part text (i + 1) e
 part-next text i e h l = let k : e - i ≡ suc (e - (i + 1)) = omega arith in rw (k, drop-cons text i 0 l, add-one)
-
-pub part-end : (text : List ℕ) (i e : ℕ) → e ≤ i → part text i e ≡ []
-part-end text i e h = let k : e - i ≡ 0 = omega arith in rw k
-
-pub part-past : (text : List ℕ) (i e : ℕ) → length text ≤ i → part text i e ≡ []
-part-past text i e h = rw (drop-of-length-le text h, take-nil (e - i))

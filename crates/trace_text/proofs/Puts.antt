@@ -74,12 +74,6 @@ pub record Putting (l : List ℕ) (at : ℕ) (all : List ℕ) (k : List ℕ) (p 
 pub putting : (l : List ℕ) (at : ℕ) (all : List ℕ) → at ≤ length l → Putting l at all l at all
 putting l at all h = record { memory = refl; place = refl; same = refl; inside = h }
 
--- after a first part
-pub putting-after : {l : List ℕ} {at : ℕ} {xs k : List ℕ} {p : ℕ} → Put l at xs k p → (rest : List ℕ) → Putting l at (xs ++ rest) k p rest
-putting-after h rest =
-    let e = put-inside h in
-    record { memory = put-sets h rest; place = put-place h rest; same = put-length h; inside = omega (arith, put-length h) }
-
 module _ {l : List ℕ} {at : ℕ} {all k : List ℕ} {p : ℕ} where
   pub putting-next : {rest : List ℕ} (xs : List ℕ) {ys : List ℕ} → Putting l at all k p rest → rest ≡ xs ++ ys → {m : List ℕ} {q : ℕ} → Put k p xs m q → Putting l at all m q ys
   putting-next xs {ys} h e g =
@@ -96,7 +90,3 @@ module _ {l : List ℕ} {at : ℕ} {all k : List ℕ} {p : ℕ} where
       let i = h .inside in
       let f = rw e at (h .place) in
       record { memory = rw e at (h .memory); place = omega arith }
-
-  -- the rest is put at once
-  pub putting-last : {rest : List ℕ} → Putting l at all k p rest → {m : List ℕ} {q : ℕ} → Put k p rest m q → Put l at all m q
-  putting-last h g = record { memory = g .memory ∙ h .memory; place = g .place ∙ h .place }

@@ -176,10 +176,6 @@ digit-no-space : (b : ℕ) → isDigit b ≡ true → b ≡ 32 → ⊥
 unfolding isDigit
 digit-no-space b e s = false≢true (rw s at e)
 
-space-no-digit : (b : ℕ) → b ≡ 32 → isDigit b ≡ false
-unfolding isDigit
-space-no-digit b e = rw e
-
 -- what is to come after the byte
 abbrev Goes : List ℤ → List ℕ → Type 0
 Goes cells l = (s : Line) (p : List ℕ) (zs : List ℤ) → At s p zs → Comes cells l s p zs

@@ -2,7 +2,7 @@
 use mathlib.Core.Path.{_≡_, refl, sym, ap, subst, _∙_}
 use mathlib.Core.Bool.{Bool, true, false, true≢false}
 use mathlib.Core.List.{List, [], _∷_, _++_, map}
-use Prim.Native.Nat.{ℕ, suc, _+_, _≤_, _<_}
+use Prim.Native.Nat.{ℕ, _+_, _≤_, _<_}
 use native.Mathlib.Omega.{arith}
 use lib.Dec.{eqb, leb}
 use lib.ListN.{length, take, drop, length-take}
@@ -15,10 +15,10 @@ use Rattle.trace_text.specs.declared.Stage.the-variants.{LineStart, InLi
 use Rattle.trace_text.specs.declared.Line.{Line}
 use Rattle.trace_text.specs.declared.Line.the-variants.{Start, Wanted, Minus, Number, NoRow}
 use Rattle.trace_text.specs.Input.{beforeLine, linesOf, bare, isHashLine, textIn, textOf, rowsIn, rowLines}
-use Rattle.trace_text.specs.Internal.{stageAfter, textAfter, stageOver, textOver, isRows, bytesBefore, bytesIn, isEnded, isBegun, counts, longerBy, digitAfter, numberBegins, lineAfter, lineOver}
+use Rattle.trace_text.specs.Internal.{stageAfter, textAfter, textOver, bytesBefore, bytesIn, isEnded, isBegun, counts, longerBy, digitAfter, numberBegins, lineAfter, lineOver}
 use Rattle.trace_text.specs.Output.{Put}
 use Rattle.trace_text.proofs.Lengths.{put-cut}
-use Rattle.trace_text.proofs.Chunks.{rows-of, stage-rows, text-rows, none-before}
+use Rattle.trace_text.proofs.Chunks.{text-rows, none-before}
 
 -- ---- a byte as the splitter sees it
 
@@ -155,27 +155,6 @@ lefts (b ∷ l) = lefts-byte l (byte b) (lefts l)
 pub rows-split : (input : List ℕ) → map bare (linesOf (drop (bytesBefore LineStart input) input)) ≡ rowLines input
 unfolding rowLines
 rows-split input = lefts input .start
-
--- ---- one chunk after the other, as far as the rows
-
-not-rows : (stage : Stage) (l : List ℕ) → isRows (stageOver stage l) ≡ false → isRows stage ≡ false
-not-rows stage l e = by (isRows stage) refl where
-  by : (t : Bool) → isRows stage ≡ t → t ≡ false
-  by true f = ap isRows (sym (stage-rows l) ∙ ap (λ (s : Stage). stageOver s l) (sym (rows-of stage f))) ∙ e
-  by false f = refl
-
-pub before-all : (stage : Stage) (a : List ℕ) → isRows (stageOver stage a) ≡ false → bytesBefore stage a ≡ length a
-unfolding bytesBefore stageOver
-before-all stage [] e = refl
-before-all stage (b ∷ a) e = rw (not-rows stage (b ∷ a) e) (ap suc (before-all (stageAfter stage b) a e))
-
-pub before-append : (stage : Stage) (a b : List ℕ) → isRows (stageOver stage a) ≡ false
-    → bytesBefore stage (a ++ b) ≡ length a + bytesBefore (stageOver stage a) b
-unfolding bytesBefore stageOver
-before-append stage [] b e = omega arith
-before-append stage (x ∷ a) b e =
-    let h = before-append (stageAfter stage x) a b e in
-    rw (not-rows stage (x ∷ a) e) (omega arith)
 
 -- ---- the lines of the rows, read chunk by chunk
 

@@ -5,6 +5,7 @@ use mathlib.Core.Bool.{Bool, true, false, _&&_}
 use mathlib.Core.List.{List, [], _∷_, _++_}
 use lib.Dec.{eqb, leb, ltb}
 use lib.IntN.{ℤ, pos, negℤ}
+use lib.ListN.{take}
 use lib.Seq.{sets}
 use Rattle.limits.specs.Limits.{nameLimit}
 use Rattle.lexer.specs.Bytes.{pick}
@@ -118,6 +119,10 @@ cellsOf (Wanted n) cells = sets cells 0 longRow
 cellsOf (Minus n) cells = sets cells 0 longRow
 cellsOf (Number n negative v) cells = pick (counts n negative v) (cellsEnd n negative v cells) (sets cells 0 longRow)
 cellsOf NoRow cells = sets cells 0 longRow
+
+-- the row that is handed to scan: the first of the cells
+abbrev pub handedRow : Line → List ℤ → List ℤ
+handedRow line cells = take (countOf line) (cellsOf line cells)
 
 -- a byte of the line was read
 abbrev pub isBegun : Line → Bool

@@ -6,7 +6,7 @@ ghost use Prim.Native.Nat.{_+_, _≤_};
 ghost use lib.ListN.{length, drop, set};
 ghost use lib.Seq.{sets};
 ghost use Rattle.trace_text.specs.Input.{bare};
-ghost use Rattle.trace_text.specs.Row.{longRow, handedOf};
+ghost use Rattle.trace_text.specs.Row.{longRow};
 ghost use Rattle.trace_text.specs.Output.{Put};
 ghost use Rattle.trace_text.specs.Internal.{textStage, stageAfter, textAfter, stageOver, textOver, isRows, bytesBefore, longerBy, digitAfter, numberBegins, signed as signedOf, inRange, counts, cellsEnd, lineAfter, cellsAfter, lineOver, cellsOver, countOf, cellsOf, bytesIn, isEnded, isBegun};
 
@@ -346,17 +346,4 @@ pub fn line_end(cells: &mut [i32], s: Line) -> usize
         Line::Minus(_) => put_long_row(cells),
         Line::NoRow => put_long_row(cells),
     }
-}
-
-// The row of a whole line.
-pub fn read_row(cells: &mut [i32], line: &[u8]) -> usize
-    ensures { λ r. ⌜ (r ≡ length (handedOf (now (line .entry)))) × (now (cells .exit) ≡ sets (now (cells .entry)) 0 (handedOf (now (line .entry)))) ⌝ }
-{
-    let mut s = Line::Start;
-    let mut i = 0;
-    while i < line.len() {
-        s = line_byte(cells, s, line[i]);
-        i += 1;
-    }
-    line_end(cells, s)
 }

@@ -7,7 +7,7 @@ use native.Mathlib.Omega.{arith}
 use lib.Dec.{leb}
 use lib.ListN.{length, take, drop}
 use lib.Seq.{length-sets}
-use borrow.Author.Tests.{lt-ltb, le-ltb, le-leb, lt-leb}
+use borrow.Author.Tests.{lt-ltb, le-leb, lt-leb}
 use Rattle.limits.specs.Limits.{textLimit, imageLimit}
 use Rattle.limits.specs.Answer.{Answer}
 use Rattle.limits.specs.Answer as A
@@ -20,6 +20,7 @@ use Rattle.grammar.proofs.Image.{image-emitted}
 use Rattle.grammar.proofs.Accepted.{parse-translatable, parse-growth, parse-short as accepted-short}
 use Rattle.grammar.proofs.Places.{Within}
 use Rattle.grammar.proofs.PlacesText.{parse-limited}
+use Rattle.grammar.proofs.ConverseText.{short-parse}
 use Rattle.translate.specs.declared.Analysis.{Analysis}
 use Rattle.translate.specs.declared.Analysis.the-variants as N
 use Rattle.translate.specs.declared.Translated.{Translated}
@@ -36,17 +37,13 @@ pub parse-long : (text : List ℕ) → textLimit < length text → parse text �
 unfolding parse
 parse-long text h = rw (lt-ltb textLimit (length text) h)
 
-pub parse-short : (text : List ℕ) → length text ≤ textLimit → parse text ≡ program text
-unfolding parse
-parse-short text h = rw (le-ltb textLimit (length text) h)
-
 pub analyses-long : (text starts ends : List ℕ) → textLimit < length text → Analyses text (parse text) starts ends (N.Refused 9 0)
 analyses-long text starts ends h =
     let e = parse-long text h in
     record { answer = rw e; named = λ q n g. never q n 9 0 (sym g ∙ e) }
 
 pub analyses-short : (text last starts ends : List ℕ) (r : Analysis) → length text ≤ textLimit → Descends text (program text) [] last starts ends r → Analyses text (parse text) starts ends r
-analyses-short text last starts ends r h d = rw (parse-short text h) (record { answer = d .answer; named = d .named })
+analyses-short text last starts ends r h d = rw (short-parse text h) (record { answer = d .answer; named = d .named })
 
 -- ---- what the analysis says of the text
 
@@ -130,11 +127,11 @@ pub record Made (text scratch : List ℕ) (size : ℕ) : Type 0 where
 
 module _ (text before after starts ends : List ℕ) (r : Analysis) (short : length text ≤ textLimit) (d : Descends text (program text) before after starts ends r) where
   pub fault-passed : (k x : ℕ) (buffer : List ℕ) → r ≡ N.Refused k x → (afterTranslation (T.Refused k x) buffer ≡ translationOf text buffer) × TranslatedWithin (T.Refused k x)
-  fault-passed k x buffer e = bounded text buffer (T.Refused k x) buffer (translation-refused text buffer k x (parse-short text short ∙ measured-refused (program text) k x (sym (d .answer) ∙ ap analysed e)))
+  fault-passed k x buffer e = bounded text buffer (T.Refused k x) buffer (translation-refused text buffer k x (short-parse text short ∙ measured-refused (program text) k x (sym (d .answer) ∙ ap analysed e)))
 
   made-of : (q : Program) (n size : ℕ) → program text ≡ accepted q n → size ≡ length (image q) → 3 * length text + 4 ≤ 2 * length before → Made text after size
   made-of q n size e m h =
-      let p : parse text ≡ accepted q n = parse-short text short ∙ e in
+      let p : parse text ≡ accepted q n = short-parse text short ∙ e in
       let w = d .wrote q n e in
       let l : length (image q) ≡ length (imageOf q) = ap {A = List ℕ} length (image-emitted q) in
       let f : length (image q) ≤ length before = omega (arith, parse-growth text q n p) in

@@ -7,8 +7,9 @@ use borrow.Author.Tests.{eq-eqb, ne-eqb}
 use mir.Syntax.{w32}
 use mir.Val.{SFits}
 use mir.Facts.{toZ-pos}
+use Rattle.arith.proofs.Laws.{same32}
 use Rattle.leb128.specs.Numbers.{unzigzag as unzigzagOf}
-use Rattle.leb128.proofs.Signs.{same32, mirror-pos}
+use Rattle.leb128.proofs.Signs.{mirror-pos}
 use Rattle.leb128.proofs.unzigzag.Statement.{statement}
 use Rattle.leb128.proofs.unzigzag.Tie as tie
 

@@ -7,8 +7,9 @@ use lib.IntN.{ℤ, pos, negsuc, _-ℤ_}
 use lib.Signed.{mag}
 use mir.Syntax.{w32}
 use mir.Val.{SFits, toZ, ofZ}
+use Rattle.arith.proofs.Laws.{same32}
 use Rattle.leb128.specs.Numbers.{zigzag as zigzagOf}
-use Rattle.leb128.proofs.Signs.{same32, not-below, is-below, mirror-negsuc}
+use Rattle.leb128.proofs.Signs.{not-below, is-below, mirror-negsuc}
 use Rattle.leb128.proofs.zigzag.Statement.{statement}
 use Rattle.leb128.proofs.zigzag.Tie as tie
 

@@ -4,7 +4,8 @@ use borrow.Author.Needs.{needs}
 use mir.Val.{SFits}
 use mir.Syntax.{w32}
 use mir.Facts.{toZ-ofZ}
-use Rattle.machine.proofs.Codes.{operation-code, comparison-code, truth-comparison, related-same, no-code-first, no-code-last}
+use Rattle.bytecode.proofs.Codes.{none-below, none-above, above}
+use Rattle.machine.proofs.Codes.{operation-code, comparison-code, truth-comparison, related-same}
 use Rattle.machine.proofs.Changes.{names-length}
 use Rattle.machine.specs.Internal.{truthOf}
 use Rattle.machine.specs.Memory.{heldOf}
@@ -102,15 +103,15 @@ returns-13 c =
     (λ ns q. c .before .relate3 .ensures .0 (a .cur .now) ∙ related-same _ _ _ (heldOf (a .vals .now) (a .m .held)) (a .cur .now) (λ x y. truth-comparison (a .code) x y below) ∙ rw e, c .before .relate3 .ensures .1)
 
 returns-14 : tie.Need-returns-14
-returns-14 c = (λ ns r. rw (no-code-first (c .before .before .args .code) (c .before .before .args .n) (c .if1 .taken)), search needs)
+returns-14 c = (λ ns r. rw (none-below (c .before .before .args .code) (c .before .before .args .n) (c .if1 .taken)), search needs)
 
 returns-15 : tie.Need-returns-15
 returns-15 c =
     let a = c .before .before .before .before .args in
     let r = c .before .before .before .match .rest in
     let e =
-    no-code-last (a .code) (a .n) (c .if3 .left)
-    (r .0 .0 .0 .0 .0 .0 .1) (r .0 .0 .0 .0 .0 .1) (r .0 .0 .0 .0 .1) (r .0 .0 .0 .1) (r .0 .0 .1) (r .0 .1) (r .1) in
+    none-above (a .code) (a .n)
+    (above (a .code) (c .if3 .left) (r .0 .0 .0 .0 .0 .0 .1) (r .0 .0 .0 .0 .0 .1) (r .0 .0 .0 .0 .1) (r .0 .0 .0 .1) (r .0 .0 .1) (r .0 .1) (r .1)) in
     (λ ns q. rw e, search needs)
 
 pub act-spec : {M : Type 1} → statement M

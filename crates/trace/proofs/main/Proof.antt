@@ -1,4 +1,4 @@
--- `trace::main`. Assumes nothing.
+-- `trace::main` meets its contract; it rests on the contracts of the C library's functions. Assumes nothing else.
 use mathlib.Core.Path.{sym}
 use lib.Seq.{length-take-le}
 use Rattle.trace.proofs.Parts.{image-in-buffer}

@@ -1,4 +1,4 @@
--- `trace::read_text`. Assumes nothing.
+-- `trace::read_text` meets its contract; it rests on the contracts of the C library's functions. Assumes nothing else.
 use borrow.Author.Needs.{needs}
 use mathlib.Core.Path.{_≡_, refl}
 use Prim.Native.Nat.{_≤_}

@@ -1,4 +1,4 @@
--- `trace::trace_chunk`. Assumes nothing.
+-- `trace::trace_chunk` meets its contract; it rests on the contracts of the C library's functions. Assumes nothing else.
 use mathlib.Core.Path.{_≡_, refl}
 use Prim.Native.Nat.{_-_, _≤_}
 use native.Mathlib.Omega.{arith}

@@ -1,4 +1,4 @@
--- `trace::trace_row`. Assumes nothing.
+-- `trace::trace_row` meets its contract. Assumes nothing.
 use mathlib.Core.Path.{sym}
 use lib.Seq.{length-take-le}
 use Rattle.trace.proofs.Parts.{count-inside, row-traced}

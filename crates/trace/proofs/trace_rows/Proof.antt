@@ -1,4 +1,4 @@
--- `trace::trace_rows`. Assumes nothing.
+-- `trace::trace_rows` meets its contract; it rests on the contracts of the C library's functions. Assumes nothing else.
 use mathlib.Core.Path.{_≡_}
 use native.Mathlib.Omega.{arith}
 use lib.ListN.{length}

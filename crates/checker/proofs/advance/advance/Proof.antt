@@ -1,8 +1,9 @@
 -- `checker::advance::advance` meets its contract: each arm is the instruction of its code byte. Assumes nothing.
 use mathlib.Core.Path.{sym, _∙_}
 use Rattle.bytecode.specs.Instructions.{instructionOf, operationOf, comparisonOf}
+use Rattle.bytecode.proofs.Codes.{operation-of, comparison-of, none-below, none-above, from-four, above}
 use Rattle.checker.specs.Represented.{knownOf}
-use Rattle.checker.proofs.Steps.{operation-is, comparison-is, both-is, either-is, negate-is, negated-is, constant-is, operation-of, comparison-of, none-below, none-above, from-four, above}
+use Rattle.checker.proofs.Steps.{operation-is, comparison-is, both-is, either-is, negate-is, negated-is, constant-is}
 use borrow.Author.Needs.{needs}
 use native.Mathlib.Omega.{arith}
 use Rattle.checker.proofs.advance.advance.Statement.{statement}
@@ -26,7 +27,7 @@ returns-4 c = (rw (c .before .match .keys4) (c .keep .ensures .0 ∙ sym (negate
 
 returns-5 : tie.Need-returns-5
 unfolding instructionOf
-returns-5 c = (rw (c .before .match .keys5) (c .negate-test .ensures .0 ∙ sym (negated-is (knownOf (c .before .before .args .w)))), c .negate-test .ensures .1)
+returns-5 c = (rw (c .before .match .keys5) (c .invert .ensures .0 ∙ sym (negated-is (knownOf (c .before .before .args .w)))), c .invert .ensures .1)
 
 returns-6 : tie.Need-returns-6
 unfolding instructionOf

@@ -1,5 +1,5 @@
 -- `checker::advance::advance_fixed` meets its contract: each arm is the same code. Assumes nothing.
-use Rattle.checker.proofs.Steps.{none-other}
+use Rattle.bytecode.proofs.Codes.{none-other}
 use borrow.Author.Needs.{needs}
 use Rattle.checker.proofs.advance.advance_fixed.Statement.{statement}
 use Rattle.checker.proofs.advance.advance_fixed.Tie as tie

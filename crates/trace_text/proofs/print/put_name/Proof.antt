@@ -6,8 +6,9 @@ use native.Mathlib.Omega.{arith}
 use lib.ListN.{getD}
 use borrow.Author.Needs.{needs}
 use Rattle.lexer.specs.Bytes.{part}
+use Rattle.lexer.proofs.Values.{part-none, part-out}
 use Rattle.trace_text.proofs.Puts.{put-then, put-inside, put-length, Putting, putting, putting-next, putting-done}
-use Rattle.trace_text.proofs.Printing.{part-next, part-end, part-past}
+use Rattle.trace_text.proofs.Printing.{part-next}
 use Rattle.trace_text.proofs.print.put_name.Statement.{statement}
 use Rattle.trace_text.proofs.print.put_name.Tie as tie
 
@@ -30,7 +31,7 @@ returns : tie.Need-returns Inv-loop μ-loop
 returns c =
     let at-put-byte = c .before .before .before .before .before in
     let start = at-put-byte .before .before .before .before in
-    put-then (at-put-byte .put-byte .ensures) (putting-done (c .before .before .loop .inv) (part-past (start .args .text .now) (c .before .before .loop .i) (start .args .end) (c .if1 .taken)))
+    put-then (at-put-byte .put-byte .ensures) (putting-done (c .before .before .loop .inv) (part-out (start .args .text .now) (c .before .before .loop .i) (start .args .end) (c .if1 .taken)))
 
 put-byte-requires-2 : tie.Need-put-byte-requires-2 Inv-loop μ-loop
 put-byte-requires-2 c κs = tt
@@ -52,7 +53,7 @@ same-length-2 c = c .before .loop .inv .same ∙ put-length (c .before .before .
 returns-2 : tie.Need-returns-2 Inv-loop μ-loop
 returns-2 c =
     let start = c .before .before .before .before .before .before .before .before in
-    put-then (c .before .before .before .before .put-byte .ensures) (putting-done (c .before .loop .inv) (part-end (start .args .text .now) (c .before .loop .i) (start .args .end) (c .loop-test .left)))
+    put-then (c .before .before .before .before .put-byte .ensures) (putting-done (c .before .loop .inv) (part-none (start .args .text .now) (c .before .loop .i) (start .args .end) (c .loop-test .left)))
 
 pub put-name-spec : {M : Type 1} → statement M
 put-name-spec =

@@ -7,9 +7,10 @@ use lib.ListN.{getD, drop, drop-of-length-le}
 use borrow.Author.Needs.{needs}
 use Rattle.lexer.specs.Bytes.{part}
 use Rattle.lexer.specs.Names.{namesOf}
+use Rattle.lexer.proofs.Table.{names-none}
 use Rattle.trace_text.specs.Output.{spaced}
 use Rattle.trace_text.proofs.Puts.{put-clip, Putting, putting, putting-next, putting-done}
-use Rattle.trace_text.proofs.Printing.{no-names, no-starts, no-ends, spelled-next}
+use Rattle.trace_text.proofs.Printing.{no-starts, no-ends, spelled-next}
 use Rattle.trace_text.proofs.print.put_names.Statement.{statement}
 use Rattle.trace_text.proofs.print.put_names.Tie as tie
 
@@ -62,7 +63,7 @@ same-length-3 c = c .before .loop .inv .same
 
 returns-3 : tie.Need-returns-3 Inv-loop μ-loop
 returns-3 c =
-    let z : c .before .before .before .before .before .before .before .args .count - c .before .loop .i ≡ 0 = omega arith in put-clip (rw (c .before .before .clip .ensures) at (putting-done (c .before .loop .inv) (rw (z, no-names))))
+    let z : c .before .before .before .before .before .before .before .args .count - c .before .loop .i ≡ 0 = omega arith in put-clip (rw (c .before .before .clip .ensures) at (putting-done (c .before .loop .inv) (rw (z, names-none))))
 
 pub put-names-spec : {M : Type 1} → statement M
 put-names-spec =

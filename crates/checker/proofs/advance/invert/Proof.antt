@@ -1,10 +1,10 @@
--- `checker::advance::negate_test` meets its contract. Assumes nothing.
+-- `checker::advance::invert` meets its contract. Assumes nothing.
 use mathlib.Core.Path.{ap, _∙_}
 use Rattle.checker.specs.Represented.{openOf}
 use Rattle.checker.proofs.Steps.{outside-no, open-yes}
 use borrow.Author.Needs.{needs}
-use Rattle.checker.proofs.advance.negate_test.Statement.{statement}
-use Rattle.checker.proofs.advance.negate_test.Tie as tie
+use Rattle.checker.proofs.advance.invert.Statement.{statement}
+use Rattle.checker.proofs.advance.invert.Tie as tie
 
 returns : tie.Need-returns
 returns c = (rw (open-yes (c .before .before .args .w .gate) (c .if1 .taken)), tt)
@@ -12,5 +12,5 @@ returns c = (rw (open-yes (c .before .before .args .w .gate) (c .if1 .taken)), t
 returns-2 : tie.Need-returns-2
 returns-2 c = (c .keep .ensures .0 ∙ outside-no (openOf (c .before .before .before .args .w .gate)) _ (ap openOf (c .before .if1 .left)), c .keep .ensures .1)
 
-pub negate-test-spec : {M : Type 1} → statement M
-negate-test-spec = tie.close (tie.spec returns (λ c κs. search needs) returns-2)
+pub invert-spec : {M : Type 1} → statement M
+invert-spec = tie.close (tie.spec returns (λ c κs. search needs) returns-2)
