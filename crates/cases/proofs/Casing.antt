@@ -19,7 +19,7 @@ use Rattle.grammar.specs.Expressions.{Scope, wholeExpression}
 use Rattle.grammar.specs.Conditions.{listed}
 use Rattle.grammar.specs.Rules.{Span, Spanned, caseAt, casesFrom}
 use Rattle.grammar.specs.Emitted.{codeC, codeK}
-use Rattle.grammar.proofs.Combine.{then-prop}
+use Rattle.grammar.proofs.Combine.{then-prop, apart, same-value}
 use Rattle.grammar.proofs.Growth.{Grown, listed-grown}
 use Rattle.grammar.proofs.Size.{Pays, case-pays}
 use Rattle.expressions.specs.Steps.{Room}
@@ -28,7 +28,7 @@ use Rattle.agreement.proofs.Parts.{spans-none}
 use Rattle.cases.specs.declared.Part.{Part}
 use Rattle.cases.specs.declared.Part.the-variants.{Done, Refused}
 use Rattle.cases.specs.Post.{Writes, codeOfCase, codeOfCases, endOfCondition, Lists}
-use Rattle.cases.proofs.Parts.{never, same-value, Got, writes, refuses}
+use Rattle.cases.proofs.Parts.{Got, writes, refuses}
 use Rattle.cases.proofs.Ways.{then-bytes}
 use Rattle.cases.proofs.Listing.{Found}
 
@@ -58,10 +58,10 @@ code-append v (d ∷ cs) c = rw (code-append v cs c) (simp append-assoc)
 case-from : (sc : Scope) (w : List ℕ) (at n : ℕ) (c : Spanned) (m : ℕ) → caseAt sc w at n ≡ accepted c m → c .span .from ≡ at
 unfolding caseAt followed
 case-from sc w at n c m =
-    then-prop P (listed sc n) _ (λ k q e. never (sym e))
-    (λ k n1 e1. then-prop P (phrase (sc .text) _ n1) _ (λ k q e. never (sym e))
-    (λ u n2 e2. then-prop P (wholeExpression sc n2) _ (λ k q e. never (sym e))
-    (λ v n3 e3. then-prop P (phrase (sc .text) _ n3) _ (λ k q e. never (sym e))
+    then-prop P (listed sc n) _ (λ k q e. apart (sym e))
+    (λ k n1 e1. then-prop P (phrase (sc .text) _ n1) _ (λ k q e. apart (sym e))
+    (λ u n2 e2. then-prop P (wholeExpression sc n2) _ (λ k q e. apart (sym e))
+    (λ v n3 e3. then-prop P (phrase (sc .text) _ n3) _ (λ k q e. apart (sym e))
     (λ u2 n4 e4 e. ap (λ (x : Spanned). x .span .from) (sym (same-value e))))))
   where
     P : Parsed Spanned → Type 0
@@ -70,10 +70,10 @@ case-from sc w at n c m =
 case-inside : (sc : Scope) → length (sc .names) ≤ 64 → (w : List ℕ) (at n : ℕ) → n ≤ length (sc .text) → (c : Spanned) (m : ℕ) → caseAt sc w at n ≡ accepted c m → c .span .to ≤ length (sc .text)
 unfolding caseAt followed
 case-inside sc few w at n h c m =
-    then-prop P (listed sc n) _ (λ k q e. never (sym e))
-    (λ k n1 e1. then-prop P (phrase (sc .text) _ n1) _ (λ k q e. never (sym e))
-    (λ u n2 e2. then-prop P (wholeExpression sc n2) _ (λ k q e. never (sym e))
-    (λ v n3 e3. then-prop P (phrase (sc .text) _ n3) _ (λ k q e. never (sym e))
+    then-prop P (listed sc n) _ (λ k q e. apart (sym e))
+    (λ k n1 e1. then-prop P (phrase (sc .text) _ n1) _ (λ k q e. apart (sym e))
+    (λ u n2 e2. then-prop P (wholeExpression sc n2) _ (λ k q e. apart (sym e))
+    (λ v n3 e3. then-prop P (phrase (sc .text) _ n3) _ (λ k q e. apart (sym e))
     (λ u2 n4 e4 e.
     let g = subst (Grown codeC (length (sc .text)) n) e1 (listed-grown sc few n h) in
     subst (λ (x : Spanned). x .span .to ≤ length (sc .text)) (same-value e) (g .1)))))
@@ -146,7 +146,7 @@ abbrev Answer : (sc : Scope) (w : List ℕ) (v at to : ℕ) (out₀ from upto ou
 Answer sc w v at to out₀ from upto out r = Writes (codeOfCases v) length (casesFrom caseLimit sc w [] at) to out₀ out r × Lists (casesFrom caseLimit sc w [] at) (sc .text) from upto
 
 refuse : (sc : Scope) (w : List ℕ) (v at to : ℕ) (out₀ : List ℕ) {from upto out : List ℕ} {r : Part} {k q : ℕ} → r ≡ Refused k q → casesFrom caseLimit sc w [] at ≡ refused k q → Answer sc w v at to out₀ from upto out r
-refuse sc w v at to out₀ d e = (refuses d e, record { held = λ cs n f. never (sym f ∙ e); listed = λ cs n f. never (sym f ∙ e) })
+refuse sc w v at to out₀ d e = (refuses d e, record { held = λ cs n f. apart (sym f ∙ e); listed = λ cs n f. apart (sym f ∙ e) })
 
 pub casing-first : (sc : Scope) (w : List ℕ) (v at to : ℕ) (out₀ from upto : List ℕ) → Room (sc .text) at to → caseLimit ≤ length from → caseLimit ≤ length upto → Casing sc w v at to out₀ from upto out₀ at to 0
 unfolding codeK

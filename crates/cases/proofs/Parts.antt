@@ -2,7 +2,6 @@
 use mathlib.Core.Path.{_≡_, refl, ap, sym, _∙_, subst}
 use mathlib.Core.List.{List, _∷_}
 use Prim.Native.Nat.{ℕ, _+_}
-use native.Mathlib.Omega.{arith}
 use lib.ListN.{length}
 use lib.Seq.{sets}
 use Rattle.limits.specs.Limits.{noToken}
@@ -16,21 +15,13 @@ use Rattle.expressions.proofs.Steps.{lookedAhead, Refuses, refused-by}
 use Rattle.phrases.specs.declared.Expected.{Expected}
 use Rattle.phrases.specs.declared.Expected.the-variants as E
 use Rattle.phrases.specs.Results.{expectedOf}
+use Rattle.grammar.proofs.Combine.{apart, same-value, same-end}
 use Rattle.cases.specs.declared.Part.{Part}
 use Rattle.cases.specs.declared.Part.the-variants.{Done, Refused}
 use Rattle.cases.specs.Results.{partOf, placeOnly, unexpectedPart, unreadPart}
 use Rattle.cases.specs.Post.{Writes, answered}
 
 -- ---- the constructors of what was read are apart, and keep what they hold
-
-pub never : {A B : Type 0} {a : A} {n k q : ℕ} → accepted a n ≡ refused k q → B
-never e = let z : _≡_ {A = ℕ} 0 1 = cc in absurd (omega arith)
-
-pub same-value : {A : Type 0} {a b : A} {n m : ℕ} → accepted a n ≡ accepted b m → a ≡ b
-same-value e = cc
-
-pub same-end : {A : Type 0} {a b : A} {n m : ℕ} → accepted a n ≡ accepted b m → n ≡ m
-same-end e = cc
 
 pub same-refusal : {A B : Type 0} {k q l r : ℕ} → _≡_ {A = Parsed A} (refused k q) (refused l r) → _≡_ {A = Parsed B} (refused k q) (refused l r)
 same-refusal e = cc
@@ -53,13 +44,13 @@ module _ {A : Type 0} {bytes : A → List ℕ} {tells : A → ℕ} {p : Parsed A
         go (accepted a m) e f =
             let i : p ≡ accepted a n = e ∙ ap (accepted a) (sym (same-end f)) in
             record { tree = a; is = i; ended = ap (λ (q : ℕ × ℕ). q .0) (same-value f); told = ap (λ (q : ℕ × ℕ). q .1) (same-value f); wrote = c .wrote a n i }
-        go (refused k q) e f = never f
+        go (refused k q) e f = apart f
 
     pub refused-part : {k q : ℕ} → r ≡ Refused k q → p ≡ refused k q
     refused-part {k} {q} d = go p refl (sym (ap partOf d) ∙ c .answer)
       where
         go : (w : Parsed A) → p ≡ w → refused k q ≡ andThen w (answered bytes tells to) → p ≡ refused k q
-        go (accepted a m) e f = never (sym f)
+        go (accepted a m) e f = apart (sym f)
         go (refused l m) e f = e ∙ same-refusal (sym f)
 
   pub writes : {n t x : ℕ} → Got bytes tells p to before after n t x → Writes bytes tells p to before after (Done n t x)
@@ -70,7 +61,7 @@ module _ {A : Type 0} {bytes : A → List ℕ} {tells : A → ℕ} {p : Parsed A
 
   -- an answer that is a refusal
   pub refuses : {r : Part} {k q : ℕ} → r ≡ Refused k q → p ≡ refused k q → Writes bytes tells p to before after r
-  refuses d e = record { answer = rw (d, e); wrote = λ a m f. never (sym f ∙ e) }
+  refuses d e = record { answer = rw (d, e); wrote = λ a m f. apart (sym f ∙ e) }
 
   -- a refusal of the fixed tokens at hand, and of an expression or a condition, passed on
   pub not-expected : {r : Part} {e : Expected} {w : Parsed (Unit {0})} {k q : ℕ} → r ≡ unexpectedPart e → expectedOf e ≡ w → e ≡ E.Refused k q → (w ≡ refused k q → p ≡ refused k q) → Writes bytes tells p to before after r
@@ -99,7 +90,7 @@ module _ {A B : Type 0} (text : List ℕ) (f : A → ℕ → Parsed B) (g : (a :
   behind-refused (accepted a n) {k} {q} e = go (tokenAt text n) refl (e .looked)
     where
       go : (r : Read) → tokenAt text n ≡ r → onToken r (λ w s m. accepted a n) ≡ refused k q → f a n ≡ refused k q
-      go (token w s m) i d = never d
+      go (token w s m) i d = apart d
       go (fault p) i d = g a n p i ∙ same-refusal d
   behind-refused (refused l r) e = same-refusal (e .looked)
 
@@ -115,4 +106,4 @@ pub record Placed {A : Type 0} (p : Parsed A) (n : ℕ) : Type 0 where
 pub placed : {A : Type 0} (p : Parsed A) {n : ℕ} → placeOnly p ≡ accepted tt n → Placed p n
 unfolding placeOnly
 placed (accepted a m) e = record { tree = a; is = ap (accepted a) (same-end e) }
-placed (refused k q) e = never (sym e)
+placed (refused k q) e = apart (sym e)

@@ -18,10 +18,12 @@ use Rattle.grammar.specs.Rules.{caseAt, Compared, differs, settled}
 use Rattle.grammar.specs.Emitted.{codeE, codeC, codeK}
 use Rattle.grammar.proofs.Size.{Solid, Long, phrase-long}
 use Rattle.expressions.specs.Steps.{Room}
-use Rattle.expressions.proofs.Steps.{sets-append, Refuses}
+use Rattle.expressions.proofs.Steps.{Refuses}
 use Rattle.phrases.specs.Forms.{caseValueOpening}
+use Rattle.leb128.proofs.Stores.{sets-append}
+use Rattle.grammar.proofs.Combine.{apart}
 use Rattle.cases.specs.Results.{placeOnly}
-use Rattle.cases.proofs.Parts.{never, same-refusal, phrase-fault, behind-refused}
+use Rattle.cases.proofs.Parts.{same-refusal, phrase-fault, behind-refused}
 
 -- ---- bytes of an instruction with an id
 
@@ -88,7 +90,7 @@ module _ {A : Type 0} (r : Parsed A) where
     where
       go : (p : Parsed A) → placeOnly p ≡ accepted tt n → settled p (differs m) ≡ refused listsDiffer m
       go (accepted a n) e = refl
-      go (refused k q) e = never (sym e)
+      go (refused k q) e = apart (sym e)
 
   pub settled-as : {q : Parsed (Unit {0})} {m n : Compared} → q ≡ placeOnly (settled r m) → m ≡ n → q ≡ placeOnly (settled r n)
   settled-as e f = e ∙ ap (λ (x : Compared). placeOnly (settled r x)) f
@@ -98,7 +100,7 @@ module _ {A : Type 0} (r : Parsed A) where
   place-refused {k} {q} e = go r e
     where
       go : (p : Parsed A) → placeOnly p ≡ refused k q → p ≡ refused k q
-      go (accepted a n) e = never e
+      go (accepted a n) e = apart e
       go (refused l m) e = same-refusal e
 
 module _ {A : Type 0} {r : Parsed A} {k q : ℕ} (e : r ≡ refused k q) (m : ℕ) where

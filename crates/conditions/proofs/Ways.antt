@@ -24,9 +24,10 @@ use Rattle.expressions.specs.declared.Step.{Step}
 use Rattle.expressions.specs.declared.Step.the-variants.{Done, Refused}
 use Rattle.expressions.specs.Steps.{stepAt, Parses, Room}
 use Rattle.expressions.specs.Internal.{Codes, closedStep}
-use Rattle.expressions.proofs.Steps.{sets-append, lookedAhead, Refuses, refused-now, Known, known, told, untold, Accepted, accepted-by, accepts, answers, same-part, passed, then-refused, ahead-at, ahead-stands, closing, closed-parses, one-more, room-fits, room-after, room-more, room-at}
+use Rattle.expressions.proofs.Steps.{lookedAhead, Refuses, refused-now, Known, known, told, untold, Accepted, accepted-by, accepts, answers, same-part, passed, then-refused, ahead-at, ahead-stands, closing, closed-parses, one-more, room-fits, room-after, room-more, room-at}
 use Rattle.expressions.proofs.Scopes.{few-names}
 use Rattle.expressions.proofs.Chain.{Operators, Operator, operator-some, operator-none}
+use Rattle.leb128.proofs.Stores.{sets-append}
 use Rattle.conditions.specs.Internal.{connectiveCode, comparisonIn, invertedIn, atomIn, conjunctionIn, conditionIn}
 
 -- ---- operators

@@ -11,13 +11,14 @@ use Rattle.grammar.specs.Emitted.{header}
 use Rattle.phrases.specs.declared.Expected.{Expected}
 use Rattle.phrases.specs.declared.Expected.the-variants as E
 use Rattle.phrases.specs.Results.{expectedOf}
+use Rattle.grammar.proofs.Combine.{then-then, never}
 use Rattle.declarations.specs.Internal.{rangeAt, rangeBytes}
 use Rattle.declarations.specs.Results.{stepOf, unexpectedStep}
 use Rattle.declarations.specs.Post.{Holds, Writes, Names, Declares}
 use Rattle.declarations.specs.declared.Step.{Step}
 use Rattle.declarations.specs.declared.Step.the-variants.{Done, Refused}
 use Rattle.declarations.proofs.Numbers.{range-bytes}
-use Rattle.declarations.proofs.Steps.{never, then-then, After, after, refused-then, refuses}
+use Rattle.declarations.proofs.Steps.{After, after, refused-then, refuses}
 
 -- the name with spelling w
 abbrev spelledAs : List ℕ → Range → Name

@@ -17,14 +17,15 @@ use Rattle.grammar.specs.Declarations.{declaration, declarationsFrom, declarati
 use Rattle.grammar.specs.Emitted.{header}
 use Rattle.phrases.specs.declared.Expected.{Expected}
 use Rattle.phrases.specs.Results.{faultOf}
+use Rattle.leb128.proofs.Stores.{sets-append}
+use Rattle.grammar.proofs.Combine.{never}
 use Rattle.declarations.specs.Results.{stepOf, unexpectedStep, undeclared}
 use Rattle.declarations.specs.Post.{Room, Holds, Declares, headerAfter, DeclaresAll, Few}
 use Rattle.declarations.specs.declared.Step.{Step}
 use Rattle.declarations.specs.declared.Step.the-variants as S
 use Rattle.declarations.specs.declared.Declared.{Declared}
 use Rattle.declarations.specs.declared.Declared.the-variants.{Until, Refused}
-use Rattle.declarations.proofs.Numbers.{sets-append}
-use Rattle.declarations.proofs.Steps.{never, same-value, after, refused-then}
+use Rattle.declarations.proofs.Steps.{same-value, after, refused-then}
 
 pub header-append : (l k : List Name) → header (l ++ k) ≡ header l ++ header k
 unfolding header

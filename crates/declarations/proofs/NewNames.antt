@@ -17,8 +17,9 @@ use Rattle.grammar.specs.Parsed.{accepted, refused}
 use Rattle.grammar.specs.Declarations.{spellings, newName}
 use Rattle.phrases.specs.declared.Expected.{Expected}
 use Rattle.phrases.specs.declared.Expected.the-variants.{After, Refused}
+use Rattle.grammar.proofs.Combine.{never}
 use Rattle.declarations.specs.Post.{Holds, Names}
-use Rattle.declarations.proofs.Steps.{never, same-value}
+use Rattle.declarations.proofs.Steps.{same-value}
 
 -- ---- the definition, test by test
 

@@ -1,12 +1,11 @@
 -- Laws of signed numbers between bounds, and of the bytes that are written. Assumes nothing.
-use mathlib.Core.Path.{_≡_, sym, ap, _∙_}
+use mathlib.Core.Path.{_≡_, sym, _∙_}
 use mathlib.Core.Bool.{true, false≢true}
-use mathlib.Core.List.{List, [], _∷_, _++_}
-use Prim.Native.Nat.{ℕ, suc, _+_, _^_, _≤_, _<_}
-use native.Mathlib.Nat.{add-zero}
+use mathlib.Core.List.{List, [], _++_}
+use Prim.Native.Nat.{ℕ, _+_, _^_, _≤_, _<_}
 use native.Mathlib.Omega.{arith}
 use lib.IntN.{ℤ, pos, negsuc, negℤ, _-ℤ_, +ℤ-idl}
-use lib.ListN.{length, set, length-append}
+use lib.ListN.{length, length-append}
 use lib.Seq.{sets}
 use lib.Signed.{leZ}
 use borrow.Author.Tests.{leb-true}
@@ -17,6 +16,7 @@ use Rattle.arith.proofs.Laws.{mag-neg, same32}
 use Rattle.leb128.specs.Numbers.{number, zigzag}
 use Rattle.leb128.proofs.Laws.{at-most-five}
 use Rattle.semantics.specs.Program.{Range}
+use Rattle.leb128.proofs.Stores.{sets-append}
 use Rattle.declarations.specs.Internal.{rangeBytes}
 
 -- what a signed local gives back
@@ -47,10 +47,6 @@ module _ (v : ℕ) (h : v ≤ 2 ^ 32) where
   negates = rw negated negated-fits
 
 -- ---- bytes
-
-pub sets-append : (l : List ℕ) (i : ℕ) (xs ys : List ℕ) → sets l i (xs ++ ys) ≡ sets (sets l i xs) (i + length xs) ys
-sets-append l i [] ys = rw (add-zero i)
-sets-append l i (x ∷ xs) ys = sets-append (set l i x) (suc i) xs ys ∙ ap (λ (k : ℕ). sets (sets (set l i x) (suc i) xs) k ys) (omega arith)
 
 -- a number takes five bytes at most
 pub near : (to a : ℕ) (z : ℤ) → a ≡ to + length (number (zigzag z)) → a ≤ to + 5

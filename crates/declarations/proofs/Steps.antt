@@ -1,5 +1,5 @@
 -- Laws of parsers one after another, and of what a step says. Assumes nothing.
-use mathlib.Core.Path.{_≡_, refl, sym, ap, _∙_}
+use mathlib.Core.Path.{_≡_, sym, ap, _∙_}
 use mathlib.Core.List.{List}
 use Prim.Native.Nat.{ℕ, _+_}
 use native.Mathlib.Omega.{arith}
@@ -8,6 +8,7 @@ use lib.Seq.{sets}
 use Rattle.grammar.specs.Parsed.{Parsed, accepted, refused, andThen}
 use Rattle.phrases.specs.declared.Expected.{Expected}
 use Rattle.phrases.specs.declared.Expected.the-variants as E
+use Rattle.grammar.proofs.Combine.{never}
 use Rattle.declarations.specs.Results.{unexpectedStep, unbounded}
 use Rattle.declarations.specs.Post.{Writes}
 use Rattle.declarations.specs.declared.Bound.{Bound}
@@ -17,15 +18,8 @@ use Rattle.declarations.specs.declared.Step.the-variants.{Done, Refused}
 
 -- ---- parsers
 
-pub never : {A B : Type 0} (k q n : ℕ) (a : A) → refused k q ≡ accepted a n → B
-never k q n a h = let z : _≡_ {A = ℕ} 0 1 = cc in absurd (omega arith)
-
 pub same-value : {A : Type 0} (a b : A) (n m : ℕ) → accepted a n ≡ accepted b m → a ≡ b
 same-value a b n m e = cc
-
-pub then-then : {A B C : Type 0} (p : Parsed A) (f : A → ℕ → Parsed B) (g : B → ℕ → Parsed C) → andThen (andThen p f) g ≡ andThen p (λ a n. andThen (f a n) g)
-then-then (accepted a n) f g = refl
-then-then (refused k q) f g = refl
 
 -- p is accepted up to n, with a value of which b is made
 abbrev pub After : {A B : Type 0} → (A → B) → Parsed A → B → ℕ → Type 0

@@ -13,12 +13,13 @@ use Rattle.lexer.specs.Token.{Kind, ending, fault}
 use Rattle.lexer.specs.Lexer.{tokenAt}
 use Rattle.grammar.specs.Parsed.{Parsed, accepted, andThen, rest, chain}
 use Rattle.grammar.proofs.Growth.{Grown}
+use Rattle.leb128.proofs.Stores.{sets-append}
 use Rattle.expressions.specs.declared.Lookahead.{Lookahead}
 use Rattle.expressions.specs.declared.Step.{Step}
 use Rattle.expressions.specs.declared.Step.the-variants.{Done, Refused}
 use Rattle.expressions.specs.Steps.{Parses, Room}
 use Rattle.expressions.specs.Internal.{Stands, codeOf, Codes}
-use Rattle.expressions.proofs.Steps.{sets-append, lookedAhead, Refuses, Known, known, Accepted, accepted-by, accepts, passed, then-refused, room-fits, room-after, room-next, room-more}
+use Rattle.expressions.proofs.Steps.{lookedAhead, Refuses, Known, known, Accepted, accepted-by, accepts, passed, then-refused, room-fits, room-after, room-next, room-more}
 
 -- ---- operators
 

@@ -2,8 +2,7 @@
 use mathlib.Core.Path.{_≡_, refl, ap, sym, _∙_, subst}
 use mathlib.Core.List.{List, [], _∷_, _++_}
 use mathlib.Core.Bool.{true, false}
-use Prim.Native.Nat.{ℕ, suc, _+_, _^_, _<_}
-use native.Mathlib.Nat.{add-zero}
+use Prim.Native.Nat.{ℕ, _+_, _^_, _<_}
 use native.Mathlib.Omega.{arith}
 use lib.ListN.{length, set, length-append}
 use lib.Seq.{sets}
@@ -19,6 +18,8 @@ use Rattle.lexer.proofs.Laws.{pick-prop, token-at-moved}
 use Rattle.lexer.proofs.KindNumbers.{kind-number}
 use Rattle.grammar.specs.Parsed.{Parsed, accepted, refused, andThen, onToken, sign, expected, phrase, followed}
 use Rattle.grammar.proofs.Growth.{Grown}
+use Rattle.leb128.proofs.Stores.{sets-append}
+use Rattle.grammar.proofs.Combine.{apart, same-value, same-end}
 use Rattle.expressions.specs.declared.Lookahead.{Lookahead}
 use Rattle.expressions.specs.declared.Step.{Step}
 use Rattle.expressions.specs.declared.Step.the-variants.{Done, Refused}
@@ -27,26 +28,16 @@ use Rattle.expressions.specs.Internal.{Stands, closedStep}
 
 -- ---- runs of stores
 
-pub sets-append : (l : List ℕ) (i : ℕ) (xs ys : List ℕ) → sets l i (xs ++ ys) ≡ sets (sets l i xs) (i + length xs) ys
-sets-append l i [] ys = rw (add-zero i)
-sets-append l i (x ∷ xs) ys = sets-append (set l i x) (suc i) xs ys ∙ ap (λ (k : ℕ). sets (sets (set l i x) (suc i) xs) k ys) (omega arith)
-
 -- ---- the constructors of a step and of a part are apart, and keep what they hold
 
 done-refused : {A : Type 0} {h : Lookahead} {t k q : ℕ} → Done h t ≡ Refused k q → A
 done-refused e = let z : _≡_ {A = ℕ} 0 1 = cc in absurd (omega arith)
-
-accepted-refused : {A B : Type 0} {a : A} {n k q : ℕ} → accepted a n ≡ refused k q → B
-accepted-refused e = let z : _≡_ {A = ℕ} 0 1 = cc in absurd (omega arith)
 
 done-token : {h g : Lookahead} {t u : ℕ} → Done h t ≡ Done g u → h ≡ g
 done-token e = cc
 
 done-count : {h g : Lookahead} {t u : ℕ} → Done h t ≡ Done g u → t ≡ u
 done-count e = cc
-
-same-tree : {A : Type 0} {a b : A} {n m : ℕ} → accepted a n ≡ accepted b m → a ≡ b
-same-tree e = cc
 
 same-refusal : {A : Type 0} {k q l r : ℕ} → Refused k q ≡ Refused l r → _≡_ {A = Parsed A} (refused l r) (refused k q)
 same-refusal e = cc
@@ -116,7 +107,7 @@ module _ {A : Type 0} (a : A) (n u : ℕ) {k q : ℕ} where
   refused-at (fault p) e = same-refusal e
 
   at-refused : (r : Read) → onToken r (λ w s m. accepted a n) ≡ refused k q → Refused k q ≡ stepAt r n u
-  at-refused (token w s m) e = accepted-refused e
+  at-refused (token w s m) e = apart e
   at-refused (fault p) e = step-refusal e
 
 module _ {A : Type 0} (text : List ℕ) (code : A → List ℕ) (to : ℕ) where
@@ -158,7 +149,7 @@ module _ {A : Type 0} {text : List ℕ} {code : A → List ℕ} {p : Parsed A} {
   unfolding stepOf
   accepts {h} {t} a = record {
     answer = rw (a .is, ← a .count) (stands-done (h .at) t (tokenAt text (h .at)) (a .stands));
-    wrote = λ b g u e f. a .wrote ∙ ap (λ (x : A). sets before to (code x)) (same-tree (sym (a .is) ∙ f));
+    wrote = λ b g u e f. a .wrote ∙ ap (λ (x : A). sets before to (code x)) (same-value (sym (a .is) ∙ f));
   }
 
   pub refuses : {k q : ℕ} → Refuses text p k q → Parses text code p to before after (Refused k q)
@@ -190,7 +181,7 @@ module _ {A B : Type 0} (text : List ℕ) (f : A → ℕ → Parsed B) (g : (a :
   then-refused (accepted a n) {k} {q} e = go (tokenAt text n) refl (e .looked)
     where
       go : (r : Read) → tokenAt text n ≡ r → onToken r (λ w s m. accepted a n) ≡ refused k q → Refuses text (f a n) k q
-      go (token w s m) i d = accepted-refused d
+      go (token w s m) i d = apart d
       go (fault p) i d = record { looked = g a n p i .looked ∙ same-number d }
   then-refused (refused l r) e = record { looked = same-number (e .looked) }
 
@@ -228,7 +219,7 @@ pub ended : {A : Type 0} {text : List ℕ} {code : A → List ℕ} {p : Parsed A
 unfolding stepOf
 ended {A} {code = code} {to = to} {before = before} a hp ht hw e = record {
   answer = rw (hp, ← ht) e;
-  wrote = λ b h u d f. hw ∙ ap (λ (x : A). sets before to (code x)) (same-tree (sym hp ∙ f));
+  wrote = λ b h u d f. hw ∙ ap (λ (x : A). sets before to (code x)) (same-value (sym hp ∙ f));
 }
 
 -- an accepted part that has the same code as another
@@ -236,11 +227,8 @@ pub recoded : {A B : Type 0} {text : List ℕ} {code : A → List ℕ} {more : B
 unfolding stepOf
 recoded {A} {B} {more = more} {to = to} {before = before} {a = a} b c e = record {
   answer = rw e (c .answer);
-  wrote = λ x h t d f. c .wrote a h t d (ap (accepted a) (same-end f)) ∙ rw (← e, same-tree f);
+  wrote = λ x h t d f. c .wrote a h t d (ap (accepted a) (same-end f)) ∙ rw (← e, same-value f);
 }
-  where
-    same-end : {x y : B} {n m : ℕ} → accepted x n ≡ accepted y m → n ≡ m
-    same-end e = cc
 
 -- ---- one byte of code more
 

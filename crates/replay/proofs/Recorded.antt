@@ -20,16 +20,16 @@ use Rattle.scan.specs.declared.Started.the-variants as S
 use Rattle.scan.specs.Services.{AfterStart, started, startOf, scanOf}
 use Rattle.scan.specs.Results.{afterStart}
 use Rattle.correctness.specs.TraceCorrect.{scansOf, verdictOf, replyOf}
+use Rattle.leb128.proofs.Stores.{sets-clip}
 use Rattle.replay.specs.declared.Replayed.the-variants as R
 use Rattle.replay.specs.Replay.{numberOf, stepsOf, valuesOf, replayRows}
 use Rattle.replay.specs.Results.{lent, afterReplay}
 use Rattle.replay.specs.Internal.{Records, records, addedBy, recordScan, scanRows}
-use Rattle.replay.proofs.Stores.{sets-clipped}
 
 -- values stored behind a part that was stored as far as there was room
 pub sets-behind : {A : Type 0} (l : List A) (at : ℕ) (a b : List A) → sets (sets l at a) (min (at + length a) (length l)) b ≡ sets l at (a ++ b)
 sets-behind l at a b =
-    ap (λ (k : ℕ). sets (sets l at a) (min (at + length a) k) b) (sym (length-sets l at a)) ∙ sets-clipped (sets l at a) (at + length a) b ∙ sets-join l at a b
+    ap (λ (k : ℕ). sets (sets l at a) (min (at + length a) k) b) (sym (length-sets l at a)) ∙ sets-clip (sets l at a) (at + length a) b ∙ sets-join l at a b
 
 added : (o : Answer (Unit {0})) (s : State) (more : List State) → addedBy o s ++ valuesOf more ≡ valuesOf (ifAccepted (verdictOf o) s more)
 added (accepted u) s more = refl

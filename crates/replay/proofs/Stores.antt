@@ -2,32 +2,15 @@
 use Prim.Native.Nat.{ℕ, suc, _+_, _-_, _≤_, _<_, min}
 use mathlib.Core.Path.{_≡_, refl, sym, _∙_}
 use mathlib.Core.Bool.{Bool, true, false}
-use mathlib.Core.List.{List, [], _∷_}
+use mathlib.Core.List.{List}
 use native.Mathlib.Omega.{arith}
 use native.Mathlib.Numerals.{add-one}
 use lib.Dec.{leb}
 use lib.IntN.{ℤ, pos}
 use lib.ListN.{length, drop, set, getD, length-set}
-use lib.Seq.{sets, set-out, drop-cons, drop-length}
+use lib.Seq.{sets, drop-cons, drop-length}
 use borrow.Author.Tests.{leb-true, leb-false}
-
--- past the end nothing is stored
-pub sets-out : {A : Type 0} (l : List A) (i : ℕ) (vs : List A) → length l ≤ i → sets l i vs ≡ l
-sets-out l i [] h = refl
-sets-out l i (v ∷ vs) h = rw (set-out l i v h) (sets-out l (suc i) vs (omega arith))
-
--- a place past the end is as good as the end
-pub sets-clipped : {A : Type 0} (l : List A) (i : ℕ) (vs : List A) → sets l (min i (length l)) vs ≡ sets l i vs
-sets-clipped l i vs = by (leb i (length l)) (leb-true i (length l)) (leb-false i (length l)) where
-  by : (t : Bool) → (t ≡ true → i ≤ length l) → (t ≡ false → length l < i) → sets l (min i (length l)) vs ≡ sets l i vs
-  by true y n =
-      let h : i ≤ length l = y refl in
-      let e : min i (length l) ≡ i = omega arith in
-      rw e
-  by false y n =
-      let h : length l < i = n refl in
-      let e : min i (length l) ≡ length l = omega arith in
-      rw e (sets-out l (length l) vs (omega arith) ∙ sym (sets-out l i vs (omega arith)))
+use Rattle.leb128.proofs.Stores.{sets-past}
 
 -- the values up to place i are stored; what is left to store makes the whole
 pub record Storing (whole values part : List ℤ) (at i : ℕ) : Type 0 where
@@ -54,7 +37,7 @@ module _ {whole values part : List ℤ} {at i : ℕ} (c : Storing whole values p
   storing-ends h k = by (leb (length part) i) (leb-true (length part) i) (leb-false (length part) i)
     where
       by : (t : Bool) → (t ≡ true → length part ≤ i) → (t ≡ false → i < length part) → part ≡ sets whole at values
-      by true y n = sym (sets-out part i (drop (i - at) values) (y refl)) ∙ c .so
+      by true y n = sym (sets-past part i (drop (i - at) values) (y refl)) ∙ c .so
       by false y n =
           let l : i < length part = n refl in
           let e : i - at ≡ length values = omega (arith, c .behind, c .same-length) in

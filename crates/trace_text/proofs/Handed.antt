@@ -7,7 +7,7 @@ use Prim.Native.Nat.{ℕ, _+_, _≤_}
 use native.Mathlib.Omega.{arith}
 use lib.Dec.{eqb, leb}
 use lib.IntN.{ℤ}
-use lib.ListN.{length, take, drop, length-append}
+use lib.ListN.{length, drop, length-append}
 use lib.Seq.{sets-eq, length-sets, take-at, drop-at, append-snoc}
 use borrow.Author.Tests.{leb-true, eqb-true}
 use Rattle.lexer.specs.Bytes.{pick}
@@ -16,7 +16,7 @@ use Rattle.trace_text.specs.declared.Line.the-variants.{Start}
 use Rattle.trace_text.specs.declared.Stage.the-variants.{LineStart}
 use Rattle.trace_text.specs.Input.{linesOf, bare, rowLines}
 use Rattle.trace_text.specs.Row.{rowOf, longRow, handed, handedOf}
-use Rattle.trace_text.specs.Internal.{bytesBefore, lineAfter, cellsAfter, lineOver, cellsOver, countOf, cellsOf, handedRow, isBegun, isEnded, bytesIn}
+use Rattle.trace_text.specs.Internal.{bytesBefore, lineAfter, cellsAfter, lineOver, cellsOver, cellsOf, handedRow, isBegun, isEnded, bytesIn}
 use Rattle.trace_text.proofs.Lines.{line-append, cells-append, over-cons, cells-cons, over-nil, cells-nil}
 use Rattle.trace_text.proofs.Rows.{row-ends, long-length}
 use Rattle.trace_text.proofs.Splitting.{rows-split, line-ended, line-open, open-bare, open-bytes, open-ended, line-begun}

@@ -13,7 +13,7 @@ use borrow.Author.Tests.{leb-true, leb-false, ltb-true, ltb-false}
 use Rattle.arith.specs.Values.{isInt32}
 use Rattle.arith.proofs.Laws.{int32-mag}
 use Rattle.trace_text.specs.Output.{unsignedDecimal, decimalOf, spaced, headLine, rowLine, refusedLine, Put}
-use Rattle.trace_text.proofs.Puts.{sets-past, sets-append}
+use Rattle.leb128.proofs.Stores.{sets-past, sets-append}
 use Rattle.trace_text.proofs.Printing.{decimal-small, decimal-more, head-is, row-is, refused-is}
 
 -- ---- decimals

@@ -1,20 +1,14 @@
 -- Runs of stores: what comes behind two counts that are stored last; a list written over the front of another. Assumes nothing.
 use mathlib.Core.Path.{_≡_, refl, ap, _∙_}
-use mathlib.Core.List.{List, [], _∷_, _++_, append-assoc}
+use mathlib.Core.List.{List, _∷_, _++_, append-assoc}
 use Prim.Native.Nat.{ℕ, suc, _+_, _≤_, _<_}
 use native.Mathlib.Numerals.{add-one}
 use native.Mathlib.Omega.{arith}
 use lib.ListN.{length, take, drop, set, getD, length-set}
-use lib.Seq.{sets, sets-eq, set-comm, drop-cons, take-suc, set-at, length-take-le, take-length, take-at}
+use lib.Seq.{sets, sets-eq, drop-cons, take-suc, set-at, length-take-le, take-length, take-at}
+use Rattle.leb128.proofs.Stores.{set-before}
 
 module _ {A : Type 0} where
-  -- a store before a run goes first
-  pub set-before : (l : List A) (i j : ℕ) (v : A) (xs : List A) → j < i → set (sets l i xs) j v ≡ sets (set l j v) i xs
-  set-before l i j v [] h = refl
-  set-before l i j v (x ∷ xs) h =
-      set-before (set l i x) (suc i) j v xs (omega arith)
-      ∙ ap (λ (k : List A). sets k (suc i) xs) (set-comm l i j x v (λ e. let f : ⊥ = omega arith in absurd f))
-
   -- the two counts, stored behind all else
   pub counts-last : (l : List A) (a b : A) (xs : List A) → set (set (sets l 2 xs) 0 a) 1 b ≡ sets l 0 (a ∷ b ∷ xs)
   counts-last l a b xs =

@@ -1,5 +1,5 @@
 -- The ways through a whole text: its declarations, then its rules. Assumes nothing.
-use mathlib.Core.Path.{_≡_, refl, sym, ap, subst, fun-ext, _∙_}
+use mathlib.Core.Path.{_≡_, sym, ap, subst, fun-ext, _∙_}
 use mathlib.Core.List.{List, [], _++_}
 use Prim.Native.Nat.{ℕ, _+_, _*_, _≤_}
 use native.Mathlib.Nat.{le-refl}
@@ -19,14 +19,11 @@ use Rattle.grammar.proofs.Whole.{Ends, Names, declarations-fit}
 use Rattle.grammar.proofs.Size.{Pays, declarations-pay}
 use Rattle.declarations.specs.Post.{Holds, headerAfter}
 use Rattle.declarations.proofs.Known.{AllDeclared, header-joined}
+use Rattle.grammar.proofs.Combine.{then-then}
 use Rattle.translate.specs.declared.Heading.the-variants as H
 use Rattle.translate.specs.Internal.{Declarations, headingOf, scopeAfter, Heads}
 
 -- ---- what follows what
-
-then-then : {A B C : Type 0} (p : Parsed A) (f : A → ℕ → Parsed B) (g : B → ℕ → Parsed C) → andThen (andThen p f) g ≡ andThen p (λ a n. andThen (f a n) g)
-then-then (accepted a n) f g = refl
-then-then (refused k q) f g = refl
 
 -- the rules after the declarations
 abbrev pub ruled : List ℕ → Declarations → ℕ → Parsed Program

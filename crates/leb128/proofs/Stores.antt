@@ -1,0 +1,34 @@
+-- Runs of stores, as writers put one behind the other. Assumes nothing.
+use mathlib.Core.Path.{_≡_, refl, sym, ap, _∙_}
+use mathlib.Core.Bool.{Bool, true, false}
+use mathlib.Core.List.{List, [], _∷_, _++_}
+use Prim.Native.Nat.{ℕ, suc, _+_, _≤_, _<_, min}
+use native.Mathlib.Omega.{arith}
+use lib.Dec.{leb}
+use lib.ListN.{length, set}
+use lib.Seq.{sets, set-out, set-comm}
+use borrow.Author.Tests.{leb-true, leb-false}
+
+module _ {A : Type 0} where
+  -- past the end nothing is stored
+  pub sets-past : (l : List A) (i : ℕ) (vs : List A) → length l ≤ i → sets l i vs ≡ l
+  sets-past l i [] h = refl
+  sets-past l i (v ∷ vs) h = rw (set-out l i v h) (sets-past l (suc i) vs (omega arith))
+
+  pub sets-append : (l : List A) (i : ℕ) (xs ys : List A) → sets l i (xs ++ ys) ≡ sets (sets l i xs) (i + length xs) ys
+  sets-append l i [] ys = ap (λ (k : ℕ). sets l k ys) (omega arith)
+  sets-append l i (x ∷ xs) ys = sets-append (set l i x) (suc i) xs ys ∙ ap (λ (k : ℕ). sets (sets l i (x ∷ xs)) k ys) (omega arith)
+
+  -- a place past the end may be taken for the end
+  pub sets-clip : (l : List A) (i : ℕ) (vs : List A) → sets l (min i (length l)) vs ≡ sets l i vs
+  sets-clip l i vs = by (leb i (length l)) (leb-true i (length l)) (leb-false i (length l)) where
+    by : (t : Bool) → (t ≡ true → i ≤ length l) → (t ≡ false → length l < i) → sets l (min i (length l)) vs ≡ sets l i vs
+    by true y n = let h = y refl in ap (λ (k : ℕ). sets l k vs) (omega arith)
+    by false y n = let h = n refl in sets-past l (min i (length l)) vs (omega arith) ∙ sym (sets-past l i vs (omega arith))
+
+  -- a store before a run goes first
+  pub set-before : (l : List A) (i j : ℕ) (v : A) (xs : List A) → j < i → set (sets l i xs) j v ≡ sets (set l j v) i xs
+  set-before l i j v [] h = refl
+  set-before l i j v (x ∷ xs) h =
+      set-before (set l i x) (suc i) j v xs (omega arith)
+      ∙ ap (λ (k : List A). sets k (suc i) xs) (set-comm l i j x v (λ e. let f : ⊥ = omega arith in absurd f))
