@@ -41,7 +41,7 @@ struct part part(struct region r, size_t bytes, enum side side) {
         abort();
     size_t from = side == AT_START ? 0 : r.size - bytes;
     size_t canaries = side == AT_START ? bytes : from - CANARIES;
-    struct part p = {r.own + from, r.lent + from, r.own + canaries, bytes};
+    struct part p = {r.own + from, r.lent + from, r.own + canaries};
     memset(p.canaries, CANARY, CANARIES);
     return p;
 }

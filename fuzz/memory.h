@@ -24,7 +24,6 @@ struct part {
     uint8_t *own;
     uint8_t *lent;
     uint8_t *canaries;
-    size_t bytes;
 };
 struct part part(struct region r, size_t bytes, enum side side);
 

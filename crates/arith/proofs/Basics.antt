@@ -27,6 +27,10 @@ pub and-T : (a b : Bool) → T a → T b → T (a && b)
 and-T true b s t = t
 and-T false b s t = s
 
+pub and-both : (a b : Bool) → (a && b) ≡ true → (a ≡ true) × (b ≡ true)
+and-both true b e = (refl, e)
+and-both false b e = absurd (false≢true e)
+
 pub eqZ→≡ : (a b : ℤ) → T (eqZ a b) → a ≡ b
 eqZ→≡ (pos a) (pos b) t = ap pos (eqb→eq a b t)
 eqZ→≡ (pos a) (negsuc b) t = absurd t
@@ -78,10 +82,6 @@ or-false false = refl
 pub or-second : (a b : Bool) → a ≡ false → (a || b) ≡ true → b ≡ true
 or-second true b e h = absurd (true≢false e)
 or-second false b e h = h
-
-pub not-true : (a : Bool) → not a ≡ true → a ≡ false
-not-true true e = absurd (false≢true e)
-not-true false e = refl
 
 pub T-not-false : (a : Bool) → T (not a) → a ≡ false
 T-not-false true t = absurd t

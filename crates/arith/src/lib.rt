@@ -1,7 +1,9 @@
-// 32-bit arithmetic of document 01, worked in i64: a result is cast back only after a range test.
+// 32-bit arithmetic of document 01, worked in i64: a result is cast back only after a range test. `bits` has flags kept as bits.
 ghost use mathlib.Core.Path.{_≡_};
 ghost use Rattle.arith.specs.Values.{int32, arithmetic, add, subtract, multiply, divide, modulo, negation, compares, equal, notEqual, less, lessEqual, greater, greaterEqual};
 ghost use Rattle.arith.specs.Results.{outcomeOf};
+
+pub mod bits;
 
 // A signed 32-bit number, or refusal 14.
 pub enum Value {

@@ -2,7 +2,6 @@
 use mathlib.Core.Path.{_≡_, refl, ap, sym, _∙_, subst}
 use mathlib.Core.List.{List, [], _∷_, _++_, append-nil}
 use Prim.Native.Nat.{ℕ, _+_, _*_, _≤_, _<_}
-use native.Mathlib.Numerals.{add-one}
 use native.Mathlib.Omega.{arith}
 use lib.ListN.{length, set, length-append}
 use lib.Seq.{sets}
@@ -19,16 +18,11 @@ use Rattle.grammar.specs.Emitted.{codeE, codeC, codeK}
 use Rattle.grammar.proofs.Size.{Solid, Long, phrase-long}
 use Rattle.expressions.specs.Steps.{Room}
 use Rattle.expressions.proofs.Steps.{Refuses}
-use Rattle.phrases.specs.Forms.{caseValueOpening}
+use Rattle.grammar.specs.Forms.{caseValueOpening}
 use Rattle.leb128.proofs.Stores.{sets-append}
 use Rattle.grammar.proofs.Combine.{apart}
 use Rattle.cases.specs.Results.{placeOnly}
 use Rattle.cases.proofs.Parts.{same-refusal, phrase-fault, behind-refused}
-
--- ---- bytes of an instruction with an id
-
-pub put-bytes : (before : List ℕ) {mid after : List ℕ} (to c id : ℕ) {t u : ℕ} → t ≡ to + 1 → mid ≡ set before to c → u ≡ t + length (number id) → after ≡ sets mid t (number id) → (u ≡ to + length (c ∷ number id)) × (after ≡ sets before to (c ∷ number id))
-put-bytes before to c id ht hm hu ha = (omega arith, rw (ha, hm, ht, add-one to))
 
 -- ---- a case
 

@@ -5,11 +5,9 @@ use lexer::Token;
 use phrases::Expected;
 ghost use mathlib.Core.Path.{_≡_};
 ghost use mathlib.Core.List.{List, [], _∷_};
-ghost use Prim.Native.Nat.{ℕ, _+_, _≤_, _<_, _^_};
+ghost use Prim.Native.Nat.{ℕ, _+_, _≤_, _<_};
 ghost use lib.ListN.{length};
-ghost use lib.Seq.{sets};
 ghost use Rattle.limits.specs.Limits.{caseLimit, nameLimit};
-ghost use Rattle.leb128.specs.Numbers.{number};
 ghost use Rattle.lexer.specs.Bytes.{part};
 ghost use Rattle.semantics.specs.Program.{Condition};
 ghost use Rattle.grammar.specs.Parsed.{Parsed};
@@ -25,8 +23,6 @@ ghost use Rattle.cases.specs.Post.{Writes, codeOfCase, codeOfCases, endO
 const GATE: u8 = 19;
 
 const PICK: u8 = 20;
-
-const CASE_LIMIT: usize = 32;
 
 // The variable of a rule: its name stands from `start` to `end`.
 pub struct Variable {
@@ -69,17 +65,8 @@ fn unlisted(s: expressions::Step) -> Expected
     }
 }
 
-// An instruction with the id of a name.
-pub fn put(out: &mut [u8], to: usize, code: u8, id: usize) -> usize
-    requires { ⌜ (to + 1 < 2 ^ 31) × (id < nameLimit) ⌝ }
-    ensures { λ r. ⌜ (r ≡ to + length (code ∷ number id)) × (now (out .exit) ≡ sets (now (out .entry)) to (code ∷ number id)) ⌝ }
-{
-    let t = leb128::put_byte(out, to, code);
-    leb128::put_unsigned(out, t, id as u64)
-}
-
 // `c] & w = (e)`, after the bracket that ends at `at`. The number told is where the condition ends, its bracket included.
-pub fn case(
+fn case(
     text: &[u8],
     starts: &[usize],
     ends: &[usize],
@@ -111,7 +98,11 @@ pub fn case(
     let Expected::After(b) = closed else {
         return unexpected(closed);
     };
-    Part::Done(b, put(out, v, PICK, w.id), behind.at)
+    Part::Done(
+        b,
+        bytecode::put_instruction(out, v, PICK, w.id as u64),
+        behind.at,
+    )
 }
 
 // Cases with `|` between them. Where their conditions stand is kept in `from` and `upto`; the number told is how many there are.
@@ -143,10 +134,10 @@ pub fn cases(
             return unexpected(phrases::fault(read));
         };
         if kind != lexer::OPEN_SQUARE {
-            return Part::Refused(2, start);
+            return Part::Refused(limits::NOT_ALLOWED, start);
         }
-        if count == CASE_LIMIT {
-            return Part::Refused(8, start);
+        if count == limits::CASE_LIMIT {
+            return Part::Refused(limits::TOO_MANY, start);
         }
         let one = case(text, starts, ends, names, w, end, out, t);
         let Part::Done(b, u, condition) = one else {
@@ -175,17 +166,17 @@ fn plain_list(text: &[u8], starts: &[usize], ends: &[usize], names: Names, at: u
 {
     let mut nothing = [0u8; 0];
     let mut a = at;
-    let mut left = CASE_LIMIT;
+    let mut left = limits::CASE_LIMIT;
     loop {
         let read = lexer::token_at(text, a);
         let Token::Is(kind, start, end) = read else {
             return phrases::fault(read);
         };
         if left == 0 {
-            return Expected::Refused(8, start);
+            return Expected::Refused(limits::TOO_MANY, start);
         }
         if kind != lexer::OPEN_SQUARE {
-            return Expected::Refused(2, start);
+            return Expected::Refused(limits::NOT_ALLOWED, start);
         }
         let one = conditions::listed(text, starts, ends, names, end, &mut nothing, 0);
         let expressions::Step::Done(behind, _) = one else {
@@ -207,7 +198,7 @@ fn settled(read: Expected, compared: Compared) -> Expected
         return read;
     };
     let Expected::Refused(k, p) = read else {
-        return Expected::Refused(7, m);
+        return Expected::Refused(limits::LISTS_DIFFER, m);
     };
     if p < m {
         return read;
@@ -217,7 +208,7 @@ fn settled(read: Expected, compared: Compared) -> Expected
             return read;
         }
     }
-    Expected::Refused(7, m)
+    Expected::Refused(limits::LISTS_DIFFER, m)
 }
 
 // The no-change formula's list and its closing bracket, where the list of the change formula is kept in `from` and `upto`.

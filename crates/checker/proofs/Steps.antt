@@ -9,14 +9,16 @@ use native.Mathlib.Numerals.{add-one}
 use lib.Dec.{eqb, eqb·suc-suc}
 use lib.ListN.{set}
 use borrow.Author.Tests.{eq-eqb, ne-eqb}
+use Rattle.arith.specs.Flags.{flagsOf}
 use Rattle.arith.specs.Values.{Operation, Comparison, isInt32}
 use Rattle.arith.proofs.Basics.{T-true}
 use Rattle.leb128.specs.Numbers.{unzigzag}
 use Rattle.bytecode.specs.Instructions.{constant, operation, negate, comparison, negated, both, either, gate, pick, assign}
 use Rattle.bytecode.specs.Check.{Sort, number, truth, Known, known, guard, one, empty, unset, closed, fresh, opened, advance}
 use Rattle.bytecode.proofs.Heading.{unzigzag-int32}
+use Rattle.bytecode.proofs.Paired.{gateOf}
 use Rattle.checker.specs.declared.advance.Walk.{Walk}
-use Rattle.checker.specs.Represented.{sortOf, sortsOf, openOf, flagsOf, picksOf, knownOf, pushed, kept, joined, only, outside}
+use Rattle.checker.specs.Represented.{sortOf, sortsOf, openOf, picksOf, knownOf, pushed, kept, joined, only, outside}
 use Rattle.checker.proofs.Bits.{sorts-none, sorts-one, sorts-cons, sorts-two}
 
 -- ---- the value on top
@@ -152,9 +154,6 @@ fresh-is zero v h = absurd (h refl)
 fresh-is (suc p) v h = sym (same-suc p v)
 
 -- ---- the instructions
-
-abbrev gateOf : Known → Bool
-gateOf (known vs g o ids) = g
 
 two-none : (s : Sort) (vs : List Sort) → (one s vs λ vs₁. one s vs₁ λ vs₂. none) ≡ none
 two-none number [] = refl

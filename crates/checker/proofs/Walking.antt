@@ -10,12 +10,13 @@ use lib.Pow.{pow-mono, pow-pos}
 use borrow.Author.Tests.{lt-ltb, le-ltb}
 use Rattle.limits.specs.Answer.{Answer, refused}
 use Rattle.semantics.specs.Program.{knownFirst}
+use Rattle.semantics.proofs.Flags.{flags-first}
 use Rattle.leb128.specs.Numbers.{nothing}
 use Rattle.bytecode.specs.Instructions.{Instruction, decoded, fetch}
 use Rattle.bytecode.specs.Check.{Known, known, complete, ends, ifSome, checkCode}
 use Rattle.checker.specs.declared.advance.Walk.{Walk}
 use Rattle.checker.specs.Represented.{knownOf, Small, advanceBy}
-use Rattle.checker.proofs.Bits.{sorts-none, flags-first}
+use Rattle.checker.proofs.Bits.{sorts-none}
 
 abbrev Whole : List ℕ → ℕ → ℕ → ℕ → Answer (Unit {0})
 Whole code base inputs names = checkCode base code (length code) 0 (known [] false none (knownFirst inputs names))

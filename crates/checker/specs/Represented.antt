@@ -3,8 +3,8 @@ use Prim.Native.Nat.{ℕ, zero, suc, _/_, _%_, _^_, _≤_, _<_}
 use mathlib.Core.Bool.{Bool, true, false}
 use mathlib.Core.List.{List, [], _∷_}
 use mathlib.Core.Option.{Option, none, some}
-use lib.Dec.{eqb}
 use Rattle.limits.specs.Limits.{stackLimit, nameLimit}
+use Rattle.arith.specs.Flags.{flagsOf}
 use Rattle.bytecode.specs.Instructions.{Instruction}
 use Rattle.bytecode.specs.Check.{Sort, number, truth, Known, known, held, one, advance}
 use Rattle.checker.specs.declared.advance.Walk.{Walk}
@@ -23,11 +23,6 @@ unfoldable pub sortsOf : ℕ → ℕ → List Sort
 sortsOf zero bits = []
 sortsOf (suc n) bits = sortOf (bits % 2) ∷ sortsOf n (bits / 2)
 
--- of so many ids, whether the current value may be used, the lowest bit that of id 0
-unfoldable pub flagsOf : ℕ → ℕ → List Bool
-flagsOf zero bits = []
-flagsOf (suc n) bits = eqb (bits % 2) 1 ∷ flagsOf n (bits / 2)
-
 -- `gate` is 1 if a gate awaits its pick, else 0
 abbrev pub openOf : ℕ → Bool
 openOf zero = false
@@ -38,6 +33,7 @@ abbrev pub picksOf : ℕ → Option ℕ
 picksOf zero = none
 picksOf (suc v) = some v
 
+-- `known` tells of each id whether its current value may be used, the lowest bit that of id 0
 abbrev pub knownOf : Walk → Known
 knownOf w = known (sortsOf (w .held) (w .sorts)) (openOf (w .gate)) (picksOf (w .picking)) (flagsOf (w .names) (w .known))
 

@@ -5,10 +5,12 @@ ghost use mathlib.Core.Option.{none};
 ghost use mathlib.Core.Bool.{true, false};
 ghost use Prim.Native.Nat.{_<_, _^_};
 ghost use lib.ListN.{getD, set};
+ghost use Rattle.arith.specs.Flags.{flagsOf};
 ghost use Rattle.bytecode.specs.Instructions.{current as currentOf, previous as previousOf, gate as gateOf, pick as pickOf, assign as assignOf, settle as settleOf, instructionOf};
 ghost use Rattle.bytecode.specs.Check.{truth, known as knownAs, advance as advanceOf, unset as unsetOf, fresh};
-ghost use Rattle.checker.specs.Represented.{sortOf, sortsOf, openOf, flagsOf, picksOf, knownOf, advancedKnown, Small, SmallAfter};
+ghost use Rattle.checker.specs.Represented.{sortOf, sortsOf, openOf, picksOf, knownOf, advancedKnown, Small, SmallAfter};
 ghost use Rattle.checker.specs.Represented.{advanceBy, pushed, kept, joined, only, outside};
+use arith::bits;
 
 // The sort of a value held.
 const NUMBER: u64 = 0;
@@ -38,7 +40,7 @@ fn push(w: Walk) -> Advanced
     ensures { λ r. ⌜ advancedKnown r ≡ pushed (knownOf w) ⌝ }
     ensures { λ r. ⌜ SmallAfter r ⌝ }
 {
-    if 40 <= w.held {
+    if (limits::STACK_LIMIT as u64) <= w.held {
         return Advanced::Broken;
     }
     let mut k = w;
@@ -54,7 +56,7 @@ fn is_known(w: Walk, id: u64) -> bool
     if w.names <= id {
         return false;
     }
-    (w.known >> id) % 2 == 1
+    bits::bit(w.known, id)
 }
 
 fn current(w: Walk, id: u64) -> Advanced
@@ -179,7 +181,7 @@ fn is_unset(w: Walk, id: u64) -> bool
     if id >= w.names {
         return false;
     }
-    (w.known >> id) % 2 == 0
+    !bits::bit(w.known, id)
 }
 
 // Picks of this id may follow.
@@ -231,7 +233,7 @@ fn ruled(w: Walk, id: u64) -> Walk
         sorts: 0,
         gate: 0,
         picking: 0,
-        known: w.known + (1 << id),
+        known: bits::with_bit(w.known, id),
         names: w.names,
     }
 }

@@ -3,7 +3,7 @@ ghost use mathlib.Core.List.{[]};
 ghost use mathlib.Core.Path.{_≡_};
 ghost use mathlib.Core.Option.{none};
 ghost use mathlib.Core.Bool.{false};
-ghost use Prim.Native.Nat.{_+_, _-_, _≤_, _^_};
+ghost use Prim.Native.Nat.{_+_, _≤_};
 ghost use lib.ListN.{length};
 ghost use Rattle.limits.specs.Limits.{imageLimit, nameLimit};
 ghost use Rattle.semantics.specs.Program.{knownFirst};
@@ -21,17 +21,6 @@ pub enum Checked {
     Refused(u8, usize),
 }
 
-// The lowest k bits set.
-pub fn ones(k: u64) -> u64
-    requires { ⌜ k ≤ 64 ⌝ }
-    ensures { λ r. ⌜ r ≡ 2 ^ k - 1 ⌝ }
-{
-    if k == 64 {
-        return 18446744073709551615;
-    }
-    (1 << k) - 1
-}
-
 // Nothing is missing at the end: no value held, no gate without its pick, no pick without its settle, each variable with its rule.
 pub fn complete(w: Walk) -> bool
     requires { ⌜ Small w ⌝ }
@@ -46,7 +35,7 @@ pub fn complete(w: Walk) -> bool
     if w.picking != 0 {
         return false;
     }
-    w.known == ones(w.names)
+    w.known == arith::bits::ones(w.names)
 }
 
 // The walk over the code, which begins at `base` of the image.
@@ -61,16 +50,16 @@ fn check_code(code: &[u8], base: usize, inputs: usize, names: usize) -> Checked
         sorts: 0,
         gate: 0,
         picking: 0,
-        known: ones(inputs as u64),
+        known: arith::bits::ones(inputs as u64),
         names: names as u64,
     };
     while at < code.len() {
         let place = base + at;
         let bytecode::Fetched::Instruction(byte, n, next) = bytecode::fetch(code, at) else {
-            return Checked::Refused(11, place);
+            return Checked::Refused(limits::BROKEN_IMAGE, place);
         };
         let Advanced::Kept(k) = advance::advance_fixed(byte, n, w) else {
-            return Checked::Refused(11, place);
+            return Checked::Refused(limits::BROKEN_IMAGE, place);
         };
         w = k;
         at = next;
@@ -78,18 +67,18 @@ fn check_code(code: &[u8], base: usize, inputs: usize, names: usize) -> Checked
     if complete(w) {
         return Checked::Sound;
     }
-    Checked::Refused(11, base + code.len())
+    Checked::Refused(limits::BROKEN_IMAGE, base + code.len())
 }
 
 pub fn check(image: &[u8]) -> Checked
     ensures { λ r. ⌜ checkedAnswer r ≡ checkOf (now (image .entry)) ⌝ }
     ensures { λ r. ⌜ CheckedWithin r ⌝ }
 {
-    if 65536 < image.len() {
-        return Checked::Refused(9, 0);
+    if limits::IMAGE_LIMIT < image.len() {
+        return Checked::Refused(limits::TOO_LONG, 0);
     }
     match bytecode::header(image) {
-        bytecode::Headed::Broken(place) => Checked::Refused(11, place),
+        bytecode::Headed::Broken(place) => Checked::Refused(limits::BROKEN_IMAGE, place),
         bytecode::Headed::Header(inputs, names, place) => check_code(
             &image[place..],
             place,

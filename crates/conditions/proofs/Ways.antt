@@ -14,9 +14,9 @@ use Rattle.bytecode.specs.Instructions.{comparisonCode}
 use Rattle.semantics.specs.Program.{Expression, Condition, comparison, negated}
 use Rattle.grammar.specs.Parsed.{Parsed, accepted, refused, andThen, sign, followed}
 use Rattle.grammar.specs.Expressions.{Scope, expression}
-use Rattle.grammar.specs.Conditions.{comparisonOf, compared, comparisonAt, opposite, inverted, atom, Connective, andAlso, orElse, connect, andOf, orOf, square, wholeCondition, listed}
+use Rattle.grammar.specs.Conditions.{comparisonOf, compared, comparisonAt, opposite, inverted, atom, Connective, andAlso, orElse, connect, connectiveCode, andOf, orOf, square, wholeCondition, listed}
 use Rattle.grammar.specs.Emitted.{codeE, codeC}
-use Rattle.grammar.proofs.Growth.{Grown, not-end, ands-end, ors-end, comparisons-end, bracket-grown, atom-grown, conjunction-grown, square-grown}
+use Rattle.grammar.proofs.Growth.{Grown, not-end, connect-code, ands-end, ors-end, comparisons-end, bracket-grown, atom-grown, conjunction-grown, square-grown}
 use Rattle.expressions.specs.declared.Lookahead.{Lookahead}
 use Rattle.expressions.specs.declared.scope.Names.{Names}
 use Rattle.expressions.specs.Scopes.{scopeOf, Declared}
@@ -28,7 +28,7 @@ use Rattle.expressions.proofs.Steps.{lookedAhead, Refuses, refused-now, Known, 
 use Rattle.expressions.proofs.Scopes.{few-names}
 use Rattle.expressions.proofs.Chain.{Operators, Operator, operator-some, operator-none}
 use Rattle.leb128.proofs.Stores.{sets-append}
-use Rattle.conditions.specs.Internal.{connectiveCode, comparisonIn, invertedIn, atomIn, conjunctionIn, conditionIn}
+use Rattle.conditions.specs.Internal.{comparisonIn, invertedIn, atomIn, conjunctionIn, conditionIn}
 
 -- ---- operators
 
@@ -36,16 +36,11 @@ connective-some : (o : Connective) → connectiveCode o ≡ 0 → ⊥
 connective-some andAlso e = omega arith
 connective-some orElse e = omega arith
 
-connected : (o : Connective) (a b : Condition) → codeC (connect o a b) ≡ codeC a ++ (codeC b ++ (connectiveCode o ∷ []))
-unfolding codeC connect
-connected andAlso a b = refl
-connected orElse a b = refl
-
 pub ands : Operators codeC connect andOf connectiveCode
-ands = record { joined = connected; none-ends = ands-end; some-code = connective-some }
+ands = record { joined = connect-code; none-ends = ands-end; some-code = connective-some }
 
 pub ors : Operators codeC connect orOf connectiveCode
-ors = record { joined = connected; none-ends = ors-end; some-code = connective-some }
+ors = record { joined = connect-code; none-ends = ors-end; some-code = connective-some }
 
 comparison-some : (o : Comparison) → comparisonCode o ≡ 0 → ⊥
 comparison-some equal e = omega arith

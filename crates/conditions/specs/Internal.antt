@@ -1,15 +1,10 @@
--- Shapes that the contracts of the functions inside need: the parts of a condition with so many brackets left to open, the code bytes
--- of `&` and `|`. Assumes nothing.
+-- Shapes that the contracts of the functions inside need: the parts of a condition with so many brackets left to open.
+-- Assumes nothing.
 use Prim.Native.Nat.{ℕ}
 use Rattle.semantics.specs.Program.{Condition}
 use Rattle.grammar.specs.Parsed.{Parsed}
 use Rattle.grammar.specs.Expressions.{Scope, bracket}
-use Rattle.grammar.specs.Conditions.{Connective, andAlso, orElse, comparisonAt, inverted, atom, conjunction, condition, square}
-
--- 17 and 18 or
-abbrev pub connectiveCode : Connective → ℕ
-connectiveCode andAlso = 17
-connectiveCode orElse = 18
+use Rattle.grammar.specs.Conditions.{comparisonAt, inverted, atom, conjunction, condition, square}
 
 abbrev pub comparisonIn : ℕ → Scope → ℕ → Parsed Condition
 comparisonIn left sc at = comparisonAt (λ s n. bracket left sc s n) sc at

@@ -3,12 +3,12 @@
 use expressions::Step;
 use expressions::scope::Names;
 ghost use Rattle.bytecode.specs.Instructions.{comparisonCode};
-ghost use Rattle.grammar.specs.Conditions.{comparisonOf, andOf, orOf, square, wholeCondition, listed};
+ghost use Rattle.grammar.specs.Conditions.{comparisonOf, connectiveCode, andOf, orOf, square, wholeCondition, listed};
 ghost use Rattle.grammar.specs.Emitted.{codeC};
 ghost use Rattle.expressions.specs.Scopes.{scopeOf, Declared};
 ghost use Rattle.expressions.specs.Steps.{Parses, Room};
 ghost use Rattle.expressions.specs.Internal.{Codes};
-ghost use Rattle.conditions.specs.Internal.{connectiveCode, comparisonIn, invertedIn, atomIn, conjunctionIn, conditionIn};
+ghost use Rattle.conditions.specs.Internal.{comparisonIn, invertedIn, atomIn, conjunctionIn, conditionIn};
 
 // Code bytes.
 const EQUAL: u8 = 10;
@@ -93,7 +93,7 @@ fn comparison(
     };
     let code = comparison_code(sign.kind);
     if code == 0 {
-        return Step::Refused(2, sign.start);
+        return Step::Refused(limits::NOT_ALLOWED, sign.start);
     }
     let second = expressions::expression(text, starts, ends, names, sign.end, left, out, t);
     let Step::Done(behind, u) = second else {
@@ -242,7 +242,7 @@ fn inverted(
         };
         return Step::Done(behind, leb128::put_byte(out, t, NOT));
     }
-    Step::Refused(2, here.start)
+    Step::Refused(limits::NOT_ALLOWED, here.start)
 }
 
 // A condition in the bracket from `start` to `end`, with `left` brackets left to open.
@@ -262,14 +262,14 @@ fn square(
     ensures { λ r. ⌜ Parses (now (text .entry)) codeC (square left (scopeOf (now (text .entry)) (now (starts .entry)) (now (ends .entry)) names) start end) to (now (out .entry)) (now (out .exit)) r ⌝ }
 {
     if left == 0 {
-        return Step::Refused(8, start);
+        return Step::Refused(limits::TOO_MANY, start);
     }
     let inner = condition(text, starts, ends, names, end, left - 1, out, to);
     expressions::closed(text, inner, lexer::CLOSE_SQUARE)
 }
 
 // A condition before which no bracket is open.
-pub fn whole_condition(
+fn whole_condition(
     text: &[u8],
     starts: &[usize],
     ends: &[usize],
@@ -288,7 +288,7 @@ pub fn whole_condition(
         ends,
         names,
         at,
-        grammar::BRACKET_LIMIT,
+        limits::BRACKET_LIMIT,
         out,
         to,
     )

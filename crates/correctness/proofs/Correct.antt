@@ -24,6 +24,7 @@ use Rattle.bytecode.proofs.Soundness.{header-of, code-of, translated-small, che
 use Rattle.machine.specs.Step.{Machine, machine}
 use Rattle.machine.specs.Names.{stateLength, rowLength, stateInRange, rowInRange}
 use Rattle.machine.proofs.Laws.{run-steps}
+use Rattle.machine.proofs.Ranges.{currentOf}
 use Rattle.machine.proofs.Translated.{exec-rules, run-exec}
 use Rattle.grammar.proofs.Accepted.{program-translatable}
 use Rattle.translate.specs.Services.{translationOf}
@@ -32,9 +33,6 @@ use Rattle.translate.proofs.Kept.{image-stored, stored-image}
 use Rattle.correctness.specs.TraceCorrect.{scansOf, replyOf, repliesOf, StepsIf, StepsAre, begun, TraceCorrect, Demand3}
 
 -- ---- one scan
-
-abbrev currentOf : Machine → State
-currentOf (machine b c vs t) = t
 
 reply-tested : (b : Bool) (k : ℕ) (s : State) (r : AfterScan) (o : Outcome State) → replyOf r ≡ reply s o → replyOf (testedScan b k s r) ≡ reply s (check b k o)
 reply-tested true k s r o e = e

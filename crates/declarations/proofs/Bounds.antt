@@ -14,7 +14,7 @@ use mir.Syntax.{w32}
 use mir.Val.{SFits}
 use Rattle.limits.specs.Limits.{noToken, notAllowed, outOfLimit}
 use Rattle.arith.specs.Values.{isInt32}
-use Rattle.arith.proofs.Basics.{T-true}
+use Rattle.arith.proofs.Basics.{and-both, T-true}
 use Rattle.arith.proofs.Laws.{fits-int32, same32}
 use Rattle.lexer.specs.Bytes.{pick, part}
 use Rattle.lexer.specs.Token.{Kind, digits, initWord, semicolon, minus, is, token, fault}
@@ -35,10 +35,6 @@ use Rattle.declarations.specs.declared.Number.the-variants.{Is, Outside}
 use Rattle.declarations.proofs.Numbers.{kept, between}
 
 -- ---- tests
-
-both : (a b : Bool) → (a && b) ≡ true → (a ≡ true) × (b ≡ true)
-both true b e = (refl, e)
-both false b e = absurd (false≢true e)
 
 and-false : (a : Bool) → (a && false) ≡ false
 and-false true = refl
@@ -63,7 +59,7 @@ unpicked false a e = refl
 module _ (low high : ℤ) (fl : SFits w32 low) (fh : SFits w32 high) where
   in-range-fits : (z : ℤ) → inRange low high z ≡ true → SFits w32 z
   unfolding inRange
-  in-range-fits z e = let b = both (leZ low z) (leZ z high) e in between low z high (b .0) (b .1) fl fh
+  in-range-fits z e = let b = and-both (leZ low z) (leZ z high) e in between low z high (b .0) (b .1) fl fh
 
   in-limit : (z : ℤ) → (isInt32 z && inRange low high z) ≡ inRange low high z
   in-limit z = absorbed (isInt32 z) (inRange low high z) (λ e. T-true (isInt32 z) (fits-int32 (in-range-fits z e)))

@@ -18,14 +18,14 @@ use Rattle.grammar.specs.Emitted.{header}
 use Rattle.phrases.specs.declared.Expected.{Expected}
 use Rattle.phrases.specs.Results.{faultOf}
 use Rattle.leb128.proofs.Stores.{sets-append}
-use Rattle.grammar.proofs.Combine.{never}
+use Rattle.grammar.proofs.Combine.{same-value, never}
 use Rattle.declarations.specs.Results.{stepOf, unexpectedStep, undeclared}
 use Rattle.declarations.specs.Post.{Room, Holds, Declares, headerAfter, DeclaresAll, Few}
 use Rattle.declarations.specs.declared.Step.{Step}
 use Rattle.declarations.specs.declared.Step.the-variants as S
 use Rattle.declarations.specs.declared.Declared.{Declared}
 use Rattle.declarations.specs.declared.Declared.the-variants.{Until, Refused}
-use Rattle.declarations.proofs.Steps.{same-value, after, refused-then}
+use Rattle.declarations.proofs.Steps.{after, refused-then}
 
 pub header-append : (l k : List Name) → header (l ++ k) ≡ header l ++ header k
 unfolding header
@@ -91,8 +91,8 @@ module _ (word : Kind) (text : List ℕ) (names : List Name) (at to : ℕ) (befo
           let seam : drop (length names) (names ++ g .new) ≡ g .new = drop-append-seam names (g .new) in
           record {
             answer = rw (d, seam, g .ended, g .held .counted);
-            wrote = λ all m i. rw (← same-value (names ++ g .new) all a m (sym d ∙ i), seam) (g .wrote);
-            named = λ all m i. subst (λ (l : List Name). Holds text starts ends (length l) l) (same-value (names ++ g .new) all a m (sym d ∙ i)) (rw (g .held .counted) at (g .held));
+            wrote = λ all m i. rw (← same-value (sym d ∙ i), seam) (g .wrote);
+            named = λ all m i. subst (λ (l : List Name). Holds text starts ends (length l) l) (same-value (sym d ∙ i)) (rw (g .held .counted) at (g .held));
           }
 
       module _ (f : is k word ≡ true) (mid starts' ends' : List ℕ) where

@@ -3,23 +3,24 @@ use mathlib.Core.Path.{_≡_, refl, sym, ap, _∙_}
 use mathlib.Core.Bool.{true, false}
 use mathlib.Core.List.{List, [], _∷_, _++_}
 use mathlib.Core.Option.{none, some}
-use Prim.Native.Nat.{ℕ, _+_, _≤_, _<_}
+use Prim.Native.Nat.{ℕ, _≤_, _<_}
+use native.Mathlib.Numerals.{add-one}
 use native.Mathlib.Omega.{arith}
-use lib.ListN.{length}
+use lib.ListN.{length, set}
 use borrow.Author.Tests.{lt-ltb, le-ltb}
 use Rattle.limits.specs.Limits.{nameLimit, noToken, notAllowed, wrongName, tooMany}
 use Rattle.lexer.specs.Bytes.{part}
 use Rattle.lexer.specs.Token.{Kind, name, is, token, fault}
 use Rattle.lexer.specs.Lexer.{tokenAt, overLong}
 use Rattle.lexer.specs.Names.{idOf, namesOf}
+use Rattle.lexer.proofs.Table.{names-add}
 use Rattle.semantics.specs.Program.{Name}
 use Rattle.grammar.specs.Parsed.{accepted, refused}
 use Rattle.grammar.specs.Declarations.{spellings, newName}
 use Rattle.phrases.specs.declared.Expected.{Expected}
 use Rattle.phrases.specs.declared.Expected.the-variants.{After, Refused}
-use Rattle.grammar.proofs.Combine.{never}
-use Rattle.declarations.specs.Post.{Holds, Names}
-use Rattle.declarations.proofs.Steps.{same-value}
+use Rattle.grammar.proofs.Combine.{same-value, never}
+use Rattle.declarations.specs.Post.{Room, Holds, Names}
 
 -- ---- the definition, test by test
 
@@ -82,13 +83,13 @@ module _ (text starts ends : List ℕ) (at count : ℕ) (starts' ends' : List �
         pub refuses-last : overLong s n ≡ false → nameLimit ≤ count → Answers (Refused tooMany s)
         refuses-last l m = refuses tooMany s refl (λ names h. last-name text names at k s n e f (rw (h .spelled) at g) l (omega (arith, h .counted)))
 
-        pub takes-name : overLong s n ≡ false → count < nameLimit → {c : ℕ} → c ≡ count + 1 → namesOf text starts' ends' c ≡ namesOf text starts ends count ++ (part text s n ∷ []) → Answers (After n)
-        takes-name l m ec a = (
+        pub takes-name : overLong s n ≡ false → count < nameLimit → Room starts ends count → (starts' ≡ set starts count s) × (ends' ≡ set ends count n) → Answers (After n)
+        takes-name l m room a = (
           λ names h.
               let fresh = fresh-name text names at k s n e f (rw (h .spelled) at g) l (omega (arith, h .counted)) in
               record {
                 answer = rw fresh;
-                named = λ w q i. (rw ec at a) ∙ ap (λ (x : List (List ℕ)). x ++ (part text s n ∷ [])) (h .spelled) ∙ ap (λ (x : List ℕ). spellings names ++ (x ∷ [])) (same-value (part text s n) w n q (sym fresh ∙ i));
+                named = λ w q i. rw (a .0, a .1, add-one count) (names-add text starts ends count s n (omega (arith, room .in-starts)) (omega (arith, room .in-ends))) ∙ ap (λ (x : List (List ℕ)). x ++ (part text s n ∷ [])) (h .spelled) ∙ ap (λ (x : List ℕ). spellings names ++ (x ∷ [])) (same-value (sym fresh ∙ i));
               },
           λ q i. m,
         )

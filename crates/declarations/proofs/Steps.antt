@@ -8,7 +8,7 @@ use lib.Seq.{sets}
 use Rattle.grammar.specs.Parsed.{Parsed, accepted, refused, andThen}
 use Rattle.phrases.specs.declared.Expected.{Expected}
 use Rattle.phrases.specs.declared.Expected.the-variants as E
-use Rattle.grammar.proofs.Combine.{never}
+use Rattle.grammar.proofs.Combine.{same-value, never}
 use Rattle.declarations.specs.Results.{unexpectedStep, unbounded}
 use Rattle.declarations.specs.Post.{Writes}
 use Rattle.declarations.specs.declared.Bound.{Bound}
@@ -17,9 +17,6 @@ use Rattle.declarations.specs.declared.Step.{Step}
 use Rattle.declarations.specs.declared.Step.the-variants.{Done, Refused}
 
 -- ---- parsers
-
-pub same-value : {A : Type 0} (a b : A) (n m : ℕ) → accepted a n ≡ accepted b m → a ≡ b
-same-value a b n m e = cc
 
 -- p is accepted up to n, with a value of which b is made
 abbrev pub After : {A B : Type 0} → (A → B) → Parsed A → B → ℕ → Type 0
@@ -49,5 +46,5 @@ module _ {A : Type 0} (bytes : A → List ℕ) (p : Parsed A) (to : ℕ) (before
   writes a n u e w =
       record {
         answer = rw (e, w .0);
-        wrote = λ b m h. w .1 ∙ ap (λ (x : A). sets before to (bytes x)) (same-value a b n m (sym e ∙ h));
+        wrote = λ b m h. w .1 ∙ ap (λ (x : A). sets before to (bytes x)) (same-value (sym e ∙ h));
       }

@@ -21,8 +21,6 @@ ghost use Rattle.declarations.specs.Internal.{signedBy, rangeAt, rangeBy
 ghost use Rattle.declarations.specs.Results.{numberOf, boundOf, unexpected, unexpectedStep, unbounded, undeclared};
 ghost use Rattle.declarations.specs.Post.{Room, Holds, Writes, Names, Declares, DeclaresAll, Few};
 
-const NAME_LIMIT: usize = 64;
-
 const LOWEST: i32 = -2147483648;
 
 const HIGHEST: i32 = 2147483647;
@@ -125,11 +123,11 @@ fn digits(
     ensures { λ r. ⌜ boundOf r ≡ signedAt (inRange low high) (signedBy negative) (now (text .entry)) (kindOf kind) start end ⌝ }
 {
     if kind != lexer::DIGITS {
-        return Bound::Refused(2, start);
+        return Bound::Refused(limits::NOT_ALLOWED, start);
     }
     let value = lexer::value(lexer::name(text, start, end));
     let Number::Is(z) = signed(value, negative, low, high) else {
-        return Bound::Refused(3, start);
+        return Bound::Refused(limits::OUT_OF_LIMIT, start);
     };
     Bound::Is(z, end)
 }
@@ -157,7 +155,7 @@ fn absent(place: usize, next: usize, low: i32, high: i32) -> Bound
     ensures { λ r. ⌜ boundOf r ≡ pick (inRange low high (pos 0)) (accepted (pos 0) next) (refusedAt outOfLimit place) ⌝ }
 {
     let Number::Is(z) = within(0, low, high) else {
-        return Bound::Refused(3, place);
+        return Bound::Refused(limits::OUT_OF_LIMIT, place);
     };
     Bound::Is(z, next)
 }
@@ -184,7 +182,7 @@ fn start_at(text: &[u8], at: usize, low: i32, high: i32) -> Bound
     if kind == lexer::SEMICOLON {
         return absent(place, next, low, high);
     }
-    Bound::Refused(2, place)
+    Bound::Refused(limits::NOT_ALLOWED, place)
 }
 
 // Low, high and start as the header has them.
@@ -238,20 +236,20 @@ fn new_name(
         return phrases::fault(read);
     };
     if kind != lexer::NAME {
-        return Expected::Refused(2, start);
+        return Expected::Refused(limits::NOT_ALLOWED, start);
     }
     let known = lexer::find(text, starts, ends, count, start, end);
     if let Found::At(_) = known {
-        return Expected::Refused(4, start);
+        return Expected::Refused(limits::WRONG_NAME, start);
     }
     if lexer::is_over_long(start, end) {
-        return Expected::Refused(8, start);
+        return Expected::Refused(limits::TOO_MANY, start);
     }
-    if count < NAME_LIMIT {
-        lexer::add(text, starts, ends, count, start, end);
+    if count < limits::NAME_LIMIT {
+        lexer::add(starts, ends, count, start, end);
         return Expected::After(end);
     }
-    Expected::Refused(8, start)
+    Expected::Refused(limits::TOO_MANY, start)
 }
 
 // A declaration after its word.

@@ -4,7 +4,6 @@ use mathlib.Core.List.{List, [], _∷_}
 use mathlib.Core.Bool.{true, false}
 use mathlib.Core.Option.{none, some}
 use Prim.Native.Nat.{ℕ, zero, suc, _+_, _-_, _^_, _≤_, _<_, min}
-use native.Mathlib.Numerals.{add-one}
 use native.Mathlib.Omega.{arith}
 use lib.ListN.{length, set, getD}
 use lib.Seq.{sets}
@@ -114,8 +113,8 @@ module _ (sc : Scope) (s n : ℕ) where
         rw (i, le-ltb _ _ h)
 
 -- an instruction's code byte and its operand
-pub written : {text : List ℕ} {n c o to t u : ℕ} {before mid after : List ℕ} {r : Step} → t ≡ to + 1 → mid ≡ set before to c → u ≡ t + length (number o) → after ≡ sets mid t (number o) → r ≡ stepAt (tokenAt text n) n u → Parses text (λ (x : ℕ). c ∷ number x) (accepted o n) to before after r
-written {o = o} {to = to} ht hm hu ha e = ended o refl (omega arith) (rw (ha, hm, ht, add-one to)) e
+pub written : {text : List ℕ} {n c o to u : ℕ} {before after : List ℕ} {r : Step} → (u ≡ to + length (c ∷ number o)) × (after ≡ sets before to (c ∷ number o)) → r ≡ stepAt (tokenAt text n) n u → Parses text (λ (x : ℕ). c ∷ number x) (accepted o n) to before after r
+written {o = o} w e = ended o refl (w .0) (w .1) e
 
 pub constant-code : (v : ℕ) {z : ℕ} → z ≡ zigzag (pos v) → codeE (constant (pos v)) ≡ 1 ∷ number z
 unfolding codeE

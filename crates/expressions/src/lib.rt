@@ -66,7 +66,7 @@ pub fn ahead(text: &[u8], at: usize, to: usize) -> Step
             },
             to,
         ),
-        Token::Fault(place) => Step::Refused(1, place),
+        Token::Fault(place) => Step::Refused(limits::NO_TOKEN, place),
     }
 }
 
@@ -80,7 +80,7 @@ pub fn closed(text: &[u8], part: Step, kind: u8) -> Step
     if behind.kind == kind {
         return ahead(text, behind.end, t);
     }
-    Step::Refused(2, behind.start)
+    Step::Refused(limits::NOT_ALLOWED, behind.start)
 }
 
 // The code of an operator of a sum, and of a product; 0 for any other token.
@@ -116,8 +116,7 @@ fn instruction(text: &[u8], end: usize, code: u8, operand: u64, out: &mut [u8], 
     requires { ⌜ (to + 1 < 2 ^ 31) × (operand < 2 ^ 32) ⌝ }
     ensures { λ r. ⌜ Parses (now (text .entry)) (λ (o : ℕ). code ∷ numberBytes o) (accepted operand end) to (now (out .entry)) (now (out .exit)) r ⌝ }
 {
-    let t = leb128::put_byte(out, to, code);
-    let u = leb128::put_unsigned(out, t, operand);
+    let u = bytecode::put_instruction(out, to, code, operand);
     ahead(text, end, u)
 }
 
@@ -128,7 +127,7 @@ fn number(text: &[u8], start: usize, end: usize, out: &mut [u8], to: usize) -> S
 {
     let v = lexer::value(lexer::name(text, start, end));
     if 2147483647 < v {
-        return Step::Refused(3, start);
+        return Step::Refused(limits::OUT_OF_LIMIT, start);
     }
     instruction(text, end, CONSTANT, leb128::zigzag(v as i32), out, to)
 }
@@ -149,16 +148,16 @@ fn current(
     ensures { λ r. ⌜ Parses (now (text .entry)) codeE (currentAt (scopeOf (now (text .entry)) (now (starts .entry)) (now (ends .entry)) names) start end) to (now (out .entry)) (now (out .exit)) r ⌝ }
 {
     if lexer::is_over_long(start, end) {
-        return Step::Refused(8, start);
+        return Step::Refused(limits::TOO_MANY, start);
     }
     let found = lexer::find(text, starts, ends, names.count, start, end);
     let Found::At(id) = found else {
-        return Step::Refused(4, start);
+        return Step::Refused(limits::WRONG_NAME, start);
     };
-    if scope::bit(names.known, id as u64) {
+    if scope::is_known(names, id) {
         return instruction(text, end, CURRENT, id as u64, out, to);
     }
-    Step::Refused(5, start)
+    Step::Refused(limits::TOO_EARLY, start)
 }
 
 // The previous value of the name that stands behind the `_` at `start`.
@@ -178,11 +177,11 @@ fn previous(
 {
     let from = start + 1;
     if lexer::is_over_long(from, end) {
-        return Step::Refused(8, start);
+        return Step::Refused(limits::TOO_MANY, start);
     }
     let found = lexer::find(text, starts, ends, names.count, from, end);
     let Found::At(id) = found else {
-        return Step::Refused(4, start);
+        return Step::Refused(limits::WRONG_NAME, start);
     };
     instruction(text, end, PREVIOUS, id as u64, out, to)
 }
@@ -324,7 +323,7 @@ fn primary(
             to,
         );
     }
-    Step::Refused(2, here.start)
+    Step::Refused(limits::NOT_ALLOWED, here.start)
 }
 
 // An expression in the bracket from `start` to `end`, with `left` brackets left to open.
@@ -344,7 +343,7 @@ fn bracket(
     ensures { λ r. ⌜ Parses (now (text .entry)) codeE (bracket left (scopeOf (now (text .entry)) (now (starts .entry)) (now (ends .entry)) names) start end) to (now (out .entry)) (now (out .exit)) r ⌝ }
 {
     if left == 0 {
-        return Step::Refused(8, start);
+        return Step::Refused(limits::TOO_MANY, start);
     }
     let inner = expression(text, starts, ends, names, end, left - 1, out, to);
     closed(text, inner, lexer::CLOSE_ROUND)
@@ -370,7 +369,7 @@ pub fn whole_expression(
         ends,
         names,
         at,
-        grammar::BRACKET_LIMIT,
+        limits::BRACKET_LIMIT,
         out,
         to,
     )

@@ -11,8 +11,9 @@ use lib.ListN.{length}
 use Rattle.bytecode.specs.Check.{complete}
 use Rattle.bytecode.proofs.RoundTrip.{fetch-next}
 use Rattle.bytecode.proofs.Soundness.{advance-small}
-use Rattle.checker.specs.Represented.{knownOf, flagsOf}
-use Rattle.checker.proofs.Bits.{length-flags}
+use Rattle.arith.specs.Flags.{flagsOf}
+use Rattle.arith.proofs.Flags.{length-flags}
+use Rattle.checker.specs.Represented.{knownOf}
 use Rattle.checker.proofs.Walking.{Walking, walking-begins, walking-goes, walking-ends}
 use Rattle.machine.specs.declared.Registers.{Registers}
 use Rattle.machine.specs.declared.Stepped.the-variants.{Next, Refused}

@@ -15,8 +15,9 @@ use Rattle.bytecode.specs.Check.{advance}
 use Rattle.bytecode.proofs.Soundness.{none≢some, idsOf}
 use Rattle.bytecode.proofs.Fetching.{fetch-alone, fetch-number, number-within}
 use Rattle.checker.specs.declared.advance.Walk.{Walk}
+use Rattle.arith.proofs.Flags.{length-flags}
 use Rattle.checker.specs.Represented.{knownOf, openOf, advanceBy, Small}
-use Rattle.checker.proofs.Bits.{length-sorts, length-flags}
+use Rattle.checker.proofs.Bits.{length-sorts}
 use Rattle.machine.specs.declared.Registers.{Registers}
 use Rattle.machine.specs.Step.{Machine, machine, step}
 use Rattle.machine.specs.Memory.{heldOf, machineOf, stepped, RangesIn}

@@ -273,7 +273,7 @@ fn fresh(inputs: usize, names: usize) -> Progress
             sorts: 0,
             gate: 0,
             picking: 0,
-            known: checker::ones(inputs as u64),
+            known: arith::bits::ones(inputs as u64),
             names: names as u64,
         },
         at: 0,

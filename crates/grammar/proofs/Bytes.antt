@@ -92,8 +92,8 @@ part-cons text s n h l =
     let f : suc s ≡ s + 1 = omega arith in
     rw (e, drop-cons text s 0 (omega arith), f)
 
-pub heads : (x y : ℕ) (k l : List ℕ) → x ∷ k ≡ y ∷ l → x ≡ y
-heads x y k l e = cc
+pub heads : {A : Type 0} {x y : A} {k l : List A} → x ∷ k ≡ y ∷ l → x ≡ y
+heads e = cc
 
-pub tails : (x y : ℕ) (k l : List ℕ) → x ∷ k ≡ y ∷ l → k ≡ l
-tails x y k l e = cc
+pub tails : {A : Type 0} {x y : A} {k l : List A} → x ∷ k ≡ y ∷ l → k ≡ l
+tails e = cc

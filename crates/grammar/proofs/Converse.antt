@@ -159,7 +159,7 @@ module _ (sc : Scope) (good : Named (sc .names)) where
       let nm = good .each i w ei in
       let lt = st .some-bytes in
       let mv = token-at-moved (sc .text) a (st .kind) (st .start) (g .0) j (st .is-token) in
-      let t : part (sc .text) (st .start + 1) (g .0) ≡ w = tails _ _ _ _ (sym (part-cons (sc .text) (st .start) (g .0) lt (mv .2)) ∙ st .spelled) in
+      let t : part (sc .text) (st .start + 1) (g .0) ≡ w = tails (sym (part-cons (sc .text) (st .start) (g .0) lt (mv .2)) ∙ st .spelled) in
       rw (at-kind (sc .text) T.previous (bytes "_" ++ w) (record { rest = w; is-cons = refl; is-word = nm .is-word; no-word = nm .no-word }) a (g .0) j st, named-id {A = Expression} (st .start) (st .start + 1) (g .0) i w _ (omega arith) (mv .2) t ei, g .2)
 
   -- an expression and what follows it

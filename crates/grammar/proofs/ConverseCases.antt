@@ -11,12 +11,13 @@ use lib.IntN.{pos}
 use Rattle.limits.specs.Limits.{caseLimit, bracketLimit}
 use Rattle.arith.proofs.Laws.{mag-int32}
 use Rattle.lexer.specs.Bytes.{bytes}
-use Rattle.lexer.specs.Token.{Kind, kindNumber, openRound, closeRound, openSquare, ampersand, bar, equals, is, token}
+use Rattle.lexer.specs.Token.{Kind, kindNumber, closeRound, openSquare, bar, is, token}
 use Rattle.lexer.specs.Lexer.{tokenAt, valueOf}
 use Rattle.semantics.specs.Program.{Expression, Condition, Case, UsableE, UsableC, UsableK}
-use Rattle.grammar.specs.Parsed.{accepted, sign, own, phrase, followed}
+use Rattle.grammar.specs.Parsed.{accepted, sign, phrase, followed}
 use Rattle.grammar.specs.Expressions.{Scope, productOf, sumOf, wholeExpression}
 use Rattle.grammar.specs.Conditions.{listed}
+use Rattle.grammar.specs.Forms.{caseValueOpening}
 use Rattle.grammar.specs.Rules.{Spanned, caseAt, casesFrom, listFrom, plainList, casesOf}
 use Rattle.grammar.specs.Derivation.{Spells, IsName, Level, SpellsE, a-number, a-current, a-previous, brackets, plain, opposite, one-factor, product, one-term, sum, LevelC, SpellsC, not-square, one-atom, conjoined, one-conjunction, disjoined}
 use Rattle.grammar.specs.Derivation as D
@@ -88,7 +89,7 @@ module _ (sc : Scope) (good : Named (sc .names)) where
     pub reads : caseAt sc w at place ≡ accepted (spanned k at to) m
     pub lists : Spells (sc .text) at to (squared ts)
 
-  case-goes : (w : List ℕ) (at n n1 n2 n3 n4 : ℕ) (k : Case) → listed sc n ≡ accepted (k .condition) n1 → phrase (sc .text) (sign ampersand ∷ own w ∷ sign equals ∷ sign openRound ∷ []) n1 ≡ accepted tt n2 → wholeExpression sc n2 ≡ accepted (k .value) n3 → followed (sc .text) (sign closeRound ∷ []) (spanned k at n1) n3 ≡ accepted (spanned k at n1) n4 → caseAt sc w at n ≡ accepted (spanned k at n1) n4
+  case-goes : (w : List ℕ) (at n n1 n2 n3 n4 : ℕ) (k : Case) → listed sc n ≡ accepted (k .condition) n1 → phrase (sc .text) (caseValueOpening w) n1 ≡ accepted tt n2 → wholeExpression sc n2 ≡ accepted (k .value) n3 → followed (sc .text) (sign closeRound ∷ []) (spanned k at n1) n3 ≡ accepted (spanned k at n1) n4 → caseAt sc w at n ≡ accepted (spanned k at n1) n4
   unfolding caseAt
   case-goes w at n n1 n2 n3 n4 k e1 e2 e3 e4 = rw (e1, e2, e3) e4
 
@@ -112,7 +113,7 @@ module _ (sc : Scope) (good : Named (sc .names)) where
         opens = fixed-at text openSquare refl at n h (q .first .1);
         reads = case-goes w at n (q .place) (r .place) (p .place) m k
             (spelled-listed sc good ts (k .condition) dc uc n (q .place) i0 (q .first .2))
-            (phrase-reads text (sign ampersand ∷ own w ∷ sign equals ∷ sign openRound ∷ []) refl (nm, tt) (q .place) (r .place) i1 (r .first))
+            (phrase-reads text (caseValueOpening w) refl (nm, tt) (q .place) (r .place) i1 (r .first))
             (spelled-expression sc good us (k .value) de ue (r .place) (p .place) i2 (r .second) closeRound (p .second .1 .start) (p .second .0) close (refl, refl))
             (followed-reads text (sign closeRound ∷ []) refl tt (spanned k at (q .place)) (p .place) m i3 (p .second));
         lists = q .first;

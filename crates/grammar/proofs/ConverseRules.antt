@@ -10,12 +10,13 @@ use lib.Dec.{ltb→lt}
 use Rattle.limits.specs.Limits.{caseLimit, bracketLimit}
 use Rattle.arith.proofs.Basics.{T-true}
 use Rattle.lexer.specs.Bytes.{bytes, part}
-use Rattle.lexer.specs.Token.{kindNumber, ending, name, nextWord, semicolon, colon, openRound, closeRound, tilde, equals, is, token}
+use Rattle.lexer.specs.Token.{kindNumber, ending, name, closeRound, tilde, is, token}
 use Rattle.lexer.specs.Lexer.{tokenAt}
 use Rattle.lexer.proofs.Laws.{token-at-moved}
 use Rattle.semantics.specs.Program.{Expression, Condition, Case, Rule, function, change, target, allTrue, UsableE, UsableK, UsableR, OrderedRules}
-use Rattle.grammar.specs.Parsed.{accepted, sign, own, phrase, followed}
+use Rattle.grammar.specs.Parsed.{accepted, phrase, followed}
 use Rattle.grammar.specs.Expressions.{Scope, productOf, sumOf, wholeExpression}
+use Rattle.grammar.specs.Forms.{valueOpening, functionClosing, formulaClosing, changeOpening, noChangeOpening, ruleOpening}
 use Rattle.grammar.specs.Rules.{Spanned, casesFrom, plainList, agrees, partsFrom, settled, agreeingList, casesOf, functionAt, changeAt, formulas, ruleAt, ruled, rulesFrom}
 use Rattle.grammar.specs.Derivation.{Spells, IsName, SpellsE}
 use Rattle.grammar.specs.Derivation as D
@@ -23,7 +24,7 @@ use Rattle.grammar.specs.Spelled.{SpellsCases, SpellsList, SpellsR, a-ch
 use Rattle.grammar.specs.Spelled as S
 use Rattle.grammar.proofs.Spellings.{isFixed}
 use Rattle.grammar.proofs.Standing.{split, stands-in, spells-in, spells-append}
-use Rattle.grammar.proofs.Phrases.{signs, fixed-at, name-at, phrase-reads, followed-reads, head, middle, headTokens, middleTokens}
+use Rattle.grammar.proofs.Phrases.{signs, fixed-at, name-at, phrase-reads, followed-reads, headTokens, middleTokens}
 use Rattle.grammar.proofs.Listed.{spells-parts}
 use Rattle.grammar.proofs.Converse.{Named, named-id, spelled-expression}
 use Rattle.grammar.proofs.ConverseCases.{cases-read, no-change-reads}
@@ -31,7 +32,7 @@ use Rattle.grammar.proofs.ConverseCases.{cases-read, no-change-reads}
 module _ (sc : Scope) (good : Named (sc .names)) (w : List ℕ) (nm : IsName w) (v : ℕ) where
   -- ---- a function, after `v: GX(`
 
-  function-goes : (a n1 n2 n3 : ℕ) (e : Expression) → phrase (sc .text) (own w ∷ sign equals ∷ sign openRound ∷ []) a ≡ accepted tt n1 → wholeExpression sc n1 ≡ accepted e n2 → followed (sc .text) (sign closeRound ∷ sign closeRound ∷ sign semicolon ∷ []) (function v e) n2 ≡ accepted (function v e) n3 → functionAt sc w v a ≡ accepted (function v e) n3
+  function-goes : (a n1 n2 n3 : ℕ) (e : Expression) → phrase (sc .text) (valueOpening w) a ≡ accepted tt n1 → wholeExpression sc n1 ≡ accepted e n2 → followed (sc .text) functionClosing (function v e) n2 ≡ accepted (function v e) n3 → functionAt sc w v a ≡ accepted (function v e) n3
   unfolding functionAt
   function-goes a n1 n2 n3 e e1 e2 e3 = rw (e1, e2) e3
 
@@ -44,9 +45,9 @@ module _ (sc : Scope) (good : Named (sc .names)) (w : List ℕ) (nm : IsName w) 
       let i1 = spells-in text a (q .place) (w ∷ bytes "=" ∷ bytes "(" ∷ []) h (q .first) .1 in
       let i2 = spells-in text (q .place) (p .place) ts i1 (q .second) .1 in
       function-goes a (q .place) (p .place) m e
-      (phrase-reads text (own w ∷ sign equals ∷ sign openRound ∷ []) refl (nm, tt) a (q .place) h (q .first))
+      (phrase-reads text (valueOpening w) refl (nm, tt) a (q .place) h (q .first))
       (spelled-expression sc good ts e d u (q .place) (p .place) i1 (q .second) closeRound (p .second .1 .start) (p .second .0) (fixed-at text closeRound refl (p .place) (p .second .0) i2 (p .second .1)) (refl, refl))
-      (followed-reads text (sign closeRound ∷ sign closeRound ∷ sign semicolon ∷ []) refl tt (function v e) (p .place) m i2 (p .second))
+      (followed-reads text functionClosing refl tt (function v e) (p .place) m i2 (p .second))
 
   -- ---- a change formula and its no-change formula, after `v: GX(~`
 
@@ -54,7 +55,7 @@ module _ (sc : Scope) (good : Named (sc .names)) (w : List ℕ) (nm : IsName w) 
   unfolding agreeingList settled
   agreeing-goes cases cs a m e1 e2 = rw (e2, e1)
 
-  change-goes : (cases : List Spanned) (cs : List Condition) (a n1 n2 n3 n4 n5 : ℕ) → phrase (sc .text) (head w) a ≡ accepted tt n1 → casesFrom caseLimit sc w [] n1 ≡ accepted cases n2 → phrase (sc .text) (middle w) n2 ≡ accepted tt n3 → agreeingList sc cases n3 ≡ accepted cs n4 → followed (sc .text) (sign closeRound ∷ sign semicolon ∷ []) (change v (casesOf cases) cs) n4 ≡ accepted (change v (casesOf cases) cs) n5 → changeAt sc w v a ≡ accepted (change v (casesOf cases) cs) n5
+  change-goes : (cases : List Spanned) (cs : List Condition) (a n1 n2 n3 n4 n5 : ℕ) → phrase (sc .text) (changeOpening w) a ≡ accepted tt n1 → casesFrom caseLimit sc w [] n1 ≡ accepted cases n2 → phrase (sc .text) (noChangeOpening w) n2 ≡ accepted tt n3 → agreeingList sc cases n3 ≡ accepted cs n4 → followed (sc .text) formulaClosing (change v (casesOf cases) cs) n4 ≡ accepted (change v (casesOf cases) cs) n5 → changeAt sc w v a ≡ accepted (change v (casesOf cases) cs) n5
   unfolding changeAt
   change-goes cases cs a n1 n2 n3 n4 n5 e1 e2 e3 e4 e5 = rw (e1, e2, e3, e4) e5
 
@@ -76,18 +77,18 @@ module _ (sc : Scope) (good : Named (sc .names)) (w : List ℕ) (nm : IsName w) 
       let x = cases-read sc good w nm caseLimit [] ts ls ks d u room (r .place) (q .place) i1 (r .second) closeRound (t .first .1 .start) (t .first .0) (fixed-at text closeRound refl (q .place) (t .first .0) i2 (t .first .1)) refl in
       subst (λ (l : List Case). changeAt sc w v a ≡ accepted (change v l cs) m) (x .are-cases)
       (change-goes (x .spans) cs a (r .place) (q .place) (t .place) n4 m
-      (phrase-reads text (head w) refl (nm, (nm, tt)) a (r .place) h (r .first)) (x .reads)
-      (phrase-reads text (middle w) refl (nm, (nm, (nm, tt))) (q .place) (t .place) i2 (t .first))
+      (phrase-reads text (changeOpening w) refl (nm, (nm, tt)) a (r .place) h (r .first)) (x .reads)
+      (phrase-reads text (noChangeOpening w) refl (nm, (nm, (nm, tt))) (q .place) (t .place) i2 (t .first))
       (agreeing-goes (x .spans) cs (t .place) n4 (no-change-reads sc good w ts ls ks cs d e u room (t .place) n4 i3 close) (spells-parts text (x .spans) ls (x .lists) (t .place) n4 i3 close))
-      (followed-reads text (sign closeRound ∷ sign semicolon ∷ []) refl tt (change v (casesOf (x .spans)) cs) n4 m i5 (p .second .2)))
+      (followed-reads text formulaClosing refl tt (change v (casesOf (x .spans)) cs) n4 m i5 (p .second .2)))
 
   -- ---- the formulas of w, after its name
 
-  formulas-change : (r : Rule) (a n s m e : ℕ) → phrase (sc .text) (sign colon ∷ sign nextWord ∷ sign openRound ∷ []) a ≡ accepted tt n → tokenAt (sc .text) n ≡ token tilde s m → changeAt sc w v m ≡ accepted r e → formulas sc w v a ≡ accepted r e
+  formulas-change : (r : Rule) (a n s m e : ℕ) → phrase (sc .text) ruleOpening a ≡ accepted tt n → tokenAt (sc .text) n ≡ token tilde s m → changeAt sc w v m ≡ accepted r e → formulas sc w v a ≡ accepted r e
   unfolding formulas is kindNumber
   formulas-change r a n s m e e1 e2 e3 = rw (e1, e2) e3
 
-  formulas-function : (r : Rule) (a n s m e : ℕ) → phrase (sc .text) (sign colon ∷ sign nextWord ∷ sign openRound ∷ []) a ≡ accepted tt n → tokenAt (sc .text) n ≡ token name s m → functionAt sc w v n ≡ accepted r e → formulas sc w v a ≡ accepted r e
+  formulas-function : (r : Rule) (a n s m e : ℕ) → phrase (sc .text) ruleOpening a ≡ accepted tt n → tokenAt (sc .text) n ≡ token name s m → functionAt sc w v n ≡ accepted r e → formulas sc w v a ≡ accepted r e
   unfolding formulas is kindNumber
   formulas-function r a n s m e e1 e2 e3 = rw (e1, e2) e3
 
@@ -122,7 +123,7 @@ module _ (sc : Scope) (good : Named (sc .names)) where
         is-name = name-at text w nm a n h st;
         reads = rule-goes w v (st .start) n m (function v e) (mv .1) (mv .2) (st .spelled) ev new
             (formulas-function sc good w nm v (function v e) n (p .place) (p .second .1 .start) (p .second .0) m
-            (phrase-reads text (sign colon ∷ sign nextWord ∷ sign openRound ∷ []) refl tt n (p .place) (mv .2) (p .first))
+            (phrase-reads text ruleOpening refl tt n (p .place) (mv .2) (p .first))
             (name-at text w nm (p .place) (p .second .0) i (p .second .1))
             (function-reads sc good w nm v us e d u (p .place) m i (p .second)));
       }
@@ -142,7 +143,7 @@ module _ (sc : Scope) (good : Named (sc .names)) where
         is-name = name-at text w nm a n h st;
         reads = rule-goes w v (st .start) n m (change v ks cs) (mv .1) (mv .2) (st .spelled) ev new
             (formulas-change sc good w nm v (change v ks cs) n (p .place) (p .second .1 .start) (p .second .0) m
-            (phrase-reads text (sign colon ∷ sign nextWord ∷ sign openRound ∷ []) refl tt n (p .place) (mv .2) (p .first))
+            (phrase-reads text ruleOpening refl tt n (p .place) (mv .2) (p .first))
             (fixed-at text tilde refl (p .place) (p .second .0) i (p .second .1))
             (change-reads sc good w nm v us ls ks cs d room e u (p .second .0) m j (p .second .2)));
       }
@@ -150,19 +151,19 @@ module _ (sc : Scope) (good : Named (sc .names)) where
 -- ---- all rules
 
 -- how many names have no rule yet
-abbrev unruled : List Bool → ℕ
+abbrev pub unruled : List Bool → ℕ
 unruled [] = 0
 unruled (true ∷ l) = unruled l
 unruled (false ∷ l) = suc (unruled l)
 
-rule-counts : (known : List Bool) (v : ℕ) → v < length known → getD known v false ≡ false → unruled known ≡ suc (unruled (set known v true))
+pub rule-counts : (known : List Bool) (v : ℕ) → v < length known → getD known v false ≡ false → unruled known ≡ suc (unruled (set known v true))
 rule-counts [] v h e = absurd (omega arith)
 rule-counts (true ∷ l) zero h e = let z : _≡_ {A = ℕ} 0 1 = cc in absurd (omega arith)
 rule-counts (false ∷ l) zero h e = refl
 rule-counts (true ∷ l) (suc v) h e = rule-counts l v (omega arith) e
 rule-counts (false ∷ l) (suc v) h e = ap suc (rule-counts l v (omega arith) e)
 
-unruled-few : (known : List Bool) → unruled known ≤ length known
+pub unruled-few : (known : List Bool) → unruled known ≤ length known
 unruled-few [] = omega arith
 unruled-few (true ∷ l) = omega (arith, unruled-few l)
 unruled-few (false ∷ l) = omega (arith, unruled-few l)

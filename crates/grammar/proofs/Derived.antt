@@ -167,7 +167,7 @@ module _ (sc : Scope) (few : length (sc .names) ≤ 64) where
         let r = sign-stands (sc .text) T.previous refl at k s n h et e in
         let mv = token-at-moved (sc .text) at k s n h et in
         let c = part-cons (sc .text) s n (mv .3 (not-end k T.previous refl e)) (mv .2) in
-        let b : getD (sc .text) s 0 ≡ 95 = heads _ _ _ _ (sym c ∙ r .1 .is-cons) in
+        let b : getD (sc .text) s 0 ≡ 95 = heads (sym c ∙ r .1 .is-cons) in
         let q : w ≡ bytes "_" ++ part (sc .text) (s + 1) n = c ∙ ap (λ (x : ℕ). x ∷ part (sc .text) (s + 1) n) b in
         id-derives (SpellsE (sc .names) D.primary l) at s (s + 1) n _
         (λ i ei. record {

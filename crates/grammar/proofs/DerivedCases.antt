@@ -5,13 +5,14 @@ use Prim.Native.Nat.{ℕ, zero, suc, _≤_}
 use lib.ListN.{length}
 use Rattle.limits.specs.Limits.{bracketLimit}
 use Rattle.lexer.specs.Bytes.{bytes}
-use Rattle.lexer.specs.Token.{kindNumber, openRound, closeRound, openSquare, ampersand, bar, equals, is}
+use Rattle.lexer.specs.Token.{kindNumber, closeRound, openSquare, bar, is}
 use Rattle.lexer.specs.Lexer.{tokenAt}
 use Rattle.lexer.proofs.Laws.{pick-prop, token-at-moved}
 use Rattle.semantics.specs.Program.{Case}
-use Rattle.grammar.specs.Parsed.{Parsed, accepted, refused, sign, own, phrase, followed}
+use Rattle.grammar.specs.Parsed.{Parsed, accepted, refused, sign, phrase, followed}
 use Rattle.grammar.specs.Expressions.{Scope, wholeExpression}
 use Rattle.grammar.specs.Conditions.{listed}
+use Rattle.grammar.specs.Forms.{caseValueOpening}
 use Rattle.grammar.specs.Rules.{Spanned, caseAt, casesFrom, casesOf}
 use Rattle.grammar.specs.Derivation.{Stands, Spells, SpellsE, SpellsC}
 use Rattle.grammar.specs.Derivation as D
@@ -52,9 +53,9 @@ module _ (sc : Scope) (few : length (sc .names) ≤ 64) where
       let ts = d1 .derives .inner in
       let s1 : Spells (sc .text) at n1 (squared ts) = (n, st, subst (Spells (sc .text) n n1) (d1 .derives .is-closed) (d1 .spells)) in
       let i1 = spells-in (sc .text) at n1 (squared ts) h s1 .1 in
-      then-prop (CaseReads w at) (phrase (sc .text) (sign ampersand ∷ own w ∷ sign equals ∷ sign openRound ∷ []) n1) _ (λ k q. tt)
+      then-prop (CaseReads w at) (phrase (sc .text) (caseValueOpening w) n1) _ (λ k q. tt)
       (λ u n2 e2.
-      let s2 = phrase-spells (sc .text) (sign ampersand ∷ own w ∷ sign equals ∷ sign openRound ∷ []) refl n1 u n2 i1 e2 in
+      let s2 = phrase-spells (sc .text) (caseValueOpening w) refl n1 u n2 i1 e2 in
       let i2 = spells-in (sc .text) n1 n2 (bytes "&" ∷ w ∷ bytes "=" ∷ bytes "(" ∷ []) i1 s2 .1 in
       then-prop (CaseReads w at) (wholeExpression sc n2) _ (λ k q. tt)
       (λ e n3 e3.

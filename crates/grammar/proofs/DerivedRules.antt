@@ -7,14 +7,15 @@ use Prim.Native.Nat.{ℕ, zero, suc, _≤_}
 use lib.ListN.{length, getD, getElem?, length-set}
 use Rattle.limits.specs.Limits.{caseLimit, bracketLimit}
 use Rattle.lexer.specs.Bytes.{bytes, part}
-use Rattle.lexer.specs.Token.{Kind, kindNumber, ending, name, nextWord, semicolon, colon, openRound, closeRound, tilde, equals, is, token}
+use Rattle.lexer.specs.Token.{Kind, kindNumber, ending, name, tilde, is, token}
 use Rattle.lexer.specs.Lexer.{tokenAt, overLong}
 use Rattle.lexer.specs.Names.{idOf}
 use Rattle.lexer.proofs.Laws.{pick-prop, token-at-moved}
 use Rattle.lexer.proofs.Same.{same-kind}
 use Rattle.semantics.specs.Program.{Condition, Case, Rule, change, target, allTrue}
-use Rattle.grammar.specs.Parsed.{Parsed, accepted, refused, sign, own, phrase, followed}
+use Rattle.grammar.specs.Parsed.{Parsed, accepted, refused, phrase, followed}
 use Rattle.grammar.specs.Expressions.{Scope, withId, wholeExpression}
+use Rattle.grammar.specs.Forms.{valueOpening, functionClosing, formulaClosing, changeOpening, noChangeOpening, ruleOpening}
 use Rattle.grammar.specs.Rules.{casesFrom, agreeingList, casesOf, functionAt, changeAt, formulas, ruleAt, ruled, rulesFrom}
 use Rattle.grammar.specs.Derivation.{Stands, Spells, SpellsE}
 use Rattle.grammar.specs.Derivation as D
@@ -23,7 +24,7 @@ use Rattle.grammar.specs.Spelled as S
 use Rattle.grammar.proofs.Combine.{token-prop, then-prop, option-prop}
 use Rattle.grammar.proofs.Spellings.{isFixed, end-place}
 use Rattle.grammar.proofs.Standing.{spells-in, split, spells-append, id-names}
-use Rattle.grammar.proofs.Phrases.{signs, fixed-stands, phrase-spells, head, middle, headTokens, middleTokens}
+use Rattle.grammar.proofs.Phrases.{signs, fixed-stands, phrase-spells, headTokens, middleTokens}
 use Rattle.grammar.proofs.Converse.{Named}
 use Rattle.grammar.proofs.DerivedCases.{cases-list}
 use Rattle.grammar.proofs.Lists.{cases-in, agreeing-same}
@@ -39,17 +40,17 @@ module _ (sc : Scope) (few : length (sc .names) ≤ 64) (lengths : length (sc .n
     function-derives : (at : ℕ) → at ≤ length (sc .text) → Derives (sc .text) Ruling at (functionAt sc w v at)
     unfolding functionAt followed signs isFixed kindNumber
     function-derives at h =
-        then-prop (Derives (sc .text) Ruling at) (phrase (sc .text) (own w ∷ sign equals ∷ sign openRound ∷ []) at) _ (λ k q. tt)
+        then-prop (Derives (sc .text) Ruling at) (phrase (sc .text) (valueOpening w) at) _ (λ k q. tt)
         (λ u n1 e1.
-        let s1 = phrase-spells (sc .text) (own w ∷ sign equals ∷ sign openRound ∷ []) refl at u n1 h e1 in
+        let s1 = phrase-spells (sc .text) (valueOpening w) refl at u n1 h e1 in
         let i1 = spells-in (sc .text) at n1 (w ∷ bytes "=" ∷ bytes "(" ∷ []) h s1 .1 in
         then-prop (Derives (sc .text) Ruling at) (wholeExpression sc n1) _ (λ k q. tt)
         (λ e n2 e2.
         let d2 = subst (Derives (sc .text) (SpellsE (sc .names) D.expression bracketLimit) n1) e2 (whole-expression-derives sc few n1 i1) in
         let i2 = spells-in (sc .text) n1 n2 (d2 .tokens) i1 (d2 .spells) .1 in
-        then-prop (Derives (sc .text) Ruling at) (phrase (sc .text) (sign closeRound ∷ sign closeRound ∷ sign semicolon ∷ []) n2) _ (λ k q. tt)
+        then-prop (Derives (sc .text) Ruling at) (phrase (sc .text) functionClosing n2) _ (λ k q. tt)
         (λ u2 n3 e3.
-        let s3 = phrase-spells (sc .text) (sign closeRound ∷ sign closeRound ∷ sign semicolon ∷ []) refl n2 u2 n3 i2 e3 in
+        let s3 = phrase-spells (sc .text) functionClosing refl n2 u2 n3 i2 e3 in
         let s12 = spells-append (sc .text) at n1 n2 (w ∷ bytes "=" ∷ bytes "(" ∷ []) (d2 .tokens) s1 (d2 .spells) in
         record {
           tokens = w ∷ bytes "=" ∷ bytes "(" ∷ d2 .tokens ++ bytes ")" ∷ bytes ")" ∷ bytes ";" ∷ [];
@@ -77,24 +78,24 @@ module _ (sc : Scope) (few : length (sc .names) ≤ 64) (lengths : length (sc .n
     change-derives : (at : ℕ) → at ≤ length (sc .text) → Derives (sc .text) Changing at (changeAt sc w v at)
     unfolding changeAt followed signs isFixed kindNumber
     change-derives at h =
-        then-prop (Derives (sc .text) Changing at) (phrase (sc .text) (head w) at) _ (λ k q. tt)
+        then-prop (Derives (sc .text) Changing at) (phrase (sc .text) (changeOpening w) at) _ (λ k q. tt)
         (λ u n1 e1.
-        let s1 = phrase-spells (sc .text) (head w) refl at u n1 h e1 in
+        let s1 = phrase-spells (sc .text) (changeOpening w) refl at u n1 h e1 in
         let i1 = spells-in (sc .text) at n1 (headTokens w) h s1 .1 in
         then-prop (Derives (sc .text) Changing at) (casesFrom caseLimit sc w [] n1) _ (λ k q. tt)
         (λ cases n2 e2.
         let r = cases-in sc few lengths w n1 n2 cases i1 e2 in
-        then-prop (Derives (sc .text) Changing at) (phrase (sc .text) (middle w) n2) _ (λ k q. tt)
+        then-prop (Derives (sc .text) Changing at) (phrase (sc .text) (noChangeOpening w) n2) _ (λ k q. tt)
         (λ u2 n3 e3.
-        let s3 = phrase-spells (sc .text) (middle w) refl n2 u2 n3 (r .within) e3 in
+        let s3 = phrase-spells (sc .text) (noChangeOpening w) refl n2 u2 n3 (r .within) e3 in
         let i3 = spells-in (sc .text) n2 n3 (middleTokens w) (r .within) s3 .1 in
         then-prop (Derives (sc .text) Changing at) (agreeingList sc cases n3) _ (λ k q. tt)
         (λ ds n4 e4.
         let ag = agreeing-same sc few lengths good w n1 n2 cases r n3 n4 ds i3 e4 in
         let i4 = spells-in (sc .text) n3 n4 (r .list ++ bytes ")" ∷ []) i3 (ag .spells) .1 in
-        then-prop (Derives (sc .text) Changing at) (phrase (sc .text) (sign closeRound ∷ sign semicolon ∷ []) n4) _ (λ k q. tt)
+        then-prop (Derives (sc .text) Changing at) (phrase (sc .text) formulaClosing n4) _ (λ k q. tt)
         (λ u3 n5 e5.
-        let s5 = phrase-spells (sc .text) (sign closeRound ∷ sign semicolon ∷ []) refl n4 u3 n5 i4 e5 in
+        let s5 = phrase-spells (sc .text) formulaClosing refl n4 u3 n5 i4 e5 in
         record {
           tokens = (headTokens w ++ r .tokens) ++ (middleTokens w ++ r .list) ++ bytes ")" ∷ bytes ")" ∷ bytes ";" ∷ [];
           spells = change-spells at n1 n2 n3 n4 n5 (r .tokens) (r .list) s1 (r .spells) s3 (ag .spells) s5;
@@ -105,9 +106,9 @@ module _ (sc : Scope) (few : length (sc .names) ≤ 64) (lengths : length (sc .n
     formulas-derive : (at : ℕ) → at ≤ length (sc .text) → Derives (sc .text) (λ ts r. SpellsR (sc .names) (w ∷ ts) r) at (formulas sc w v at)
     unfolding formulas signs isFixed kindNumber
     formulas-derive at h =
-        then-prop R (phrase (sc .text) (sign colon ∷ sign nextWord ∷ sign openRound ∷ []) at) _ (λ k q. tt)
+        then-prop R (phrase (sc .text) ruleOpening at) _ (λ k q. tt)
         (λ u n e1.
-        let s1 = phrase-spells (sc .text) (sign colon ∷ sign nextWord ∷ sign openRound ∷ []) refl at u n h e1 in
+        let s1 = phrase-spells (sc .text) ruleOpening refl at u n h e1 in
         let i1 = spells-in (sc .text) at n (bytes ":" ∷ bytes "GX" ∷ bytes "(" ∷ []) h s1 .1 in
         token-prop R (tokenAt (sc .text) n) _ (λ k q. tt)
         (λ k s m et.

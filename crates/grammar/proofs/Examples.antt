@@ -18,6 +18,7 @@ use Rattle.grammar.specs.Declarations.{inRange, signedAt, boundAt, newNa
 use Rattle.grammar.specs.Rules.{caseAt, casesFrom, listFrom, plainList, partFrom, kindAt, partsFrom, settled, agreeingList, functionAt, changeAt, formulas, ruleAt, rulesFrom}
 use Rattle.grammar.specs.Parse.{program, parse, programOf}
 use Rattle.grammar.proofs.ExampleTexts.{Example, numberOrder, afterChange, longNames, manyNames, missingRules, numbers, longestMatch, manyBrackets, manyCases, examples, round, computing}
+use Rattle.grammar.proofs.Bytes.{heads, tails}
 
 -- ---- the two statements
 
@@ -54,15 +55,9 @@ abbrev wanted : List Example → List (Answer (Unit {0}))
 wanted [] = []
 wanted (e ∷ es) = e .answer ∷ wanted es
 
-first : {A : Type 0} {x y : A} {k l : List A} → x ∷ k ≡ y ∷ l → x ≡ y
-first q = cc
-
-others : {A : Type 0} {x y : A} {k l : List A} → x ∷ k ≡ y ∷ l → k ≡ l
-others q = cc
-
 hold : (es : List Example) → answersOf es ≡ wanted es → Every Holds es
 hold [] h = tt
-hold (e ∷ es) h = (first h, hold es (others h))
+hold (e ∷ es) h = (heads h, hold es (tails h))
 
 -- ---- the table of answers
 
@@ -172,7 +167,7 @@ latches-computed = refl
 
 images : (ls : List Latch) → imagesOf ls ≡ wantedImages ls → Every Gives ls
 images [] h = tt
-images (l ∷ ls) h = (first h, images ls (others h))
+images (l ∷ ls) h = (heads h, images ls (tails h))
 
 pub latches-give : Every Gives latches
 latches-give = images latches latches-computed

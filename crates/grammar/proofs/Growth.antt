@@ -17,7 +17,7 @@ use Rattle.arith.specs.Values.{Operation, Comparison}
 use Rattle.semantics.specs.Program.{Expression, previous, operation, Condition, comparison}
 use Rattle.grammar.specs.Parsed.{Parsed, accepted, refused, Wanted, sign, isWanted, expected, phrase, followed, rest, chain}
 use Rattle.grammar.specs.Expressions.{Scope, withId, currentAt, previousAt, numberLimit, numberAt, primary, negative, factor, productOf, sumOf, term, expression, bracket, wholeExpression}
-use Rattle.grammar.specs.Conditions.{comparisonOf, compared, comparisonAt, opposite, inverted, atom, Connective, andAlso, orElse, connect, andOf, orOf, conjunction, condition, square, wholeCondition, listed}
+use Rattle.grammar.specs.Conditions.{comparisonOf, compared, comparisonAt, opposite, inverted, atom, Connective, andAlso, orElse, connect, connectiveCode, andOf, orOf, conjunction, condition, square, wholeCondition, listed}
 use Rattle.grammar.specs.Emitted.{codeE, codeC}
 use Rattle.grammar.proofs.Combine.{token-prop, then-prop, option-prop}
 use Rattle.grammar.proofs.Bytes.{digits-bytes, id-bytes, id-of, part-length}
@@ -107,12 +107,8 @@ operation-code : (o : Operation) (a b : Expression) → codeE (operation o a b) 
 unfolding codeE
 operation-code o a b = refl
 
-connectCode : Connective → ℕ
-connectCode andAlso = 17
-connectCode orElse = 18
-
-connect-code : (o : Connective) (a b : Condition) → codeC (connect o a b) ≡ codeC a ++ (codeC b ++ (connectCode o ∷ []))
-unfolding codeC connect connectCode
+pub connect-code : (o : Connective) (a b : Condition) → codeC (connect o a b) ≡ codeC a ++ (codeC b ++ (connectiveCode o ∷ []))
+unfolding codeC connect
 connect-code andAlso a b = refl
 connect-code orElse a b = refl
 
@@ -277,11 +273,11 @@ module _ (sc : Scope) (few : length (sc .names) ≤ 64) where
 
       pub conjunction-grown : Reads (sc .text) codeC (λ at. conjunction inner inside sc at)
       unfolding conjunction
-      conjunction-grown at h = chain-grown (sc .text) codeC connect andOf connectCode connect-code ands-end (atom inner inside sc) atom-grown at h
+      conjunction-grown at h = chain-grown (sc .text) codeC connect andOf connectiveCode connect-code ands-end (atom inner inside sc) atom-grown at h
 
       pub condition-grown : Reads (sc .text) codeC (λ at. condition inner inside sc at)
       unfolding condition
-      condition-grown at h = chain-grown (sc .text) codeC connect orOf connectCode connect-code ors-end (conjunction inner inside sc) conjunction-grown at h
+      condition-grown at h = chain-grown (sc .text) codeC connect orOf connectiveCode connect-code ors-end (conjunction inner inside sc) conjunction-grown at h
 
   pub square-grown : (left : ℕ) → Inside (sc .text) codeC (λ s n. square left sc s n)
   unfolding square

@@ -6,8 +6,9 @@ use Prim.Native.Nat.{ℕ, _+_, _≤_}
 use native.Mathlib.Omega.{arith}
 use lib.ListN.{length, getD}
 use borrow.Author.Tests.{eq-eqb}
+use Rattle.arith.proofs.Basics.{and-both}
 use Rattle.lexer.specs.Bytes.{bytes, pick, part}
-use Rattle.lexer.specs.Token.{Kind, kindNumber, ending, name, previous, nextWord, arrow, semicolon, colon, openRound, closeRound, tilde, equals, is, Read, token, fault}
+use Rattle.lexer.specs.Token.{Kind, kindNumber, ending, name, previous, is, Read, token, fault}
 use Rattle.lexer.specs.Lexer.{tokenAt, sameName}
 use Rattle.lexer.proofs.Laws.{token-at-moved}
 use Rattle.lexer.proofs.Same.{same-kind, same-name, both-true}
@@ -36,22 +37,12 @@ signs (sign k ∷ ws) = isFixed k && signs ws
 signs (own w ∷ ws) = signs ws
 signs (ownPrevious w ∷ ws) = signs ws
 
--- the fixed tokens of a change formula after `w: GX(~`, and between its cases and the list of its no-change formula
-abbrev pub head : List ℕ → List Wanted
-head w = sign openRound ∷ own w ∷ sign equals ∷ ownPrevious w ∷ sign closeRound ∷ sign arrow ∷ []
-
-abbrev pub middle : List ℕ → List Wanted
-middle w = sign closeRound ∷ sign semicolon ∷ own w ∷ sign colon ∷ sign nextWord ∷ sign openRound ∷ own w ∷ sign equals ∷ ownPrevious w ∷ sign arrow ∷ sign tilde ∷ sign openRound ∷ []
-
+-- the spellings of `changeOpening` and `noChangeOpening`
 abbrev pub headTokens : List ℕ → List (List ℕ)
 headTokens w = bytes "(" ∷ w ∷ bytes "=" ∷ (bytes "_" ++ w) ∷ bytes ")" ∷ bytes "->" ∷ []
 
 abbrev pub middleTokens : List ℕ → List (List ℕ)
 middleTokens w = bytes ")" ∷ bytes ";" ∷ w ∷ bytes ":" ∷ bytes "GX" ∷ bytes "(" ∷ w ∷ bytes "=" ∷ (bytes "_" ++ w) ∷ bytes "->" ∷ bytes "~" ∷ bytes "(" ∷ []
-
-pub and-both : (a b : Bool) → a && b ≡ true → (a ≡ true) × (b ≡ true)
-and-both true b e = (refl, e)
-and-both false b e = let z : _≡_ {A = ℕ} 0 1 = cc in absurd (omega arith)
 
 -- a kind with one spelling is not the end
 fixed-end : (k : Kind) → isFixed k ≡ true → k ≡ ending → ⊥
@@ -83,7 +74,7 @@ module _ (text : List ℕ) where
       let mv = token-at-moved text a k s n h et in
       let c = part-cons text s n (mv .3 ne) (mv .2) in
       let sp : Spelling previous (part text s n) = subst (λ (x : Kind). Spelling x (part text s n)) q (stands-spelled text a k s n h ne et) in
-      let d : getD text s 0 ≡ 95 = heads _ _ _ _ (sym c ∙ sp .is-cons) in
+      let d : getD text s 0 ≡ 95 = heads (sym c ∙ sp .is-cons) in
       let v : w ≡ part text (s + 1) n = same-name w (part text (s + 1) n) (b .1) in
       let r : part text s n ≡ bytes "_" ++ w = c ∙ (ap (λ (x : ℕ). x ∷ part text (s + 1) n) d ∙ ap (λ (l : List ℕ). 95 ∷ l) (sym v)) in
       subst (Stands text a n) r (stands text a k s n h ne et)
@@ -150,7 +141,7 @@ module _ (text : List ℕ) where
   expected-reads (own w) ws f o a n h st = rw (name-at w (o .0) a n h st, st .spelled, same-itself w)
   expected-reads (ownPrevious w) ws f o a n h st =
       let mv = token-at-moved text a (st .kind) (st .start) n h (st .is-token) in
-      let t : part text (st .start + 1) n ≡ w = tails _ _ _ _ (sym (part-cons text (st .start) n (st .some-bytes) (mv .2)) ∙ st .spelled) in
+      let t : part text (st .start + 1) n ≡ w = tails (sym (part-cons text (st .start) n (st .some-bytes) (mv .2)) ∙ st .spelled) in
       rw (at-kind text previous (bytes "_" ++ w) (record { rest = w; is-cons = refl; is-word = o .0 .is-word; no-word = o .0 .no-word }) a n h st, t, same-itself w)
 
   owns-more : (w : Wanted) (ws : List Wanted) → Owns (w ∷ ws) → Owns ws

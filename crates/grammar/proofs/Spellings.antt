@@ -3,7 +3,6 @@ use mathlib.Core.Path.{_≡_, refl, ap, sym, _∙_, subst}
 use mathlib.Core.List.{List, [], _∷_}
 use mathlib.Core.Bool.{Bool, true, false, _&&_}
 use Prim.Native.Nat.{ℕ, zero, suc, _+_, _-_, _≤_, _<_}
-use native.Mathlib.Nat.{le-refl}
 use native.Mathlib.Omega.{arith}
 use lib.ListN.{length, getD, take, drop, List·getD-eq-default}
 use lib.Dec.{eqb, ltb, leb}
@@ -11,7 +10,7 @@ use borrow.Author.Tests.{eqb-true, ltb-true, ltb-false, lt-leb}
 use Rattle.lexer.specs.Bytes.{bytes, pick, part, sameBytes}
 use Rattle.lexer.specs.Token.{Kind, kindNumber, unknown, ending, name, previous, digits, inputWord, varWord, initWord, modWord, nextWord, dots, arrow, lessEqual, greaterEqual, notEqual, semicolon, colon, openRound, closeRound, openSquare, closeSquare, tilde, ampersand, bar, equals, less, greater, plus, minus, star, slash, is, Read, token, fault}
 use Rattle.lexer.specs.Lexer.{isSpace, isDigit, isLetter, isAlphanumeric, runOn, runEnd, sameName, wordOf, pairOf, signOf, readOf, signAt, wordAt, digitsAt, previousAt, tokenOf, tokenPast, tokenAt}
-use Rattle.lexer.proofs.Laws.{pick-prop, run-from, run-within, run-some, token-at-moved}
+use Rattle.lexer.proofs.Laws.{pick-prop, run-on-ge, run-from, run-within, run-some, token-at-moved}
 use Rattle.lexer.proofs.Same.{same-name, same-kind}
 use Rattle.grammar.specs.Derivation.{All, IsWord, IsDigits}
 use Rattle.grammar.proofs.Bytes.{part-cons}
@@ -135,18 +134,13 @@ none-run : (p : ℕ → Bool) (n : ℕ) → All p (take n [])
 none-run p zero = tt
 none-run p (suc n) = tt
 
-run-ge : (p : ℕ → Bool) (l : List ℕ) (i : ℕ) → i ≤ runOn p l i
-unfolding runOn
-run-ge p [] i = le-refl i
-run-ge p (b ∷ l) i = pick-prop (λ (x : ℕ). i ≤ x) (p b) _ _ (λ e. omega (arith, run-ge p l (i + 1))) (λ e. le-refl i)
-
 -- a run's bytes all pass its test
 all-run : (p : ℕ → Bool) (l : List ℕ) (i : ℕ) → All p (take (runOn p l i - i) l)
 unfolding runOn
 all-run p [] i = none-run p (runOn p [] i - i)
 all-run p (b ∷ l) i =
     pick-prop (λ (x : ℕ). All p (take (x - i) (b ∷ l))) (p b) _ _
-    (λ e. let h : runOn p l (i + 1) - i ≡ suc (runOn p l (i + 1) - (i + 1)) = omega (arith, run-ge p l (i + 1)) in rw h (e, all-run p l (i + 1)))
+    (λ e. let h : runOn p l (i + 1) - i ≡ suc (runOn p l (i + 1) - (i + 1)) = omega (arith, run-on-ge p l (i + 1)) in rw h (e, all-run p l (i + 1)))
     (λ e. let h : i - i ≡ 0 = omega arith in rw h tt)
 
 part-all : (p : ℕ → Bool) (text : List ℕ) (s : ℕ) → All p (part text s (runEnd p text s))

@@ -17,7 +17,7 @@ use Rattle.lexer.specs.Lexer.{tokenAt, overLong, valueOf}
 use Rattle.lexer.specs.Names.{idOf}
 use Rattle.lexer.proofs.Laws.{pick-prop, token-at-moved}
 use Rattle.semantics.specs.Program.{Name, Condition, Rule, function, change, target, allTrue, knownFirst}
-use Rattle.arith.proofs.Basics.{true-T, and-T}
+use Rattle.arith.proofs.Basics.{and-both, true-T, and-T}
 use Rattle.semantics.proofs.Reference.{length-known}
 use Rattle.grammar.specs.Parsed.{Parsed, accepted, refused, Wanted, sign, phrase, followed}
 use Rattle.grammar.specs.Expressions.{Scope, withId, wholeExpression}
@@ -36,7 +36,6 @@ use Rattle.grammar.proofs.Lists.{cases-in, agreeing-same}
 use Rattle.grammar.proofs.Distinct.{new-apart, distinct-snoc}
 use Rattle.grammar.proofs.Derived.{sign-stands}
 use Rattle.grammar.proofs.Converse.{Named}
-use Rattle.grammar.proofs.Phrases.{and-both}
 use Rattle.grammar.proofs.Fits.{Holds, FitE, whole-expression-fits}
 use Rattle.bytecode.specs.Translation.{RangeFits}
 use Rattle.limits.specs.Limits.{nameLimit, caseLimit, textLimit}

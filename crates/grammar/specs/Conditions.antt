@@ -58,6 +58,11 @@ unfoldable pub connect : Connective → Condition → Condition → Condition
 connect andAlso a b = both a b
 connect orElse a b = either a b
 
+-- its code byte: 17 and, 18 or
+abbrev pub connectiveCode : Connective → ℕ
+connectiveCode andAlso = 17
+connectiveCode orElse = 18
+
 unfoldable pub andOf : Kind → Option Connective
 andOf k = pick (is k ampersand) (some andAlso) none
 

@@ -2,6 +2,7 @@ pub mod Parsed
 pub mod Expressions
 pub mod Conditions
 pub mod Declarations
+pub mod Forms
 pub mod Rules
 pub mod Parse
 pub mod Derivation

@@ -6,12 +6,13 @@ use lib.ListN.{length, getD, set}
 use lib.Dec.{ltb, leb, eqb}
 use Rattle.limits.specs.Limits.{caseLimit, notAllowed, wrongRule, listsDiffer, tooMany}
 use Rattle.lexer.specs.Bytes.{pick, part}
-use Rattle.lexer.specs.Token.{Kind, name, ending, nextWord, arrow, semicolon, colon, openRound, closeRound, openSquare, tilde, ampersand, bar, equals, is, Read, token, fault}
+use Rattle.lexer.specs.Token.{Kind, name, ending, closeRound, openSquare, tilde, bar, is, Read, token, fault}
 use Rattle.lexer.specs.Lexer.{tokenAt, sameToken}
 use Rattle.semantics.specs.Program.{Condition, Case, Rule, function, change, target, allTrue}
-use Rattle.grammar.specs.Parsed.{Parsed, accepted, refused, andThen, onToken, sign, own, ownPrevious, phrase, followed}
+use Rattle.grammar.specs.Parsed.{Parsed, accepted, refused, andThen, onToken, sign, phrase, followed}
 use Rattle.grammar.specs.Expressions.{Scope, withId, wholeExpression}
 use Rattle.grammar.specs.Conditions.{listed}
+use Rattle.grammar.specs.Forms.{valueOpening, functionClosing, formulaClosing, changeOpening, noChangeOpening, ruleOpening, caseValueOpening}
 
 -- ---- the cases of a change formula
 
@@ -29,7 +30,7 @@ pub record Spanned : Type 0 where
 unfoldable pub caseAt : Scope → List ℕ → ℕ → ℕ → Parsed Spanned
 caseAt sc w at n =
     andThen (listed sc n) (λ c n1.
-    andThen (phrase (sc .text) (sign ampersand ∷ own w ∷ sign equals ∷ sign openRound ∷ []) n1) (λ u n2.
+    andThen (phrase (sc .text) (caseValueOpening w) n1) (λ u n2.
     andThen (wholeExpression sc n2) (λ e n3.
     followed (sc .text) (sign closeRound ∷ []) (record { case = record { condition = c; value = e }; span = record { from = at; to = n1 } }) n3)))
 
@@ -123,25 +124,23 @@ casesOf (c ∷ cs) = c .case ∷ casesOf cs
 -- `w = (e));` after `w: GX(`
 unfoldable pub functionAt : Scope → List ℕ → ℕ → ℕ → Parsed Rule
 functionAt sc w v at =
-    andThen (phrase (sc .text) (own w ∷ sign equals ∷ sign openRound ∷ []) at) (λ u n1.
+    andThen (phrase (sc .text) (valueOpening w) at) (λ u n1.
     andThen (wholeExpression sc n1) (λ e n2.
-    followed (sc .text) (sign closeRound ∷ sign closeRound ∷ sign semicolon ∷ []) (function v e) n2))
+    followed (sc .text) functionClosing (function v e) n2))
 
 -- `(w = _w) -> [c] & w = (e) | ..);` after `w: GX(~`, then `w: GX(w = _w -> ~([c] | ..));`
 unfoldable pub changeAt : Scope → List ℕ → ℕ → ℕ → Parsed Rule
 changeAt sc w v at =
-    andThen (phrase (sc .text) (sign openRound ∷ own w ∷ sign equals ∷ ownPrevious w ∷ sign closeRound ∷ sign arrow ∷ []) at) (λ u n1.
+    andThen (phrase (sc .text) (changeOpening w) at) (λ u n1.
     andThen (casesFrom caseLimit sc w [] n1) (λ cases n2.
-    andThen (phrase (sc .text)
-    (sign closeRound ∷ sign semicolon
-    ∷ own w ∷ sign colon ∷ sign nextWord ∷ sign openRound ∷ own w ∷ sign equals ∷ ownPrevious w ∷ sign arrow ∷ sign tilde ∷ sign openRound ∷ []) n2) (λ u n3.
+    andThen (phrase (sc .text) (noChangeOpening w) n2) (λ u n3.
     andThen (agreeingList sc cases n3) (λ conditions n4.
-    followed (sc .text) (sign closeRound ∷ sign semicolon ∷ []) (change v (casesOf cases) conditions) n4))))
+    followed (sc .text) formulaClosing (change v (casesOf cases) conditions) n4))))
 
 -- the rule of the variable v, spelled w, after that name
 unfoldable pub formulas : Scope → List ℕ → ℕ → ℕ → Parsed Rule
 formulas sc w v at =
-    andThen (phrase (sc .text) (sign colon ∷ sign nextWord ∷ sign openRound ∷ []) at) (λ u n.
+    andThen (phrase (sc .text) ruleOpening at) (λ u n.
     onToken (tokenAt (sc .text) n)
     (λ k s m.
     let changes = changeAt sc w v m in

@@ -5,8 +5,8 @@ use mathlib.Core.List.{List, [], _∷_, _++_}
 use Prim.Native.Nat.{ℕ, suc, _+_, _≤_, _<_, min}
 use native.Mathlib.Omega.{arith}
 use lib.Dec.{leb}
-use lib.ListN.{length, set}
-use lib.Seq.{sets, set-out, set-comm}
+use lib.ListN.{length, take, drop, set}
+use lib.Seq.{sets, sets-eq, set-out, set-comm, take-at}
 use borrow.Author.Tests.{leb-true, leb-false}
 
 module _ {A : Type 0} where
@@ -25,6 +25,13 @@ module _ {A : Type 0} where
     by : (t : Bool) → (t ≡ true → i ≤ length l) → (t ≡ false → length l < i) → sets l (min i (length l)) vs ≡ sets l i vs
     by true y n = let h = y refl in ap (λ (k : ℕ). sets l k vs) (omega arith)
     by false y n = let h = n refl in sets-past l (min i (length l)) vs (omega arith) ∙ sym (sets-past l i vs (omega arith))
+
+  -- a run from the start of a list that has room for it, and what is then found there
+  pub sets-front : (l xs : List A) → length xs ≤ length l → sets l 0 xs ≡ xs ++ drop (length xs) l
+  sets-front l xs h = let z : 0 + length xs ≡ length xs = omega arith in sets-eq xs l 0 (omega arith) ∙ ap (λ (k : ℕ). xs ++ drop k l) z
+
+  pub take-sets : (l xs : List A) → length xs ≤ length l → take (length xs) (sets l 0 xs) ≡ xs
+  take-sets l xs h = rw (sets-front l xs h) (take-at xs (drop (length xs) l) (length xs) refl)
 
   -- a store before a run goes first
   pub set-before : (l : List A) (i j : ℕ) (v : A) (xs : List A) → j < i → set (sets l i xs) j v ≡ sets (set l j v) i xs

@@ -7,7 +7,7 @@ use Prim.Native.Nat.{ℕ, zero, suc, _+_, _-_, _≤_, _<_}
 use native.Mathlib.Nat.{sub-zero}
 use native.Mathlib.Numerals.{add-one}
 use native.Mathlib.Omega.{arith}
-use lib.ListN.{length, getD, drop, set, length-set}
+use lib.ListN.{length, getD, drop, set}
 use lib.Seq.{drop-cons}
 use Rattle.lexer.specs.Bytes.{part}
 use Rattle.lexer.specs.Lexer.{sameName}
@@ -57,6 +57,3 @@ names-add text [] ends n s e hs he = absurd (omega arith)
 names-add text (a ∷ starts) [] n s e hs he = absurd (omega arith)
 names-add text (a ∷ starts) (b ∷ ends) zero s e hs he = ap (λ (l : List (List ℕ)). part text s e ∷ l) (names-none text starts ends)
 names-add text (a ∷ starts) (b ∷ ends) (suc n) s e hs he = ap (λ (l : List (List ℕ)). part text a b ∷ l) (names-add text starts ends n s e (omega arith) (omega arith))
-
-pub table-add : (starts ends : List ℕ) (n s e : ℕ) → n < length starts → n < length ends → Table (set starts n s) (set ends n e) (n + 1)
-table-add starts ends n s e hs he = record { in-starts = simp length-set (omega arith); in-ends = simp length-set (omega arith) }

@@ -1,6 +1,4 @@
 // The values held: instructions that put a value on top, or work on those on top.
-use crate::BROKEN_IMAGE;
-use crate::OVERFLOW;
 use crate::Registers;
 use crate::Stepped;
 use crate::values;
@@ -16,8 +14,8 @@ pub fn push(vals: &mut [i32], m: Registers, v: i32) -> Stepped
     ensures { λ r. ⌜ Few r ⌝ }
 {
     let n = m.held;
-    if 40 <= n {
-        return Stepped::Refused(BROKEN_IMAGE);
+    if limits::STACK_LIMIT <= n {
+        return Stepped::Refused(limits::BROKEN_IMAGE);
     }
     vals[n] = v;
     Stepped::Next(Registers {
@@ -35,7 +33,7 @@ pub fn load(from: &[i32], vals: &mut [i32], m: Registers, id: u64) -> Stepped
 {
     let i = id as usize;
     if from.len() <= i {
-        return Stepped::Refused(BROKEN_IMAGE);
+        return Stepped::Refused(limits::BROKEN_IMAGE);
     }
     push(vals, m, from[i])
 }
@@ -48,13 +46,13 @@ pub fn calculate(vals: &mut [i32], m: Registers, code: u8) -> Stepped
 {
     let n = m.held;
     if n < 2 {
-        return Stepped::Refused(BROKEN_IMAGE);
+        return Stepped::Refused(limits::BROKEN_IMAGE);
     }
     let left = n - 2;
     let right = n - 1;
     let x = values::calculated(code, vals[left], vals[right]);
     let arith::Value::Is(v) = x else {
-        return Stepped::Refused(OVERFLOW);
+        return Stepped::Refused(limits::OVERFLOW);
     };
     vals[left] = v;
     Stepped::Next(Registers {
@@ -72,7 +70,7 @@ pub fn relate(vals: &mut [i32], m: Registers, code: u8) -> Stepped
 {
     let n = m.held;
     if n < 2 {
-        return Stepped::Refused(BROKEN_IMAGE);
+        return Stepped::Refused(limits::BROKEN_IMAGE);
     }
     let left = n - 2;
     let right = n - 1;
@@ -92,12 +90,12 @@ pub fn negate(vals: &mut [i32], m: Registers) -> Stepped
 {
     let n = m.held;
     if n == 0 {
-        return Stepped::Refused(BROKEN_IMAGE);
+        return Stepped::Refused(limits::BROKEN_IMAGE);
     }
     let top = n - 1;
     let x = arith::negated(vals[top]);
     let arith::Value::Is(v) = x else {
-        return Stepped::Refused(OVERFLOW);
+        return Stepped::Refused(limits::OVERFLOW);
     };
     vals[top] = v;
     Stepped::Next(Registers {
@@ -115,7 +113,7 @@ pub fn invert(vals: &mut [i32], m: Registers) -> Stepped
 {
     let n = m.held;
     if n == 0 {
-        return Stepped::Refused(BROKEN_IMAGE);
+        return Stepped::Refused(limits::BROKEN_IMAGE);
     }
     let top = n - 1;
     let v = values::bit_of(!values::is_yes(vals[top]));

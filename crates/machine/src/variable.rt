@@ -1,10 +1,6 @@
 // A variable: the gate before a case, and the instructions that give its value.
-use crate::BROKEN_IMAGE;
-use crate::EQUAL_TO_PREVIOUS;
 use crate::Registers;
-use crate::SECOND_TRUE_CASE;
 use crate::Stepped;
-use crate::VALUE_OUT_OF_RANGE;
 use crate::values;
 ghost use mathlib.Core.Path.{_≡_};
 ghost use mathlib.Core.List.{List};
@@ -26,7 +22,7 @@ pub fn gate(vals: &[i32], m: Registers) -> Stepped
 {
     let n = m.held;
     if n == 0 {
-        return Stepped::Refused(BROKEN_IMAGE);
+        return Stepped::Refused(limits::BROKEN_IMAGE);
     }
     let top = n - 1;
     let picked = m.picked;
@@ -38,7 +34,7 @@ pub fn gate(vals: &[i32], m: Registers) -> Stepped
         });
     }
     if picked {
-        return Stepped::Refused(SECOND_TRUE_CASE);
+        return Stepped::Refused(limits::SECOND_TRUE_CASE);
     }
     Stepped::Next(Registers {
         held: top,
@@ -64,16 +60,16 @@ pub fn assign(
 {
     let n = m.held;
     if n == 0 {
-        return Stepped::Refused(BROKEN_IMAGE);
+        return Stepped::Refused(limits::BROKEN_IMAGE);
     }
     let top = n - 1;
     let i = id as usize;
     if low.len() <= i {
-        return Stepped::Refused(BROKEN_IMAGE);
+        return Stepped::Refused(limits::BROKEN_IMAGE);
     }
     let v = vals[top];
     if !values::in_range(low[i], high[i], v) {
-        return Stepped::Refused(VALUE_OUT_OF_RANGE);
+        return Stepped::Refused(limits::VALUE_OUT_OF_RANGE);
     }
     cur[i] = v;
     Stepped::Next(Registers {
@@ -102,15 +98,15 @@ pub fn pick(
 {
     let n = m.held;
     if n == 0 {
-        return Stepped::Refused(BROKEN_IMAGE);
+        return Stepped::Refused(limits::BROKEN_IMAGE);
     }
     let top = n - 1;
     let i = id as usize;
     if prev.len() <= i {
-        return Stepped::Refused(BROKEN_IMAGE);
+        return Stepped::Refused(limits::BROKEN_IMAGE);
     }
     if arith::is_equal(vals[top], prev[i]) {
-        return Stepped::Refused(EQUAL_TO_PREVIOUS);
+        return Stepped::Refused(limits::EQUAL_TO_PREVIOUS);
     }
     let k = Registers {
         held: n,
@@ -129,7 +125,7 @@ pub fn settle(prev: &[i32], cur: &mut [i32], m: Registers, id: u64) -> Stepped
 {
     let i = id as usize;
     if prev.len() <= i {
-        return Stepped::Refused(BROKEN_IMAGE);
+        return Stepped::Refused(limits::BROKEN_IMAGE);
     }
     let k = Registers {
         held: m.held,

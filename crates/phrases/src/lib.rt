@@ -5,7 +5,7 @@ ghost use Prim.Native.Nat.{_≤_};
 ghost use Rattle.lexer.specs.Bytes.{part};
 ghost use Rattle.lexer.specs.Results.{kindOf};
 ghost use Rattle.grammar.specs.Parsed.{sign, own, ownPrevious, expected, phrase};
-ghost use Rattle.phrases.specs.Forms.{ruleOpening, formulaClosing, functionClosing, valueOpening, caseValueOpening, unchangedValue, changeOpening, noChangeOpening};
+ghost use Rattle.grammar.specs.Forms.{ruleOpening, formulaClosing, functionClosing, valueOpening, caseValueOpening, unchangedValue, changeOpening, noChangeOpening};
 ghost use Rattle.phrases.specs.Results.{expectedOf, faultOf};
 
 // The place after the tokens, or a refusal's number and place.
@@ -20,7 +20,7 @@ pub fn fault(read: Token) -> Expected
 {
     match read {
         Token::Is(_, _, _) => Expected::Refused(0, 0),
-        Token::Fault(p) => Expected::Refused(1, p),
+        Token::Fault(p) => Expected::Refused(limits::NO_TOKEN, p),
     }
 }
 
@@ -36,7 +36,7 @@ pub fn expect(text: &[u8], at: usize, kind: u8) -> Expected
     if found == kind {
         return Expected::After(end);
     }
-    Expected::Refused(2, start)
+    Expected::Refused(limits::NOT_ALLOWED, start)
 }
 
 // The name that the text spells from `start` to `end`.
@@ -52,7 +52,7 @@ fn expect_name(text: &[u8], at: usize, start: usize, end: usize) -> Expected
             return Expected::After(to);
         }
     }
-    Expected::Refused(2, from)
+    Expected::Refused(limits::NOT_ALLOWED, from)
 }
 
 // The previous value of that name: it stands after the `_`.
@@ -71,7 +71,7 @@ fn expect_previous(text: &[u8], at: usize, start: usize, end: usize) -> Expected
             return Expected::After(to);
         }
     }
-    Expected::Refused(2, from)
+    Expected::Refused(limits::NOT_ALLOWED, from)
 }
 
 // After a rule's name: `: GX (`.
@@ -120,10 +120,10 @@ pub fn value_opening(text: &[u8], at: usize, start: usize, end: usize) -> Expect
         return first;
     };
     let second = expect(text, a, lexer::EQUALS);
-    let Expected::After(b) = second else {
+    let Expected::After(c) = second else {
         return second;
     };
-    expect(text, b, lexer::OPEN_ROUND)
+    expect(text, c, lexer::OPEN_ROUND)
 }
 
 // Between the condition and the value of a case: `& w = (`.

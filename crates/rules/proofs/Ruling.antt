@@ -1,7 +1,7 @@
 -- The ways through the loop of rules. Assumes nothing.
 use mathlib.Core.Path.{_≡_, refl, ap, sym, _∙_, subst}
 use mathlib.Core.List.{List, [], _∷_, _++_, append-assoc}
-use mathlib.Core.Bool.{Bool, true, false}
+use mathlib.Core.Bool.{true, false}
 use Prim.Native.Nat.{ℕ, zero, suc, _+_, _-_, _*_, _≤_, _<_}
 use native.Mathlib.Omega.{arith}
 use lib.Dec.{eqb}
@@ -20,10 +20,13 @@ use Rattle.grammar.specs.Expressions.{Scope}
 use Rattle.grammar.specs.Rules.{ruleAt, ruled, rulesFrom}
 use Rattle.grammar.specs.Emitted.{codeR}
 use Rattle.grammar.proofs.Size.{Pays, ruleBytes, rule-pays}
+use Rattle.grammar.proofs.ConverseRules.{unruled, rule-counts, unruled-few}
 use Rattle.expressions.specs.declared.scope.Names.{Names}
-use Rattle.expressions.specs.Scopes.{knownOf, scopeOf, Declared}
+use Rattle.arith.specs.Flags.{flagsOf}
+use Rattle.arith.proofs.Flags.{length-flags}
+use Rattle.expressions.specs.Scopes.{scopeOf, Declared}
 use Rattle.expressions.specs.Steps.{Room}
-use Rattle.expressions.proofs.Scopes.{known-length, few-names, scope-ruled}
+use Rattle.expressions.proofs.Scopes.{few-names, scope-ruled}
 use Rattle.phrases.proofs.Laws.{same-kinds, other-kinds}
 use Rattle.cases.specs.declared.Part.{Part}
 use Rattle.cases.specs.declared.Part.the-variants.{Refused}
@@ -33,27 +36,6 @@ use Rattle.cases.proofs.Ways.{then-bytes}
 use Rattle.cases.proofs.Listing.{Found}
 use Rattle.rules.specs.Post.{codeOfRule, endOf}
 use Rattle.rules.proofs.Ways.{Fresh, rule-fresh}
-
--- ---- variables without a rule
-
-pub missing : List Bool → ℕ
-missing [] = 0
-missing (true ∷ l) = missing l
-missing (false ∷ l) = suc (missing l)
-
-missing-few : (l : List Bool) → missing l ≤ length l
-unfolding missing
-missing-few [] = omega arith
-missing-few (true ∷ l) = omega (arith, missing-few l)
-missing-few (false ∷ l) = omega (arith, missing-few l)
-
-missing-set : (l : List Bool) (i : ℕ) → i < length l → getD l i false ≡ false → missing l ≡ suc (missing (set l i true))
-unfolding missing
-missing-set [] i h e = absurd (omega arith)
-missing-set (true ∷ l) zero h e = let z : _≡_ {A = ℕ} 0 1 = cc in absurd (omega arith)
-missing-set (false ∷ l) zero h e = refl
-missing-set (true ∷ l) (suc i) h e = missing-set l i (omega arith) e
-missing-set (false ∷ l) (suc i) h e = ap suc (missing-set l i (omega arith) e)
 
 -- ---- as many names as are counted
 
@@ -117,7 +99,7 @@ pub record Ruling (text starts ends : List ℕ) (count known₀ at to : ℕ) (ou
   pub rules : List Rule
   pub counted : length rules ≡ done
   pub same : rulesFrom 65 (scopeOf text starts ends (naming count known₀)) [] at ≡ rulesFrom (65 - done) (scopeOf text starts ends (naming count known)) rules a
-  pub fuel : missing (knownOf known count) + done ≤ count
+  pub fuel : unruled (flagsOf count known) + done ≤ count
   pub room : Room text a t
   pub ended : t ≡ to + length (codeR rules)
   pub wrote : out ≡ sets out₀ to (codeR rules)
@@ -128,7 +110,7 @@ ruling-first text starts ends count known at to out r = record {
   rules = [];
   counted = refl;
   same = refl;
-  fuel = omega (arith, missing-few (knownOf known count), known-length known count);
+  fuel = omega (arith, unruled-few (flagsOf count known), length-flags count known);
   room = r;
   ended = omega arith;
   wrote = refl;
@@ -158,7 +140,7 @@ module _ {text starts ends : List ℕ} {count known₀ at to : ℕ} {out₀ out 
         (pick-prop (Answer out) (eqb k 1) _ _
         (λ y.
         let j = same-kinds k 1 (eqb-true k 1 y) in
-        pick-prop (Answer out) (allTrue (knownOf known count)) _ _
+        pick-prop (Answer out) (allTrue (flagsOf count known)) _ _
         (λ z. writes (record {
           tree = x .rules;
           is = come ∙ rules-end (64 - done) sc (x .rules) a (f .read) i j z;
@@ -177,10 +159,10 @@ module _ {text starts ends : List ℕ} {count known₀ at to : ℕ} {out₀ out 
       ruling-refused g e = refuses g (come ∙ rules-refused (64 - done) sc (x .rules) a (f .read) i e)
 
       module _ {out′ : List ℕ} {m u id : ℕ} (g : Got codeOfRule target (ruleAt sc s n) t out out′ m u id) where
-        fresh : (id < count) × (getD (knownOf known count) id false ≡ false)
+        fresh : (id < count) × (getD (flagsOf count known) id false ≡ false)
         fresh =
             let y : Fresh sc (accepted (g .tree) m) = subst (Fresh sc) (g .is) (rule-fresh sc s n) in
-            (omega (arith, y .0, g .told, names-counted text starts ends count (d .table)), ap (λ (v : ℕ). getD (knownOf known count) v false) (g .told) ∙ y .1)
+            (omega (arith, y .0, g .told, names-counted text starts ends count (d .table)), ap (λ (v : ℕ). getD (flagsOf count known) v false) (g .told) ∙ y .1)
 
         -- the variable is declared
         pub ruling-declared : id < 64
@@ -188,14 +170,14 @@ module _ {text starts ends : List ℕ} {count known₀ at to : ℕ} {out₀ out 
 
         paid : (2 * length (codeOfRule (g .tree)) + 3 * n ≤ 3 * m) × (m ≤ length text)
         paid = subst (Pays ruleBytes (length text) n) (g .is)
-            (rule-pays sc (few-names text d) (names-counted text starts ends count (d .table) ∙ sym (known-length known count)) s n (ruling-room .within))
+            (rule-pays sc (few-names text d) (names-counted text starts ends count (d .table) ∙ sym (length-flags count known)) s n (ruling-room .within))
 
-        pub ruling-more : (more : Names) → knownOf (more .known) count ≡ set (knownOf known count) id true → Ruling text starts ends count known₀ at to out₀ out′ (more .known) m u (done + 1)
+        pub ruling-more : (more : Names) → flagsOf count (more .known) ≡ set (flagsOf count known) id true → Ruling text starts ends count known₀ at to out₀ out′ (more .known) m u (done + 1)
         ruling-more more ek = record {
           rules = x .rules ++ (g .tree ∷ []);
           counted = length-append (x .rules) (g .tree ∷ []) ∙ ap (λ (y : ℕ). y + 1) (x .counted);
           same = come ∙ (rules-more (64 - done) sc (x .rules) a (f .read) i (g .is) ∙ turned);
-          fuel = omega (arith, x .fuel, missing-set (knownOf known count) id (omega (arith, fresh .0, known-length known count)) (fresh .1), ap missing ek);
+          fuel = omega (arith, x .fuel, rule-counts (flagsOf count known) id (omega (arith, fresh .0, length-flags count known)) (fresh .1), ap unruled ek);
           room = record { short = x .room .short; within = paid .1; room = omega (arith, g .ended, paid .0, ruling-room .room) };
           ended = rw (code-append (x .rules) (g .tree)) (simp length-append (omega (arith, g .ended, x .ended)));
           wrote = rw (code-append (x .rules) (g .tree)) (then-bytes out₀ to (codeR (x .rules)) (codeOfRule (g .tree)) (x .ended) (x .wrote) (g .wrote));

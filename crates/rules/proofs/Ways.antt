@@ -26,7 +26,7 @@ use Rattle.grammar.proofs.Size.{Pays, cases-pay}
 use Rattle.expressions.specs.Steps.{Room}
 use Rattle.expressions.proofs.Steps.{Refuses}
 use Rattle.agreement.specs.Spans.{spansIn, spansOf, Spans}
-use Rattle.phrases.specs.Forms.{ruleOpening, formulaClosing, functionClosing, valueOpening, changeOpening, noChangeOpening}
+use Rattle.grammar.specs.Forms.{ruleOpening, formulaClosing, functionClosing, valueOpening, changeOpening, noChangeOpening}
 use Rattle.cases.specs.Post.{codeOfCases, Lists}
 use Rattle.cases.proofs.Parts.{Got, phrase-fault, behind-refused}
 use Rattle.cases.proofs.Ways.{then-bytes}

@@ -8,7 +8,7 @@ use Rattle.lexer.specs.Bytes.{pick}
 use Rattle.semantics.specs.Program.{Rule, allTrue}
 use Rattle.grammar.specs.Emitted.{codeR}
 use Rattle.expressions.specs.declared.scope.Names.{Names}
-use Rattle.expressions.specs.Scopes.{knownOf}
+use Rattle.arith.specs.Flags.{flagsOf}
 use Rattle.cases.specs.declared.Part.{Part}
 use Rattle.cases.specs.declared.Part.the-variants.{Done, Refused}
 
@@ -23,4 +23,4 @@ pub record SpanRoom (from upto : List ℕ) : Type 0 where
 
 -- what is answered where no rule follows: at the end of the text 6 if a variable has no rule, elsewhere 2
 unfoldable pub endOf : ℕ → ℕ → ℕ → Names → ℕ → ℕ → Part
-endOf kind s n names t done = pick (eqb kind 1) (pick (allTrue (knownOf (names .known) (names .count))) (Done n t done) (Refused wrongRule s)) (Refused notAllowed s)
+endOf kind s n names t done = pick (eqb kind 1) (pick (allTrue (flagsOf (names .count) (names .known))) (Done n t done) (Refused wrongRule s)) (Refused notAllowed s)

@@ -51,7 +51,7 @@ fn function(
     let Expected::After(b) = closed else {
         return cases::unexpected(closed);
     };
-    Part::Done(b, cases::put(out, t, LET, w.id), w.id)
+    Part::Done(b, bytecode::put_instruction(out, t, LET, w.id as u64), w.id)
 }
 
 // `(w = _w) -> [c] & w = (e) | ..);` and `w: GX(w = _w -> ~([c] | ..));`. Where the conditions stand is kept in `from` and `upto`.
@@ -93,7 +93,11 @@ fn change(
     let Expected::After(f) = closed else {
         return cases::unexpected(closed);
     };
-    Part::Done(f, cases::put(out, t, SETTLE, w.id), w.id)
+    Part::Done(
+        f,
+        bytecode::put_instruction(out, t, SETTLE, w.id as u64),
+        w.id,
+    )
 }
 
 // The rule of the variable, after its name.
@@ -148,14 +152,14 @@ fn rule(
     ensures { λ r. ⌜ Writes codeOfRule target (ruleAt (scopeOf (now (text .entry)) (now (starts .entry)) (now (ends .entry)) names) start end) to (now (out .entry)) (now (out .exit)) r ⌝ }
 {
     if lexer::is_over_long(start, end) {
-        return Part::Refused(8, start);
+        return Part::Refused(limits::TOO_MANY, start);
     }
     let found = lexer::find(text, starts, ends, names.count, start, end);
     let Found::At(id) = found else {
-        return Part::Refused(4, start);
+        return Part::Refused(limits::WRONG_NAME, start);
     };
     if expressions::scope::is_known(names, id) {
-        return Part::Refused(6, start);
+        return Part::Refused(limits::WRONG_RULE, start);
     }
     formulas(
         text,
@@ -177,12 +181,12 @@ fn finish(kind: u8, start: usize, end: usize, names: Names, t: usize, done: usiz
     ensures { λ r. ⌜ r ≡ endOf kind start end names t done ⌝ }
 {
     if kind != lexer::END {
-        return Part::Refused(2, start);
+        return Part::Refused(limits::NOT_ALLOWED, start);
     }
     if expressions::scope::all_known(names) {
         return Part::Done(end, t, done);
     }
-    Part::Refused(6, start)
+    Part::Refused(limits::WRONG_RULE, start)
 }
 
 // Rules up to the end of the text. The number told is how many there are.

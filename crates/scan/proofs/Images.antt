@@ -1,12 +1,13 @@
 -- A sound image as the running code reads it, and the ways of start and scan before the code. Assumes nothing.
 use mathlib.Core.Path.{_≡_, sym, ap, _∙_}
 use mathlib.Core.List.{List, [], _∷_, map}
-use Prim.Native.Nat.{ℕ, _+_, _-_, _≤_}
+use Prim.Native.Nat.{ℕ, _-_, _≤_}
 use native.Mathlib.Omega.{arith}
 use borrow.Author.Tests.{eq-eqb, ne-eqb}
 use lib.IntN.{ℤ}
 use lib.ListN.{length, take, drop, length-map, length-drop}
-use lib.Seq.{sets, sets-eq, take-append-seam, take-length, take-all, length-sets}
+use lib.Seq.{sets, take-length, take-all, length-sets}
+use Rattle.leb128.proofs.Stores.{take-sets}
 use Rattle.limits.specs.Answer.{accepted, refused}
 use Rattle.semantics.specs.Program.{Range}
 use Rattle.semantics.specs.Formula.{State}
@@ -26,19 +27,16 @@ use Rattle.scan.specs.declared.Scanned.the-variants as R
 
 -- ---- what is stored at the front of a list
 
-pub take-sets : (xs l : List ℤ) → length xs ≤ length l → take (length xs) (sets l 0 xs) ≡ xs
-take-sets xs l h = rw (sets-eq xs l 0 (omega arith)) (take-append-seam xs (drop (0 + length xs) l))
-
 pub sets-all : (xs l : List ℤ) → length xs ≡ length l → sets l 0 xs ≡ xs
 sets-all xs l e =
     let q : length (sets l 0 xs) ≡ length xs = length-sets l 0 xs ∙ sym e in
-    sym (take-length (sets l 0 xs)) ∙ ap (λ (n : ℕ). take n (sets l 0 xs)) q ∙ take-sets xs l (omega arith)
+    sym (take-length (sets l 0 xs)) ∙ ap (λ (n : ℕ). take n (sets l 0 xs)) q ∙ take-sets l xs (omega arith)
 
 -- a field of each range, stored at the front
 stored : (f : Range → ℤ) (ns : List Range) (n : ℕ) (l left : List ℤ) → length ns ≡ n → n ≤ length l → left ≡ sets l 0 (map f ns) → map f ns ≡ take n left
 stored f ns n l left e h s =
     let q : length (map f ns) ≡ n = length-map ns f ∙ e in
-    sym (ap (λ (k : ℕ). take k left) (sym q) ∙ rw s (take-sets (map f ns) l (omega arith)))
+    sym (ap (λ (k : ℕ). take k left) (sym q) ∙ rw s (take-sets l (map f ns) (omega arith)))
 
 pub ranges-stored : (ns : List Range) (n : ℕ) (low low₁ high high₁ : List ℤ) → length ns ≡ n → n ≤ length low → n ≤ length high → low₁ ≡ sets low 0 (lows ns) → high₁ ≡ sets high 0 (highs ns)
     → RangesIn ns (take n low₁) (take n high₁)

@@ -17,15 +17,6 @@ ghost use Rattle.scan.specs.Results.{afterStart, StartedWithin, afterSca
 ghost use Rattle.scan.specs.Internal.{scannedCode, scannedIn, scannedFrom, Fitting, Scratch, Announced};
 ghost use Rattle.scan.specs.Attempts.{Tried, SoundCodeBy, SoundFromBy, AttemptWithin, Beginning};
 
-// The refusals before the code.
-const BROKEN_IMAGE: u8 = 11;
-
-const WRONG_LENGTH: u8 = 12;
-
-const STATE_OUT_OF_RANGE: u8 = 18;
-
-const INPUT_OUT_OF_RANGE: u8 = 13;
-
 // Done, or the number of a refusal and its place.
 pub enum Started {
     Done,
@@ -114,10 +105,10 @@ fn scan_ranges(
     ensures { λ r. ⌜ ScannedWithin (length (now (code .entry))) r ⌝ }
 {
     if !all_in_range(low, high, state) {
-        return Scanned::Refused(STATE_OUT_OF_RANGE, 0, 0);
+        return Scanned::Refused(limits::STATE_OUT_OF_RANGE, 0, 0);
     }
     if !all_in_range(low, high, row) {
-        return Scanned::Refused(INPUT_OUT_OF_RANGE, 0, 0);
+        return Scanned::Refused(limits::INPUT_OUT_OF_RANGE, 0, 0);
     }
     scan_code(code, state, row, low, high, work, vals)
 }
@@ -171,13 +162,13 @@ fn scan_plain(
         Checked::Sound => {
             let counted = bytecode::counts(image);
             let Counted::Counts(inputs, names, first) = counted else {
-                return Scanned::Refused(BROKEN_IMAGE, 0, 0);
+                return Scanned::Refused(limits::BROKEN_IMAGE, 0, 0);
             };
             if state.len() != names {
-                return Scanned::Refused(WRONG_LENGTH, 0, 0);
+                return Scanned::Refused(limits::WRONG_LENGTH, 0, 0);
             }
             if row.len() != inputs {
-                return Scanned::Refused(WRONG_LENGTH, 0, 0);
+                return Scanned::Refused(limits::WRONG_LENGTH, 0, 0);
             }
             scan_names(image, first, state, row, low, high, work, vals)
         }
@@ -267,7 +258,7 @@ fn scan_once(
     ensures { λ r. ⌜ Tried (now (state .entry)) (now (state .exit)) (scanOf (now (image .entry)) (now (state .entry)) (now (row .entry))) r ⌝ }
     ensures { λ r. ⌜ AttemptWithin imageLimit r ⌝ }
 {
-    if 65536 < image.len() {
+    if limits::IMAGE_LIMIT < image.len() {
         return Attempt::Doubt;
     }
     let counted = bytecode::counts(image);
@@ -310,10 +301,10 @@ pub fn scan(image: &[u8], state: &mut [i32], row: &[i32]) -> Scanned
     ensures { λ r. ⌜ afterScan r (now (state .exit)) ≡ scanOf (now (image .entry)) (now (state .entry)) (now (row .entry)) ⌝ }
     ensures { λ r. ⌜ ScannedWithin imageLimit r ⌝ }
 {
-    let mut low = [0i32; 64];
-    let mut high = [0i32; 64];
-    let mut work = [0i32; 64];
-    let mut vals = [0i32; 40];
+    let mut low = [0i32; limits::NAME_LIMIT];
+    let mut high = [0i32; limits::NAME_LIMIT];
+    let mut work = [0i32; limits::NAME_LIMIT];
+    let mut vals = [0i32; limits::STACK_LIMIT];
     scan_in(image, state, row, &mut low, &mut high, &mut work, &mut vals)
 }
 
@@ -328,10 +319,10 @@ fn start_in(image: &[u8], state: &mut [i32], low: &mut [i32], high: &mut [i32]) 
         Checked::Sound => {
             let counted = bytecode::counts(image);
             let Counted::Counts(_, count, first) = counted else {
-                return Started::Refused(BROKEN_IMAGE, 0);
+                return Started::Refused(limits::BROKEN_IMAGE, 0);
             };
             if state.len() != count {
-                return Started::Refused(WRONG_LENGTH, 0);
+                return Started::Refused(limits::WRONG_LENGTH, 0);
             }
             bytecode::ranges(image, first, count, low, high, state);
             Started::Done

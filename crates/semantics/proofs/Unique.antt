@@ -16,7 +16,8 @@ use Rattle.arith.specs.Values.{ok, _>>=_, require, eqZ}
 use Rattle.semantics.specs.Program.{Range, Expression, constant, current, previous, operation, negate, Condition, comparison, negated, both, either, Case, Rule, function, change, target, UsableE, UsableC, UsableK, UsableR, OrderedRules, AgreesR, AgreesAll, allTrue, within}
 use Rattle.semantics.specs.Formula.{State, at, evalE, evalC, anyCase, anyCondition, changeFormula, noChangeFormula, functionFormula, formulasOfRule, Holds, All}
 use Rattle.semantics.specs.ReferenceScan.{noRange, allWithin, rangeAt, ranged, picked, tryCase, tryCases, orPrevious, newValue, scanRules}
-use Rattle.arith.proofs.Basics.{and-left, and-right, and-T, T-true, eqZ-self, eqZ-true, ok≢refusal, ok-inj, Bound, bound, unbind, passed, bind-cong, bind-assoc, or-true, or-false, or-second, not-true, T-not-false}
+use borrow.Author.Tests.{not-true}
+use Rattle.arith.proofs.Basics.{and-left, and-right, and-T, T-true, eqZ-self, eqZ-true, ok≢refusal, ok-inj, Bound, bound, unbind, passed, bind-cong, bind-assoc, or-true, or-false, or-second, T-not-false}
 
 abbrev conditions : List Case → List Condition
 conditions ks = map (λ k. k .condition) ks

@@ -272,21 +272,22 @@ fn trace_image(image: &[u8], state: &mut [i32], chunk: &mut [u8], taken: Taken, 
 fn trace_translated(text: &[u8], image: &[u8], chunk: &mut [u8], taken: Taken, out: &mut [u8])
     requires { ⌜ (taken .rows ≤ taken .end) × (taken .end ≤ length (now chunk)) ⌝ }
 {
-    let mut starts = [0usize; 64];
-    let mut ends = [0usize; 64];
+    let mut starts = [0usize; limits::NAME_LIMIT];
+    let mut ends = [0usize; limits::NAME_LIMIT];
     let analysis = translate::analyse(text, &mut starts, &mut ends);
     let Analysis::Accepted(_, _, names) = analysis else {
         return;
     };
     let put = trace_text::print::put_head(out, 0, text, &starts, &ends, names);
     if flush(out, put) {
-        let mut state = [0i32; 64];
+        let mut state = [0i32; limits::NAME_LIMIT];
         trace_image(image, &mut state[..names], chunk, taken, out);
     }
 }
 
 fn main() {
-    // One byte more than a text may have, so that a longer one is refused; room for the image of any text.
+    // One byte more than a text may have, so that a longer one is refused (trace_text's laws `text-seen`, `text-over`); room for the
+    // image of any text. The large buffer holds any one line (`head-length`, `refused-length`, `row-length`).
     let mut text = [0u8; 32769];
     let mut image = [0u8; 49154];
     let mut chunk = io::large_buffer();

@@ -3,11 +3,12 @@ use mathlib.Core.Path.{_≡_, refl, sym, _∙_}
 use mathlib.Core.Bool.{Bool, true, false, _&&_, false≢true}
 use mathlib.Core.List.{List, [], _∷_, _++_}
 use mathlib.Core.Option.{none, some}
-use Prim.Native.Nat.{ℕ, zero, suc, _+_, _*_, _%_, _<_}
+use Prim.Native.Nat.{ℕ, zero, suc, _+_, _*_, _%_, _≤_, _<_}
 use native.Mathlib.Omega.{arith}
-use lib.Dec.{leb}
-use borrow.Author.Tests.{lt-leb, ne-eqb}
+use lib.Dec.{leb, ltb}
+use borrow.Author.Tests.{lt-leb, ne-eqb, leb-true, ltb-true}
 use Rattle.arith.specs.Values.{isInt32}
+use Rattle.arith.proofs.Basics.{and-both}
 use Rattle.leb128.proofs.Laws.{leb-same}
 use Rattle.lexer.specs.Lexer.{isDigit, valueOf, valueOn}
 use Rattle.lexer.proofs.Values.{value-grows}
@@ -24,15 +25,19 @@ all-append (x ∷ xs) ys = by (isDigit x) (all-append xs ys) where
   by false e = refl
 
 first-digit : (d : ℕ) (ds : List ℕ) → allDigits (d ∷ ds) ≡ true → isDigit d ≡ true
-first-digit d ds e = by (isDigit d) (allDigits ds) e where
-  by : (s t : Bool) → (s && t) ≡ true → s ≡ true
-  by true t e = refl
-  by false t e = absurd (false≢true e)
+first-digit d ds e = and-both (isDigit d) (allDigits ds) e .0
 
 -- a digit is no `-`
 digit-no-minus : (d : ℕ) → isDigit d ≡ true → d ≡ 45 → ⊥
 unfolding isDigit
 digit-no-minus d e m = false≢true (rw m at e)
+
+-- and its low four bits are its value
+pub digit-low : (b : ℕ) → isDigit b ≡ true → b % 16 ≤ 9
+unfolding isDigit
+digit-low b e =
+    let p = and-both (leb 48 b) (ltb b 58) e in
+    omega (arith, leb-true 48 b (p .0), ltb-true b 58 (p .1))
 
 pub value-append : (xs ys : List ℕ) (v : ℕ) → valueOn (xs ++ ys) v ≡ valueOn ys (valueOn xs v)
 unfolding valueOn

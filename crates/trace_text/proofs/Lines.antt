@@ -11,7 +11,6 @@ use lib.ListN.{length, getD, drop, drop-of-length-le}
 use lib.Seq.{drop-cons}
 use borrow.Author.Tests.{ne-eqb, ltb-true}
 use Rattle.trace_text.specs.declared.Line.{Line}
-use Rattle.trace_text.specs.declared.Line.the-variants.{Start}
 use Rattle.trace_text.specs.Input.{bare}
 use Rattle.trace_text.specs.Internal.{lineAfter, cellsAfter, lineOver, cellsOver, bytesIn, isEnded, inRange, counts, cellsEnd}
 
@@ -89,30 +88,6 @@ module _ {s₀ : Line} {cells₀ : List ℤ} {chunk : List ℕ} {from : ℕ} {s 
           ended = rw add-one (rw (e, f) at (h .ended));
           same = k ∙ h .same;
         }
-
--- ---- a whole line
-
--- the line come to s, cells and i: what is left of it makes the whole
-pub record Whole (cells₀ : List ℤ) (all : List ℕ) (s : Line) (cells : List ℤ) (i : ℕ) : Type 0 where
-  pub line : lineOver s (drop i all) ≡ lineOver Start all
-  pub memory : cellsOver s cells (drop i all) ≡ cellsOver Start cells₀ all
-  pub same : length cells ≡ length cells₀
-
-module _ {cells₀ : List ℤ} {all : List ℕ} {s : Line} {cells : List ℤ} {i : ℕ} (h : Whole cells₀ all s cells i) where
-  pub whole-byte : i < length all → {t : Line} {more : List ℤ} → (t ≡ lineAfter s (getD all i 0)) × (more ≡ cellsAfter s cells (getD all i 0))
-      → length more ≡ length cells → Whole cells₀ all t more (i + 1)
-  whole-byte l {t} {more} g k =
-      let e = drop-cons all i 0 l in
-      record {
-        line = rw (g .0, add-one) (sym (over-cons s _ _) ∙ (rw e at (h .line)));
-        memory = rw (g .0, g .1, add-one) (sym (cells-cons s cells _ _) ∙ (rw e at (h .memory)));
-        same = k ∙ h .same;
-      }
-
-  pub whole-end : length all ≤ i → (s ≡ lineOver Start all) × (cells ≡ cellsOver Start cells₀ all)
-  whole-end l =
-      let e : drop i all ≡ [] = drop-of-length-le all l in
-      (sym (over-nil s) ∙ (rw e at (h .line)), sym (cells-nil s cells) ∙ (rw e at (h .memory)))
 
 -- ---- the number that ends
 

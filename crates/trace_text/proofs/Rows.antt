@@ -8,30 +8,26 @@ use native.Mathlib.Omega.{arith}
 use lib.Dec.{leb, ltb, eqb}
 use lib.IntN.{ℤ}
 use lib.ListN.{length, set, length-append}
-use lib.Seq.{sets, set-comm, set-set, append-snoc}
+use lib.Seq.{sets, set-set, append-snoc}
 use borrow.Author.Tests.{le-leb, lt-leb, leb-true, leb-false, ltb-true, ltb-false, eq-eqb, ne-eqb, eqb-true, eqb-false}
 use Rattle.lexer.specs.Bytes.{pick}
 use Rattle.lexer.specs.Lexer.{isDigit, valueOf, valueOn}
 use Rattle.trace_text.specs.declared.Line.{Line}
 use Rattle.trace_text.specs.declared.Line.the-variants.{Start, Wanted, Minus, Number, NoRow}
-use Rattle.trace_text.specs.Row.{_andIf_, allDigits, numberOf, beforeField, fieldsOf, numbersOf, rowOf, longRow, handed, handedOf}
+use Rattle.trace_text.specs.Input.{before}
+use Rattle.trace_text.specs.Row.{_andIf_, allDigits, numberOf, fieldsOf, numbersOf, rowOf, longRow, handed, handedOf}
 use Rattle.trace_text.specs.Internal.{longerBy, digitAfter, numberBegins, signed, inRange, cellsEnd, lineAfter, cellsAfter, lineOver, cellsOver, countOf, cellsOf}
-use Rattle.leb128.proofs.Stores.{sets-append}
+use Rattle.leb128.proofs.Stores.{sets-append, set-before}
 use Rattle.trace_text.proofs.Lines.{over-cons, cells-cons, over-nil, cells-nil}
 use Rattle.trace_text.proofs.Decimals.{all-append, value-append, signs, signs-append, number-in, number-out, none-first, none-minus, none-empty, none-lone, none-large, none-byte}
 
 -- ---- stores over earlier ones
 
-set-before : (l : List ℤ) (i : ℕ) (w : ℤ) (j : ℕ) (vs : List ℤ) → i < j → set (sets l j vs) i w ≡ sets (set l i w) j vs
-set-before l i w j [] h = refl
-set-before l i w j (v ∷ vs) h =
-    set-before (set l j v) i w (suc j) vs (omega arith) ∙ ap (λ (m : List ℤ). sets m (suc j) vs) (set-comm l j i v w (λ e. omega arith))
-
 stored-over : (l : List ℤ) (i : ℕ) (vs ws : List ℤ) → length vs ≤ length ws → sets (sets l i vs) i ws ≡ sets l i ws
 stored-over l i [] ws h = refl
 stored-over l i (v ∷ vs) [] h = absurd (omega arith)
 stored-over l i (v ∷ vs) (w ∷ ws) h =
-    ap (λ (m : List ℤ). sets m (suc i) ws) (set-before (set l i v) i w (suc i) vs (omega arith) ∙ ap (λ (m : List ℤ). sets m (suc i) vs) (set-set l i v w))
+    ap (λ (m : List ℤ). sets m (suc i) ws) (set-before (set l i v) (suc i) i w vs (omega arith) ∙ ap (λ (m : List ℤ). sets m (suc i) vs) (set-set l i v w))
     ∙ stored-over (set l i w) (suc i) vs ws (omega arith)
 
 -- ---- fields, the first of which has begun
@@ -49,7 +45,7 @@ unfolding numbersOf
 none-begun p [] h = rw (sym (ap numberOf (append-nil p)) ∙ h [])
 none-begun p (field ∷ fields) h = rw (h field)
 
-begun-byte : (p : List ℕ) (b : ℕ) (fields : List (List ℕ)) → begun p (beforeField b fields) ≡ begun (p ++ (b ∷ [])) fields
+begun-byte : (p : List ℕ) (b : ℕ) (fields : List (List ℕ)) → begun p (before b fields) ≡ begun (p ++ (b ∷ [])) fields
 begun-byte p b [] = refl
 begun-byte p b (field ∷ fields) = ap (λ (x : List ℕ). x ∷ fields) (sym (append-snoc p b field))
 
@@ -57,7 +53,7 @@ begun-nothing : (l : List ℕ) → begun [] (fieldsOf l) ≡ fieldsOf l
 unfolding fieldsOf
 begun-nothing [] = refl
 begun-nothing (b ∷ l) = by (eqb b 32) (fieldsOf l) where
-  by : (t : Bool) (fields : List (List ℕ)) → begun [] (pick t ([] ∷ fields) (beforeField b fields)) ≡ pick t ([] ∷ fields) (beforeField b fields)
+  by : (t : Bool) (fields : List (List ℕ)) → begun [] (pick t ([] ∷ fields) (before b fields)) ≡ pick t ([] ∷ fields) (before b fields)
   by true fields = refl
   by false [] = refl
   by false (field ∷ fields) = refl

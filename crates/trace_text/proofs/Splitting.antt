@@ -14,7 +14,7 @@ use Rattle.trace_text.specs.declared.Stage.{Stage}
 use Rattle.trace_text.specs.declared.Stage.the-variants.{LineStart, InLine, Hash}
 use Rattle.trace_text.specs.declared.Line.{Line}
 use Rattle.trace_text.specs.declared.Line.the-variants.{Start, Wanted, Minus, Number, NoRow}
-use Rattle.trace_text.specs.Input.{beforeLine, linesOf, bare, isHashLine, textIn, textOf, rowsIn, rowLines}
+use Rattle.trace_text.specs.Input.{before, linesOf, bare, isHashLine, textIn, textOf, rowsIn, rowLines}
 use Rattle.trace_text.specs.Internal.{stageAfter, textAfter, textOver, bytesBefore, bytesIn, isEnded, isBegun, counts, longerBy, digitAfter, numberBegins, lineAfter, lineOver}
 use Rattle.trace_text.specs.Output.{Put}
 use Rattle.trace_text.proofs.Lengths.{put-cut}
@@ -41,18 +41,18 @@ abbrev tailIn : List (List ℕ) → List ℕ
 tailIn [] = []
 tailIn (line ∷ lines) = line ++ textIn lines
 
-tail-byte : (b : ℕ) (lines : List (List ℕ)) → tailIn (beforeLine b lines) ≡ b ∷ tailIn lines
+tail-byte : (b : ℕ) (lines : List (List ℕ)) → tailIn (before b lines) ≡ b ∷ tailIn lines
 unfolding textIn
 tail-byte b [] = refl
 tail-byte b (line ∷ lines) = refl
 
 -- a line that begins with another byte than `#`, or goes on behind it
-start-byte : (b : ℕ) (lines : List (List ℕ)) → eqb b 10 ≡ false → eqb b 35 ≡ false → textIn (beforeLine b lines) ≡ b ∷ tailIn lines
+start-byte : (b : ℕ) (lines : List (List ℕ)) → eqb b 10 ≡ false → eqb b 35 ≡ false → textIn (before b lines) ≡ b ∷ tailIn lines
 unfolding textIn isHashLine bare sameBytes
 start-byte b [] e f = rw (e, f)
 start-byte b (line ∷ lines) e f = rw (e, f)
 
-hash-byte : (b : ℕ) (lines : List (List ℕ)) → eqb b 10 ≡ false → textIn (beforeLine 35 (beforeLine b lines)) ≡ 35 ∷ b ∷ tailIn lines
+hash-byte : (b : ℕ) (lines : List (List ℕ)) → eqb b 10 ≡ false → textIn (before 35 (before b lines)) ≡ 35 ∷ b ∷ tailIn lines
 unfolding textIn isHashLine bare sameBytes
 hash-byte b [] e = rw e
 hash-byte b (line ∷ lines) e = rw e
@@ -61,7 +61,7 @@ hash-byte b (line ∷ lines) e = rw e
 record Texts (l : List ℕ) : Type 0 where
   start : textOver LineStart l ≡ textIn (linesOf l)
   inside : textOver InLine l ≡ tailIn (linesOf l)
-  held : textOver Hash l ≡ textIn (beforeLine 35 (linesOf l))
+  held : textOver Hash l ≡ textIn (before 35 (linesOf l))
 
 texts-byte : {b : ℕ} (l : List ℕ) → Byte b → Texts l → Texts (b ∷ l)
 unfolding textOver textAfter stageAfter linesOf textIn isHashLine bare sameBytes
@@ -112,17 +112,17 @@ abbrev rowsTail : List (List ℕ) → List (List ℕ)
 rowsTail [] = []
 rowsTail (line ∷ lines) = rowsIn lines
 
-rows-tail-byte : (b : ℕ) (lines : List (List ℕ)) → rowsTail (beforeLine b lines) ≡ rowsTail lines
+rows-tail-byte : (b : ℕ) (lines : List (List ℕ)) → rowsTail (before b lines) ≡ rowsTail lines
 unfolding rowsIn
 rows-tail-byte b [] = refl
 rows-tail-byte b (line ∷ lines) = refl
 
-rows-start-byte : (b : ℕ) (lines : List (List ℕ)) → eqb b 10 ≡ false → eqb b 35 ≡ false → rowsIn (beforeLine b lines) ≡ rowsTail lines
+rows-start-byte : (b : ℕ) (lines : List (List ℕ)) → eqb b 10 ≡ false → eqb b 35 ≡ false → rowsIn (before b lines) ≡ rowsTail lines
 unfolding rowsIn isHashLine bare sameBytes
 rows-start-byte b [] e f = rw (e, f)
 rows-start-byte b (line ∷ lines) e f = rw (e, f)
 
-rows-hash-byte : (b : ℕ) (lines : List (List ℕ)) → eqb b 10 ≡ false → rowsIn (beforeLine 35 (beforeLine b lines)) ≡ rowsTail lines
+rows-hash-byte : (b : ℕ) (lines : List (List ℕ)) → eqb b 10 ≡ false → rowsIn (before 35 (before b lines)) ≡ rowsTail lines
 unfolding rowsIn isHashLine bare sameBytes
 rows-hash-byte b [] e = rw e
 rows-hash-byte b (line ∷ lines) e = rw e
@@ -130,7 +130,7 @@ rows-hash-byte b (line ∷ lines) e = rw e
 record Lefts (l : List ℕ) : Type 0 where
   start : left LineStart l ≡ rowsIn (linesOf l)
   inside : left InLine l ≡ rowsTail (linesOf l)
-  held : left Hash l ≡ rowsIn (beforeLine 35 (linesOf l))
+  held : left Hash l ≡ rowsIn (before 35 (linesOf l))
 
 lefts-byte : {b : ℕ} (l : List ℕ) → Byte b → Lefts l → Lefts (b ∷ l)
 unfolding bytesBefore stageAfter linesOf rowsIn isHashLine bare sameBytes
@@ -159,7 +159,7 @@ rows-split input = lefts input .start
 -- ---- the lines of the rows, read chunk by chunk
 
 map-before : (b : ℕ) (lines : List (List ℕ)) (first : List ℕ) (more : List (List ℕ)) → eqb b 10 ≡ false → map bare lines ≡ first ∷ more
-    → map bare (beforeLine b lines) ≡ (b ∷ first) ∷ more
+    → map bare (before b lines) ≡ (b ∷ first) ∷ more
 unfolding bare
 map-before b [] first more e h = cc
 map-before b (line ∷ lines) first more e h = rw e (let p : bare line ≡ first = cc in let q : map bare lines ≡ more = cc in cc)

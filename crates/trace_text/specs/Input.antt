@@ -7,14 +7,14 @@ use Rattle.lexer.specs.Bytes.{pick, bytes, sameBytes}
 
 -- ---- lines, each with the LF that ends it; nothing after the last LF is no line
 
--- a byte before the first line
-abbrev pub beforeLine : ℕ → List (List ℕ) → List (List ℕ)
-beforeLine b [] = (b ∷ []) ∷ []
-beforeLine b (line ∷ lines) = (b ∷ line) ∷ lines
+-- a byte before the first part
+abbrev pub before : ℕ → List (List ℕ) → List (List ℕ)
+before b [] = (b ∷ []) ∷ []
+before b (part ∷ parts) = (b ∷ part) ∷ parts
 
 unfoldable pub linesOf : List ℕ → List (List ℕ)
 linesOf [] = []
-linesOf (b ∷ input) = let more = linesOf input in pick (eqb b 10) ((10 ∷ []) ∷ more) (beforeLine b more)
+linesOf (b ∷ input) = let more = linesOf input in pick (eqb b 10) ((10 ∷ []) ∷ more) (before b more)
 
 -- a line without its line end: the bytes before the first LF
 unfoldable pub bare : List ℕ → List ℕ

@@ -11,6 +11,7 @@ use Rattle.limits.specs.Limits.{nameLimit}
 use Rattle.arith.specs.Values.{isInt32}
 use Rattle.lexer.specs.Bytes.{pick}
 use Rattle.lexer.specs.Lexer.{isDigit, valueOf}
+use Rattle.trace_text.specs.Input.{before}
 
 -- what follows a result; nothing stays nothing
 infixl 20 _andIf_
@@ -40,13 +41,9 @@ numberOf (b ∷ field) =
 
 -- ---- with single spaces: a field before each space, and one behind the last
 
-abbrev pub beforeField : ℕ → List (List ℕ) → List (List ℕ)
-beforeField b [] = (b ∷ []) ∷ []
-beforeField b (field ∷ fields) = (b ∷ field) ∷ fields
-
 unfoldable pub fieldsOf : List ℕ → List (List ℕ)
 fieldsOf [] = [] ∷ []
-fieldsOf (b ∷ line) = let more = fieldsOf line in pick (eqb b 32) ([] ∷ more) (beforeField b more)
+fieldsOf (b ∷ line) = let more = fieldsOf line in pick (eqb b 32) ([] ∷ more) (before b more)
 
 -- all fields are numbers
 unfoldable pub numbersOf : List (List ℕ) → Option (List ℤ)

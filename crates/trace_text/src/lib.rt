@@ -9,6 +9,7 @@ ghost use Rattle.trace_text.specs.Input.{bare};
 ghost use Rattle.trace_text.specs.Row.{longRow};
 ghost use Rattle.trace_text.specs.Output.{Put};
 ghost use Rattle.trace_text.specs.Internal.{textStage, stageAfter, textAfter, stageOver, textOver, isRows, bytesBefore, longerBy, digitAfter, numberBegins, signed as signedOf, inRange, counts, cellsEnd, lineAfter, cellsAfter, lineOver, cellsOver, countOf, cellsOf, bytesIn, isEnded, isBegun};
+use lexer::classes;
 
 pub mod print;
 
@@ -183,12 +184,6 @@ pub fn is_begun(s: Line) -> bool
     }
 }
 
-fn wide(x: u8) -> u64
-    ensures { λ r. ⌜ r ≡ x ⌝ }
-{
-    x as u64
-}
-
 // A number with one digit more; one that is too large for 32 bits whatever follows makes the line no row.
 fn longer(n: usize, negative: bool, v: u64, d: u64) -> Line
     requires { ⌜ d ≤ 9 ⌝ }
@@ -203,13 +198,10 @@ fn longer(n: usize, negative: bool, v: u64, d: u64) -> Line
 fn digit(n: usize, negative: bool, v: u64, b: u8) -> Line
     ensures { λ r. ⌜ r ≡ digitAfter n negative v b ⌝ }
 {
-    if b < 48 {
+    if !classes::is_digit(b) {
         return Line::NoRow;
     }
-    if 58 <= b {
-        return Line::NoRow;
-    }
-    longer(n, negative, v, wide(b) % 16)
+    longer(n, negative, v, classes::wide(b) % 16)
 }
 
 fn begin(n: usize, b: u8) -> Line
@@ -258,7 +250,7 @@ fn end_number(cells: &mut [i32], n: usize, negative: bool, v: u64) -> bool
     ensures { λ r. ⌜ (r ≡ counts n negative v) × (now (cells .exit) ≡ cellsEnd n negative v (now (cells .entry))) ⌝ }
 {
     if in_range(negative, v) {
-        if n < 64 {
+        if n < limits::NAME_LIMIT {
             store(cells, n, signed(negative, v));
             return true;
         }

@@ -18,7 +18,8 @@ use Rattle.grammar.specs.Parse.{program}
 use Rattle.declarations.specs.Post.{Holds}
 use Rattle.declarations.proofs.Steps.{after, refused-then}
 use Rattle.expressions.specs.declared.scope.Names.{Names}
-use Rattle.expressions.specs.Scopes.{knownOf, scopeOf}
+use Rattle.arith.specs.Flags.{flagsOf}
+use Rattle.expressions.specs.Scopes.{scopeOf}
 use Rattle.cases.specs.declared.Part.{Part}
 use Rattle.cases.specs.declared.Part.the-variants as P
 use Rattle.cases.specs.Results.{partOf}
@@ -89,7 +90,7 @@ heading-few text short d n e = first (declarations inputWord text [] 0) refl e
 
 -- the scope of the rules at their start: all the names, and the inputs among them known
 pub scope-is : (text starts ends : List ℕ) (d : Declarations) (c m : ℕ) (names : Names) → Holds text starts ends m (d .names) → c ≡ d .inputs → m ≡ length (d .names)
-    → (names .count ≡ m) × (knownOf (names .known) m ≡ knownFirst c m) → scopeOf text starts ends names ≡ scopeAfter text d
+    → (names .count ≡ m) × (flagsOf m (names .known) ≡ knownFirst c m) → scopeOf text starts ends names ≡ scopeAfter text d
 scope-is text starts ends d c m names h ec em en = rw (en .0, h .spelled, en .1, ec, em)
 
 module _ (p : Parsed (List Rule)) (t : ℕ) (mid last : List ℕ) {q : Part} (w : Writes codeR length p t mid last q) where

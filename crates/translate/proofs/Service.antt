@@ -28,7 +28,7 @@ use Rattle.translate.specs.declared.Translated.the-variants as T
 use Rattle.translate.specs.Services.{AfterTranslation, translated, translationOf}
 use Rattle.translate.specs.Results.{translatedAnswer, afterTranslation, TranslatedWithin}
 use Rattle.translate.specs.Internal.{Counts, analysed, measured, measuresOf, Analyses, Descends}
-use Rattle.translate.proofs.Stores.{front-taken}
+use Rattle.leb128.proofs.Stores.{take-sets}
 use Rattle.translate.proofs.Ways.{never}
 
 -- ---- the limit of texts
@@ -141,7 +141,7 @@ module _ (text before after starts ends : List ℕ) (r : Analysis) (short : leng
         parsed = p;
         measure = m;
         room = rw (w, length-sets before 0 (image q)) (omega arith);
-        there = rw (m, w) (front-taken before (image q) f);
+        there = rw (m, w) (take-sets before (image q) f);
       }
 
   pub image-made : (size inputs names : ℕ) → 3 * length text + 4 ≤ 2 * length before → r ≡ N.Accepted size inputs names → Made text after size

@@ -1,11 +1,11 @@
 -- Runs of stores: what comes behind two counts that are stored last; a list written over the front of another. Assumes nothing.
-use mathlib.Core.Path.{_≡_, refl, ap, _∙_}
+use mathlib.Core.Path.{_≡_, ap, _∙_}
 use mathlib.Core.List.{List, _∷_, _++_, append-assoc}
 use Prim.Native.Nat.{ℕ, suc, _+_, _≤_, _<_}
 use native.Mathlib.Numerals.{add-one}
 use native.Mathlib.Omega.{arith}
 use lib.ListN.{length, take, drop, set, getD, length-set}
-use lib.Seq.{sets, sets-eq, drop-cons, take-suc, set-at, length-take-le, take-length, take-at}
+use lib.Seq.{sets, drop-cons, take-suc, set-at, length-take-le, take-length}
 use Rattle.leb128.proofs.Stores.{set-before}
 
 module _ {A : Type 0} where
@@ -31,11 +31,3 @@ module _ {A : Type 0} where
 
   pub storing-ends : {d : A} {whole from part : List A} {i : ℕ} → Storing d whole from part i → length from ≤ i → part ≡ from ++ drop (length from) whole
   storing-ends {d} {whole} {from} {part} {i} c h = let e : i ≡ length from = omega (arith, c .among) in c .so ∙ rw (e, take-length from)
-
-  -- a run from the start of a list that has room for it
-  pub sets-front : (l xs : List A) → length xs ≤ length l → sets l 0 xs ≡ xs ++ drop (length xs) l
-  sets-front l xs h = let z : 0 + length xs ≡ length xs = omega arith in sets-eq xs l 0 (omega arith) ∙ ap (λ (k : ℕ). xs ++ drop k l) z
-
-  -- which is then found there
-  pub front-taken : (l xs : List A) → length xs ≤ length l → take (length xs) (sets l 0 xs) ≡ xs
-  front-taken l xs h = rw (sets-front l xs h) (take-at xs (drop (length xs) l) (length xs) refl)

@@ -13,8 +13,6 @@ ghost use Rattle.translate.specs.Services.{translationOf};
 ghost use Rattle.translate.specs.Results.{afterTranslation, TranslatedWithin};
 ghost use Rattle.translate.specs.Internal.{undeclaredOf, unheadedOf, unruledOf, untranslatedOf, Heads, Descends, Analyses};
 
-const TEXT_LIMIT: usize = 32768;
-
 // The place after the declarations, the end of the bytes written, the counts of inputs and of names; or a refusal.
 pub enum Heading {
     Until(usize, usize, usize, usize),
@@ -112,8 +110,8 @@ pub fn analyse(text: &[u8], starts: &mut [usize], ends: &mut [usize]) -> Analysi
     requires { ⌜ Room (now starts) (now ends) 0 ⌝ }
     ensures { λ r. ⌜ Analyses (now (text .entry)) (parse (now (text .entry))) (now (starts .exit)) (now (ends .exit)) r ⌝ }
 {
-    if TEXT_LIMIT < text.len() {
-        return Analysis::Refused(9, 0);
+    if limits::TEXT_LIMIT < text.len() {
+        return Analysis::Refused(limits::TOO_LONG, 0);
     }
     let mut none = [0u8; 0];
     descend(text, starts, ends, &mut none)
@@ -149,7 +147,7 @@ fn translate_in(
         return untranslated(analysis);
     };
     if image.len() < size {
-        return Translated::Refused(10, text.len());
+        return Translated::Refused(limits::BUFFER_TOO_SHORT, text.len());
     }
     store(image, &scratch[..size]);
     Translated::Image(size)
@@ -161,8 +159,8 @@ fn translate_short(text: &[u8], image: &mut [u8]) -> Translated
     ensures { λ r. ⌜ afterTranslation r (now (image .exit)) ≡ translationOf (now (text .entry)) (now (image .entry)) ⌝ }
     ensures { λ r. ⌜ TranslatedWithin r ⌝ }
 {
-    let mut starts = [0usize; 64];
-    let mut ends = [0usize; 64];
+    let mut starts = [0usize; limits::NAME_LIMIT];
+    let mut ends = [0usize; limits::NAME_LIMIT];
     let mut scratch = [0u8; 1538];
     translate_in(text, image, &mut starts, &mut ends, &mut scratch)
 }
@@ -173,8 +171,8 @@ fn translate_middle(text: &[u8], image: &mut [u8]) -> Translated
     ensures { λ r. ⌜ afterTranslation r (now (image .exit)) ≡ translationOf (now (text .entry)) (now (image .entry)) ⌝ }
     ensures { λ r. ⌜ TranslatedWithin r ⌝ }
 {
-    let mut starts = [0usize; 64];
-    let mut ends = [0usize; 64];
+    let mut starts = [0usize; limits::NAME_LIMIT];
+    let mut ends = [0usize; limits::NAME_LIMIT];
     let mut scratch = [0u8; 12290];
     translate_in(text, image, &mut starts, &mut ends, &mut scratch)
 }
@@ -185,8 +183,8 @@ fn translate_any(text: &[u8], image: &mut [u8]) -> Translated
     ensures { λ r. ⌜ afterTranslation r (now (image .exit)) ≡ translationOf (now (text .entry)) (now (image .entry)) ⌝ }
     ensures { λ r. ⌜ TranslatedWithin r ⌝ }
 {
-    let mut starts = [0usize; 64];
-    let mut ends = [0usize; 64];
+    let mut starts = [0usize; limits::NAME_LIMIT];
+    let mut ends = [0usize; limits::NAME_LIMIT];
     let mut scratch = [0u8; 49154];
     translate_in(text, image, &mut starts, &mut ends, &mut scratch)
 }
@@ -201,8 +199,8 @@ pub fn translate(text: &[u8], image: &mut [u8]) -> Translated
     if text.len() <= 8192 {
         return translate_middle(text, image);
     }
-    if text.len() <= TEXT_LIMIT {
+    if text.len() <= limits::TEXT_LIMIT {
         return translate_any(text, image);
     }
-    Translated::Refused(9, 0)
+    Translated::Refused(limits::TOO_LONG, 0)
 }

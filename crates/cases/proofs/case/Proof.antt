@@ -6,7 +6,7 @@ use Rattle.lexer.specs.Token.{is, kindNumber}
 use Rattle.grammar.proofs.Growth.{listed-grown, whole-expression-grown}
 use Rattle.expressions.proofs.Steps.{accepted-by, room-after}
 use Rattle.expressions.proofs.Scopes.{few-names}
-use Rattle.phrases.specs.Forms.{caseValueOpening}
+use Rattle.grammar.specs.Forms.{caseValueOpening}
 use Rattle.cases.proofs.Parts.{writes, not-expected, not-read, found}
 use Rattle.cases.proofs.Ways.{condition-refused, opening-refused, value-refused, closing-refused, case-accepted, case-bytes, case-length, room-phrase}
 use borrow.Author.Needs.{needs}
@@ -89,9 +89,9 @@ returns-4 c =
     let v = accepted-by (at-whole-expression .whole-expression .ensures) (at-second .second .given .1) in
     not-expected (c .unexpected2 .ensures) (c .before .before .before .expect .ensures) (c .before .enum-told4 .given .1) (closing-refused _ _ from _ (l .is) p (v .is))
 
-put-requires : tie.Need-put-requires
+put-instruction-requires : tie.Need-put-instruction-requires
 unfolding is kindNumber
-put-requires c κs =
+put-instruction-requires c κs =
     let at-second = c .before .before .before .before .before .before in
     let at-whole-expression = at-second .before .before .before .before in
     let at-put-byte = at-whole-expression .before .before .before .before in
@@ -107,14 +107,14 @@ put-requires c κs =
     let rp = room-phrase {u = at-put-byte .put-byte .result} (caseValueOpening _) (refl, (refl, (refl, tt))) rl p (omega (arith, at-put-byte .put-byte .ensures .0)) in
     let v = accepted-by (at-whole-expression .whole-expression .ensures) (at-second .second .given .1) in
     let rv = room-after rp (whole-expression-grown _ few _ (rp .within)) v in
-    (omega arith, start .pre .1 .1)
+    (omega arith, omega (arith, start .pre .1 .1))
 
 same-length-5 : tie.Need-same-length-5
 same-length-5 c =
     let at-whole-expression = c .before .before .before .before .before .before .before .before .before .before .before .before .before in
     let at-put-byte = at-whole-expression .before .before .before .before in
     let at-listed = at-put-byte .before .before .before .before .before .before .before .before .before .before .before in
-    c .before .before .put .kept .0 ∙ at-whole-expression .whole-expression .kept .1 .1 .1 .1 .1 .0 ∙ at-put-byte .put-byte .kept .0 ∙ at-listed .listed .kept .1 .1 .1 .1 .1 .0
+    c .before .before .put-instruction .kept .0 ∙ at-whole-expression .whole-expression .kept .1 .1 .1 .1 .1 .0 ∙ at-put-byte .put-byte .kept .0 ∙ at-listed .listed .kept .1 .1 .1 .1 .1 .0
 
 returns-5 : tie.Need-returns-5
 unfolding kindOf
@@ -136,9 +136,9 @@ returns-5 c =
     writes (record {
       tree = record { case = record { condition = l .tree; value = v .tree }; span = record { from = from; to = at-first .first .given .0 .0 .at } };
       is = case-accepted _ _ from _ (l .is) p (v .is) q;
-      ended = case-length _ _ _ (l .count) (at-put-byte .put-byte .ensures .0) (v .count) (c .before .before .put .ensures .0);
+      ended = case-length _ _ _ (l .count) (at-put-byte .put-byte .ensures .0) (v .count) (c .before .before .put-instruction .ensures .0);
       told = refl;
-      wrote = case-bytes _ _ _ _ (l .count) (l .wrote) (at-put-byte .put-byte .ensures .0) (at-put-byte .put-byte .ensures .1) (v .count) (v .wrote) (c .before .before .put .ensures .1);
+      wrote = case-bytes _ _ _ _ (l .count) (l .wrote) (at-put-byte .put-byte .ensures .0) (at-put-byte .put-byte .ensures .1) (v .count) (v .wrote) (c .before .before .put-instruction .ensures .1);
     })
 
 pub case-spec : {M : Type 1} → statement M
@@ -147,5 +147,5 @@ case-spec =
     (tie.spec listed-requires (λ c. search needs) (λ c. search needs) (λ c κs. search needs) (λ c. search needs) returns
     (λ c κs. search needs) (λ c. search needs) (λ c. search needs) (λ c κs. search needs) (λ c. search needs) returns-2 put-byte-requires
     whole-expression-requires (λ c. search needs) (λ c. search needs) (λ c κs. search needs) (λ c. search needs) returns-3
-    (λ c κs. search needs) (λ c. search needs) (λ c. search needs) (λ c κs. search needs) same-length-4 returns-4 put-requires same-length-5
+    (λ c κs. search needs) (λ c. search needs) (λ c. search needs) (λ c κs. search needs) same-length-4 returns-4 put-instruction-requires same-length-5
     returns-5)

@@ -1,5 +1,6 @@
 -- `checker::complete` meets its contract. Assumes nothing.
-use Rattle.checker.proofs.Bits.{sorts-none, flags-all}
+use Rattle.semantics.proofs.Flags.{flags-all}
+use Rattle.checker.proofs.Bits.{sorts-none}
 use Rattle.checker.proofs.Steps.{empty-not, closed-not, open-yes}
 use borrow.Author.Needs.{needs}
 use Rattle.checker.proofs.complete.Statement.{statement}

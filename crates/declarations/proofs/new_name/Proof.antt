@@ -53,7 +53,7 @@ returns-5 c =
     let at-if1 = at-find .before .before .before in
     let at-read = at-if1 .before .before in
     let at-token-at = at-read .before .before in
-    takes-name _ _ _ _ _ _ _ _ _ _ (is-token _ _ _ (at-token-at .token-at .ensures) _ _ _ (at-read .read .given .1) .0) (kind-is _ name (at-if1 .if1 .left)) (sym (at-find .find .ensures) ∙ ap foundId (at-enum-told3 .enum-told3 .given .1)) (sym (at-is-over-long .is-over-long .ensures) ∙ at-if2 .if2 .left) (at-if3 .if3 .taken) (at-add .add .ensures .0 .0) (at-add .add .ensures .1 .0)
+    takes-name _ _ _ _ _ _ _ _ _ _ (is-token _ _ _ (at-token-at .token-at .ensures) _ _ _ (at-read .read .given .1) .0) (kind-is _ name (at-if1 .if1 .left)) (sym (at-find .find .ensures) ∙ ap foundId (at-enum-told3 .enum-told3 .given .1)) (sym (at-is-over-long .is-over-long .ensures) ∙ at-if2 .if2 .left) (at-if3 .if3 .taken) (at-token-at .before .before .before .before .pre) (at-add .add .ensures)
 
 returns-6 : tie.Need-returns-6
 unfolding kindNumber

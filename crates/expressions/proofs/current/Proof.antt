@@ -5,7 +5,7 @@ use borrow.Author.Needs.{needs}
 use Rattle.lexer.specs.Results.{foundId}
 use Rattle.semantics.specs.Program.{current}
 use Rattle.expressions.proofs.Steps.{refuses, refused-now, same-part, recoded}
-use Rattle.expressions.proofs.Scopes.{id-few, bit-known}
+use Rattle.expressions.proofs.Scopes.{id-below, id-few}
 use Rattle.expressions.proofs.Ways.{current-long, current-unknown, current-early, current-known, current-code}
 use Rattle.expressions.proofs.current.Statement.{statement}
 use Rattle.expressions.proofs.current.Tie as tie
@@ -19,11 +19,11 @@ returns-2 c =
     let at-is-over-long = at-if1 .before in
     refuses (refused-now (current-unknown _ _ _ (sym (at-is-over-long .is-over-long .ensures) ∙ at-if1 .if1 .left) (sym (c .before .before .find .ensures) ∙ ap foundId (c .enum-told .given .1))))
 
-bit-requires : tie.Need-bit-requires
-bit-requires c κs =
+is-known-requires : tie.Need-is-known-requires
+is-known-requires c κs =
     let at-find = c .before .before .before in
     let start = at-find .before .before .before .before .before .before .before in
-    id-few _ (start .pre .0) _ (sym (at-find .find .ensures) ∙ ap foundId (c .before .found .given .1))
+    (id-below _ (start .pre .0) _ (sym (at-find .find .ensures) ∙ ap foundId (c .before .found .given .1)), start .pre .0 .few)
 
 instruction-requires : tie.Need-instruction-requires
 instruction-requires c κs =
@@ -35,14 +35,14 @@ instruction-requires c κs =
 returns-3 : tie.Need-returns-3
 returns-3 c =
     let at-if2 = c .before .before .before .before in
-    let at-bit = at-if2 .before in
-    let at-found = at-bit .before .before in
+    let at-is-known = at-if2 .before in
+    let at-found = at-is-known .before .before in
     let at-find = at-found .before .before in
     let at-if1 = at-find .before in
     let at-is-over-long = at-if1 .before in
     let start = at-is-over-long .before .before .before .before .before in
     let e = sym (at-find .find .ensures) ∙ ap foundId (at-found .found .given .1) in
-    same-part (current-known _ _ _ (sym (at-is-over-long .is-over-long .ensures) ∙ at-if1 .if1 .left) _ e (bit-known _ (start .pre .0) _ e (at-bit .bit .ensures) ∙ at-if2 .if2 .taken))
+    same-part (current-known _ _ _ (sym (at-is-over-long .is-over-long .ensures) ∙ at-if1 .if1 .left) _ e (sym (at-is-known .is-known .ensures) ∙ at-if2 .if2 .taken))
     (recoded (current _) (c .before .before .instruction .ensures) (current-code _))
 
 returns-4 : tie.Need-returns-4
@@ -53,7 +53,7 @@ returns-4 c =
     let at-is-over-long = at-if1 .before in
     let start = at-is-over-long .before .before .before .before .before in
     let e = sym (at-find .find .ensures) ∙ ap foundId (at-found .found .given .1) in
-    refuses (refused-now (current-early _ _ _ (sym (at-is-over-long .is-over-long .ensures) ∙ at-if1 .if1 .left) _ e (bit-known _ (start .pre .0) _ e (c .before .bit .ensures) ∙ c .if2 .left)))
+    refuses (refused-now (current-early _ _ _ (sym (at-is-over-long .is-over-long .ensures) ∙ at-if1 .if1 .left) _ e (sym (c .before .is-known .ensures) ∙ c .if2 .left)))
 
 pub current-spec : {M : Type 1} → statement M
 current-spec =
@@ -65,7 +65,7 @@ current-spec =
     (λ c. search needs)
     (λ c. search needs)
     returns-2
-    bit-requires
+    is-known-requires
     instruction-requires
     (λ c. search needs)
     returns-3

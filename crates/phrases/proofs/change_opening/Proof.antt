@@ -7,7 +7,7 @@ use Rattle.lexer.specs.Bytes.{part}
 use Rattle.lexer.specs.Token.{arrow, closeRound}
 use Rattle.lexer.specs.Results.{kindOf}
 use Rattle.grammar.specs.Parsed.{Parsed, Wanted, sign, phrase}
-use Rattle.phrases.specs.Forms.{unchangedValue, changeOpening}
+use Rattle.grammar.specs.Forms.{unchangedValue, changeOpening}
 use Rattle.phrases.proofs.Laws.{last, stops, goes-on, stops-in, goes-past}
 use Rattle.phrases.proofs.change_opening.Statement.{statement}
 use Rattle.phrases.proofs.change_opening.Tie as tie

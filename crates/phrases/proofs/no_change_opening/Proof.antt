@@ -7,7 +7,7 @@ use Rattle.lexer.specs.Bytes.{part}
 use Rattle.lexer.specs.Token.{arrow, openRound, tilde}
 use Rattle.lexer.specs.Results.{kindOf}
 use Rattle.grammar.specs.Parsed.{Parsed, Wanted, sign, own, phrase}
-use Rattle.phrases.specs.Forms.{ruleOpening, unchangedValue, noChangeOpening}
+use Rattle.grammar.specs.Forms.{ruleOpening, unchangedValue, noChangeOpening}
 use Rattle.phrases.proofs.Laws.{last, stops, goes-on, stops-in, goes-past}
 use Rattle.phrases.proofs.no_change_opening.Statement.{statement}
 use Rattle.phrases.proofs.no_change_opening.Tie as tie

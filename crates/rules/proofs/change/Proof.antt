@@ -5,7 +5,7 @@ use Rattle.lexer.specs.Token.{is, kindNumber}
 use Rattle.semantics.specs.Program as Program
 use Rattle.grammar.specs.Rules.{casesOf}
 use Rattle.expressions.proofs.Scopes.{few-names}
-use Rattle.phrases.specs.Forms.{changeOpening, noChangeOpening}
+use Rattle.grammar.specs.Forms.{changeOpening, noChangeOpening}
 use Rattle.cases.proofs.Parts.{got, writes, not-expected, not-part, found, placed}
 use Rattle.cases.proofs.Ways.{room-phrase, place-refused}
 use Rattle.rules.proofs.Ways.{change-unopened, cases-refused, no-change-unopened, list-refused, change-unclosed, change-accepted, change-bytes, change-length, room-cases, room-list, told-spans, told-listed}
@@ -90,9 +90,9 @@ returns-5 c =
     let a = placed _ (found l (at-agreed .agreed .given .1)) in
     not-expected (c .unexpected4 .ensures) (c .before .before .before .formula-closing .ensures) (c .before .enum-told5 .given .1) (change-unclosed _ _ _ _ p (g .is) q (a .is))
 
-put-requires : tie.Need-put-requires
+put-instruction-requires : tie.Need-put-instruction-requires
 unfolding is kindNumber
-put-requires c κs =
+put-instruction-requires c κs =
     let at-listed = c .before .before .before .before .before .before .before .before .before .before .before .before .before .before .before .before in
     let at-cases = at-listed .before .before .before .before .before .before .before .before in
     let at-opened = at-cases .before .before .before .before .before in
@@ -102,7 +102,7 @@ put-requires c κs =
     let r = room-phrase {u = start .args .to} (changeOpening _) (refl, (refl, (refl, (refl, tt)))) (start .pre .1 .0) p (omega arith) in
     let g = got (at-cases .cases .ensures .0) (at-listed .listed .given .1) in
     let rc = room-cases _ _ _ _ _ (few-names _ (start .pre .0)) (start .pre .1 .1 .0) r g in
-    (omega arith, start .pre .1 .1 .0)
+    (omega arith, omega (arith, start .pre .1 .1 .0))
 
 returns-6 : tie.Need-returns-6
 returns-6 c =
@@ -126,9 +126,9 @@ returns-6 c =
     writes (record {
       tree = Program.change (start .args .w .id) (casesOf (g .tree)) (a .tree);
       is = change-accepted _ _ _ _ p (g .is) q (a .is) z;
-      ended = change-length (start .args .to) (start .args .w .id) (g .tree) (a .tree) (g .ended) (c .before .before .put .ensures .0);
+      ended = change-length (start .args .to) (start .args .w .id) (g .tree) (a .tree) (g .ended) (c .before .before .put-instruction .ensures .0);
       told = refl;
-      wrote = change-bytes (start .args .out .now) (start .args .to) (start .args .w .id) (g .tree) (a .tree) (g .ended) (g .wrote) (c .before .before .put .ensures .1);
+      wrote = change-bytes (start .args .out .now) (start .args .to) (start .args .w .id) (g .tree) (a .tree) (g .ended) (g .wrote) (c .before .before .put-instruction .ensures .1);
     })
 
 pub change-spec : {M : Type 1} → statement M
@@ -139,4 +139,4 @@ change-spec =
     (λ c. search needs) (λ c. search needs) (λ c κs. search needs) (λ c. search needs) (λ c. search needs) (λ c. search needs) returns-3
     agreeing-list-requires (λ c. search needs) (λ c. search needs) (λ c κs. search needs) (λ c. search needs) (λ c. search needs)
     (λ c. search needs) returns-4 (λ c κs. search needs) (λ c. search needs) (λ c. search needs) (λ c κs. search needs) (λ c. search needs)
-    (λ c. search needs) (λ c. search needs) returns-5 put-requires (λ c. search needs) (λ c. search needs) (λ c. search needs) returns-6)
+    (λ c. search needs) (λ c. search needs) returns-5 put-instruction-requires (λ c. search needs) (λ c. search needs) (λ c. search needs) returns-6)

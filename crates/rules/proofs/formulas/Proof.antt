@@ -4,7 +4,7 @@ use native.Mathlib.Omega.{arith}
 use Rattle.lexer.specs.Token.{is, kindNumber}
 use Rattle.lexer.specs.Results.{kindOf}
 use Rattle.lexer.proofs.Tokens.{is-fault}
-use Rattle.phrases.specs.Forms.{ruleOpening}
+use Rattle.grammar.specs.Forms.{ruleOpening}
 use Rattle.phrases.proofs.Laws.{same-kinds, other-kinds}
 use Rattle.cases.proofs.Parts.{refuses, not-expected, found, reads-as}
 use Rattle.cases.proofs.Ways.{room-phrase}

@@ -6,7 +6,7 @@ use Rattle.semantics.specs.Program as Program
 use Rattle.grammar.proofs.Growth.{whole-expression-grown}
 use Rattle.expressions.proofs.Steps.{accepted-by, room-after}
 use Rattle.expressions.proofs.Scopes.{few-names}
-use Rattle.phrases.specs.Forms.{valueOpening}
+use Rattle.grammar.specs.Forms.{valueOpening}
 use Rattle.cases.proofs.Parts.{writes, not-expected, not-read, found}
 use Rattle.cases.proofs.Ways.{room-phrase}
 use Rattle.rules.proofs.Ways.{value-unopened, value-refused, value-unclosed, function-accepted, function-bytes, function-length}
@@ -43,9 +43,9 @@ returns-3 c =
     let v = accepted-by (at-whole-expression .whole-expression .ensures) (at-value .value .given .1) in
     not-expected (c .unexpected2 .ensures) (c .before .before .before .function-closing .ensures) (c .before .enum-told3 .given .1) (value-unclosed _ _ _ _ p (v .is))
 
-put-requires : tie.Need-put-requires
+put-instruction-requires : tie.Need-put-instruction-requires
 unfolding is kindNumber
-put-requires c κs =
+put-instruction-requires c κs =
     let at-value = c .before .before .before .before .before .before in
     let at-whole-expression = at-value .before .before .before .before in
     let at-opened = at-whole-expression .before .before .before in
@@ -55,7 +55,7 @@ put-requires c κs =
     let r = room-phrase {u = start .args .to} (valueOpening _) (refl, (refl, tt)) (start .pre .1 .0) p (omega arith) in
     let v = accepted-by (at-whole-expression .whole-expression .ensures) (at-value .value .given .1) in
     let s = room-after r (whole-expression-grown _ (few-names _ (start .pre .0)) _ (r .within)) v in
-    (omega arith, start .pre .1 .1)
+    (omega arith, omega (arith, start .pre .1 .1))
 
 returns-4 : tie.Need-returns-4
 returns-4 c =
@@ -72,9 +72,9 @@ returns-4 c =
     writes (record {
       tree = Program.function (start .args .w .id) (v .tree);
       is = function-accepted _ _ _ _ p (v .is) q;
-      ended = function-length _ _ _ (v .count) (c .before .before .put .ensures .0);
+      ended = function-length _ _ _ (v .count) (c .before .before .put-instruction .ensures .0);
       told = refl;
-      wrote = function-bytes _ _ _ _ (v .count) (v .wrote) (c .before .before .put .ensures .1);
+      wrote = function-bytes _ _ _ _ (v .count) (v .wrote) (c .before .before .put-instruction .ensures .1);
     })
 
 pub function-spec : {M : Type 1} → statement M
@@ -82,4 +82,4 @@ function-spec =
     tie.close
     (tie.spec (λ c κs. search needs) (λ c. search needs) (λ c. search needs) (λ c κs. search needs) returns whole-expression-requires
     (λ c. search needs) (λ c. search needs) (λ c κs. search needs) (λ c. search needs) returns-2 (λ c κs. search needs) (λ c. search needs)
-    (λ c. search needs) (λ c κs. search needs) (λ c. search needs) returns-3 put-requires (λ c. search needs) returns-4)
+    (λ c. search needs) (λ c κs. search needs) (λ c. search needs) returns-3 put-instruction-requires (λ c. search needs) returns-4)

@@ -1,8 +1,7 @@
 -- `checker::advance::is_unset` meets its contract. Assumes nothing.
-use Prim.Native.Nat.{_/_, _^_}
 use borrow.Author.Tests.{lt-ltb, le-ltb}
-use Rattle.checker.proofs.Bits.{length-flags, flag-at, bit-not}
 use borrow.Author.Needs.{needs}
+use Rattle.arith.proofs.Flags.{length-flags, flag-at}
 use Rattle.checker.proofs.advance.is_unset.Statement.{statement}
 use Rattle.checker.proofs.advance.is_unset.Tie as tie
 
@@ -13,7 +12,7 @@ returns-2 : tie.Need-returns-2
 returns-2 c =
     let a = c .before .before .before .args in
     let l = c .before .if1 .left in
-    rw (length-flags, lt-ltb _ _ l, flag-at (a .w .names) (a .w .known) (a .id) l) (bit-not (a .w .known / 2 ^ a .id))
+    rw (length-flags, lt-ltb _ _ l, flag-at (a .w .names) (a .w .known) (a .id) l, c .bit .ensures)
 
 pub is-unset-spec : {M : Type 1} → statement M
-is-unset-spec = tie.close (tie.spec returns (λ c. search needs) returns-2)
+is-unset-spec = tie.close (tie.spec returns (λ c κs. search needs) returns-2)

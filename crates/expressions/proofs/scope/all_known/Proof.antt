@@ -3,15 +3,15 @@ use mathlib.Core.Path.{_≡_, refl, sym, _∙_}
 use Prim.Native.Nat.{_-_, _≤_}
 use native.Mathlib.Omega.{arith}
 use lib.ListN.{drop}
+use Rattle.arith.specs.Flags.{flagsOf}
 use Rattle.semantics.specs.Program.{allTrue}
-use Rattle.expressions.specs.Scopes.{knownOf}
 use Rattle.expressions.proofs.Scopes.{all-next, all-stop, all-end}
 use Rattle.expressions.proofs.scope.all_known.Statement.{statement}
 use Rattle.expressions.proofs.scope.all_known.Tie as tie
 
 abbrev Inv-loop : tie.InvT-loop
 Inv-loop names i₀ i =
-    (i ≤ names .count) × (allTrue (drop i (knownOf (names .known) (names .count))) ≡ allTrue (knownOf (names .known) (names .count)))
+    (i ≤ names .count) × (allTrue (drop i (flagsOf (names .count) (names .known))) ≡ allTrue (flagsOf (names .count) (names .known)))
 
 abbrev μ-loop : tie.MeasureT-loop
 μ-loop names i₀ i = names .count - i

@@ -1,16 +1,12 @@
 -- `expressions::scope::ruled` meets its contract. Assumes nothing.
 use mathlib.Core.Path.{refl}
 use borrow.Author.Needs.{needs}
-use Rattle.expressions.proofs.Scopes.{shifted, known-set}
+use Rattle.arith.proofs.Flags.{flag-set}
 use Rattle.expressions.proofs.scope.ruled.Statement.{statement}
 use Rattle.expressions.proofs.scope.ruled.Tie as tie
 
 returns : tie.Need-returns
-returns c = (refl, rw (shifted _ (c .before .pre)) (known-set _ _ _))
+returns c = (refl, rw (c .with-bit .ensures) (flag-set _ _ _))
 
 pub ruled-spec : {M : Type 1} → statement M
-ruled-spec =
-    tie.close
-    (tie.spec
-    (λ c. search needs)
-    returns)
+ruled-spec = tie.close (tie.spec (λ c κs. search needs) returns)

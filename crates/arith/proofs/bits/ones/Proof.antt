@@ -1,10 +1,10 @@
--- `checker::ones` meets its contract. Assumes nothing.
+-- `arith::bits::ones` meets its contract. Assumes nothing.
 use lib.Pow.{pow-pos}
-use Rattle.checker.proofs.Bits.{shifted}
+use Rattle.arith.proofs.Flags.{shifted}
 use borrow.Author.Needs.{needs}
 use native.Mathlib.Omega.{arith}
-use Rattle.checker.proofs.ones.Statement.{statement}
-use Rattle.checker.proofs.ones.Tie as tie
+use Rattle.arith.proofs.bits.ones.Statement.{statement}
+use Rattle.arith.proofs.bits.ones.Tie as tie
 
 returns : tie.Need-returns
 returns c = rw (c .if1 .taken)
