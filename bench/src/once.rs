@@ -4,9 +4,6 @@ use crate::input::{inputs, Input};
 use crate::native::Scan;
 use std::hint::black_box;
 
-/// A buffer for any text.
-const ROOM: usize = 49_154;
-
 /// A service on an input.
 pub struct Work<'i> {
     pub service: &'i str,
@@ -27,7 +24,7 @@ impl<'i> Work<'i> {
 
     pub fn memory(&self) -> Memory {
         Memory {
-            image: vec![0; ROOM],
+            image: vec![0; rolvenko::IMAGE_ROOM],
             state: self.input.starts.clone(),
         }
     }

@@ -1,6 +1,6 @@
 //! The image check against the model's.
 
-use crate::compare::{deep_image, fence, hex, inside, Options, Table};
+use crate::compare::{deep_image, fence, hex, Options, Table};
 use crate::shrink::{shrink, smaller_bytes};
 use rolvenko_model::generate::{damaged_image, random_bytes, random_image, text, unsound_images, Rng, Shape};
 use rolvenko_model::{check_detail, read_text, write_image, IMAGE_LIMIT};
@@ -19,7 +19,7 @@ fn differs(image: &[u8]) -> bool {
         (refusal.number, refusal.place)
     });
     let lent = fence(image, 0x5A);
-    let found = rolvenko::check(inside(&lent, image.len())).map_err(|r| (r.number, r.place));
+    let found = rolvenko::check(lent.read(image.len())).map_err(|r| (r.number, r.place));
     found != wanted || lent != fence(image, 0x5A)
 }
 

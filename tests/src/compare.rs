@@ -5,7 +5,7 @@ use std::collections::BTreeMap;
 use std::path::PathBuf;
 use std::time::{Duration, Instant};
 
-/// What can be compared.
+/// What can be compared, in this order.
 pub const SERVICES: [&str; 5] = ["translate", "check", "scan", "trace", "program"];
 
 /// What the command line asks for.
@@ -107,13 +107,14 @@ pub fn fence<T: Copy>(cells: &[T], mark: T) -> Fenced<T> {
     Fenced([&[mark; MARGIN], cells, &[mark; MARGIN]].concat())
 }
 
-/// The `length` cells within the fence.
-pub fn inside<T>(fenced: &Fenced<T>, length: usize) -> &[T] {
-    &fenced.0[MARGIN..MARGIN + length]
-}
-
 impl<T> Fenced<T> {
-    pub fn inside(&mut self, length: usize) -> &mut [T] {
+    /// The `length` cells within the fence, to read.
+    pub fn read(&self, length: usize) -> &[T] {
+        &self.0[MARGIN..MARGIN + length]
+    }
+
+    /// The same, to write.
+    pub fn write(&mut self, length: usize) -> &mut [T] {
         &mut self.0[MARGIN..MARGIN + length]
     }
 }

@@ -14,7 +14,7 @@ mod shrink;
 mod trace;
 mod translate;
 
-use compare::{Options, Table};
+use compare::{Options, Table, SERVICES};
 use std::process::ExitCode;
 
 /// Compares one service until its time is spent, or answers a difference.
@@ -28,14 +28,8 @@ fn main() -> ExitCode {
             return ExitCode::from(2);
         }
     };
-    let services: [(&str, Run); 5] = [
-        ("translate", translate::run),
-        ("check", check::run),
-        ("scan", scan::run),
-        ("trace", trace::run),
-        ("program", program::run),
-    ];
-    for (name, run) in services {
+    let runs: [Run; 5] = [translate::run, check::run, scan::run, trace::run, program::run];
+    for (name, run) in SERVICES.into_iter().zip(runs) {
         if !options.wants(name) || name == "program" && options.program.is_none() {
             continue;
         }

@@ -1,6 +1,6 @@
 //! Translation against the model's: answer, place, every byte of the buffer and around it.
 
-use crate::compare::{fence, hex, inside, Options, Table};
+use crate::compare::{fence, hex, Options, Table};
 use crate::shrink::{shrink, smaller_bytes};
 use rolvenko_model::generate::{limit_texts, mutate_bytes, mutated_text, random_bytes, text, token_soup, Rng, Shape};
 use rolvenko_model::{read_text, write_image};
@@ -23,17 +23,14 @@ fn both(source: &[u8], room: usize) -> Both {
     let lent = fence(source, 0x5A);
     let mut written = fence(&vec![0xA5; room], 0x5A);
     let mut wanted = written.clone();
-    let archive = rolvenko::translate(inside(&lent, source.len()), written.inside(room)).map_err(|r| (r.number, r.place));
-    let model = rolvenko_model::translate(source, wanted.inside(room)).map_err(|r| (r.number, r.place));
+    let archive = rolvenko::translate(lent.read(source.len()), written.write(room)).map_err(|r| (r.number, r.place));
+    let model = rolvenko_model::translate(source, wanted.write(room)).map_err(|r| (r.number, r.place));
     Both {
         archive,
         model,
         same_memory: written == wanted && lent == fence(source, 0x5A),
     }
 }
-
-/// A buffer for any text.
-const ROOM: usize = 49_154;
 
 fn compare(source: &[u8], room: usize, table: &mut Table) -> Result<(), String> {
     let found = both(source, room);
@@ -79,11 +76,11 @@ fn cuts(source: &[u8], table: &mut Table) -> Result<(), String> {
 pub fn run(options: &Options, table: &mut Table) -> Result<(), String> {
     let mut rng = Rng::new(options.seed);
     for limit in limit_texts() {
-        compare(&limit.text, ROOM, table)?;
+        compare(&limit.text, rolvenko::IMAGE_ROOM, table)?;
         around(&limit.text, table)?;
         let mut edited = limit.text.clone();
         mutate_bytes(&mut rng, &mut edited);
-        compare(&edited, ROOM, table)?;
+        compare(&edited, rolvenko::IMAGE_ROOM, table)?;
     }
     let since = table.started();
     while !options.spent(since, table.calls) {

@@ -20,7 +20,7 @@ pub struct Refusal {
     pub place: usize,
 }
 
-/// A refused scan: number, place (0 but for 9 and 11), and the steps up to and including the refusing instruction.
+/// A refused scan: number, place (0 but for 11), and the steps up to and including the refusing instruction.
 #[derive(Clone, Copy, Debug, PartialEq, Eq)]
 pub struct ScanRefusal {
     pub number: u8,

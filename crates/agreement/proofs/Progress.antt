@@ -9,7 +9,7 @@ use borrow.Author.Tests.{ltb-true, ltb-false}
 use Rattle.lexer.specs.Bytes.{part}
 use Rattle.lexer.specs.Token.{Kind, name, unknown, is, Read, token, fault}
 use Rattle.lexer.specs.Lexer.{isSpace, isDigit, isLetter, isAlphanumeric, runEnd, wordOf, pairOf, signOf, readOf, signAt, wordAt, digitsAt, previousAt, tokenOf, tokenPast, tokenAt}
-use Rattle.lexer.proofs.Laws.{pick-prop, run-from, run-some, letter-in-run}
+use Rattle.lexer.proofs.Laws.{cond-prop, run-from, run-some, letter-in-run}
 
 -- a token ends after s
 abbrev Beyond : ℕ → Read → Type 0
@@ -20,24 +20,24 @@ module _ (text : List ℕ) (s : ℕ) (l : s < length text) where
   sign-beyond : (a b : ℕ) → Beyond s (signAt a b s)
   unfolding signAt readOf
   sign-beyond a b =
-      pick-prop (Beyond s) (is (pairOf a b) unknown) _ _
-      (λ e. pick-prop (Beyond s) (is (signOf a) unknown) _ _ (λ f. tt) (λ f. omega arith)) (λ e. omega arith)
+      cond-prop (Beyond s) (is (pairOf a b) unknown) _ _
+      (λ e. cond-prop (Beyond s) (is (signOf a) unknown) _ _ (λ f. tt) (λ f. omega arith)) (λ e. omega arith)
 
   previous-beyond : Beyond s (previousAt text s)
   unfolding previousAt
   previous-beyond =
       let f : s + 1 ≤ runEnd isAlphanumeric text (s + 1) = run-from isAlphanumeric text (s + 1) in
-      pick-prop (Beyond s) (isLetter (getD text (s + 1) 0)) _ _
-      (λ e. pick-prop (Beyond s) (is (wordOf (part text (s + 1) (runEnd isAlphanumeric text (s + 1)))) name) _ _ (λ g. omega arith) (λ g. tt))
+      cond-prop (Beyond s) (isLetter (getD text (s + 1) 0)) _ _
+      (λ e. cond-prop (Beyond s) (is (wordOf (part text (s + 1) (runEnd isAlphanumeric text (s + 1)))) name) _ _ (λ g. omega arith) (λ g. tt))
       (λ e. tt)
 
   of-beyond : Beyond s (tokenOf text s (getD text s 0))
   unfolding tokenOf wordAt digitsAt
   of-beyond =
       let b = getD text s 0 in
-      pick-prop (Beyond s) (isLetter b) _ _ (λ e. run-some isAlphanumeric text s l (letter-in-run b e))
-      (λ n1. pick-prop (Beyond s) (isDigit b) _ _ (λ e. run-some isDigit text s l e)
-      (λ n2. pick-prop (Beyond s) (eqb b 95) _ _ (λ e. previous-beyond) (λ n3. sign-beyond b (getD text (s + 1) 0))))
+      cond-prop (Beyond s) (isLetter b) _ _ (λ e. run-some isAlphanumeric text s l (letter-in-run b e))
+      (λ n1. cond-prop (Beyond s) (isDigit b) _ _ (λ e. run-some isDigit text s l e)
+      (λ n2. cond-prop (Beyond s) (eqb b 95) _ _ (λ e. previous-beyond) (λ n3. sign-beyond b (getD text (s + 1) 0))))
 
 beyond-from : (at s : ℕ) (r : Read) → at ≤ s → Beyond s r → Beyond at r
 beyond-from at s (token k t n) h b = omega arith
@@ -48,7 +48,7 @@ unfolding tokenAt tokenPast
 token-beyond text at h =
     let s = runEnd isSpace text at in
     let f : at ≤ s = run-from isSpace text at in
-    pick-prop (Beyond at) (ltb s (length text)) _ _
+    cond-prop (Beyond at) (ltb s (length text)) _ _
     (λ e. beyond-from at s (tokenOf text s (getD text s 0)) f (of-beyond text s (ltb-true _ _ e)))
     (λ e. omega (arith, ltb-false s (length text) e))
 

@@ -1,11 +1,11 @@
 // The two lists of conditions of a change rule, compared token by token in spelling.
 use lexer::Token;
+ghost use mathlib.Core.Bool.{cond};
 ghost use mathlib.Core.Path.{_≡_};
 ghost use mathlib.Core.List.{List};
 ghost use Prim.Native.Nat.{_≤_};
 ghost use lib.Dec.{ltb};
 ghost use lib.ListN.{length};
-ghost use Rattle.lexer.specs.Bytes.{pick};
 ghost use Rattle.lexer.specs.Results.{kindOf};
 ghost use Rattle.grammar.specs.Rules.{Spanned, partFrom, kindAt, partsFrom};
 ghost use Rattle.agreement.specs.Results.{comparedOf, faultAt};
@@ -70,7 +70,7 @@ fn compare_sign(text: &[u8], kind: u8, at: usize) -> Compared
 
 // The sign after a condition: `|` before another, `)` after the last.
 fn separator(next: usize, count: usize) -> u8
-    ensures { λ r. ⌜ r ≡ pick (ltb next count) 23 18 ⌝ }
+    ensures { λ r. ⌜ r ≡ cond (ltb next count) 23 18 ⌝ }
 {
     if next < count {
         return lexer::BAR;

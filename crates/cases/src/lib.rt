@@ -1,5 +1,6 @@
 // The cases of a change formula and the conditions of its no-change formula. A case is written as it is read.
 use agreement::Compared;
+use bytecode::opcode;
 use expressions::scope::Names;
 use lexer::Token;
 use phrases::Expected;
@@ -19,10 +20,6 @@ ghost use Rattle.agreement.specs.Spans.{spansIn, spansOf, Spans};
 ghost use Rattle.agreement.specs.Results.{comparedOf};
 ghost use Rattle.cases.specs.Results.{unexpectedPart, unreadPart, unlistedPart, placeOnly};
 ghost use Rattle.cases.specs.Post.{Writes, codeOfCase, codeOfCases, endOfCondition, Lists};
-
-const GATE: u8 = 19;
-
-const PICK: u8 = 20;
 
 // The variable of a rule: its name stands from `start` to `end`.
 pub struct Variable {
@@ -89,7 +86,7 @@ fn case(
     let Expected::After(a) = opened else {
         return unexpected(opened);
     };
-    let u = leb128::put_byte(out, t, GATE);
+    let u = leb128::put_byte(out, t, opcode::GATE);
     let second = expressions::whole_expression(text, starts, ends, names, a, out, u);
     let expressions::Step::Done(value, v) = second else {
         return unread(second);
@@ -100,7 +97,7 @@ fn case(
     };
     Part::Done(
         b,
-        bytecode::put_instruction(out, v, PICK, w.id as u64),
+        bytecode::put_instruction(out, v, opcode::PICK, w.id as u64),
         behind.at,
     )
 }

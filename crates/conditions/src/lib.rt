@@ -1,5 +1,6 @@
 // Conditions, over the expressions of `expressions` and in the same way: each function takes the place where its part starts, writes
 // the part's code, and answers with the token behind it.
+use bytecode::opcode;
 use expressions::Step;
 use expressions::scope::Names;
 ghost use Rattle.bytecode.specs.Instructions.{comparisonCode};
@@ -11,45 +12,27 @@ ghost use Rattle.expressions.specs.Internal.{Codes};
 ghost use Rattle.conditions.specs.Internal.{comparisonIn, invertedIn, atomIn, conjunctionIn, conditionIn};
 
 // Code bytes.
-const EQUAL: u8 = 10;
-
-const NOT_EQUAL: u8 = 11;
-
-const LESS: u8 = 12;
-
-const LESS_EQUAL: u8 = 13;
-
-const GREATER: u8 = 14;
-
-const GREATER_EQUAL: u8 = 15;
-
-const NOT: u8 = 16;
-
-const AND: u8 = 17;
-
-const OR: u8 = 18;
-
 // The code of a comparison sign, of `&` and of `|`; 0 for any other token.
 fn comparison_code(kind: u8) -> u8
     ensures { λ r. ⌜ Codes comparisonCode comparisonOf kind r ⌝ }
 {
     if kind == lexer::EQUALS {
-        return EQUAL;
+        return opcode::EQUAL;
     }
     if kind == lexer::NOT_EQUAL {
-        return NOT_EQUAL;
+        return opcode::NOT_EQUAL;
     }
     if kind == lexer::LESS {
-        return LESS;
+        return opcode::LESS;
     }
     if kind == lexer::LESS_EQUAL {
-        return LESS_EQUAL;
+        return opcode::LESS_EQUAL;
     }
     if kind == lexer::GREATER {
-        return GREATER;
+        return opcode::GREATER;
     }
     if kind == lexer::GREATER_EQUAL {
-        return GREATER_EQUAL;
+        return opcode::GREATER_EQUAL;
     }
     0
 }
@@ -58,7 +41,7 @@ fn and_code(kind: u8) -> u8
     ensures { λ r. ⌜ Codes connectiveCode andOf kind r ⌝ }
 {
     if kind == lexer::AMPERSAND {
-        return AND;
+        return opcode::AND;
     }
     0
 }
@@ -67,7 +50,7 @@ fn or_code(kind: u8) -> u8
     ensures { λ r. ⌜ Codes connectiveCode orOf kind r ⌝ }
 {
     if kind == lexer::BAR {
-        return OR;
+        return opcode::OR;
     }
     0
 }
@@ -240,7 +223,7 @@ fn inverted(
         let Step::Done(behind, t) = inner else {
             return inner;
         };
-        return Step::Done(behind, leb128::put_byte(out, t, NOT));
+        return Step::Done(behind, leb128::put_byte(out, t, opcode::NOT));
     }
     Step::Refused(limits::NOT_ALLOWED, here.start)
 }

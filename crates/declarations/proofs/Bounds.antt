@@ -1,6 +1,6 @@
 -- Laws of signed numbers in a text: the digits' value capped at 2 ^ 32, and the tests that bounds and starts pass. Assumes nothing.
 use mathlib.Core.Path.{_≡_, refl, sym, ap, _∙_}
-use mathlib.Core.Bool.{Bool, true, false, _&&_, false≢true}
+use mathlib.Core.Bool.{Bool, true, false, _&&_, false≢true, cond}
 use mathlib.Core.List.{List}
 use mathlib.Core.Option.{none, some}
 use Prim.Native.Nat.{ℕ, zero, suc, _^_, _≤_, _<_, min}
@@ -16,10 +16,10 @@ use Rattle.limits.specs.Limits.{noToken, notAllowed, outOfLimit}
 use Rattle.arith.specs.Values.{isInt32}
 use Rattle.arith.proofs.Basics.{and-both, T-true}
 use Rattle.arith.proofs.Laws.{fits-int32, same32}
-use Rattle.lexer.specs.Bytes.{pick, part}
+use Rattle.lexer.specs.Bytes.{part}
 use Rattle.lexer.specs.Token.{Kind, digits, initWord, semicolon, minus, is, token, fault}
 use Rattle.lexer.specs.Lexer.{tokenAt, valueOf}
-use Rattle.lexer.proofs.Laws.{pick-prop}
+use Rattle.lexer.proofs.Laws.{cond-prop}
 use Rattle.grammar.specs.Parsed.{Parsed, accepted, refused, sign, expected, phrase, followed}
 use Rattle.grammar.specs.Declarations.{inRange, signedAt, boundAt, startAt}
 use Rattle.lexer.specs.declared.Token.{Token}
@@ -46,11 +46,11 @@ absorbed a true h = rw (h refl)
 absorbed a false h = and-false a
 
 -- what an answer by a test tells of it
-picked : {A : Type 0} (t : Bool) (a z : A) → some z ≡ pick t (some a) none → (t ≡ true) × (z ≡ a)
+picked : {A : Type 0} (t : Bool) (a z : A) → some z ≡ cond t (some a) none → (t ≡ true) × (z ≡ a)
 picked true a z e = (refl, cc)
 picked false a z e = let y : _≡_ {A = ℕ} 0 1 = cc in absurd (omega arith)
 
-unpicked : {A : Type 0} (t : Bool) (a : A) → none ≡ pick t (some a) none → t ≡ false
+unpicked : {A : Type 0} (t : Bool) (a : A) → none ≡ cond t (some a) none → t ≡ false
 unpicked true a e = let y : _≡_ {A = ℕ} 0 1 = cc in absurd (omega arith)
 unpicked false a e = refl
 
@@ -85,7 +85,7 @@ module _ (low high : ℤ) (fl : SFits w32 low) (fh : SFits w32 high) where
 
     -- the capped number passes the test exactly if the number does, and then it is the number
     capped-same : ((isInt32 whole && inRange low high whole) ≡ inRange low high capped) × (inRange low high capped ≡ true → capped ≡ whole)
-    capped-same = pick-prop (λ (u : ℕ). ((isInt32 whole && inRange low high whole) ≡ inRange low high capped) × (inRange low high capped ≡ true → capped ≡ whole)) (leb x (2 ^ 32)) 0 0
+    capped-same = cond-prop (λ (u : ℕ). ((isInt32 whole && inRange low high whole) ≡ inRange low high capped) × (inRange low high capped ≡ true → capped ≡ whole)) (leb x (2 ^ 32)) 0 0
         (λ t. let e : min x (2 ^ 32) ≡ x = min-eq-left (leb-true _ _ t) in (rw e (in-limit whole), λ p. ap (λ (n : ℕ). signedBy neg (pos n)) e))
         (λ t.
         let l : 2 ^ 32 < x = leb-false _ _ t in
@@ -100,7 +100,7 @@ module _ (low high : ℤ) (fl : SFits w32 low) (fh : SFits w32 high) where
     unfolding signedAt
     no-digits d = rw d
 
-    module _ (v : ℕ) (d : is k digits ≡ true) (hv : v ≡ min (valueOf (part text s n)) (2 ^ 32)) {num : Number} (hn : numberOf num ≡ pick (inRange low high (signedBy neg (pos v))) (some (signedBy neg (pos v))) none) where
+    module _ (v : ℕ) (d : is k digits ≡ true) (hv : v ≡ min (valueOf (part text s n)) (2 ^ 32)) {num : Number} (hn : numberOf num ≡ cond (inRange low high (signedBy neg (pos v))) (some (signedBy neg (pos v))) none) where
       pub digits-in : {z : ℤ} → num ≡ Is z → accepted z n ≡ signedAt (inRange low high) (signedBy neg) text k s n
       unfolding signedAt
       digits-in {z} g =
@@ -158,11 +158,11 @@ module _ (test : ℤ → Bool) (text : List ℕ) (at : ℕ) where
 
 -- ---- the start and the `;`
 
-module _ (low high : ℤ) (s : ℕ) {num : Number} (hn : numberOf num ≡ pick (inRange low high (pos 0)) (some (pos 0)) none) where
-  pub absent-out : (n : ℕ) → num ≡ Outside → refused outOfLimit s ≡ pick (inRange low high (pos 0)) (accepted (pos 0) n) (refused outOfLimit s)
+module _ (low high : ℤ) (s : ℕ) {num : Number} (hn : numberOf num ≡ cond (inRange low high (pos 0)) (some (pos 0)) none) where
+  pub absent-out : (n : ℕ) → num ≡ Outside → refused outOfLimit s ≡ cond (inRange low high (pos 0)) (accepted (pos 0) n) (refused outOfLimit s)
   absent-out n g = rw (unpicked (inRange low high (pos 0)) (pos 0) (sym (ap numberOf g) ∙ hn))
 
-  pub absent-in : {z : ℤ} (n : ℕ) → SFits w32 z → num ≡ Is z → accepted (kept z) n ≡ pick (inRange low high (pos 0)) (accepted (pos 0) n) (refused outOfLimit s)
+  pub absent-in : {z : ℤ} (n : ℕ) → SFits w32 z → num ≡ Is z → accepted (kept z) n ≡ cond (inRange low high (pos 0)) (accepted (pos 0) n) (refused outOfLimit s)
   absent-in {z} n f g = let p = picked (inRange low high (pos 0)) (pos 0) z (sym (ap numberOf g) ∙ hn) in rw (p .0, same32 f, p .1)
 
 module _ (text : List ℕ) (low high : ℤ) (at : ℕ) where
@@ -186,7 +186,7 @@ module _ (text : List ℕ) (low high : ℤ) (at : ℕ) where
         start-closed q g = rw (e, i, f, g)
 
     module _ (i : is k initWord ≡ false) where
-      pub start-absent : is k semicolon ≡ true → startAt text low high at ≡ pick (inRange low high (pos 0)) (accepted (pos 0) n) (refused outOfLimit s)
+      pub start-absent : is k semicolon ≡ true → startAt text low high at ≡ cond (inRange low high (pos 0)) (accepted (pos 0) n) (refused outOfLimit s)
       unfolding startAt
       start-absent m = rw (e, i, m)
 

@@ -8,7 +8,7 @@ use lib.Seq.{sets, drop-append-seam}
 use Rattle.lexer.specs.Token.{Kind, is}
 use Rattle.lexer.specs.Lexer.{tokenAt}
 use Rattle.lexer.specs.Names.{namesOf}
-use Rattle.lexer.proofs.Laws.{pick-prop}
+use Rattle.lexer.proofs.Laws.{cond-prop}
 use Rattle.semantics.specs.Program.{Name}
 use Rattle.grammar.specs.Parsed.{Parsed, accepted, refused}
 use Rattle.grammar.specs.Declarations.{declaration, declarationsFrom, declarations}
@@ -73,7 +73,7 @@ extends zero word text names at = ([], sym (append-nil names))
 extends (suc f) word text names at =
     token-prop (Extends names) (tokenAt text at) _ (λ k q. tt)
     (λ k s n e.
-    pick-prop (Extends names) (is k word) _ _
+    cond-prop (Extends names) (is k word) _ _
     (λ t. then-prop (Extends names) (declaration text names n) _ (λ k q. tt) (λ x m d. one-more names x (declarationsFrom f word text (names ++ (x ∷ [])) m) (extends f word text (names ++ (x ∷ [])) m)))
     (λ t. ([], sym (append-nil names))))
 

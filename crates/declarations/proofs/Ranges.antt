@@ -1,12 +1,12 @@
 -- Laws of a declaration's range: the three tests of bounds as one, and the ways through low, `..`, high and start. Assumes nothing.
 use mathlib.Core.Path.{_≡_, refl, ap₂}
-use mathlib.Core.Bool.{Bool, true, false, _&&_}
+use mathlib.Core.Bool.{Bool, true, false, _&&_, cond}
 use mathlib.Core.List.{List}
 use Prim.Native.Nat.{ℕ}
 use lib.IntN.{ℤ, pos, negℤ}
 use lib.Signed.{leZ}
 use Rattle.arith.specs.Values.{isInt32, lowest, highest}
-use Rattle.lexer.specs.Bytes.{pick, part}
+use Rattle.lexer.specs.Bytes.{part}
 use Rattle.lexer.specs.Token.{Kind, minus, dots, is, Read, token, fault}
 use Rattle.lexer.specs.Lexer.{tokenAt, valueOf}
 use Rattle.grammar.specs.Parsed.{Parsed, accepted, refused, onToken, sign, expected, phrase}
@@ -28,7 +28,7 @@ module _ (t u : ℤ → Bool) (same : (z : ℤ) → (isInt32 z && t z) ≡ (isIn
   unfolding boundAt
   bound-same at =
       read-same (tokenAt text at) _ _
-      (λ k s n. ap₂ (λ (a b : Parsed ℤ). pick (is k minus) a b) (read-same (tokenAt text n) _ _ (λ k s n. signed-same negℤ k s n)) (signed-same (λ z. z) k s n))
+      (λ k s n. ap₂ (λ (a b : Parsed ℤ). cond (is k minus) a b) (read-same (tokenAt text n) _ _ (λ k s n. signed-same negℤ k s n)) (signed-same (λ z. z) k s n))
 
 any-test : (a : Bool) → (a && true) ≡ (a && a)
 any-test true = refl

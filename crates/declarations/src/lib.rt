@@ -2,6 +2,7 @@
 use lexer::Found;
 use lexer::Token;
 use phrases::Expected;
+ghost use mathlib.Core.Bool.{cond};
 ghost use mathlib.Core.Path.{_≡_};
 ghost use mathlib.Core.List.{List};
 ghost use mathlib.Core.Option.{none, some};
@@ -9,12 +10,11 @@ ghost use Prim.Native.Nat.{ℕ, _+_, _≤_, _<_, _^_};
 ghost use lib.IntN.{pos};
 ghost use lib.ListN.{length};
 ghost use lib.Seq.{sets};
-ghost use Rattle.lexer.specs.Bytes.{pick};
 ghost use Rattle.lexer.specs.Results.{kindOf};
 ghost use Rattle.semantics.specs.Program.{Name};
 ghost use Rattle.grammar.specs.Declarations.{inRange, signedAt, boundAt, startAt};
 ghost use Rattle.phrases.specs.declared.Expected.the-variants.{After};
-ghost use Rattle.limits.specs.Limits.{outOfLimit};
+ghost use Rattle.limits.specs.Limits.{nameLimit, outOfLimit};
 ghost use Rattle.grammar.specs.Parsed.{accepted, refused as refusedAt};
 ghost use Rattle.declarations.specs.declared.Step.the-variants.{Done};
 ghost use Rattle.declarations.specs.Internal.{signedBy, rangeAt, rangeBytes};
@@ -68,7 +68,7 @@ fn refused(e: Expected) -> Step
     }
 }
 
-fn out_of_limit(b: Bound) -> Step
+fn no_bound(b: Bound) -> Step
     ensures { λ r. ⌜ r ≡ unbounded b ⌝ }
 {
     match b {
@@ -87,7 +87,7 @@ fn stopped(s: Step) -> Declared
 }
 
 fn within(z: i64, low: i32, high: i32) -> Number
-    ensures { λ r. ⌜ numberOf r ≡ pick (inRange low high z) (some z) none ⌝ }
+    ensures { λ r. ⌜ numberOf r ≡ cond (inRange low high z) (some z) none ⌝ }
 {
     if low as i64 <= z {
         if z <= high as i64 {
@@ -100,7 +100,7 @@ fn within(z: i64, low: i32, high: i32) -> Number
 // The number of that value and sign.
 fn signed(value: u64, negative: bool, low: i32, high: i32) -> Number
     requires { ⌜ value ≤ 2 ^ 32 ⌝ }
-    ensures { λ r. ⌜ numberOf r ≡ pick (inRange low high (signedBy negative (pos value))) (some (signedBy negative (pos value))) none ⌝ }
+    ensures { λ r. ⌜ numberOf r ≡ cond (inRange low high (signedBy negative (pos value))) (some (signedBy negative (pos value))) none ⌝ }
 {
     let z = value as i64;
     if negative {
@@ -152,7 +152,7 @@ fn bound_at(text: &[u8], at: usize, low: i32, high: i32) -> Bound
 
 // An absent start is 0; the `;` is the token from `place` to `next`.
 fn absent(place: usize, next: usize, low: i32, high: i32) -> Bound
-    ensures { λ r. ⌜ boundOf r ≡ pick (inRange low high (pos 0)) (accepted (pos 0) next) (refusedAt outOfLimit place) ⌝ }
+    ensures { λ r. ⌜ boundOf r ≡ cond (inRange low high (pos 0)) (accepted (pos 0) next) (refusedAt outOfLimit place) ⌝ }
 {
     let Number::Is(z) = within(0, low, high) else {
         return Bound::Refused(limits::OUT_OF_LIMIT, place);
@@ -202,7 +202,7 @@ fn range(text: &[u8], at: usize, out: &mut [u8], to: usize) -> Step
 {
     let first = bound_at(text, at, LOWEST, HIGHEST);
     let Bound::Is(low, a) = first else {
-        return out_of_limit(first);
+        return no_bound(first);
     };
     let between = phrases::expect(text, a, lexer::DOTS);
     let Expected::After(b) = between else {
@@ -210,11 +210,11 @@ fn range(text: &[u8], at: usize, out: &mut [u8], to: usize) -> Step
     };
     let second = bound_at(text, b, low, HIGHEST);
     let Bound::Is(high, c) = second else {
-        return out_of_limit(second);
+        return no_bound(second);
     };
     let third = start_at(text, c, low, high);
     let Bound::Is(z, end) = third else {
-        return out_of_limit(third);
+        return no_bound(third);
     };
     Step::Done(end, put_range(out, to, low, high, z))
 }
@@ -229,7 +229,7 @@ fn new_name(
 ) -> Expected
     requires { ⌜ Room (now starts) (now ends) count ⌝ }
     ensures { λ r. ⌜ ((names : List Name) → Holds (now (text .entry)) (now (starts .entry)) (now (ends .entry)) count names → Names (now (text .entry)) names at count (now (starts .exit)) (now (ends .exit)) r) ⌝ }
-    ensures { λ r. ⌜ ((n : ℕ) → r ≡ After n → count < 64) ⌝ }
+    ensures { λ r. ⌜ ((n : ℕ) → r ≡ After n → count < nameLimit) ⌝ }
 {
     let read = lexer::token_at(text, at);
     let Token::Is(kind, start, end) = read else {
@@ -265,7 +265,7 @@ fn declaration(
     requires { ⌜ Room (now starts) (now ends) count ⌝ }
     requires { ⌜ to < 2 ^ 30 ⌝ }
     ensures { λ r. ⌜ ((names : List Name) → Holds (now (text .entry)) (now (starts .entry)) (now (ends .entry)) count names → Declares (now (text .entry)) names at to count (now (out .entry)) (now (out .exit)) (now (starts .exit)) (now (ends .exit)) r) ⌝ }
-    ensures { λ r. ⌜ ((n t : ℕ) → r ≡ Done n t → (count < 64) × (t ≤ to + 15)) ⌝ }
+    ensures { λ r. ⌜ ((n t : ℕ) → r ≡ Done n t → (count < nameLimit) × (t ≤ to + 15)) ⌝ }
 {
     let named = new_name(text, at, starts, ends, count);
     let Expected::After(next) = named else {

@@ -14,7 +14,7 @@ use Rattle.lexer.specs.Lexer.{tokenAt}
 use Rattle.lexer.specs.Results.{kindOf, tokenRead, Lies, Placed}
 use Rattle.lexer.specs.declared.Token.{Token}
 use Rattle.lexer.specs.declared.Token.the-variants.{Is, Fault}
-use Rattle.lexer.proofs.Laws.{pick-prop, token-at-moved}
+use Rattle.lexer.proofs.Laws.{cond-prop, token-at-moved}
 use Rattle.lexer.proofs.KindNumbers.{kind-number}
 use Rattle.grammar.specs.Parsed.{Parsed, accepted, refused, andThen, onToken, sign, expected, phrase, followed}
 use Rattle.grammar.proofs.Growth.{Grown}
@@ -276,7 +276,7 @@ module _ {A : Type 0} {text : List ℕ} {code : A → List ℕ} {p : Parsed A} {
   pub closed-parses : (r : Step) → Parses text code p to before after r → Parses text code (closing text w p) to before after (closedStep text (kindNumber w) r)
   closed-parses (Done h t) c =
       let a = accepted-by c refl in
-      pick-prop (Parses text code (closing text w p) to before after) (eqb (h .kind) (kindNumber w)) _ _
+      cond-prop (Parses text code (closing text w p) to before after) (eqb (h .kind) (kindNumber w)) _ _
       (λ e. ended (a .tree) (closed-by a (eqb-true _ _ e)) (a .count) (a .wrote) refl)
       (λ e. refuses (refused-now (unclosed a (eqb-false _ _ e))))
   closed-parses (Refused k q) c = refuses (closing-refuses w (refused-by c refl))

@@ -1,12 +1,12 @@
 -- Shapes that the contracts of the functions inside need: the parts of an expression with so many brackets left to open, the code
 -- byte of an operator, a token at hand. Assumes nothing.
+use mathlib.Core.Bool.{cond}
 use Prim.Native.Nat.{ℕ}
 use mathlib.Core.Path.{_≡_}
 use mathlib.Core.List.{List, []}
 use mathlib.Core.Option.{Option, none, some}
 use lib.Dec.{eqb}
 use Rattle.limits.specs.Limits.{notAllowed}
-use Rattle.lexer.specs.Bytes.{pick}
 use Rattle.lexer.specs.Token.{Kind, kindNumber}
 use Rattle.lexer.specs.Lexer.{tokenAt}
 use Rattle.semantics.specs.Program.{Expression}
@@ -50,5 +50,5 @@ Stands text h = Done h 0 ≡ stepAt (tokenAt text (h .at)) (h .at) 0
 abbrev pub closedStep : List ℕ → ℕ → Step → Step
 closedStep text w (Done h t) =
     let next = stepAt (tokenAt text (h .end)) (h .end) t in
-    pick (eqb (h .kind) w) next (Refused notAllowed (h .start))
+    cond (eqb (h .kind) w) next (Refused notAllowed (h .start))
 closedStep text w (Refused k q) = Refused k q

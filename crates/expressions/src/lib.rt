@@ -1,5 +1,6 @@
 // Expressions: a recursive descent that writes the code of what it reads. Each function takes the place where its part starts, and
 // answers with the token behind the part, so that its caller need not read that token again.
+use bytecode::opcode;
 use lexer::Found;
 use lexer::Token;
 use scope::Names;
@@ -19,24 +20,6 @@ ghost use Rattle.expressions.specs.Internal.{textOnly, primaryIn, factor
 pub mod scope;
 
 // Code bytes.
-const CONSTANT: u8 = 1;
-
-const CURRENT: u8 = 2;
-
-const PREVIOUS: u8 = 3;
-
-const ADD: u8 = 4;
-
-const SUBTRACT: u8 = 5;
-
-const MULTIPLY: u8 = 6;
-
-const DIVIDE: u8 = 7;
-
-const MODULO: u8 = 8;
-
-const NEGATE: u8 = 9;
-
 // A token, and the place from which it was read.
 pub struct Lookahead {
     pub at: usize,
@@ -88,10 +71,10 @@ fn sum_code(kind: u8) -> u8
     ensures { λ r. ⌜ Codes operationCode sumOf kind r ⌝ }
 {
     if kind == lexer::PLUS {
-        return ADD;
+        return opcode::ADD;
     }
     if kind == lexer::MINUS {
-        return SUBTRACT;
+        return opcode::SUBTRACT;
     }
     0
 }
@@ -100,13 +83,13 @@ fn product_code(kind: u8) -> u8
     ensures { λ r. ⌜ Codes operationCode productOf kind r ⌝ }
 {
     if kind == lexer::STAR {
-        return MULTIPLY;
+        return opcode::MULTIPLY;
     }
     if kind == lexer::SLASH {
-        return DIVIDE;
+        return opcode::DIVIDE;
     }
     if kind == lexer::MOD {
-        return MODULO;
+        return opcode::MODULO;
     }
     0
 }
@@ -129,7 +112,14 @@ fn number(text: &[u8], start: usize, end: usize, out: &mut [u8], to: usize) -> S
     if 2147483647 < v {
         return Step::Refused(limits::OUT_OF_LIMIT, start);
     }
-    instruction(text, end, CONSTANT, leb128::zigzag(v as i32), out, to)
+    instruction(
+        text,
+        end,
+        opcode::CONSTANT,
+        leb128::zigzag(v as i32),
+        out,
+        to,
+    )
 }
 
 // The current value of the name from `start` to `end`.
@@ -155,7 +145,7 @@ fn current(
         return Step::Refused(limits::WRONG_NAME, start);
     };
     if scope::is_known(names, id) {
-        return instruction(text, end, CURRENT, id as u64, out, to);
+        return instruction(text, end, opcode::CURRENT, id as u64, out, to);
     }
     Step::Refused(limits::TOO_EARLY, start)
 }
@@ -183,7 +173,7 @@ fn previous(
     let Found::At(id) = found else {
         return Step::Refused(limits::WRONG_NAME, start);
     };
-    instruction(text, end, PREVIOUS, id as u64, out, to)
+    instruction(text, end, opcode::PREVIOUS, id as u64, out, to)
 }
 
 // Terms with `+` and `-` between them.
@@ -280,7 +270,7 @@ fn factor(
         let Step::Done(behind, t) = inner else {
             return inner;
         };
-        return Step::Done(behind, leb128::put_byte(out, t, NEGATE));
+        return Step::Done(behind, leb128::put_byte(out, t, opcode::NEGATE));
     }
     primary(text, starts, ends, names, here, left, out, to)
 }

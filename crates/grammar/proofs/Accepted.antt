@@ -2,7 +2,7 @@
 -- distinct and of 1 to 16 bytes. Assumes nothing.
 use mathlib.Core.Path.{_≡_, refl, ap, subst}
 use mathlib.Core.List.{List, [], _∷_, map}
-use mathlib.Core.Bool.{Bool, true, false, _&&_}
+use mathlib.Core.Bool.{Bool, true, false, _&&_, cond}
 use Prim.Native.Nat.{ℕ, _+_, _*_, _≤_, max}
 use native.Mathlib.Omega.{arith}
 use lib.ListN.{length, set, length-map}
@@ -15,7 +15,6 @@ use Rattle.arith.specs.Values.{isInt32}
 use Rattle.arith.proofs.Basics.{true-T, and-left, and-right, and-T}
 use Rattle.semantics.specs.Program.{Range, Name, Case, Rule, function, change, Program, rangesOf, target, within, knownFirst, allTrue, UsableR, OrderedRules, Ordered, AgreesR, AgreesAll, StartsWithin}
 use Rattle.bytecode.specs.Translation.{imageOf, depthE, depthC, ShallowK, ShallowR, Shallow, RangeFits, RangesFit, Translatable}
-use Rattle.lexer.specs.Bytes.{pick}
 use Rattle.grammar.specs.Parsed.{Parsed, accepted, refused}
 use Rattle.grammar.specs.Parse.{program, parse, answerOf, programOf}
 use Rattle.grammar.specs.Derivation.{IsWord, IsName}
@@ -117,7 +116,7 @@ pub parse-short : (text : List ℕ) (p : Program) (n : ℕ) → parse text ≡ a
 unfolding parse
 parse-short text p n e = go (ltb textLimit (length text)) refl e
   where
-    go : (t : Bool) → ltb textLimit (length text) ≡ t → pick t (refused 9 0) (program text) ≡ accepted p n → length text ≤ textLimit
+    go : (t : Bool) → ltb textLimit (length text) ≡ t → cond t (refused 9 0) (program text) ≡ accepted p n → length text ≤ textLimit
     go true t q = never 9 0 n p q
     go false t q = ltb-false textLimit (length text) t
 

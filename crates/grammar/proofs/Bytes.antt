@@ -1,5 +1,5 @@
 -- Parts of a text, and how many bytes numbers and ids take. Assumes nothing.
-use mathlib.Core.Path.{_≡_, refl, subst}
+use mathlib.Core.Path.{_≡_, subst}
 use mathlib.Core.List.{List, [], _∷_}
 use mathlib.Core.Bool.{Bool, true, false, cond}
 use mathlib.Core.Option.{some}
@@ -10,9 +10,10 @@ use lib.Seq.{drop-cons}
 use lib.Dec.{ltb}
 use lib.IntN.{pos}
 use borrow.Author.Tests.{ltb-false}
-use Rattle.lexer.specs.Bytes.{pick, part}
+use Rattle.lexer.specs.Bytes.{part}
 use Rattle.lexer.specs.Lexer.{valueOn, valueOf, sameName}
 use Rattle.lexer.specs.Names.{idFrom, idOf}
+use Rattle.lexer.proofs.Laws.{cond-prop}
 use Rattle.leb128.specs.Numbers.{groups, number, zigzag}
 
 -- 128 to the d
@@ -24,11 +25,6 @@ power-some : (d : ℕ) → 1 ≤ power d
 unfolding power
 power-some zero = omega arith
 power-some (suc d) = omega (arith, power-some d)
-
--- a property of both arms is one of the choice
-cond-prop : {A : Type 0} (P : A → Type 0) (t : Bool) (a b : A) → (t ≡ true → P a) → (t ≡ false → P b) → P (cond t a b)
-cond-prop P true a b f g = f refl
-cond-prop P false a b f g = g refl
 
 groups-length : (d f n : ℕ) → n < power (suc d) → length (groups f n) ≤ suc d
 unfolding power groups
@@ -73,7 +69,7 @@ unfolding idFrom
 id-from [] w i j e = let z : _≡_ {A = ℕ} 0 1 = cc in absurd (omega arith)
 id-from (x ∷ l) w i j e = go (sameName w x) (λ h. id-from l w (i + 1) j h) e
   where
-    go : (t : Bool) → (idFrom l w (i + 1) ≡ some j → j < i + 1 + length l) → pick t (some i) (idFrom l w (i + 1)) ≡ some j → j < i + suc (length l)
+    go : (t : Bool) → (idFrom l w (i + 1) ≡ some j → j < i + 1 + length l) → cond t (some i) (idFrom l w (i + 1)) ≡ some j → j < i + suc (length l)
     go true f h = let q : i ≡ j = cc in omega arith
     go false f h = omega (arith, f h)
 

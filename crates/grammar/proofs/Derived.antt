@@ -1,19 +1,19 @@
 -- What a parser accepts is spelled by the tokens that it went past: expressions and conditions. One law a combinator. Assumes nothing.
 use mathlib.Core.Path.{_≡_, refl, ap, sym, _∙_, subst}
 use mathlib.Core.List.{List, [], _∷_, _++_}
-use mathlib.Core.Bool.{Bool, true, false}
+use mathlib.Core.Bool.{Bool, true, false, cond}
 use mathlib.Core.Option.{Option, none, some}
 use Prim.Native.Nat.{ℕ, zero, suc, _+_, _≤_}
 use lib.ListN.{length, getD, getElem?}
 use lib.Dec.{ltb}
 use borrow.Author.Tests.{ltb-false}
 use Rattle.limits.specs.Limits.{bracketLimit}
-use Rattle.lexer.specs.Bytes.{bytes, pick, part}
+use Rattle.lexer.specs.Bytes.{bytes, part}
 use Rattle.lexer.specs.Token.{Kind, kindNumber, ending, name, digits, openRound, closeRound, openSquare, closeSquare, tilde, ampersand, bar, minus, is, Read, token, fault}
 use Rattle.lexer.specs.Token as T
 use Rattle.lexer.specs.Lexer.{tokenAt, overLong, valueOf}
 use Rattle.lexer.specs.Names.{idOf}
-use Rattle.lexer.proofs.Laws.{pick-prop, token-at-moved}
+use Rattle.lexer.proofs.Laws.{cond-prop, token-at-moved}
 use Rattle.lexer.proofs.Same.{same-kind}
 use Rattle.semantics.specs.Program.{Expression, previous, operation, negate, Condition, negated}
 use Rattle.grammar.specs.Parsed.{Parsed, accepted, refused, andThen, onToken, sign, expected, rest, chain}
@@ -109,11 +109,11 @@ module _ (text : List ℕ) where
   unfolding expected
   sign-derives Q w v f ne at x n h d = go (tokenAt text n) refl
     where
-      go : (r : Read) → tokenAt text n ≡ r → Derives (Closed Q v) at (andThen (onToken r (λ k s n. pick (is k w) (accepted (tt {0}) n) (refused 2 s))) (λ u m. accepted x m))
+      go : (r : Read) → tokenAt text n ≡ r → Derives (Closed Q v) at (andThen (onToken r (λ k s n. cond (is k w) (accepted (tt {0}) n) (refused 2 s))) (λ u m. accepted x m))
       go (fault p) e = tt
       go (token k s m) e = close (is k w) refl
         where
-          close : (t : Bool) → is k w ≡ t → Derives (Closed Q v) at (andThen (pick t (accepted (tt {0}) m) (refused 2 s)) (λ u m. accepted x m))
+          close : (t : Bool) → is k w ≡ t → Derives (Closed Q v) at (andThen (cond t (accepted (tt {0}) m) (refused 2 s)) (λ u m. accepted x m))
           close true t =
               record {
                 tokens = d .tokens ++ v ∷ [];
@@ -137,7 +137,7 @@ module _ (sc : Scope) (few : length (sc .names) ≤ 64) where
   id-derives : {A : Type 0} (R : List (List ℕ) → A → Type 0) (at p s n : ℕ) (f : ℕ → Parsed A) → ((i : ℕ) → getElem? (sc .names) i ≡ some (part (sc .text) s n) → Derives (sc .text) R at (f i)) → Derives (sc .text) R at (withId sc p s n f)
   unfolding withId
   id-derives R at p s n f h =
-      pick-prop (Derives (sc .text) R at) (overLong s n) _ _ (λ e. tt)
+      cond-prop (Derives (sc .text) R at) (overLong s n) _ _ (λ e. tt)
       (λ e. option-prop (Derives (sc .text) R at) (idOf (sc .names) (part (sc .text) s n)) _ _ (λ z. tt)
       (λ v ev. h v (id-names (sc .names) (part (sc .text) s n) v ev)))
 
@@ -151,18 +151,18 @@ module _ (sc : Scope) (few : length (sc .names) ≤ 64) where
         token-prop (P at) (tokenAt (sc .text) at) _ (λ k q. tt)
         (λ k s n et.
         let w = part (sc .text) s n in
-        pick-prop (P at) (is k digits) _ _
+        cond-prop (P at) (is k digits) _ _
         (λ e.
         let r = sign-stands (sc .text) digits refl at k s n h et e in
-        pick-prop (P at) (ltb numberLimit (valueOf w)) _ _ (λ t. tt)
+        cond-prop (P at) (ltb numberLimit (valueOf w)) _ _ (λ t. tt)
         (λ t. record { tokens = w ∷ []; spells = (n, r .0, refl); derives = a-number w (r .1) (ltb-false numberLimit (valueOf w) t) }))
-        (λ n1. pick-prop (P at) (is k name) _ _
+        (λ n1. cond-prop (P at) (is k name) _ _
         (λ e.
         let r = sign-stands (sc .text) name refl at k s n h et e in
         id-derives (SpellsE (sc .names) D.primary l) at s s n _
-        (λ i ei. pick-prop (P at) (getD (sc .known) i false) _ _
+        (λ i ei. cond-prop (P at) (getD (sc .known) i false) _ _
         (λ t. record { tokens = w ∷ []; spells = (n, r .0, refl); derives = a-current w i ei }) (λ t. tt)))
-        (λ n2. pick-prop (P at) (is k T.previous) _ _
+        (λ n2. cond-prop (P at) (is k T.previous) _ _
         (λ e.
         let r = sign-stands (sc .text) T.previous refl at k s n h et e in
         let mv = token-at-moved (sc .text) at k s n h et in
@@ -175,7 +175,7 @@ module _ (sc : Scope) (few : length (sc .names) ≤ 64) where
           spells = (n, subst (Stands (sc .text) at n) q (r .0), refl);
           derives = a-previous (part (sc .text) (s + 1) n) i ei;
         }))
-        (λ n3. pick-prop (P at) (is k openRound) _ _
+        (λ n3. cond-prop (P at) (is k openRound) _ _
         (λ e.
         let mv = token-at-moved (sc .text) at k s n h et in
         before (sc .text) (ClosedE l) (SpellsE (sc .names) D.primary l) (bytes "(") (bracketed l) at n (sign-is (sc .text) openRound (bytes "(") (λ x q. q) refl at k s n h et e) (inner s n) (hi s n (mv .2)))
@@ -187,7 +187,7 @@ module _ (sc : Scope) (few : length (sc .names) ≤ 64) where
         token-prop (Derives (sc .text) (SpellsE (sc .names) D.factor l) at) (tokenAt (sc .text) at) _ (λ k q. tt)
         (λ k s n et.
         let mv = token-at-moved (sc .text) at k s n h et in
-        pick-prop (Derives (sc .text) (SpellsE (sc .names) D.factor l) at) (is k minus) _ _
+        cond-prop (Derives (sc .text) (SpellsE (sc .names) D.factor l) at) (is k minus) _ _
         (λ e. making (sc .text) (SpellsE (sc .names) D.primary l) (SpellsE (sc .names) D.factor l) (λ x. negate x) (bytes "-") (λ ts x d. opposite ts x d) at n (sign-is (sc .text) minus (bytes "-") (λ x q. q) refl at k s n h et e) (primary inner sc n) (primary-derives n (mv .2)))
         (λ e. weaker (sc .text) (SpellsE (sc .names) D.primary l) (SpellsE (sc .names) D.factor l) (λ ts x d. plain ts x d) at (primary inner sc at) (primary-derives at h)))
 
@@ -277,7 +277,7 @@ module _ (sc : Scope) (few : length (sc .names) ≤ 64) where
         token-prop (A at) (tokenAt (sc .text) n) _ (λ k q. tt)
         (λ k s m et.
         let mv = token-at-moved (sc .text) n k s m h et in
-        pick-prop (A at) (is k openSquare) _ _
+        cond-prop (A at) (is k openSquare) _ _
         (λ e. inverse at n m st (sign-is (sc .text) openSquare (bytes "[") (λ x q. q) refl n k s m h et e) (inside s m) (hd s m (mv .2)))
         (λ e. tt))
       where
@@ -291,9 +291,9 @@ module _ (sc : Scope) (few : length (sc .names) ≤ 64) where
         token-prop (A at) (tokenAt (sc .text) at) _ (λ k q. tt)
         (λ k s n et.
         let mv = token-at-moved (sc .text) at k s n h et in
-        pick-prop (A at) (is k tilde) _ _
+        cond-prop (A at) (is k tilde) _ _
         (λ e. inverted-derives at n (mv .2) (sign-is (sc .text) tilde (bytes "~") (λ x q. q) refl at k s n h et e))
-        (λ e. pick-prop (A at) (is k openSquare) _ _
+        (λ e. cond-prop (A at) (is k openSquare) _ _
         (λ e2. before (sc .text) (ClosedC l) (SpellsC (sc .names) D.atom l) (bytes "[") (squared l) at n (sign-is (sc .text) openSquare (bytes "[") (λ x q. q) refl at k s n h et e2) (inside s n) (hd s n (mv .2)))
         (λ e2. comparison-derives at h)))
 

@@ -7,7 +7,7 @@ use Rattle.limits.specs.Limits.{bracketLimit}
 use Rattle.lexer.specs.Bytes.{bytes}
 use Rattle.lexer.specs.Token.{kindNumber, closeRound, openSquare, bar, is}
 use Rattle.lexer.specs.Lexer.{tokenAt}
-use Rattle.lexer.proofs.Laws.{pick-prop, token-at-moved}
+use Rattle.lexer.proofs.Laws.{cond-prop, token-at-moved}
 use Rattle.semantics.specs.Program.{Case}
 use Rattle.grammar.specs.Parsed.{Parsed, accepted, refused, sign, phrase, followed}
 use Rattle.grammar.specs.Expressions.{Scope, wholeExpression}
@@ -119,10 +119,10 @@ module _ (sc : Scope) (few : length (sc .names) ≤ 64) where
   unfolding casesFrom isFixed kindNumber
   cases-derive w zero done at h =
       token-prop (CasesReads w done at) (tokenAt (sc .text) at) _ (λ k q. tt)
-      (λ k s n et. pick-prop (CasesReads w done at) (is k openSquare) _ _ (λ e. tt) (λ e. tt))
+      (λ k s n et. cond-prop (CasesReads w done at) (is k openSquare) _ _ (λ e. tt) (λ e. tt))
   cases-derive w (suc left) done at h =
       token-prop (CasesReads w done at) (tokenAt (sc .text) at) _ (λ k q. tt)
-      (λ k s n et. pick-prop (CasesReads w done at) (is k openSquare) _ _
+      (λ k s n et. cond-prop (CasesReads w done at) (is k openSquare) _ _
       (λ eo. then-prop (CasesReads w done at) (caseAt sc w at n) _ (λ k q. tt)
       (λ c n1 e1.
       let r = subst (CaseReads w at) e1 (case-derives w at n h (fixed-stands (sc .text) openSquare refl at k s n h et eo)) in
@@ -130,7 +130,7 @@ module _ (sc : Scope) (few : length (sc .names) ≤ 64) where
       token-prop (CasesReads w done at) (tokenAt (sc .text) n1) _ (λ k q. tt)
       (λ k2 s2 n2 et2.
       let mw = token-at-moved (sc .text) n1 k2 s2 n2 i1 et2 in
-      pick-prop (CasesReads w done at) (is k2 bar) _ _
+      cond-prop (CasesReads w done at) (is k2 bar) _ _
       (λ e. case-next w done at n1 n2 c r (fixed-stands (sc .text) bar refl n1 k2 s2 n2 i1 et2 e) (casesFrom left sc w (done ++ (c ∷ [])) n2) (cases-derive w left (done ++ (c ∷ [])) n2 (mw .2)))
       (λ e. case-last w done at n1 c r))))
       (λ e. tt))

@@ -14,7 +14,7 @@ use Rattle.lexer.specs.Bytes.{bytes, part}
 use Rattle.lexer.specs.Token.{Kind, kindNumber, name, digits, initWord, dots, semicolon, minus, is, token}
 use Rattle.lexer.specs.Lexer.{tokenAt, overLong, valueOf}
 use Rattle.lexer.specs.Names.{idOf}
-use Rattle.lexer.proofs.Laws.{pick-prop, token-at-moved}
+use Rattle.lexer.proofs.Laws.{cond-prop, token-at-moved}
 use Rattle.semantics.specs.Program.{Name}
 use Rattle.grammar.specs.Parsed.{Parsed, accepted, refused, andThen, sign, phrase, followed}
 use Rattle.grammar.specs.Declarations.{inRange, signedAt, boundAt, spellings, newName, startAt, declaration, declarationsFrom}
@@ -37,10 +37,10 @@ module _ (text : List ℕ) where
   signed-derives R signed f test a k s n h et =
       let w = part text s n in
       let z = signed (pos (valueOf w)) in
-      pick-prop (Derives text R a) (is k digits) _ _
+      cond-prop (Derives text R a) (is k digits) _ _
       (λ e.
       let r = sign-stands text digits refl a k s n h et e in
-      pick-prop (Derives text R a) (isInt32 z && test z) _ _ (λ t. record { tokens = w ∷ []; spells = (n, r .0, refl); derives = f w (r .1) }) (λ t. tt))
+      cond-prop (Derives text R a) (isInt32 z && test z) _ _ (λ t. record { tokens = w ∷ []; spells = (n, r .0, refl); derives = f w (r .1) }) (λ t. tt))
       (λ e. tt)
 
   bound-derives : (test : ℤ → Bool) (a : ℕ) → a ≤ length text → Derives text SpellsZ a (boundAt test text a)
@@ -49,7 +49,7 @@ module _ (text : List ℕ) where
       token-prop (Derives text SpellsZ a) (tokenAt text a) _ (λ k q. tt)
       (λ k s n et.
       let mv = token-at-moved text a k s n h et in
-      pick-prop (Derives text SpellsZ a) (is k minus) _ _
+      cond-prop (Derives text SpellsZ a) (is k minus) _ _
       (λ e.
       let st = fixed-stands text minus refl a k s n h et e in
       token-prop (Derives text SpellsZ a) (tokenAt text n) _ (λ k q. tt)
@@ -67,15 +67,15 @@ module _ (text : List ℕ) where
       token-prop (Derives text (Closed text SpellsStart (bytes ";")) a) (tokenAt text a) _ (λ k q. tt)
       (λ k s n et.
       let mv = token-at-moved text a k s n h et in
-      pick-prop (Derives text (Closed text SpellsStart (bytes ";")) a) (is k initWord) _ _
+      cond-prop (Derives text (Closed text SpellsStart (bytes ";")) a) (is k initWord) _ _
       (λ e.
       before text (Closed text SpellsZ (bytes ";")) (Closed text SpellsStart (bytes ";")) (bytes "init") initial a n (fixed-stands text initWord refl a k s n h et e) (andThen (boundAt (inRange low high) text n) (λ z m. followed text (sign semicolon ∷ []) z m))
       (then-prop (Derives text (Closed text SpellsZ (bytes ";")) n) (boundAt (inRange low high) text n) (λ z m. followed text (sign semicolon ∷ []) z m) (λ k q. tt)
       (λ z m ez.
       let d = subst (Derives text SpellsZ n) ez (bound-derives (inRange low high) n (mv .2)) in
       rw (one-sign text semicolon z m) (sign-derives text SpellsZ semicolon (bytes ";") (λ x q. q) refl n z m (spells-in text n m (d .tokens) (mv .2) (d .spells) .1) d))))
-      (λ n1. pick-prop (Derives text (Closed text SpellsStart (bytes ";")) a) (is k semicolon) _ _
-      (λ e. pick-prop (Derives text (Closed text SpellsStart (bytes ";")) a) (inRange low high (pos 0)) _ _
+      (λ n1. cond-prop (Derives text (Closed text SpellsStart (bytes ";")) a) (is k semicolon) _ _
+      (λ e. cond-prop (Derives text (Closed text SpellsStart (bytes ";")) a) (inRange low high (pos 0)) _ _
       (λ t. record { tokens = bytes ";" ∷ []; spells = (n, fixed-stands text semicolon refl a k s n h et e, refl); derives = record { inner = []; is-closed = refl; derives = absent } })
       (λ t. tt))
       (λ n2. tt)))
@@ -87,10 +87,10 @@ module _ (text : List ℕ) where
   unfolding newName is kindNumber
   name-derives names a h =
       token-prop (Derives text (λ ts w. ts ≡ w ∷ []) a) (tokenAt text a) _ (λ k q. tt)
-      (λ k s n et. pick-prop (Derives text (λ ts w. ts ≡ w ∷ []) a) (is k name) _ _
+      (λ k s n et. cond-prop (Derives text (λ ts w. ts ≡ w ∷ []) a) (is k name) _ _
       (λ e. option-prop (Derives text (λ ts w. ts ≡ w ∷ []) a) (idOf (spellings names) (part text s n)) _ _
-      (λ z. pick-prop (Derives text (λ ts w. ts ≡ w ∷ []) a) (overLong s n) _ _ (λ t. tt)
-      (λ t. pick-prop (Derives text (λ ts w. ts ≡ w ∷ []) a) (ltb (length names) nameLimit) _ _
+      (λ z. cond-prop (Derives text (λ ts w. ts ≡ w ∷ []) a) (overLong s n) _ _ (λ t. tt)
+      (λ t. cond-prop (Derives text (λ ts w. ts ≡ w ∷ []) a) (ltb (length names) nameLimit) _ _
       (λ t2. record { tokens = part text s n ∷ []; spells = (n, sign-stands text name refl a k s n h et e .0, refl); derives = refl })
       (λ t2. tt)))
       (λ i ei. tt))
@@ -157,7 +157,7 @@ module _ (text : List ℕ) where
       token-prop (DeclaresFrom (spellingOf word) names a) (tokenAt text a) _ (λ k q. tt)
       (λ k s n et.
       let mv = token-at-moved text a k s n h et in
-      pick-prop (DeclaresFrom (spellingOf word) names a) (is k word) _ _
+      cond-prop (DeclaresFrom (spellingOf word) names a) (is k word) _ _
       (λ e. then-prop (DeclaresFrom (spellingOf word) names a) (declaration text names n) _ (λ k q. tt)
       (λ x m ex.
       let d = subst (Derives text (AfterWord (spellingOf word)) n) ex (declaration-derives (spellingOf word) names n (mv .2)) in

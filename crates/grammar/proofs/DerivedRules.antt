@@ -10,7 +10,7 @@ use Rattle.lexer.specs.Bytes.{bytes, part}
 use Rattle.lexer.specs.Token.{Kind, kindNumber, ending, name, tilde, is, token}
 use Rattle.lexer.specs.Lexer.{tokenAt, overLong}
 use Rattle.lexer.specs.Names.{idOf}
-use Rattle.lexer.proofs.Laws.{pick-prop, token-at-moved}
+use Rattle.lexer.proofs.Laws.{cond-prop, token-at-moved}
 use Rattle.lexer.proofs.Same.{same-kind}
 use Rattle.semantics.specs.Program.{Condition, Case, Rule, change, target, allTrue}
 use Rattle.grammar.specs.Parsed.{Parsed, accepted, refused, phrase, followed}
@@ -113,7 +113,7 @@ module _ (sc : Scope) (few : length (sc .names) ≤ 64) (lengths : length (sc .n
         token-prop R (tokenAt (sc .text) n) _ (λ k q. tt)
         (λ k s m et.
         let mv = token-at-moved (sc .text) n k s m i1 et in
-        pick-prop R (is k tilde) _ _
+        cond-prop R (is k tilde) _ _
         (λ e. after at n s1 (changeAt sc w v m) (before (sc .text) Changing Ruling (bytes "~") (λ ts x d. d) n m (fixed-stands (sc .text) tilde refl n k s m i1 et e) (changeAt sc w v m) (change-derives m (mv .2))))
         (λ e. after at n s1 (functionAt sc w v n) (function-derives n i1))))
       where
@@ -135,9 +135,9 @@ module _ (sc : Scope) (few : length (sc .names) ≤ 64) (lengths : length (sc .n
   unfolding ruleAt withId
   rule-derives at s n h st =
       let w = part (sc .text) s n in
-      pick-prop (Derives (sc .text) (SpellsR (sc .names)) at) (overLong s n) _ _ (λ e. tt)
+      cond-prop (Derives (sc .text) (SpellsR (sc .names)) at) (overLong s n) _ _ (λ e. tt)
       (λ e. option-prop (Derives (sc .text) (SpellsR (sc .names)) at) (idOf (sc .names) w) _ _ (λ z. tt)
-      (λ v ev. pick-prop (Derives (sc .text) (SpellsR (sc .names)) at) (getD (sc .known) v false) _ _ (λ t. tt)
+      (λ v ev. cond-prop (Derives (sc .text) (SpellsR (sc .names)) at) (getD (sc .known) v false) _ _ (λ t. tt)
       (λ t. before (sc .text) (λ ts r. SpellsR (sc .names) (w ∷ ts) r) (SpellsR (sc .names)) w (λ ts r d. d) at n st (formulas sc w v n) (formulas-derive w v (id-names (sc .names) w v ev) n h))))
 
 -- rules from a place to the end of the text, after those done
@@ -174,18 +174,18 @@ rules-derive (suc f) sc few lengths good done at h =
     token-prop (RulesReads (sc .text) (sc .names) done at) (tokenAt (sc .text) at) _ (λ k q. tt)
     (λ k s n et.
     let mv = token-at-moved (sc .text) at k s n h et in
-    pick-prop (RulesReads (sc .text) (sc .names) done at) (is k name) _ _
+    cond-prop (RulesReads (sc .text) (sc .names) done at) (is k name) _ _
     (λ e. then-prop (RulesReads (sc .text) (sc .names) done at) (ruleAt sc s n) _ (λ k q. tt)
     (λ r m er.
     let d = subst (Derives (sc .text) (SpellsR (sc .names)) at) er (rule-derives sc few lengths good at s n (mv .2) (sign-stands (sc .text) name refl at k s n h et e .0)) in
     let i = spells-in (sc .text) at m (d .tokens) h (d .spells) .1 in
     let l = lengths ∙ sym (length-set (sc .known) (target r) true) in
     rule-next (sc .text) (sc .names) done at m r d (rulesFrom f (ruled sc (target r)) (done ++ (r ∷ [])) m) (rules-derive f (ruled sc (target r)) few l good (done ++ (r ∷ [])) m i)))
-    (λ n1. pick-prop (RulesReads (sc .text) (sc .names) done at) (is k ending) _ _
+    (λ n1. cond-prop (RulesReads (sc .text) (sc .names) done at) (is k ending) _ _
     (λ e.
     let et2 : tokenAt (sc .text) at ≡ token ending s n = et ∙ ap (λ (x : Kind). token x s n) (same-kind k ending e) in
     let pl = end-place (sc .text) at s n h et2 in
-    pick-prop (RulesReads (sc .text) (sc .names) done at) (allTrue (sc .known)) _ _
+    cond-prop (RulesReads (sc .text) (sc .names) done at) (allTrue (sc .known)) _ _
     (λ t. record { more = []; is-more = sym (append-nil done); tokens = []; end = at; spells = refl; ends = subst (λ (x : ℕ). tokenAt (sc .text) at ≡ token ending x (length (sc .text))) (pl .0) (et2 ∙ ap (λ (x : ℕ). token ending s x) (pl .1)); derives = S.SpellsRules.none })
     (λ t. tt))
     (λ n2. tt)))

@@ -1,14 +1,14 @@
 -- A text that is accepted spells its program. Assumes nothing.
 use mathlib.Core.Path.{_≡_, refl, sym, _∙_, subst}
 use mathlib.Core.List.{List, [], _++_}
-use mathlib.Core.Bool.{Bool, true, false}
+use mathlib.Core.Bool.{Bool, true, false, cond}
 use Prim.Native.Nat.{ℕ}
 use native.Mathlib.Nat.{le-refl}
 use native.Mathlib.Omega.{arith}
 use lib.ListN.{length}
 use lib.Dec.{ltb}
 use Rattle.limits.specs.Limits.{textLimit}
-use Rattle.lexer.specs.Bytes.{bytes, pick}
+use Rattle.lexer.specs.Bytes.{bytes}
 use Rattle.lexer.specs.Token.{kindNumber, inputWord, varWord}
 use Rattle.semantics.specs.Program.{Name, Rule, Program, knownFirst}
 use Rattle.semantics.proofs.Reference.{length-known}
@@ -86,7 +86,7 @@ parsed : (text : List ℕ) (p : Program) (n : ℕ) → parse text ≡ accepted p
 unfolding parse
 parsed text p n e = go (ltb textLimit (length text)) e
   where
-    go : (t : Bool) → pick t (refused 9 0) (program text) ≡ accepted p n → program text ≡ accepted p n
+    go : (t : Bool) → cond t (refused 9 0) (program text) ≡ accepted p n → program text ≡ accepted p n
     go true q = never 9 0 n p q
     go false q = q
 

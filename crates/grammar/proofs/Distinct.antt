@@ -1,13 +1,13 @@
 -- Names that are pairwise distinct have ids that are their places. Assumes nothing.
 use mathlib.Core.Path.{_≡_, refl, ap, sym, _∙_, subst}
 use mathlib.Core.List.{List, [], _∷_, _++_}
-use mathlib.Core.Bool.{Bool, true, false}
+use mathlib.Core.Bool.{Bool, true, false, cond}
 use mathlib.Core.Option.{none, some}
 use Prim.Native.Nat.{ℕ, zero, suc, _+_}
 use native.Mathlib.Omega.{arith}
 use lib.ListN.{getElem?}
 use borrow.Author.Tests.{eq-eqb}
-use Rattle.lexer.specs.Bytes.{pick, sameBytes}
+use Rattle.lexer.specs.Bytes.{sameBytes}
 use Rattle.lexer.specs.Lexer.{sameName}
 use Rattle.lexer.specs.Names.{idFrom, idOf}
 use Rattle.lexer.proofs.Same.{same-name}
@@ -41,7 +41,7 @@ unfolding idFrom
 from-none [] w i e = tt
 from-none (x ∷ l) w i e = go (sameName w x) refl (λ h. from-none l w (i + 1) h) e
   where
-    go : (t : Bool) → sameName w x ≡ t → (idFrom l w (i + 1) ≡ none → Apart w l) → pick t (some i) (idFrom l w (i + 1)) ≡ none → Apart w (x ∷ l)
+    go : (t : Bool) → sameName w x ≡ t → (idFrom l w (i + 1) ≡ none → Apart w l) → cond t (some i) (idFrom l w (i + 1)) ≡ none → Apart w (x ∷ l)
     go true t f h = let z : _≡_ {A = ℕ} 0 1 = cc in absurd (omega arith)
     go false t f h = (t, f h)
 

@@ -14,7 +14,7 @@ use Rattle.lexer.specs.Token.{Kind, name, digits, openRound, openSquare, tilde,
 use Rattle.lexer.specs.Token as T
 use Rattle.lexer.specs.Lexer.{tokenAt, overLong, valueOf}
 use Rattle.lexer.specs.Names.{idOf}
-use Rattle.lexer.proofs.Laws.{pick-prop}
+use Rattle.lexer.proofs.Laws.{cond-prop}
 use Rattle.arith.specs.Values.{Operation, Comparison}
 use Rattle.arith.proofs.Laws.{mag-int32}
 use Rattle.semantics.specs.Program.{Expression, previous, operation, Condition, comparison, Case, UsableE, UsableC, UsableK}
@@ -76,19 +76,19 @@ module _ (sc : Scope) (lengths : length (sc .names) ≡ length (sc .known)) wher
   unfolding numberAt
   number-fits d s n h =
       let v = valueOf (part (sc .text) s n) in
-      pick-prop (Holds (FitE (sc .known) d)) (ltb numberLimit v) _ _ (λ e. tt)
+      cond-prop (Holds (FitE (sc .known) d)) (ltb numberLimit v) _ _ (λ e. tt)
       (λ e. (mag-int32 (pos v) (omega (arith, ltb-false numberLimit v e)), h))
 
   id-holds : {A : Type 0} (P : A → Type 0) (p s n : ℕ) (f : ℕ → Parsed A) → ((i : ℕ) → i < length (sc .known) → Holds P (f i)) → Holds P (withId sc p s n f)
   unfolding withId
   id-holds P p s n f h =
-      pick-prop (Holds P) (overLong s n) _ _ (λ e. tt)
+      cond-prop (Holds P) (overLong s n) _ _ (λ e. tt)
       (λ e. option-prop (Holds P) (idOf (sc .names) (part (sc .text) s n)) _ _ (λ z. tt)
       (λ i ei. h i (omega (arith, lengths, id-of (sc .names) (part (sc .text) s n) i ei))))
 
   current-fits : (d s n : ℕ) → 1 ≤ d → Holds (FitE (sc .known) d) (currentAt sc s n)
   unfolding currentAt
-  current-fits d s n h = id-holds (FitE (sc .known) d) s s n _ (λ i hi. pick-prop (Holds (FitE (sc .known) d)) (getD (sc .known) i false) _ _ (λ e. (e, h)) (λ e. tt))
+  current-fits d s n h = id-holds (FitE (sc .known) d) s s n _ (λ i hi. cond-prop (Holds (FitE (sc .known) d)) (getD (sc .known) i false) _ _ (λ e. (e, h)) (λ e. tt))
 
   previous-fits : (d s n : ℕ) → 1 ≤ d → Holds (FitE (sc .known) d) (previousAt sc s n)
   unfolding previousAt
@@ -99,10 +99,10 @@ module _ (sc : Scope) (lengths : length (sc .names) ≡ length (sc .known)) wher
     unfolding primary
     primary-fits at =
         token-prop (Holds (FitE (sc .known) d)) (tokenAt (sc .text) at) _ (λ k q. tt)
-        (λ k s n et. pick-prop (Holds (FitE (sc .known) d)) (is k digits) _ _ (λ e. number-fits d s n hd)
-        (λ n1. pick-prop (Holds (FitE (sc .known) d)) (is k name) _ _ (λ e. current-fits d s n hd)
-        (λ n2. pick-prop (Holds (FitE (sc .known) d)) (is k T.previous) _ _ (λ e. previous-fits d s n hd)
-        (λ n3. pick-prop (Holds (FitE (sc .known) d)) (is k openRound) _ _ (λ e. hi s n) (λ n4. tt)))))
+        (λ k s n et. cond-prop (Holds (FitE (sc .known) d)) (is k digits) _ _ (λ e. number-fits d s n hd)
+        (λ n1. cond-prop (Holds (FitE (sc .known) d)) (is k name) _ _ (λ e. current-fits d s n hd)
+        (λ n2. cond-prop (Holds (FitE (sc .known) d)) (is k T.previous) _ _ (λ e. previous-fits d s n hd)
+        (λ n3. cond-prop (Holds (FitE (sc .known) d)) (is k openRound) _ _ (λ e. hi s n) (λ n4. tt)))))
 
     negative-fits : (p : Parsed Expression) → Holds (FitE (sc .known) d) p → Holds (FitE (sc .known) d) (negative p)
     unfolding negative
@@ -113,7 +113,7 @@ module _ (sc : Scope) (lengths : length (sc .names) ≡ length (sc .known)) wher
     unfolding factor
     factor-fits at =
         token-prop (Holds (FitE (sc .known) d)) (tokenAt (sc .text) at) _ (λ k q. tt)
-        (λ k s n et. pick-prop (Holds (FitE (sc .known) d)) (is k minus) _ _ (λ e. negative-fits (primary inner sc n) (primary-fits n)) (λ e. primary-fits at))
+        (λ k s n et. cond-prop (Holds (FitE (sc .known) d)) (is k minus) _ _ (λ e. negative-fits (primary inner sc n) (primary-fits n)) (λ e. primary-fits at))
 
     term-fits : (at : ℕ) → Holds (FitE (sc .known) (suc d)) (term inner sc at)
     unfolding term
@@ -165,14 +165,14 @@ module _ (sc : Scope) (lengths : length (sc .names) ≡ length (sc .known)) wher
     unfolding inverted
     inverted-fits at =
         token-prop (Holds (FitC (sc .known) (suc (suc (suc d))))) (tokenAt (sc .text) at) _ (λ k q. tt)
-        (λ k s n et. pick-prop (Holds (FitC (sc .known) (suc (suc (suc d))))) (is k openSquare) _ _ (λ e. opposite-fits (suc (suc (suc d))) (inside s n) (hc s n)) (λ e. tt))
+        (λ k s n et. cond-prop (Holds (FitC (sc .known) (suc (suc (suc d))))) (is k openSquare) _ _ (λ e. opposite-fits (suc (suc (suc d))) (inside s n) (hc s n)) (λ e. tt))
 
     atom-fits : (at : ℕ) → Holds (FitC (sc .known) (suc (suc (suc d)))) (atom inner inside sc at)
     unfolding atom
     atom-fits at =
         token-prop (Holds (FitC (sc .known) (suc (suc (suc d))))) (tokenAt (sc .text) at) _ (λ k q. tt)
-        (λ k s n et. pick-prop (Holds (FitC (sc .known) (suc (suc (suc d))))) (is k tilde) _ _ (λ e. inverted-fits n)
-        (λ e. pick-prop (Holds (FitC (sc .known) (suc (suc (suc d))))) (is k openSquare) _ _ (λ e. hc s n) (λ e. comparison-at-fits at)))
+        (λ k s n et. cond-prop (Holds (FitC (sc .known) (suc (suc (suc d))))) (is k tilde) _ _ (λ e. inverted-fits n)
+        (λ e. cond-prop (Holds (FitC (sc .known) (suc (suc (suc d))))) (is k openSquare) _ _ (λ e. hc s n) (λ e. comparison-at-fits at)))
 
     conjunction-fits : (at : ℕ) → Holds (FitC (sc .known) (suc (suc (suc (suc d))))) (conjunction inner inside sc at)
     unfolding conjunction
@@ -232,17 +232,17 @@ module _ (sc : Scope) (lengths : length (sc .names) ≡ length (sc .known)) wher
   pub cases-fit : (w : List ℕ) (left : ℕ) (done : List Spanned) (at : ℕ) → length done + left ≡ 32 → CasesFit (sc .known) (casesOf done) → Holds F (casesFrom left sc w done at)
   unfolding casesFrom
   cases-fit w zero done at h hd =
-      token-prop (Holds F) (tokenAt (sc .text) at) _ (λ k q. tt) (λ k s n et. pick-prop (Holds F) (is k openSquare) _ _ (λ e. tt) (λ e. tt))
+      token-prop (Holds F) (tokenAt (sc .text) at) _ (λ k q. tt) (λ k s n et. cond-prop (Holds F) (is k openSquare) _ _ (λ e. tt) (λ e. tt))
   cases-fit w (suc left) done at h hd =
       token-prop (Holds F) (tokenAt (sc .text) at) _ (λ k q. tt)
-      (λ k s n et. pick-prop (Holds F) (is k openSquare) _ _
+      (λ k s n et. cond-prop (Holds F) (is k openSquare) _ _
       (λ eo. then-prop (Holds F) (caseAt sc w at n) _ (λ k q. tt)
       (λ c n1 e1.
       let fc : CaseFits (sc .known) (c .case) = subst (Holds (λ (c : Spanned). CaseFits (sc .known) (c .case))) e1 (case-fits w at n) in
       let fits : CasesFit (sc .known) (casesOf (done ++ (c ∷ []))) = cases-append (sc .known) done c hd fc in
       let count : length (done ++ (c ∷ [])) ≡ length done + 1 = length-append done (c ∷ []) in
       token-prop (Holds F) (tokenAt (sc .text) n1) _ (λ k q. tt)
-      (λ k2 s2 n2 et2. pick-prop (Holds F) (is k2 bar) _ _
+      (λ k2 s2 n2 et2. cond-prop (Holds F) (is k2 bar) _ _
       (λ e. cases-fit w left (done ++ (c ∷ [])) n2 (omega arith) fits)
       (λ e. (omega (arith, cases-length (done ++ (c ∷ []))), omega (arith, cases-length (done ++ (c ∷ []))), fits)))))
       (λ e. tt))

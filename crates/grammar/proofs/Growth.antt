@@ -12,7 +12,7 @@ use Rattle.lexer.specs.Token.{Kind, kindNumber, ending, name, digits, openRound
 use Rattle.lexer.specs.Token as T
 use Rattle.lexer.specs.Lexer.{tokenAt, overLong, valueOf}
 use Rattle.lexer.specs.Names.{idOf}
-use Rattle.lexer.proofs.Laws.{pick-prop, apart, token-at-moved}
+use Rattle.lexer.proofs.Laws.{cond-prop, apart, token-at-moved}
 use Rattle.arith.specs.Values.{Operation, Comparison}
 use Rattle.semantics.specs.Program.{Expression, previous, operation, Condition, comparison}
 use Rattle.grammar.specs.Parsed.{Parsed, accepted, refused, Wanted, sign, isWanted, expected, phrase, followed, rest, chain}
@@ -61,7 +61,7 @@ module _ (text : List ℕ) where
   unfolding expected
   expected-kept w at h =
       token-prop (Kept (length text) at) (tokenAt text at) _ (λ r q. tt)
-      (λ k s n et. let mv = token-at-moved text at k s n h et in pick-prop (Kept (length text) at) (isWanted text w k s n) _ _ (λ e. (omega arith, mv .2)) (λ e. tt))
+      (λ k s n et. let mv = token-at-moved text at k s n h et in cond-prop (Kept (length text) at) (isWanted text w k s n) _ _ (λ e. (omega arith, mv .2)) (λ e. tt))
 
   pub phrase-kept : (ws : List Wanted) (at : ℕ) → at ≤ length text → Kept (length text) at (phrase text ws at)
   unfolding phrase
@@ -151,20 +151,20 @@ module _ (sc : Scope) (few : length (sc .names) ≤ 64) where
   number-grown at s n i j l =
       let w = part (sc .text) s n in
       let lw : length w ≡ n - s = part-length (sc .text) s n (omega arith) l in
-      pick-prop (Grown codeE (length (sc .text)) at) (ltb numberLimit (valueOf w)) _ _ (λ e. tt)
+      cond-prop (Grown codeE (length (sc .text)) at) (ltb numberLimit (valueOf w)) _ _ (λ e. tt)
       (λ e. (omega arith, l, omega (arith, digits-bytes w (omega arith))))
 
   id-grown : (at p s n : ℕ) (f : ℕ → Parsed Expression) → ((i : ℕ) → i < 64 → G at (f i)) → G at (withId sc p s n f)
   unfolding withId
   id-grown at p s n f h =
-      pick-prop (Grown codeE (length (sc .text)) at) (overLong s n) _ _ (λ e. tt)
+      cond-prop (Grown codeE (length (sc .text)) at) (overLong s n) _ _ (λ e. tt)
       (λ e. option-prop (Grown codeE (length (sc .text)) at) (idOf (sc .names) (part (sc .text) s n)) _ _ (λ z. tt)
       (λ i ei. h i (omega (arith, id-of (sc .names) (part (sc .text) s n) i ei))))
 
   current-grown : (at s n : ℕ) → at ≤ s → s < n → n ≤ length (sc .text) → G at (currentAt sc s n)
   unfolding currentAt codeE
   current-grown at s n i j l =
-      id-grown at s s n _ (λ v hv. pick-prop (Grown codeE (length (sc .text)) at) (getD (sc .known) v false) _ _ (λ e. (omega arith, l, omega (arith, id-bytes v (omega arith)))) (λ e. tt))
+      id-grown at s s n _ (λ v hv. cond-prop (Grown codeE (length (sc .text)) at) (getD (sc .known) v false) _ _ (λ e. (omega arith, l, omega (arith, id-bytes v (omega arith)))) (λ e. tt))
 
   previous-grown : (at s n : ℕ) → at ≤ s → s < n → n ≤ length (sc .text) → G at (previousAt sc s n)
   unfolding previousAt codeE
@@ -182,10 +182,10 @@ module _ (sc : Scope) (few : length (sc .names) ≤ 64) where
         token-prop (Grown codeE (length (sc .text)) at) (tokenAt (sc .text) at) _ (λ r q. tt)
         (λ k s n et.
         let mv = token-at-moved (sc .text) at k s n h et in
-        pick-prop (Grown codeE (length (sc .text)) at) (is k digits) _ _ (λ e. number-grown at s n (mv .0) (mv .3 (not-end k digits refl e)) (mv .2))
-        (λ n1. pick-prop (Grown codeE (length (sc .text)) at) (is k name) _ _ (λ e. current-grown at s n (mv .0) (mv .3 (not-end k name refl e)) (mv .2))
-        (λ n2. pick-prop (Grown codeE (length (sc .text)) at) (is k T.previous) _ _ (λ e. previous-grown at s n (mv .0) (mv .3 (not-end k T.previous refl e)) (mv .2))
-        (λ n3. pick-prop (Grown codeE (length (sc .text)) at) (is k openRound) _ _
+        cond-prop (Grown codeE (length (sc .text)) at) (is k digits) _ _ (λ e. number-grown at s n (mv .0) (mv .3 (not-end k digits refl e)) (mv .2))
+        (λ n1. cond-prop (Grown codeE (length (sc .text)) at) (is k name) _ _ (λ e. current-grown at s n (mv .0) (mv .3 (not-end k name refl e)) (mv .2))
+        (λ n2. cond-prop (Grown codeE (length (sc .text)) at) (is k T.previous) _ _ (λ e. previous-grown at s n (mv .0) (mv .3 (not-end k T.previous refl e)) (mv .2))
+        (λ n3. cond-prop (Grown codeE (length (sc .text)) at) (is k openRound) _ _
         (λ e. widen (sc .text) codeE at s (inner s n) (mv .0) (hi s n (mv .3 (not-end k openRound refl e)) (mv .2)))
         (λ n4. tt)))))
 
@@ -195,7 +195,7 @@ module _ (sc : Scope) (few : length (sc .names) ≤ 64) where
         token-prop (Grown codeE (length (sc .text)) at) (tokenAt (sc .text) at) _ (λ r q. tt)
         (λ k s n et.
         let mv = token-at-moved (sc .text) at k s n h et in
-        pick-prop (Grown codeE (length (sc .text)) at) (is k minus) _ _
+        cond-prop (Grown codeE (length (sc .text)) at) (is k minus) _ _
         (λ e. negate-grown at n (primary inner sc n) (omega (arith, mv .3 (not-end k minus refl e))) (primary-grown n (mv .2)))
         (λ ne. primary-grown at h))
 
@@ -255,7 +255,7 @@ module _ (sc : Scope) (few : length (sc .names) ≤ 64) where
           token-prop (Grown codeC (length (sc .text)) at) (tokenAt (sc .text) n) _ (λ r q. tt)
           (λ k s m et.
           let mv = token-at-moved (sc .text) n k s m j et in
-          pick-prop (Grown codeC (length (sc .text)) at) (is k openSquare) _ _
+          cond-prop (Grown codeC (length (sc .text)) at) (is k openSquare) _ _
           (λ e. opposite-grown at s (inside s m) (omega arith) (hc s m (mv .3 (not-end k openSquare refl e)) (mv .2)))
           (λ e. tt))
 
@@ -265,9 +265,9 @@ module _ (sc : Scope) (few : length (sc .names) ≤ 64) where
           token-prop (Grown codeC (length (sc .text)) at) (tokenAt (sc .text) at) _ (λ r q. tt)
           (λ k s n et.
           let mv = token-at-moved (sc .text) at k s n h et in
-          pick-prop (Grown codeC (length (sc .text)) at) (is k tilde) _ _
+          cond-prop (Grown codeC (length (sc .text)) at) (is k tilde) _ _
           (λ e. inverted-grown at n (omega (arith, mv .3 (not-end k tilde refl e))) (mv .2))
-          (λ ne. pick-prop (Grown codeC (length (sc .text)) at) (is k openSquare) _ _
+          (λ ne. cond-prop (Grown codeC (length (sc .text)) at) (is k openSquare) _ _
           (λ e. widen (sc .text) codeC at s (inside s n) (mv .0) (hc s n (mv .3 (not-end k openSquare refl e)) (mv .2)))
           (λ ne2. comparison-grown at h)))
 

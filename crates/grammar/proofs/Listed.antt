@@ -2,13 +2,13 @@
 -- Assumes nothing.
 use mathlib.Core.Path.{_≡_, refl, ap, sym, _∙_, subst}
 use mathlib.Core.List.{List, [], _∷_, _++_, append-assoc}
-use mathlib.Core.Bool.{Bool, true, false}
+use mathlib.Core.Bool.{Bool, true, false, cond}
 use Prim.Native.Nat.{ℕ, zero, suc, _+_, _≤_, _<_}
 use native.Mathlib.Nat.{le-refl}
 use native.Mathlib.Omega.{arith}
 use lib.ListN.{length}
 use borrow.Author.Tests.{lt-ltb, le-ltb, eq-eqb}
-use Rattle.lexer.specs.Bytes.{bytes, pick}
+use Rattle.lexer.specs.Bytes.{bytes}
 use Rattle.lexer.specs.Token.{Kind, kindNumber, closeRound, bar, is, Read, token, fault}
 use Rattle.lexer.specs.Lexer.{tokenAt, sameToken}
 use Rattle.lexer.proofs.Laws.{token-at-moved}
@@ -34,7 +34,7 @@ record Found (r : Read) (test : Kind → ℕ → ℕ → Bool) (next : ℕ → C
 found : (r : Read) (test : Kind → ℕ → ℕ → Bool) (next : ℕ → Compared) (c : ℕ) → onFound r test next ≡ agrees c → Found r test next c
 found (token k s n) test next c h = go (test k s n) refl h
   where
-    go : (t : Bool) → test k s n ≡ t → pick t (next n) (differs s) ≡ agrees c → Found (token k s n) test next c
+    go : (t : Bool) → test k s n ≡ t → cond t (next n) (differs s) ≡ agrees c → Found (token k s n) test next c
     go true e m = record { kind = k; start = s; end = n; is-token = refl; passes = e; more = m }
     go false e m = let z : _≡_ {A = ℕ} 0 1 = cc in let f : ⊥ = omega arith in absurd f
 found (fault p) test next c h = let z : _≡_ {A = ℕ} 0 1 = cc in let f : ⊥ = omega arith in absurd f

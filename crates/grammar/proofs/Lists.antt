@@ -7,7 +7,7 @@ use lib.ListN.{length}
 use lib.Dec.{ltb, leb, eqb}
 use Rattle.limits.specs.Limits.{caseLimit}
 use Rattle.lexer.specs.Bytes.{bytes}
-use Rattle.lexer.proofs.Laws.{pick-prop}
+use Rattle.lexer.proofs.Laws.{cond-prop}
 use Rattle.semantics.specs.Program.{Condition}
 use Rattle.grammar.specs.Parsed.{Parsed, accepted, refused}
 use Rattle.grammar.specs.Expressions.{Scope}
@@ -34,8 +34,8 @@ unfolding settled
 settled-inv r (agrees n) ds m e = record { place = n; agrees-at = refl; plain = e }
 settled-inv (accepted a n) (differs p) ds m e = never 7 p m ds e
 settled-inv (refused k q) (differs p) ds m e =
-    pick-prop P (ltb q p) _ _ (λ t f. never k q m ds f)
-    (λ t. pick-prop P (eqb q p) _ _ (λ t2. pick-prop P (leb k 5) _ _ (λ t3 f. never k q m ds f) (λ t3 f. never 7 p m ds f)) (λ t2 f. never 7 p m ds f)) e
+    cond-prop P (ltb q p) _ _ (λ t f. never k q m ds f)
+    (λ t. cond-prop P (eqb q p) _ _ (λ t2. cond-prop P (leb k 5) _ _ (λ t3 f. never k q m ds f) (λ t3 f. never 7 p m ds f)) (λ t2 f. never 7 p m ds f)) e
   where
     P : Parsed (List Condition) → Type 0
     P x = x ≡ accepted ds m → Settled (refused k q) (differs p) ds m

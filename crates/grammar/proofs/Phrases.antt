@@ -1,13 +1,13 @@
 -- Fixed tokens in order: what is read as a phrase is spelled as it says, and the other way round. Assumes nothing.
 use mathlib.Core.Path.{_≡_, refl, ap, sym, _∙_, subst}
 use mathlib.Core.List.{List, [], _∷_, _++_}
-use mathlib.Core.Bool.{Bool, true, false, _&&_}
+use mathlib.Core.Bool.{Bool, true, false, _&&_, cond}
 use Prim.Native.Nat.{ℕ, _+_, _≤_}
 use native.Mathlib.Omega.{arith}
 use lib.ListN.{length, getD}
 use borrow.Author.Tests.{eq-eqb}
 use Rattle.arith.proofs.Basics.{and-both}
-use Rattle.lexer.specs.Bytes.{bytes, pick, part}
+use Rattle.lexer.specs.Bytes.{bytes, part}
 use Rattle.lexer.specs.Token.{Kind, kindNumber, ending, name, previous, is, Read, token, fault}
 use Rattle.lexer.specs.Lexer.{tokenAt, sameName}
 use Rattle.lexer.proofs.Laws.{token-at-moved}
@@ -90,11 +90,11 @@ module _ (text : List ℕ) where
   unfolding expected
   expected-stands w ws f a u n h e = read (tokenAt text a) refl e
     where
-      read : (r : Read) → tokenAt text a ≡ r → onToken r (λ k s n. pick (isWanted text w k s n) (accepted tt n) (refused 2 s)) ≡ accepted u n → Stands text a n (wantedToken w)
+      read : (r : Read) → tokenAt text a ≡ r → onToken r (λ k s n. cond (isWanted text w k s n) (accepted tt n) (refused 2 s)) ≡ accepted u n → Stands text a n (wantedToken w)
       read (fault p) et q = never 1 p n u q
       read (token k s m) et q = test (isWanted text w k s m) refl q
         where
-          test : (t : Bool) → isWanted text w k s m ≡ t → pick t (accepted tt m) (refused 2 s) ≡ accepted u n → Stands text a n (wantedToken w)
+          test : (t : Bool) → isWanted text w k s m ≡ t → cond t (accepted tt m) (refused 2 s) ≡ accepted u n → Stands text a n (wantedToken w)
           test true t z = let i : m ≡ n = cc in subst (λ (x : ℕ). Stands text a x (wantedToken w)) i (wanted-stands w ws f a k s m h et t)
           test false t z = never 2 s n u z
 

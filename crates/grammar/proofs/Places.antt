@@ -1,14 +1,14 @@
 -- Where a refusal stands: its place is within the text, and its number is one of 1 to 9. One law a combinator; none needs to know
 -- more than that it begins within the text. Assumes nothing.
 use mathlib.Core.List.{List, [], _∷_}
-use mathlib.Core.Bool.{Bool, true, false}
+use mathlib.Core.Bool.{Bool, true, false, cond}
 use mathlib.Core.Option.{Option, none, some}
 use Prim.Native.Nat.{ℕ, zero, suc, _+_, _≤_}
 use native.Mathlib.Omega.{arith}
 use lib.ListN.{length, getD}
 use lib.Dec.{ltb}
 use Rattle.limits.specs.Limits.{bracketLimit}
-use Rattle.lexer.specs.Bytes.{pick, part}
+use Rattle.lexer.specs.Bytes.{part}
 use Rattle.lexer.specs.Token.{Kind, name, digits, openRound, openSquare, tilde, minus, is, Read, token, fault}
 use Rattle.lexer.specs.Token as T
 use Rattle.lexer.specs.Lexer.{tokenAt, overLong, valueOf}
@@ -30,7 +30,7 @@ pub then-within : {A B : Type 0} (len : ℕ) (p : Parsed A) (f : A → ℕ → P
 then-within len (accepted a n) f h g = g a n h
 then-within len (refused k q) f h g = h
 
-pub pick-within : {A : Type 0} (len : ℕ) (t : Bool) (a b : Parsed A) → Within len a → Within len b → Within len (pick t a b)
+pub pick-within : {A : Type 0} (len : ℕ) (t : Bool) (a b : Parsed A) → Within len a → Within len b → Within len (cond t a b)
 pick-within len true a b f g = f
 pick-within len false a b f g = g
 

@@ -17,7 +17,7 @@ use Rattle.lexer.specs.Bytes.{part}
 use Rattle.lexer.specs.Token.{Kind, name, ending, digits, openSquare, tilde, bar, minus, initWord, semicolon, closeRound, is, Read, token, fault, inputWord, varWord}
 use Rattle.lexer.specs.Lexer.{tokenAt, sameToken, overLong, valueOf}
 use Rattle.lexer.specs.Names.{idOf}
-use Rattle.lexer.proofs.Laws.{pick-prop, Moved, token-moved, Faulted, token-faulted}
+use Rattle.lexer.proofs.Laws.{cond-prop, Moved, token-moved, Faulted, token-faulted}
 use Rattle.semantics.specs.Program.{Name, Condition, Rule, Program, target, allTrue}
 use Rattle.grammar.specs.Parsed.{Parsed, accepted, refused, phrase}
 use Rattle.grammar.specs.Expressions.{Scope, wholeExpression}
@@ -96,7 +96,7 @@ module _ (text : List ℕ) where
   found-near at test next h g = go (tokenAt text at) (token-moved text at h) (token-faulted text at)
     where
       go : (r : Read) → Moved at (length text) r → Faulted (length text) r → Near (onFound r test next)
-      go (token k s n) m e = pick-prop Near (test k s n) _ _ (λ t. g n (m .2)) (λ t. omega (arith, m .1, m .2))
+      go (token k s n) m e = cond-prop Near (test k s n) _ _ (λ t. g n (m .2)) (λ t. omega (arith, m .1, m .2))
       go (fault p) m e = omega arith
 
   -- the wanted token may be read anywhere: what is no token stands within the text
@@ -111,7 +111,7 @@ module _ (text : List ℕ) where
   unfolding partFrom
   part-near zero from to at h = h
   part-near (suc f) from to at h =
-      pick-prop Near (ltb from to) _ _ (λ t. wanted-near from _ (λ k s n. found-near at (sameToken text k s n) _ h (λ m i. part-near f n to m i))) (λ t. h)
+      cond-prop Near (ltb from to) _ _ (λ t. wanted-near from _ (λ k s n. found-near at (sameToken text k s n) _ h (λ m i. part-near f n to m i))) (λ t. h)
 
   kind-near : (w : Kind) (at : ℕ) → at ≤ length text → Near (kindAt text w at)
   unfolding kindAt
@@ -228,7 +228,7 @@ parse-within text = pick-within (length text) (ltb textLimit (length text)) _ _ 
 pub parse-limited : (text : List ℕ) → Within textLimit (parse text)
 unfolding parse
 parse-limited text =
-    pick-prop (Within textLimit) (ltb textLimit (length text)) _ _ (λ t. (omega arith, omega arith, omega arith))
+    cond-prop (Within textLimit) (ltb textLimit (length text)) _ _ (λ t. (omega arith, omega arith, omega arith))
     (λ t. wider (ltb-false textLimit (length text) t) (program text) (program-within text))
   where
     wider : length text ≤ textLimit → (p : Parsed Program) → Within (length text) p → Within textLimit p

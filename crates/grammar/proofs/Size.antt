@@ -13,7 +13,7 @@ use Rattle.lexer.specs.Bytes.{part}
 use Rattle.lexer.specs.Token.{Kind, kindNumber, name, previous, digits, ending, openSquare, tilde, bar, minus, initWord, semicolon, dots, is}
 use Rattle.lexer.specs.Lexer.{tokenAt, overLong, valueOf, sameName}
 use Rattle.lexer.specs.Names.{idOf}
-use Rattle.lexer.proofs.Laws.{pick-prop, token-at-moved}
+use Rattle.lexer.proofs.Laws.{cond-prop, token-at-moved}
 use Rattle.lexer.proofs.Same.{both-true}
 use Rattle.semantics.specs.Program.{Name, Rule, function, change, Program, target, allTrue, knownFirst}
 use Rattle.semantics.proofs.Reference.{length-known}
@@ -59,7 +59,7 @@ module _ (text : List ℕ) where
       token-prop (Long 1 (length text) at) (tokenAt text at) _ (λ k q. tt)
       (λ k s n et.
       let mv = token-at-moved text at k s n h et in
-      pick-prop (Long 1 (length text) at) (isWanted text w k s n) _ _ (λ e. (omega (arith, mv .0, mv .3 (f k s n e)), mv .2)) (λ e. tt))
+      cond-prop (Long 1 (length text) at) (isWanted text w k s n) _ _ (λ e. (omega (arith, mv .0, mv .3 (f k s n e)), mv .2)) (λ e. tt))
 
   phrase-more : (c at n : ℕ) (p : Parsed (Unit {0})) → at + 1 ≤ n → Long c (length text) n p → Long (suc c) (length text) at p
   phrase-more c at n (accepted u m) h g = (omega (arith, g .0), g .1)
@@ -110,12 +110,12 @@ module _ (sc : Scope) (few : length (sc .names) ≤ 64) (v : ℕ) (hv : v < 64) 
   unfolding casesFrom
   cases-pay w zero done from at h g =
       token-prop (Pays (λ (cs : List Spanned). length (codeK v (casesOf cs))) (length (sc .text)) from) (tokenAt (sc .text) at) _ (λ k q. tt)
-      (λ k s n et. pick-prop (Pays (λ (cs : List Spanned). length (codeK v (casesOf cs))) (length (sc .text)) from) (is k openSquare) _ _ (λ e. tt) (λ e. tt))
+      (λ k s n et. cond-prop (Pays (λ (cs : List Spanned). length (codeK v (casesOf cs))) (length (sc .text)) from) (is k openSquare) _ _ (λ e. tt) (λ e. tt))
   cases-pay w (suc left) done from at h g =
       token-prop (Pays (λ (cs : List Spanned). length (codeK v (casesOf cs))) (length (sc .text)) from) (tokenAt (sc .text) at) _ (λ k q. tt)
       (λ k s n et.
       let mv = token-at-moved (sc .text) at k s n h et in
-      pick-prop (Pays (λ (cs : List Spanned). length (codeK v (casesOf cs))) (length (sc .text)) from) (is k openSquare) _ _
+      cond-prop (Pays (λ (cs : List Spanned). length (codeK v (casesOf cs))) (length (sc .text)) from) (is k openSquare) _ _
       (λ eo. then-prop (Pays (λ (cs : List Spanned). length (codeK v (casesOf cs))) (length (sc .text)) from) (caseAt sc w at n) _ (λ k q. tt)
       (λ c n1 e1.
       let p = subst (Pays (λ (c : Spanned). length (codeK v (casesOf (c ∷ [])))) (length (sc .text)) n) e1 (case-pays w at n (mv .2)) in
@@ -123,7 +123,7 @@ module _ (sc : Scope) (few : length (sc .names) ≤ 64) (v : ℕ) (hv : v < 64) 
       token-prop (Pays (λ (cs : List Spanned). length (codeK v (casesOf cs))) (length (sc .text)) from) (tokenAt (sc .text) n1) _ (λ k q. tt)
       (λ k2 s2 n2 et2.
       let mw = token-at-moved (sc .text) n1 k2 s2 n2 (p .1) et2 in
-      pick-prop (Pays (λ (cs : List Spanned). length (codeK v (casesOf cs))) (length (sc .text)) from) (is k2 bar) _ _
+      cond-prop (Pays (λ (cs : List Spanned). length (codeK v (casesOf cs))) (length (sc .text)) from) (is k2 bar) _ _
       (λ e. cases-pay w left (done ++ (c ∷ [])) from n2 (mw .2) (omega (arith, l, p .0, mv .0, mv .1, mw .0, mw .1)))
       (λ e. (omega (arith, l, p .0, mv .0, mv .1), p .1)))))
       (λ e. tt))
@@ -152,10 +152,10 @@ module _ (text : List ℕ) where
   signed-pays test signed small at s n k i j l f =
       let z = signed (pos (valueOf (part text s n))) in
       let lw = part-length text s n j l in
-      pick-prop (Pays numberBytes (length text) at) (is k digits) _ _
+      cond-prop (Pays numberBytes (length text) at) (is k digits) _ _
       (λ e.
       let lt = f (not-end k digits refl e) in
-      pick-prop (Pays numberBytes (length text) at) (isInt32 z && test z) _ _
+      cond-prop (Pays numberBytes (length text) at) (isInt32 z && test z) _ _
       (λ t. (omega (arith, lw, value-bytes (part text s n) (zigzag z) (small (valueOf (part text s n))) (omega arith)), l)) (λ t. tt))
       (λ e. tt)
 
@@ -165,7 +165,7 @@ module _ (text : List ℕ) where
       token-prop (Pays numberBytes (length text) at) (tokenAt text at) _ (λ k q. tt)
       (λ k s n et.
       let mv = token-at-moved text at k s n h et in
-      pick-prop (Pays numberBytes (length text) at) (is k minus) _ _
+      cond-prop (Pays numberBytes (length text) at) (is k minus) _ _
       (λ e. token-prop (Pays numberBytes (length text) at) (tokenAt text n) _ (λ k q. tt)
       (λ k2 s2 n2 et2. let mw = token-at-moved text n k2 s2 n2 (mv .2) et2 in signed-pays test negℤ signed-small at s2 n2 k2 (omega (arith, mv .0, mv .1, mw .0)) (mw .1) (mw .2) (mw .3)))
       (λ e. signed-pays test (λ z. z) (λ v. le-refl (2 * v)) at s n k (mv .0) (mv .1) (mv .2) (mv .3)))
@@ -176,14 +176,14 @@ module _ (text : List ℕ) where
       token-prop (Pays numberBytes (length text) at) (tokenAt text at) _ (λ k q. tt)
       (λ k s n et.
       let mv = token-at-moved text at k s n h et in
-      pick-prop (Pays numberBytes (length text) at) (is k initWord) _ _
+      cond-prop (Pays numberBytes (length text) at) (is k initWord) _ _
       (λ e. then-prop (Pays numberBytes (length text) at) (boundAt (inRange low high) text n) _ (λ k q. tt)
       (λ z m es.
       let g = subst (Pays numberBytes (length text) n) es (bound-pays (inRange low high) n (mv .2)) in
       then-prop (Pays numberBytes (length text) at) (phrase text _ m) _ (λ k q. tt)
       (λ u m2 e2. let p = subst (Kept (length text) m) e2 (phrase-kept text _ m (g .1)) in (omega (arith, g .0, mv .0, mv .1, p .0), p .1))))
-      (λ e. pick-prop (Pays numberBytes (length text) at) (is k semicolon) _ _
-      (λ e. pick-prop (Pays numberBytes (length text) at) (inRange low high (pos 0)) _ _
+      (λ e. cond-prop (Pays numberBytes (length text) at) (is k semicolon) _ _
+      (λ e. cond-prop (Pays numberBytes (length text) at) (inRange low high (pos 0)) _ _
       (λ t. (omega (arith, id-bytes 0 (omega arith), mv .0, mv .3 (not-end k semicolon refl e)), mv .2)) (λ t. tt))
       (λ e. tt)))
 
@@ -212,9 +212,9 @@ module _ (text : List ℕ) where
           token-prop (Kept (length text) at) (tokenAt text at) _ (λ k q. tt)
           (λ k s n et.
           let mv = token-at-moved text at k s n h et in
-          pick-prop (Kept (length text) at) (is k name) _ _
+          cond-prop (Kept (length text) at) (is k name) _ _
           (λ e. option-prop (Kept (length text) at) (idOf (spellings names) (part text s n)) _ _
-          (λ z. pick-prop (Kept (length text) at) (overLong s n) _ _ (λ t. tt) (λ t. pick-prop (Kept (length text) at) (ltb (length names) nameLimit) _ _ (λ t2. (omega (arith, mv .0, mv .1), mv .2)) (λ t2. tt)))
+          (λ z. cond-prop (Kept (length text) at) (overLong s n) _ _ (λ t. tt) (λ t. cond-prop (Kept (length text) at) (ltb (length names) nameLimit) _ _ (λ t2. (omega (arith, mv .0, mv .1), mv .2)) (λ t2. tt)))
           (λ i ei. tt))
           (λ e. tt))
 
@@ -225,7 +225,7 @@ module _ (text : List ℕ) where
       token-prop (Pays (λ (l : List Name). length (header l)) (length text) 0) (tokenAt text at) _ (λ k q. tt)
       (λ k s n et.
       let mv = token-at-moved text at k s n h et in
-      pick-prop (Pays (λ (l : List Name). length (header l)) (length text) 0) (is k word) _ _
+      cond-prop (Pays (λ (l : List Name). length (header l)) (length text) 0) (is k word) _ _
       (λ e. then-prop (Pays (λ (l : List Name). length (header l)) (length text) 0) (declaration text names n) _ (λ k q. tt)
       (λ x m es.
       let d = subst (Pays nameBytes (length text) n) es (declaration-pays names n (mv .2)) in
@@ -288,7 +288,7 @@ module _ (sc : Scope) (few : length (sc .names) ≤ 64) (lengths : length (sc .n
         token-prop (Pays ruleBytes (length (sc .text)) at) (tokenAt (sc .text) n) _ (λ k q. tt)
         (λ k s m et.
         let mv = token-at-moved (sc .text) n k s m (g .1) et in
-        pick-prop (Pays ruleBytes (length (sc .text)) at) (is k tilde) _ _
+        cond-prop (Pays ruleBytes (length (sc .text)) at) (is k tilde) _ _
         (λ e. later at m (changeAt sc w v m) (omega (arith, g .0, mv .0, mv .1)) (change-pays w m (mv .2)))
         (λ e. later at n (functionAt sc w v n) (g .0) (function-pays w n (g .1)))))
       where
@@ -299,9 +299,9 @@ module _ (sc : Scope) (few : length (sc .names) ≤ 64) (lengths : length (sc .n
   pub rule-pays : (s n : ℕ) → n ≤ length (sc .text) → Pays ruleBytes (length (sc .text)) n (ruleAt sc s n)
   unfolding ruleAt withId
   rule-pays s n h =
-      pick-prop (Pays ruleBytes (length (sc .text)) n) (overLong s n) _ _ (λ e. tt)
+      cond-prop (Pays ruleBytes (length (sc .text)) n) (overLong s n) _ _ (λ e. tt)
       (λ e. option-prop (Pays ruleBytes (length (sc .text)) n) (idOf (sc .names) (part (sc .text) s n)) _ _ (λ z. tt)
-      (λ v ev. pick-prop (Pays ruleBytes (length (sc .text)) n) (getD (sc .known) v false) _ _ (λ t. tt)
+      (λ v ev. cond-prop (Pays ruleBytes (length (sc .text)) n) (getD (sc .known) v false) _ _ (λ t. tt)
       (λ t. formulas-pay v (omega (arith, id-of (sc .names) (part (sc .text) s n) v ev)) (part (sc .text) s n) n h)))
 
 pub rules-pay : (f : ℕ) (sc : Scope) → length (sc .names) ≤ 64 → length (sc .names) ≡ length (sc .known) → (done : List Rule) (from at : ℕ) → at ≤ length (sc .text) → 2 * length (codeR done) + 3 * from ≤ 3 * at → Pays (λ rs. length (codeR rs)) (length (sc .text)) from (rulesFrom f sc done at)
@@ -311,14 +311,14 @@ rules-pay (suc f) sc few lengths done from at h g =
     token-prop (Pays (λ (rs : List Rule). length (codeR rs)) (length (sc .text)) from) (tokenAt (sc .text) at) _ (λ k q. tt)
     (λ k s n et.
     let mv = token-at-moved (sc .text) at k s n h et in
-    pick-prop (Pays (λ (rs : List Rule). length (codeR rs)) (length (sc .text)) from) (is k name) _ _
+    cond-prop (Pays (λ (rs : List Rule). length (codeR rs)) (length (sc .text)) from) (is k name) _ _
     (λ e. then-prop (Pays (λ (rs : List Rule). length (codeR rs)) (length (sc .text)) from) (ruleAt sc s n) _ (λ k q. tt)
     (λ r m er.
     let p = subst (Pays ruleBytes (length (sc .text)) n) er (rule-pays sc few lengths s n (mv .2)) in
     let l : length (sc .names) ≡ length (set (sc .known) (target r) true) = lengths ∙ sym (length-set (sc .known) (target r) true) in
     rules-pay f (ruled sc (target r)) few l (done ++ (r ∷ [])) from m (p .1) (omega (arith, rules-append done r, p .0, mv .0, mv .1))))
-    (λ e. pick-prop (Pays (λ (rs : List Rule). length (codeR rs)) (length (sc .text)) from) (is k ending) _ _
-    (λ e. pick-prop (Pays (λ (rs : List Rule). length (codeR rs)) (length (sc .text)) from) (allTrue (sc .known)) _ _ (λ a. (omega (arith, mv .0, mv .1), mv .2)) (λ a. tt))
+    (λ e. cond-prop (Pays (λ (rs : List Rule). length (codeR rs)) (length (sc .text)) from) (is k ending) _ _
+    (λ e. cond-prop (Pays (λ (rs : List Rule). length (codeR rs)) (length (sc .text)) from) (allTrue (sc .known)) _ _ (λ a. (omega (arith, mv .0, mv .1), mv .2)) (λ a. tt))
     (λ e. tt)))
 
 -- the image of an accepted text
@@ -347,4 +347,4 @@ program-small text =
 -- twice the image's bytes are at most three times the text's, and four; so no image of a text within its limit is over its own
 pub parse-small : (text : List ℕ) → Small (length text) (parse text)
 unfolding parse
-parse-small text = pick-prop (Small (length text)) (ltb textLimit (length text)) _ _ (λ e. tt) (λ e. program-small text)
+parse-small text = cond-prop (Small (length text)) (ltb textLimit (length text)) _ _ (λ e. tt) (λ e. program-small text)

@@ -1,16 +1,16 @@
 -- A token's kind tells its spelling, and its spelling its kind. Assumes nothing.
 use mathlib.Core.Path.{_≡_, refl, ap, sym, _∙_, subst}
 use mathlib.Core.List.{List, [], _∷_}
-use mathlib.Core.Bool.{Bool, true, false, _&&_}
+use mathlib.Core.Bool.{Bool, true, false, _&&_, cond}
 use Prim.Native.Nat.{ℕ, zero, suc, _+_, _-_, _≤_, _<_}
 use native.Mathlib.Omega.{arith}
 use lib.ListN.{length, getD, take, drop, List·getD-eq-default}
 use lib.Dec.{eqb, ltb, leb}
 use borrow.Author.Tests.{eqb-true, ltb-true, ltb-false, lt-leb}
-use Rattle.lexer.specs.Bytes.{bytes, pick, part, sameBytes}
+use Rattle.lexer.specs.Bytes.{bytes, part, sameBytes}
 use Rattle.lexer.specs.Token.{Kind, kindNumber, unknown, ending, name, previous, digits, inputWord, varWord, initWord, modWord, nextWord, dots, arrow, lessEqual, greaterEqual, notEqual, semicolon, colon, openRound, closeRound, openSquare, closeSquare, tilde, ampersand, bar, equals, less, greater, plus, minus, star, slash, is, Read, token, fault}
 use Rattle.lexer.specs.Lexer.{isSpace, isDigit, isLetter, isAlphanumeric, runOn, runEnd, sameName, wordOf, pairOf, signOf, readOf, signAt, wordAt, digitsAt, previousAt, tokenOf, tokenPast, tokenAt}
-use Rattle.lexer.proofs.Laws.{pick-prop, run-on-ge, run-from, run-within, run-some, token-at-moved}
+use Rattle.lexer.proofs.Laws.{cond-prop, run-on-ge, run-from, run-within, run-some, token-at-moved}
 use Rattle.lexer.proofs.Same.{same-name, same-kind}
 use Rattle.grammar.specs.Derivation.{All, IsWord, IsDigits}
 use Rattle.grammar.proofs.Bytes.{part-cons}
@@ -139,7 +139,7 @@ all-run : (p : ℕ → Bool) (l : List ℕ) (i : ℕ) → All p (take (runOn p l
 unfolding runOn
 all-run p [] i = none-run p (runOn p [] i - i)
 all-run p (b ∷ l) i =
-    pick-prop (λ (x : ℕ). All p (take (x - i) (b ∷ l))) (p b) _ _
+    cond-prop (λ (x : ℕ). All p (take (x - i) (b ∷ l))) (p b) _ _
     (λ e. let h : runOn p l (i + 1) - i ≡ suc (runOn p l (i + 1) - (i + 1)) = omega (arith, run-on-ge p l (i + 1)) in rw h (e, all-run p l (i + 1)))
     (λ e. let h : i - i ≡ 0 = omega arith in rw h tt)
 
@@ -175,11 +175,11 @@ run-digits text s h e =
 word-spelled : (w : List ℕ) → IsWord w → Spelling (wordOf w) w
 unfolding wordOf sameName
 word-spelled w h =
-    pick-prop P (sameBytes w (bytes "input")) _ _ (λ e q. same-name w (bytes "input") e)
-    (λ n1. pick-prop P (sameBytes w (bytes "var")) _ _ (λ e q. same-name w (bytes "var") e)
-    (λ n2. pick-prop P (sameBytes w (bytes "init")) _ _ (λ e q. same-name w (bytes "init") e)
-    (λ n3. pick-prop P (sameBytes w (bytes "mod")) _ _ (λ e q. same-name w (bytes "mod") e)
-    (λ n4. pick-prop P (sameBytes w (bytes "GX")) _ _ (λ e q. same-name w (bytes "GX") e)
+    cond-prop P (sameBytes w (bytes "input")) _ _ (λ e q. same-name w (bytes "input") e)
+    (λ n1. cond-prop P (sameBytes w (bytes "var")) _ _ (λ e q. same-name w (bytes "var") e)
+    (λ n2. cond-prop P (sameBytes w (bytes "init")) _ _ (λ e q. same-name w (bytes "init") e)
+    (λ n3. cond-prop P (sameBytes w (bytes "mod")) _ _ (λ e q. same-name w (bytes "mod") e)
+    (λ n4. cond-prop P (sameBytes w (bytes "GX")) _ _ (λ e q. same-name w (bytes "GX") e)
     (λ n5 q. (h, q)))))) refl
   where
     P : Kind → Type 0
@@ -192,22 +192,22 @@ one b v e = ap (λ (x : ℕ). x ∷ []) (eqb-true b v e)
 sign-spelled : (b : ℕ) → is (signOf b) unknown ≡ false → Spelling (signOf b) (b ∷ [])
 unfolding signOf is kindNumber
 sign-spelled b =
-    pick-prop P (eqb b 59) _ _ (λ e h. one b 59 e)
-    (λ n. pick-prop P (eqb b 58) _ _ (λ e h. one b 58 e)
-    (λ n. pick-prop P (eqb b 40) _ _ (λ e h. one b 40 e)
-    (λ n. pick-prop P (eqb b 41) _ _ (λ e h. one b 41 e)
-    (λ n. pick-prop P (eqb b 91) _ _ (λ e h. one b 91 e)
-    (λ n. pick-prop P (eqb b 93) _ _ (λ e h. one b 93 e)
-    (λ n. pick-prop P (eqb b 126) _ _ (λ e h. one b 126 e)
-    (λ n. pick-prop P (eqb b 38) _ _ (λ e h. one b 38 e)
-    (λ n. pick-prop P (eqb b 124) _ _ (λ e h. one b 124 e)
-    (λ n. pick-prop P (eqb b 61) _ _ (λ e h. one b 61 e)
-    (λ n. pick-prop P (eqb b 60) _ _ (λ e h. one b 60 e)
-    (λ n. pick-prop P (eqb b 62) _ _ (λ e h. one b 62 e)
-    (λ n. pick-prop P (eqb b 43) _ _ (λ e h. one b 43 e)
-    (λ n. pick-prop P (eqb b 45) _ _ (λ e h. one b 45 e)
-    (λ n. pick-prop P (eqb b 42) _ _ (λ e h. one b 42 e)
-    (λ n. pick-prop P (eqb b 47) _ _ (λ e h. one b 47 e)
+    cond-prop P (eqb b 59) _ _ (λ e h. one b 59 e)
+    (λ n. cond-prop P (eqb b 58) _ _ (λ e h. one b 58 e)
+    (λ n. cond-prop P (eqb b 40) _ _ (λ e h. one b 40 e)
+    (λ n. cond-prop P (eqb b 41) _ _ (λ e h. one b 41 e)
+    (λ n. cond-prop P (eqb b 91) _ _ (λ e h. one b 91 e)
+    (λ n. cond-prop P (eqb b 93) _ _ (λ e h. one b 93 e)
+    (λ n. cond-prop P (eqb b 126) _ _ (λ e h. one b 126 e)
+    (λ n. cond-prop P (eqb b 38) _ _ (λ e h. one b 38 e)
+    (λ n. cond-prop P (eqb b 124) _ _ (λ e h. one b 124 e)
+    (λ n. cond-prop P (eqb b 61) _ _ (λ e h. one b 61 e)
+    (λ n. cond-prop P (eqb b 60) _ _ (λ e h. one b 60 e)
+    (λ n. cond-prop P (eqb b 62) _ _ (λ e h. one b 62 e)
+    (λ n. cond-prop P (eqb b 43) _ _ (λ e h. one b 43 e)
+    (λ n. cond-prop P (eqb b 45) _ _ (λ e h. one b 45 e)
+    (λ n. cond-prop P (eqb b 42) _ _ (λ e h. one b 42 e)
+    (λ n. cond-prop P (eqb b 47) _ _ (λ e h. one b 47 e)
     (λ n h. let z : _≡_ {A = ℕ} 0 1 = cc in omega arith))))))))))))))))
   where
     P : Kind → Type 0
@@ -225,11 +225,11 @@ two a b u v e = go (eqb b v) refl (eqb a u) refl e
 pair-spelled : (a b : ℕ) → is (pairOf a b) unknown ≡ false → Spelling (pairOf a b) (a ∷ b ∷ [])
 unfolding pairOf is kindNumber
 pair-spelled a b =
-    pick-prop P (eqb b 46 && eqb a 46) _ _ (λ e h. two a b 46 46 e)
-    (λ n. pick-prop P (eqb b 62 && eqb a 45) _ _ (λ e h. two a b 45 62 e)
-    (λ n. pick-prop P (eqb b 61 && eqb a 60) _ _ (λ e h. two a b 60 61 e)
-    (λ n. pick-prop P (eqb b 61 && eqb a 62) _ _ (λ e h. two a b 62 61 e)
-    (λ n. pick-prop P (eqb b 62 && eqb a 60) _ _ (λ e h. two a b 60 62 e)
+    cond-prop P (eqb b 46 && eqb a 46) _ _ (λ e h. two a b 46 46 e)
+    (λ n. cond-prop P (eqb b 62 && eqb a 45) _ _ (λ e h. two a b 45 62 e)
+    (λ n. cond-prop P (eqb b 61 && eqb a 60) _ _ (λ e h. two a b 60 61 e)
+    (λ n. cond-prop P (eqb b 61 && eqb a 62) _ _ (λ e h. two a b 62 61 e)
+    (λ n. cond-prop P (eqb b 62 && eqb a 60) _ _ (λ e h. two a b 60 62 e)
     (λ n h. let z : _≡_ {A = ℕ} 0 1 = cc in omega arith)))))
   where
     P : Kind → Type 0
@@ -245,8 +245,8 @@ unfolding signAt readOf
 sign-told text s =
     let a = getD text s 0 in
     let b = getD text (s + 1) 0 in
-    pick-prop (Told text) (is (pairOf a b) unknown) _ _
-    (λ e. pick-prop (Told text) (is (signOf a) unknown) _ _ (λ e2. tt) (λ e2 h. rw (part-one text s h) (sign-spelled a e2)))
+    cond-prop (Told text) (is (pairOf a b) unknown) _ _
+    (λ e. cond-prop (Told text) (is (signOf a) unknown) _ _ (λ e2. tt) (λ e2 h. rw (part-one text s h) (sign-spelled a e2)))
     (λ e h. rw (part-two text s h) (pair-spelled a b e))
 
 in-text : (text : List ℕ) (i : ℕ) → isLetter (getD text i 0) ≡ true → i < length text
@@ -257,7 +257,7 @@ in-text text i e = go (ltb i (length text)) refl
     go true t = ltb-true i (length text) t
     go false t =
         let z : getD text i 0 ≡ 0 = List·getD-eq-default text 0 (ltb-false i (length text) t) in
-        let y : false ≡ true = subst (λ (b : ℕ). pick (leb 65 b && ltb b 91) true (leb 97 b && ltb b 123) ≡ true) z e in
+        let y : false ≡ true = subst (λ (b : ℕ). cond (leb 65 b && ltb b 91) true (leb 97 b && ltb b 123) ≡ true) z e in
         let x : _≡_ {A = ℕ} 0 1 = cc in
         absurd (omega arith)
 
@@ -265,8 +265,8 @@ previous-told : (text : List ℕ) (s : ℕ) → getD text s 0 ≡ 95 → Told te
 unfolding previousAt
 previous-told text s e =
     let n = runEnd isAlphanumeric text (s + 1) in
-    pick-prop (Told text) (isLetter (getD text (s + 1) 0)) _ _
-    (λ e1. pick-prop (Told text) (is (wordOf (part text (s + 1) n)) name) _ _
+    cond-prop (Told text) (isLetter (getD text (s + 1) 0)) _ _
+    (λ e1. cond-prop (Told text) (is (wordOf (part text (s + 1) n)) name) _ _
     (λ e2 h.
     let lt : s + 1 ≤ n = run-from isAlphanumeric text (s + 1) in
     let l2 : s + 1 < length text = in-text text (s + 1) e1 in
@@ -283,16 +283,16 @@ of-told : (text : List ℕ) (s : ℕ) → s < length text → Told text (tokenOf
 unfolding tokenOf wordAt digitsAt
 of-told text s h =
     let b = getD text s 0 in
-    pick-prop (Told text) (isLetter b) _ _ (λ e l. word-spelled (part text s (runEnd isAlphanumeric text s)) (run-word text s h e))
-    (λ n1. pick-prop (Told text) (isDigit b) _ _ (λ e l. run-digits text s h e)
-    (λ n2. pick-prop (Told text) (eqb b 95) _ _ (λ e. previous-told text s (eqb-true b 95 e)) (λ n3. sign-told text s)))
+    cond-prop (Told text) (isLetter b) _ _ (λ e l. word-spelled (part text s (runEnd isAlphanumeric text s)) (run-word text s h e))
+    (λ n1. cond-prop (Told text) (isDigit b) _ _ (λ e l. run-digits text s h e)
+    (λ n2. cond-prop (Told text) (eqb b 95) _ _ (λ e. previous-told text s (eqb-true b 95 e)) (λ n3. sign-told text s)))
 
 -- a token that has a byte is spelled as its kind says
 pub token-spelled : (text : List ℕ) (a : ℕ) (k : Kind) (s n : ℕ) → a ≤ length text → s < n → tokenAt text a ≡ token k s n → Spelling k (part text s n)
 unfolding tokenAt tokenPast
 token-spelled text a k s n h l e = go (ltb (runEnd isSpace text a) (length text)) refl e
   where
-    go : (t : Bool) → ltb (runEnd isSpace text a) (length text) ≡ t → pick t (tokenOf text (runEnd isSpace text a) (getD text (runEnd isSpace text a) 0)) (token ending (runEnd isSpace text a) (runEnd isSpace text a)) ≡ token k s n → Spelling k (part text s n)
+    go : (t : Bool) → ltb (runEnd isSpace text a) (length text) ≡ t → cond t (tokenOf text (runEnd isSpace text a) (getD text (runEnd isSpace text a) 0)) (token ending (runEnd isSpace text a) (runEnd isSpace text a)) ≡ token k s n → Spelling k (part text s n)
     go true t q = subst (Told text) q (of-told text (runEnd isSpace text a) (ltb-true _ _ t)) (token-at-moved text a k s n h e .2)
     go false t q = let i : runEnd isSpace text a ≡ s = cc in let j : runEnd isSpace text a ≡ n = cc in absurd (omega arith)
 
@@ -301,7 +301,7 @@ pub end-place : (text : List ℕ) (a s n : ℕ) → a ≤ length text → tokenA
 unfolding tokenAt tokenPast
 end-place text a s n h e = go (ltb (runEnd isSpace text a) (length text)) refl e
   where
-    go : (t : Bool) → ltb (runEnd isSpace text a) (length text) ≡ t → pick t (tokenOf text (runEnd isSpace text a) (getD text (runEnd isSpace text a) 0)) (token ending (runEnd isSpace text a) (runEnd isSpace text a)) ≡ token ending s n → (s ≡ length text) × (n ≡ length text)
+    go : (t : Bool) → ltb (runEnd isSpace text a) (length text) ≡ t → cond t (tokenOf text (runEnd isSpace text a) (getD text (runEnd isSpace text a) 0)) (token ending (runEnd isSpace text a) (runEnd isSpace text a)) ≡ token ending s n → (s ≡ length text) × (n ≡ length text)
     go true t q = absurd (subst (Told text) q (of-told text (runEnd isSpace text a) (ltb-true _ _ t)) (token-at-moved text a ending s n h e .2))
     go false t q =
         let i : runEnd isSpace text a ≡ s = cc in
@@ -320,13 +320,13 @@ signKind b (c ∷ d ∷ l) = unknown
 -- the kind of the token that a spelling is
 pub kindOf : List ℕ → Kind
 kindOf [] = unknown
-kindOf (b ∷ l) = pick (isLetter b) (wordOf (b ∷ l)) (pick (isDigit b) digits (pick (eqb b 95) previous (signKind b l)))
+kindOf (b ∷ l) = cond (isLetter b) (wordOf (b ∷ l)) (cond (isDigit b) digits (cond (eqb b 95) previous (signKind b l)))
 
 digit-letter : (b : ℕ) → isDigit b ≡ true → isLetter b ≡ false
 unfolding isDigit isLetter
 digit-letter b e = go (leb 48 b) refl (ltb b 58) refl e
   where
-    go : (t : Bool) → leb 48 b ≡ t → (u : Bool) → ltb b 58 ≡ u → t && u ≡ true → pick (leb 65 b && ltb b 91) true (leb 97 b && ltb b 123) ≡ false
+    go : (t : Bool) → leb 48 b ≡ t → (u : Bool) → ltb b 58 ≡ u → t && u ≡ true → cond (leb 65 b && ltb b 91) true (leb 97 b && ltb b 123) ≡ false
     go true t true u h = let l = ltb-true b 58 u in rw (lt-leb 65 b (omega arith), lt-leb 97 b (omega arith))
     go true t false u h = let z : _≡_ {A = ℕ} 0 1 = cc in absurd (omega arith)
     go false t v u h = let z : _≡_ {A = ℕ} 0 1 = cc in absurd (omega arith)

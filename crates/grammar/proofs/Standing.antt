@@ -1,17 +1,17 @@
 -- Tokens that stand in a text: from what is read to the tokens listed, and back. Assumes nothing.
 use mathlib.Core.Path.{_≡_, refl, ap, sym, _∙_, subst}
 use mathlib.Core.List.{List, [], _∷_, _++_, append-assoc}
-use mathlib.Core.Bool.{Bool, true, false}
+use mathlib.Core.Bool.{Bool, true, false, cond}
 use mathlib.Core.Option.{Option, none, some}
 use Prim.Native.Nat.{ℕ, suc, _+_, _≤_, _<_}
 use native.Mathlib.Omega.{arith}
 use lib.ListN.{length, getElem?}
-use Rattle.lexer.specs.Bytes.{pick, part}
+use Rattle.lexer.specs.Bytes.{part}
 use Rattle.lexer.specs.Token.{Kind, ending, is, token}
 use Rattle.lexer.specs.Token as T
 use Rattle.lexer.specs.Lexer.{tokenAt, sameName}
 use Rattle.lexer.specs.Names.{idFrom, idOf}
-use Rattle.lexer.proofs.Laws.{pick-prop, token-at-moved}
+use Rattle.lexer.proofs.Laws.{cond-prop, token-at-moved}
 use Rattle.lexer.proofs.Same.{same-kind, same-name}
 use Rattle.arith.specs.Values.{Operation, add, subtract, multiply, divide, modulo, Comparison, equal, notEqual, less, lessEqual, greater, greaterEqual}
 use Rattle.grammar.specs.Expressions.{productOf, sumOf}
@@ -77,7 +77,7 @@ unfolding idFrom
 id-from-names [] w i j e = let z : _≡_ {A = ℕ} 0 1 = cc in absurd (omega arith)
 id-from-names (x ∷ l) w i j e = go (sameName w x) refl (λ h. id-from-names l w (i + 1) j h) e
   where
-    go : (t : Bool) → sameName w x ≡ t → (idFrom l w (i + 1) ≡ some j → (d : ℕ) × (j ≡ i + 1 + d) × (getElem? l d ≡ some w)) → pick t (some i) (idFrom l w (i + 1)) ≡ some j → (d : ℕ) × (j ≡ i + d) × (getElem? (x ∷ l) d ≡ some w)
+    go : (t : Bool) → sameName w x ≡ t → (idFrom l w (i + 1) ≡ some j → (d : ℕ) × (j ≡ i + 1 + d) × (getElem? l d ≡ some w)) → cond t (some i) (idFrom l w (i + 1)) ≡ some j → (d : ℕ) × (j ≡ i + d) × (getElem? (x ∷ l) d ≡ some w)
     go true t f h = let q : i ≡ j = cc in (0, omega arith, ap some (sym (same-name w x t)))
     go false t f h = let r = f h in (suc (r .0), omega (arith, r .1), r .2)
 
@@ -95,9 +95,9 @@ module _ (k : Kind) (w : List ℕ) (sp : Spelling k w) where
   pub product-sign : (o : Operation) → productOf k ≡ some o → ProductSign w o
   unfolding productOf
   product-sign o =
-      pick-prop P (is k T.star) _ _ (λ e h. let q : multiply ≡ o = cc in rw (told T.star e, ← q) D.times)
-      (λ n. pick-prop P (is k T.slash) _ _ (λ e h. let q : divide ≡ o = cc in rw (told T.slash e, ← q) D.over)
-      (λ n. pick-prop P (is k T.modWord) _ _ (λ e h. let q : modulo ≡ o = cc in rw (told T.modWord e, ← q) D.modulus)
+      cond-prop P (is k T.star) _ _ (λ e h. let q : multiply ≡ o = cc in rw (told T.star e, ← q) D.times)
+      (λ n. cond-prop P (is k T.slash) _ _ (λ e h. let q : divide ≡ o = cc in rw (told T.slash e, ← q) D.over)
+      (λ n. cond-prop P (is k T.modWord) _ _ (λ e h. let q : modulo ≡ o = cc in rw (told T.modWord e, ← q) D.modulus)
       (λ n h. let z : _≡_ {A = ℕ} 0 1 = cc in absurd (omega arith))))
     where
       P : Option Operation → Type 0
@@ -106,8 +106,8 @@ module _ (k : Kind) (w : List ℕ) (sp : Spelling k w) where
   pub sum-sign : (o : Operation) → sumOf k ≡ some o → SumSign w o
   unfolding sumOf
   sum-sign o =
-      pick-prop P (is k T.plus) _ _ (λ e h. let q : add ≡ o = cc in rw (told T.plus e, ← q) D.plus)
-      (λ n. pick-prop P (is k T.minus) _ _ (λ e h. let q : subtract ≡ o = cc in rw (told T.minus e, ← q) D.minus)
+      cond-prop P (is k T.plus) _ _ (λ e h. let q : add ≡ o = cc in rw (told T.plus e, ← q) D.plus)
+      (λ n. cond-prop P (is k T.minus) _ _ (λ e h. let q : subtract ≡ o = cc in rw (told T.minus e, ← q) D.minus)
       (λ n h. let z : _≡_ {A = ℕ} 0 1 = cc in absurd (omega arith)))
     where
       P : Option Operation → Type 0
@@ -116,17 +116,17 @@ module _ (k : Kind) (w : List ℕ) (sp : Spelling k w) where
   pub comparison-sign : (o : Comparison) → comparisonOf k ≡ some o → ComparisonSign w o
   unfolding comparisonOf
   comparison-sign o =
-      pick-prop P (is k T.equals) _ _ (λ e h. let q : equal ≡ o = cc in rw (told T.equals e, ← q) D.equals)
-      (λ n. pick-prop P (is k T.notEqual) _ _ (λ e h. let q : notEqual ≡ o = cc in rw (told T.notEqual e, ← q) D.differs)
-      (λ n. pick-prop P (is k T.less) _ _ (λ e h. let q : less ≡ o = cc in rw (told T.less e, ← q) D.below)
-      (λ n. pick-prop P (is k T.lessEqual) _ _ (λ e h. let q : lessEqual ≡ o = cc in rw (told T.lessEqual e, ← q) D.at-most)
-      (λ n. pick-prop P (is k T.greater) _ _ (λ e h. let q : greater ≡ o = cc in rw (told T.greater e, ← q) D.above)
-      (λ n. pick-prop P (is k T.greaterEqual) _ _ (λ e h. let q : greaterEqual ≡ o = cc in rw (told T.greaterEqual e, ← q) D.at-least)
+      cond-prop P (is k T.equals) _ _ (λ e h. let q : equal ≡ o = cc in rw (told T.equals e, ← q) D.equals)
+      (λ n. cond-prop P (is k T.notEqual) _ _ (λ e h. let q : notEqual ≡ o = cc in rw (told T.notEqual e, ← q) D.differs)
+      (λ n. cond-prop P (is k T.less) _ _ (λ e h. let q : less ≡ o = cc in rw (told T.less e, ← q) D.below)
+      (λ n. cond-prop P (is k T.lessEqual) _ _ (λ e h. let q : lessEqual ≡ o = cc in rw (told T.lessEqual e, ← q) D.at-most)
+      (λ n. cond-prop P (is k T.greater) _ _ (λ e h. let q : greater ≡ o = cc in rw (told T.greater e, ← q) D.above)
+      (λ n. cond-prop P (is k T.greaterEqual) _ _ (λ e h. let q : greaterEqual ≡ o = cc in rw (told T.greaterEqual e, ← q) D.at-least)
       (λ n h. let z : _≡_ {A = ℕ} 0 1 = cc in absurd (omega arith)))))))
     where
       P : Option Comparison → Type 0
       P x = x ≡ some o → ComparisonSign w o
 
   -- the sign of the kind v, where no other is an operator
-  pub only-sign : {O : Type 0} (v : Kind) (c o : O) → pick (is k v) (some c) none ≡ some o → Spelling v w × (c ≡ o)
-  only-sign {O} v c o = pick-prop (λ (x : Option O). x ≡ some o → Spelling v w × (c ≡ o)) (is k v) _ _ (λ e h. (told v e, cc)) (λ n h. let z : _≡_ {A = ℕ} 0 1 = cc in absurd (omega arith))
+  pub only-sign : {O : Type 0} (v : Kind) (c o : O) → cond (is k v) (some c) none ≡ some o → Spelling v w × (c ≡ o)
+  only-sign {O} v c o = cond-prop (λ (x : Option O). x ≡ some o → Spelling v w × (c ≡ o)) (is k v) _ _ (λ e h. (told v e, cc)) (λ n h. let z : _≡_ {A = ℕ} 0 1 = cc in absurd (omega arith))

@@ -15,7 +15,7 @@ use Rattle.lexer.specs.Bytes.{part}
 use Rattle.lexer.specs.Token.{Kind, kindNumber, name, digits, ending, openSquare, tilde, bar, minus, initWord, semicolon, dots, inputWord, varWord, is}
 use Rattle.lexer.specs.Lexer.{tokenAt, overLong, valueOf}
 use Rattle.lexer.specs.Names.{idOf}
-use Rattle.lexer.proofs.Laws.{pick-prop, token-at-moved}
+use Rattle.lexer.proofs.Laws.{cond-prop, token-at-moved}
 use Rattle.semantics.specs.Program.{Name, Condition, Rule, function, change, target, allTrue, knownFirst}
 use Rattle.arith.proofs.Basics.{and-both, true-T, and-T}
 use Rattle.semantics.proofs.Reference.{length-known}
@@ -76,14 +76,14 @@ module _ (sc : Scope) (few : length (sc .names) ≤ 64) (lengths : length (sc .n
       token-prop (Kept (length (sc .text)) at) (tokenAt (sc .text) at) _ (λ k q. tt)
       (λ k s n et.
       let mv = token-at-moved (sc .text) at k s n h et in
-      pick-prop (Kept (length (sc .text)) at) (is k openSquare) _ _
+      cond-prop (Kept (length (sc .text)) at) (is k openSquare) _ _
       (λ e. then-prop (Kept (length (sc .text)) at) (listed sc n) _ (λ k q. tt)
       (λ c n1 e1.
       let g = subst (Grown codeC (length (sc .text)) n) e1 (listed-grown sc few n (mv .2)) in
       token-prop (Kept (length (sc .text)) at) (tokenAt (sc .text) n1) _ (λ k q. tt)
       (λ k2 s2 n2 et2.
       let mw = token-at-moved (sc .text) n1 k2 s2 n2 (g .1) et2 in
-      pick-prop (Kept (length (sc .text)) at) (is k2 bar) _ _
+      cond-prop (Kept (length (sc .text)) at) (is k2 bar) _ _
       (λ e. kept-later (length (sc .text)) at n2 (listFrom left sc (done ++ (c ∷ [])) n2) (omega arith) (list-kept left (done ++ (c ∷ [])) n2 (mw .2)))
       (λ e. (omega arith, g .1)))))
       (λ e. tt))
@@ -93,8 +93,8 @@ module _ (sc : Scope) (few : length (sc .names) ≤ 64) (lengths : length (sc .n
   settled-kept at r (agrees n) h = h
   settled-kept at (accepted a n) (differs p) h = tt
   settled-kept at (refused k q) (differs p) h =
-      pick-prop (Kept (length (sc .text)) at) (ltb q p) _ _ (λ e. tt)
-      (λ e. pick-prop (Kept (length (sc .text)) at) (eqb q p) _ _ (λ e. pick-prop (Kept (length (sc .text)) at) (leb k 5) _ _ (λ e. tt) (λ e. tt)) (λ e. tt))
+      cond-prop (Kept (length (sc .text)) at) (ltb q p) _ _ (λ e. tt)
+      (λ e. cond-prop (Kept (length (sc .text)) at) (eqb q p) _ _ (λ e. cond-prop (Kept (length (sc .text)) at) (leb k 5) _ _ (λ e. tt) (λ e. tt)) (λ e. tt))
 
   pub agree-kept : (cases : List Spanned) (at : ℕ) → at ≤ length (sc .text) → Kept (length (sc .text)) at (agreeingList sc cases at)
   unfolding agreeingList plainList followed
@@ -134,7 +134,7 @@ module _ (sc : Scope) (few : length (sc .names) ≤ 64) (lengths : length (sc .n
         token-prop (Ends (length (sc .text)) (Ruled v)) (tokenAt (sc .text) n) _ (λ k q. tt)
         (λ k s m et.
         let mv = token-at-moved (sc .text) n k s m (k1 .1) et in
-        pick-prop (Ends (length (sc .text)) (Ruled v)) (is k tilde) _ _ (λ e. change-fits w v m (mv .2)) (λ e. function-fits w v n (k1 .1))))
+        cond-prop (Ends (length (sc .text)) (Ruled v)) (is k tilde) _ _ (λ e. change-fits w v m (mv .2)) (λ e. function-fits w v n (k1 .1))))
 
     -- a rule that is the first of its variable
     abbrev First : Rule → Type 0
@@ -143,9 +143,9 @@ module _ (sc : Scope) (few : length (sc .names) ≤ 64) (lengths : length (sc .n
     rule-fits : (s n : ℕ) → n ≤ length (sc .text) → Ends (length (sc .text)) First (ruleAt sc s n)
     unfolding ruleAt withId
     rule-fits s n h =
-        pick-prop (Ends (length (sc .text)) First) (overLong s n) _ _ (λ e. tt)
+        cond-prop (Ends (length (sc .text)) First) (overLong s n) _ _ (λ e. tt)
         (λ e. option-prop (Ends (length (sc .text)) First) (idOf (sc .names) (part (sc .text) s n)) _ _ (λ z. tt)
-        (λ v ev. pick-prop (Ends (length (sc .text)) First) (getD (sc .known) v false) _ _ (λ t. tt)
+        (λ v ev. cond-prop (Ends (length (sc .text)) First) (getD (sc .known) v false) _ _ (λ t. tt)
         (λ t. first v (omega (arith, lengths, id-of (sc .names) (part (sc .text) s n) v ev)) t (formulas sc (part (sc .text) s n) v n) (formulas-fit (part (sc .text) s n) v n h))))
       where
         first : (v : ℕ) → v < length (sc .known) → getD (sc .known) v false ≡ false → (p : Parsed Rule) → Ends (length (sc .text)) (Ruled v) p → Ends (length (sc .text)) First p
@@ -164,14 +164,14 @@ rules-fit (suc f) sc few lengths good done at h =
     token-prop (Holds (Continued (sc .known) done)) (tokenAt (sc .text) at) _ (λ k q. tt)
     (λ k s n et.
     let mv = token-at-moved (sc .text) at k s n h et in
-    pick-prop (Holds (Continued (sc .known) done)) (is k name) _ _
+    cond-prop (Holds (Continued (sc .known) done)) (is k name) _ _
     (λ e. then-prop (Holds (Continued (sc .known) done)) (ruleAt sc s n) _ (λ k q. tt)
     (λ r m er.
     let g = subst (Ends (length (sc .text)) (First sc few lengths good)) er (rule-fits sc few lengths good s n (mv .2)) in
     let l : length (sc .names) ≡ length (set (sc .known) (target r) true) = lengths ∙ sym (length-set (sc .known) (target r) true) in
     before r (g .0) (rulesFrom f (ruled sc (target r)) (done ++ (r ∷ [])) m) (rules-fit f (ruled sc (target r)) few l good (done ++ (r ∷ [])) m (g .1))))
-    (λ e. pick-prop (Holds (Continued (sc .known) done)) (is k ending) _ _
-    (λ e. pick-prop (Holds (Continued (sc .known) done)) (allTrue (sc .known)) _ _ (λ a. record { more = []; is-more = sym (append-nil done); ordered = a }) (λ a. tt))
+    (λ e. cond-prop (Holds (Continued (sc .known) done)) (is k ending) _ _
+    (λ e. cond-prop (Holds (Continued (sc .known) done)) (allTrue (sc .known)) _ _ (λ a. record { more = []; is-more = sym (append-nil done); ordered = a }) (λ a. tt))
     (λ e. tt)))
   where
     before : (r : Rule) → First sc few lengths good r → (p : Parsed (List Rule)) → Holds (Continued (set (sc .known) (target r) true) (done ++ (r ∷ []))) p → Holds (Continued (sc .known) done) p
@@ -188,8 +188,8 @@ module _ (text : List ℕ) where
   unfolding signedAt
   signed-fits test signed k s n h =
       let z = signed (pos (valueOf (part text s n))) in
-      pick-prop (Ends (length text) (Bound test)) (is k digits) _ _
-      (λ e. pick-prop (Ends (length text) (Bound test)) (isInt32 z && test z) _ _ (λ t. (and-both (isInt32 z) (test z) t, h)) (λ t. tt))
+      cond-prop (Ends (length text) (Bound test)) (is k digits) _ _
+      (λ e. cond-prop (Ends (length text) (Bound test)) (isInt32 z && test z) _ _ (λ t. (and-both (isInt32 z) (test z) t, h)) (λ t. tt))
       (λ e. tt)
 
   bound-fits : (test : ℤ → Bool) (at : ℕ) → at ≤ length text → Ends (length text) (Bound test) (boundAt test text at)
@@ -198,7 +198,7 @@ module _ (text : List ℕ) where
       token-prop (Ends (length text) (Bound test)) (tokenAt text at) _ (λ k q. tt)
       (λ k s n et.
       let mv = token-at-moved text at k s n h et in
-      pick-prop (Ends (length text) (Bound test)) (is k minus) _ _
+      cond-prop (Ends (length text) (Bound test)) (is k minus) _ _
       (λ e. token-prop (Ends (length text) (Bound test)) (tokenAt text n) _ (λ k q. tt)
       (λ k2 s2 n2 et2. let mw = token-at-moved text n k2 s2 n2 (mv .2) et2 in signed-fits test negℤ k2 s2 n2 (mw .2)))
       (λ e. signed-fits test (λ z. z) k s n (mv .2)))
@@ -209,12 +209,12 @@ module _ (text : List ℕ) where
       token-prop (Ends (length text) (Bound (inRange low high))) (tokenAt text at) _ (λ k q. tt)
       (λ k s n et.
       let mv = token-at-moved text at k s n h et in
-      pick-prop (Ends (length text) (Bound (inRange low high))) (is k initWord) _ _
+      cond-prop (Ends (length text) (Bound (inRange low high))) (is k initWord) _ _
       (λ e. then-prop (Ends (length text) (Bound (inRange low high))) (boundAt (inRange low high) text n) _ (λ k q. tt)
       (λ z m es. let g = subst (Ends (length text) (Bound (inRange low high))) es (bound-fits (inRange low high) n (mv .2)) in
       followed-ends (Bound (inRange low high)) text _ z m (g .1) (g .0)))
-      (λ e. pick-prop (Ends (length text) (Bound (inRange low high))) (is k semicolon) _ _
-      (λ e. pick-prop (Ends (length text) (Bound (inRange low high))) (inRange low high (pos 0)) _ _ (λ t. ((refl, t), mv .2)) (λ t. tt))
+      (λ e. cond-prop (Ends (length text) (Bound (inRange low high))) (is k semicolon) _ _
+      (λ e. cond-prop (Ends (length text) (Bound (inRange low high))) (inRange low high (pos 0)) _ _ (λ t. ((refl, t), mv .2)) (λ t. tt))
       (λ e. tt)))
 
   -- a new name, and room for it
@@ -230,10 +230,10 @@ module _ (text : List ℕ) where
       (λ k s n et.
       let mv = token-at-moved text at k s n h et in
       let lw : length (part text s n) ≡ n - s = part-length text s n (mv .1) (mv .2) in
-      pick-prop (Ends (length text) (Fresh names)) (is k name) _ _
+      cond-prop (Ends (length text) (Fresh names)) (is k name) _ _
       (λ e. option-prop (Ends (length text) (Fresh names)) (idOf (spellings names) (part text s n)) _ _
-      (λ z. pick-prop (Ends (length text) (Fresh names)) (ltb 16 (n - s)) _ _ (λ t. tt)
-      (λ t. pick-prop (Ends (length text) (Fresh names)) (ltb (length names) nameLimit) _ _
+      (λ z. cond-prop (Ends (length text) (Fresh names)) (ltb 16 (n - s)) _ _ (λ t. tt)
+      (λ t. cond-prop (Ends (length text) (Fresh names)) (ltb (length names) nameLimit) _ _
       (λ t2.
       let r = sign-stands text name refl at k s n h et e in (
         record {
@@ -305,7 +305,7 @@ module _ (text : List ℕ) where
       token-prop (Ends (length text) (Names count)) (tokenAt text at) _ (λ k q. tt)
       (λ k s n et.
       let mv = token-at-moved text at k s n h et in
-      pick-prop (Ends (length text) (Names count)) (is k word) _ _
+      cond-prop (Ends (length text) (Names count)) (is k word) _ _
       (λ e. then-prop (Ends (length text) (Names count)) (declaration text names n) _ (λ k q. tt)
       (λ x m es.
       let d = subst (Ends (length text) (Declared names)) es (declaration-fits names n (mv .2)) in
@@ -346,4 +346,4 @@ program-fits text =
 -- the program of an accepted text is as Shape says
 pub parse-fits : (text : List ℕ) → Holds Fitting (parse text)
 unfolding parse
-parse-fits text = pick-prop (Holds Fitting) (ltb textLimit (length text)) _ _ (λ e. tt) (λ e. program-fits text)
+parse-fits text = cond-prop (Holds Fitting) (ltb textLimit (length text)) _ _ (λ e. tt) (λ e. program-fits text)

@@ -1,9 +1,9 @@
 -- Conditions. Document 01, "The text". Assumes nothing.
+use mathlib.Core.Bool.{cond}
 use Prim.Native.Nat.{ℕ, zero, suc}
 use mathlib.Core.List.{[], _∷_}
 use mathlib.Core.Option.{Option, none, some}
 use Rattle.limits.specs.Limits.{bracketLimit, notAllowed, tooMany}
-use Rattle.lexer.specs.Bytes.{pick}
 use Rattle.lexer.specs.Token.{Kind, openSquare, closeSquare, tilde, ampersand, bar, is}
 use Rattle.lexer.specs.Token as T
 use Rattle.lexer.specs.Lexer.{tokenAt}
@@ -15,12 +15,12 @@ use Rattle.grammar.specs.Expressions.{Scope, expression, bracket}
 -- `=` `<>` `<` `<=` `>` `>=`
 unfoldable pub comparisonOf : Kind → Option Comparison
 comparisonOf k =
-    pick (is k T.equals) (some equal)
-    (pick (is k T.notEqual) (some notEqual)
-    (pick (is k T.less) (some less)
-    (pick (is k T.lessEqual) (some lessEqual)
-    (pick (is k T.greater) (some greater)
-    (pick (is k T.greaterEqual) (some greaterEqual) none)))))
+    cond (is k T.equals) (some equal)
+    (cond (is k T.notEqual) (some notEqual)
+    (cond (is k T.less) (some less)
+    (cond (is k T.lessEqual) (some lessEqual)
+    (cond (is k T.greater) (some greater)
+    (cond (is k T.greaterEqual) (some greaterEqual) none)))))
 
 -- a comparison sign and an expression after the expression a, which ends at n
 unfoldable pub compared : (ℕ → ℕ → Parsed Expression) → Scope → Expression → ℕ → Parsed Condition
@@ -37,7 +37,7 @@ opposite p = andThen p (λ c n. accepted (negated c) n)
 -- `[c]` after a `~`
 unfoldable pub inverted : (ℕ → ℕ → Parsed Condition) → Scope → ℕ → Parsed Condition
 inverted inside sc at =
-    onToken (tokenAt (sc .text) at) (λ k s n. let more = opposite (inside s n) in pick (is k openSquare) more (refused notAllowed s))
+    onToken (tokenAt (sc .text) at) (λ k s n. let more = opposite (inside s n) in cond (is k openSquare) more (refused notAllowed s))
 
 -- An atom is a comparison of two expressions or `[c]`, the latter with at most one `~` before it. `inside` reads the rest of `[c]`,
 -- from the bracket at s, that ends at n
@@ -48,7 +48,7 @@ atom inner inside sc at =
     let not = inverted inside sc n in
     let square = inside s n in
     let compare = comparisonAt inner sc at in
-    pick (is k tilde) not (pick (is k openSquare) square compare))
+    cond (is k tilde) not (cond (is k openSquare) square compare))
 
 -- the sign between two conditions
 pub data Connective : Type 0 where
@@ -64,10 +64,10 @@ connectiveCode andAlso = 17
 connectiveCode orElse = 18
 
 unfoldable pub andOf : Kind → Option Connective
-andOf k = pick (is k ampersand) (some andAlso) none
+andOf k = cond (is k ampersand) (some andAlso) none
 
 unfoldable pub orOf : Kind → Option Connective
-orOf k = pick (is k bar) (some orElse) none
+orOf k = cond (is k bar) (some orElse) none
 
 -- A condition is `|` over `&` over atoms.
 unfoldable pub conjunction : (ℕ → ℕ → Parsed Expression) → (ℕ → ℕ → Parsed Condition) → Scope → ℕ → Parsed Condition

@@ -1,6 +1,6 @@
 -- Declarations of names. Document 01, "The text". Assumes nothing.
 use Prim.Native.Nat.{ℕ, zero, suc}
-use mathlib.Core.Bool.{Bool, true, _&&_}
+use mathlib.Core.Bool.{Bool, true, _&&_, cond}
 use mathlib.Core.List.{List, [], _∷_, _++_, map}
 use lib.ListN.{length}
 use lib.Dec.{ltb}
@@ -8,7 +8,7 @@ use lib.IntN.{ℤ, pos, negℤ}
 use lib.Signed.{leZ}
 use Rattle.limits.specs.Limits.{nameLimit, notAllowed, outOfLimit, wrongName, tooMany}
 use Rattle.arith.specs.Values.{isInt32}
-use Rattle.lexer.specs.Bytes.{pick, part}
+use Rattle.lexer.specs.Bytes.{part}
 use Rattle.lexer.specs.Token.{Kind, name, digits, initWord, dots, semicolon, minus, is}
 use Rattle.lexer.specs.Lexer.{tokenAt, overLong, valueOf}
 use Rattle.lexer.specs.Names.{idOf}
@@ -24,8 +24,8 @@ inRange low high z = leZ low z && leZ z high
 unfoldable pub signedAt : (ℤ → Bool) → (ℤ → ℤ) → List ℕ → Kind → ℕ → ℕ → Parsed ℤ
 signedAt test signed text k s n =
     let z = signed (pos (valueOf (part text s n))) in
-    let tested = pick (isInt32 z && test z) (accepted z n) (refused outOfLimit s) in
-    pick (is k digits) tested (refused notAllowed s)
+    let tested = cond (isInt32 z && test z) (accepted z n) (refused outOfLimit s) in
+    cond (is k digits) tested (refused notAllowed s)
 
 unfoldable pub boundAt : (ℤ → Bool) → List ℕ → ℕ → Parsed ℤ
 boundAt test text at =
@@ -33,7 +33,7 @@ boundAt test text at =
     (λ k s n.
     let below = onToken (tokenAt text n) (λ k s n. signedAt test negℤ text k s n) in
     let above = signedAt test (λ z. z) text k s n in
-    pick (is k minus) below above)
+    cond (is k minus) below above)
 
 -- ---- a declaration, after its word
 
@@ -47,9 +47,9 @@ newName text names at =
     onToken (tokenAt text at)
     (λ k s n.
     let w = part text s n in
-    let fresh = pick (overLong s n) (refused tooMany s) (pick (ltb (length names) nameLimit) (accepted w n) (refused tooMany s)) in
+    let fresh = cond (overLong s n) (refused tooMany s) (cond (ltb (length names) nameLimit) (accepted w n) (refused tooMany s)) in
     let checked = onOption (idOf (spellings names) w) fresh (λ i. refused wrongName s) in
-    pick (is k name) checked (refused notAllowed s))
+    cond (is k name) checked (refused notAllowed s))
 
 -- the start and the `;`: an absent start is 0
 unfoldable pub startAt : List ℕ → ℤ → ℤ → ℕ → Parsed ℤ
@@ -57,8 +57,8 @@ startAt text low high at =
     onToken (tokenAt text at)
     (λ k s n.
     let given = andThen (boundAt (inRange low high) text n) (λ z m. followed text (sign semicolon ∷ []) z m) in
-    let absent = pick (inRange low high (pos 0)) (accepted (pos 0) n) (refused outOfLimit s) in
-    pick (is k initWord) given (pick (is k semicolon) absent (refused notAllowed s)))
+    let absent = cond (inRange low high (pos 0)) (accepted (pos 0) n) (refused outOfLimit s) in
+    cond (is k initWord) given (cond (is k semicolon) absent (refused notAllowed s)))
 
 -- `go 0..1 init 0;` after `input` or `var`
 unfoldable pub declaration : List ℕ → List Name → ℕ → Parsed Name
@@ -77,7 +77,7 @@ declarationsFrom (suc f) word text names at =
     onToken (tokenAt text at)
     (λ k s n.
     let more = andThen (declaration text names n) (λ x m. declarationsFrom f word text (names ++ (x ∷ [])) m) in
-    pick (is k word) more (accepted names at))
+    cond (is k word) more (accepted names at))
 
 unfoldable pub declarations : Kind → List ℕ → List Name → ℕ → Parsed (List Name)
 declarations word text names at = declarationsFrom 65 word text names at

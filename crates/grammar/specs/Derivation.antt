@@ -12,6 +12,7 @@ use Rattle.semantics.specs.Program.{Expression, constant, current, previous, op
 use Rattle.lexer.specs.Bytes.{bytes, part}
 use Rattle.lexer.specs.Token.{Kind, name, ending, token}
 use Rattle.lexer.specs.Lexer.{isDigit, isLetter, isAlphanumeric, wordOf, tokenAt, valueOf}
+use Rattle.grammar.specs.Expressions.{numberLimit}
 
 -- ---- tokens
 
@@ -78,7 +79,7 @@ pub data Level : Type 0 where
 -- Of the names declared, in the order of their ids: the tokens listed spell e, with at most l brackets open at the same time.
 pub data SpellsE (names : List (List ℕ)) : Level → ℕ → Tokens → Expression → Type 0 where
   -- a number up to 2,147,483,647
-  a-number : {l : ℕ} (w : List ℕ) → IsDigits w → valueOf w ≤ 2147483647 → SpellsE names primary l (w ∷ []) (constant (pos (valueOf w)))
+  a-number : {l : ℕ} (w : List ℕ) → IsDigits w → valueOf w ≤ numberLimit → SpellsE names primary l (w ∷ []) (constant (pos (valueOf w)))
   -- a name
   a-current : {l : ℕ} (w : List ℕ) (i : ℕ) → getElem? names i ≡ some w → SpellsE names primary l (w ∷ []) (current i)
   -- `_`name

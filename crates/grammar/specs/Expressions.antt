@@ -1,13 +1,13 @@
 -- Names in use and expressions. Document 01, "The text". Assumes nothing.
 use Prim.Native.Nat.{ℕ, zero, suc, _+_}
-use mathlib.Core.Bool.{Bool, false}
+use mathlib.Core.Bool.{Bool, false, cond}
 use mathlib.Core.List.{List, [], _∷_}
 use mathlib.Core.Option.{Option, none, some}
 use lib.ListN.{getD}
 use lib.Dec.{ltb}
 use lib.IntN.{pos}
 use Rattle.limits.specs.Limits.{bracketLimit, notAllowed, outOfLimit, wrongName, tooEarly, tooMany}
-use Rattle.lexer.specs.Bytes.{pick, part}
+use Rattle.lexer.specs.Bytes.{part}
 use Rattle.lexer.specs.Token.{Kind, name, digits, modWord, openRound, closeRound, plus, minus, star, slash, is}
 use Rattle.lexer.specs.Token as T
 use Rattle.lexer.specs.Lexer.{tokenAt, overLong, valueOf}
@@ -27,11 +27,11 @@ pub record Scope : Type 0 where
 unfoldable pub withId : {A : Type 0} → Scope → ℕ → ℕ → ℕ → (ℕ → Parsed A) → Parsed A
 withId sc p s n then =
     let found = onOption (idOf (sc .names) (part (sc .text) s n)) (refused wrongName p) then in
-    pick (overLong s n) (refused tooMany p) found
+    cond (overLong s n) (refused tooMany p) found
 
 -- a current value
 unfoldable pub currentAt : Scope → ℕ → ℕ → Parsed Expression
-currentAt sc s n = withId sc s s n (λ i. pick (getD (sc .known) i false) (accepted (current i) n) (refused tooEarly s))
+currentAt sc s n = withId sc s s n (λ i. cond (getD (sc .known) i false) (accepted (current i) n) (refused tooEarly s))
 
 -- a previous value; its name stands after the `_`
 unfoldable pub previousAt : Scope → ℕ → ℕ → Parsed Expression
@@ -44,7 +44,7 @@ numberLimit = 2147483647
 unfoldable pub numberAt : Scope → ℕ → ℕ → Parsed Expression
 numberAt sc s n =
     let v = valueOf (part (sc .text) s n) in
-    pick (ltb numberLimit v) (refused outOfLimit s) (accepted (constant (pos v)) n)
+    cond (ltb numberLimit v) (refused outOfLimit s) (accepted (constant (pos v)) n)
 
 -- a number, a name, a previous value, or an expression in brackets, which `inner` reads from the bracket at s, that ends at n
 unfoldable pub primary : (ℕ → ℕ → Parsed Expression) → Scope → ℕ → Parsed Expression
@@ -55,7 +55,7 @@ primary inner sc at =
     let now = currentAt sc s n in
     let before = previousAt sc s n in
     let brackets = inner s n in
-    pick (is k digits) number (pick (is k name) now (pick (is k T.previous) before (pick (is k openRound) brackets (refused notAllowed s)))))
+    cond (is k digits) number (cond (is k name) now (cond (is k T.previous) before (cond (is k openRound) brackets (refused notAllowed s)))))
 
 unfoldable pub negative : Parsed Expression → Parsed Expression
 negative p = andThen p (λ e n. accepted (negate e) n)
@@ -67,14 +67,14 @@ factor inner sc at =
     (λ k s n.
     let opposite = negative (primary inner sc n) in
     let plain = primary inner sc at in
-    pick (is k minus) opposite plain)
+    cond (is k minus) opposite plain)
 
 -- An expression is `+ -` over `* / mod` over factors, left to right (`chain`).
 unfoldable pub productOf : Kind → Option Operation
-productOf k = pick (is k star) (some multiply) (pick (is k slash) (some divide) (pick (is k modWord) (some modulo) none))
+productOf k = cond (is k star) (some multiply) (cond (is k slash) (some divide) (cond (is k modWord) (some modulo) none))
 
 unfoldable pub sumOf : Kind → Option Operation
-sumOf k = pick (is k plus) (some add) (pick (is k minus) (some subtract) none)
+sumOf k = cond (is k plus) (some add) (cond (is k minus) (some subtract) none)
 
 unfoldable pub term : (ℕ → ℕ → Parsed Expression) → Scope → ℕ → Parsed Expression
 term inner sc at = chain operation productOf (factor inner sc) (sc .text) at

@@ -1,4 +1,5 @@
 -- A whole text. Document 01, "The text" and "Who can cause which refusal". Assumes nothing.
+use mathlib.Core.Bool.{cond}
 use Prim.Native.Nat.{ℕ}
 use mathlib.Core.List.{List, []}
 use lib.ListN.{length}
@@ -6,7 +7,6 @@ use lib.Dec.{ltb}
 use Rattle.limits.specs.Limits.{textLimit, tooLong}
 use Rattle.limits.specs.Answer.{Answer}
 use Rattle.limits.specs.Answer as A
-use Rattle.lexer.specs.Bytes.{pick}
 use Rattle.lexer.specs.Token.{inputWord, varWord}
 use Rattle.semantics.specs.Program.{Program, knownFirst}
 use Rattle.grammar.specs.Parsed.{Parsed, accepted, refused, andThen}
@@ -22,7 +22,7 @@ program text =
     accepted (record { inputs = length inputs; names = names; rules = rules }) n3)))
 
 unfoldable pub parse : List ℕ → Parsed Program
-parse text = let read = program text in pick (ltb textLimit (length text)) (refused tooLong 0) read
+parse text = let read = program text in cond (ltb textLimit (length text)) (refused tooLong 0) read
 
 -- the answer to a text: its program, or the number and place of the first refusal
 abbrev pub answerOf : Parsed Program → Answer Program

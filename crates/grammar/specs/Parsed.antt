@@ -1,11 +1,11 @@
 -- Parsers: what a part of a text reads as, token by token. Assumes nothing.
 use Prim.Native.Nat.{ℕ, zero, suc, _+_}
-use mathlib.Core.Bool.{Bool, false}
+use mathlib.Core.Bool.{Bool, false, cond}
 use mathlib.Core.List.{List, [], _∷_}
 use mathlib.Core.Option.{Option, none, some}
 use lib.ListN.{length}
 use Rattle.limits.specs.Limits.{noToken, notAllowed}
-use Rattle.lexer.specs.Bytes.{pick, part}
+use Rattle.lexer.specs.Bytes.{part}
 use Rattle.lexer.specs.Token.{Kind, name, previous, is, Read, token, fault}
 use Rattle.lexer.specs.Lexer.{tokenAt, sameName}
 
@@ -37,11 +37,11 @@ pub data Wanted : Type 0 where
 
 abbrev pub isWanted : List ℕ → Wanted → Kind → ℕ → ℕ → Bool
 isWanted text (sign w) k s n = is k w
-isWanted text (own w) k s n = let r = sameName w (part text s n) in pick (is k name) r false
-isWanted text (ownPrevious w) k s n = let r = sameName w (part text (s + 1) n) in pick (is k previous) r false
+isWanted text (own w) k s n = let r = sameName w (part text s n) in cond (is k name) r false
+isWanted text (ownPrevious w) k s n = let r = sameName w (part text (s + 1) n) in cond (is k previous) r false
 
 unfoldable pub expected : List ℕ → Wanted → ℕ → Parsed (Unit {0})
-expected text w at = onToken (tokenAt text at) (λ k s n. pick (isWanted text w k s n) (accepted tt n) (refused notAllowed s))
+expected text w at = onToken (tokenAt text at) (λ k s n. cond (isWanted text w k s n) (accepted tt n) (refused notAllowed s))
 
 -- each of the tokens wanted, in order
 unfoldable pub phrase : List ℕ → List Wanted → ℕ → Parsed (Unit {0})

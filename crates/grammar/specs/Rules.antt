@@ -1,11 +1,11 @@
 -- Rules: functions, change formulas and their no-change formulas. Document 01, "The text". Assumes nothing.
 use Prim.Native.Nat.{ℕ, zero, suc}
-use mathlib.Core.Bool.{Bool, true, false}
+use mathlib.Core.Bool.{Bool, true, false, cond}
 use mathlib.Core.List.{List, [], _∷_, _++_}
 use lib.ListN.{length, getD, set}
 use lib.Dec.{ltb, leb, eqb}
 use Rattle.limits.specs.Limits.{caseLimit, notAllowed, wrongRule, listsDiffer, tooMany}
-use Rattle.lexer.specs.Bytes.{pick, part}
+use Rattle.lexer.specs.Bytes.{part}
 use Rattle.lexer.specs.Token.{Kind, name, ending, closeRound, openSquare, tilde, bar, is, Read, token, fault}
 use Rattle.lexer.specs.Lexer.{tokenAt, sameToken}
 use Rattle.semantics.specs.Program.{Condition, Case, Rule, function, change, target, allTrue}
@@ -36,7 +36,7 @@ caseAt sc w at n =
 
 -- cases with `|` between them, after those done, with `left` cases left to read: the next is refused by 8 at its bracket
 unfoldable pub casesFrom : ℕ → Scope → List ℕ → List Spanned → ℕ → Parsed (List Spanned)
-casesFrom zero sc w done at = onToken (tokenAt (sc .text) at) (λ k s n. pick (is k openSquare) (refused tooMany s) (refused notAllowed s))
+casesFrom zero sc w done at = onToken (tokenAt (sc .text) at) (λ k s n. cond (is k openSquare) (refused tooMany s) (refused notAllowed s))
 casesFrom (suc left) sc w done at =
     onToken (tokenAt (sc .text) at)
     (λ k s n.
@@ -44,8 +44,8 @@ casesFrom (suc left) sc w done at =
     onToken (tokenAt (sc .text) n1)
     (λ k2 s2 n2.
     let again = casesFrom left sc w (done ++ (c ∷ [])) n2 in
-    pick (is k2 bar) again (accepted (done ++ (c ∷ [])) n1))) in
-    pick (is k openSquare) more (refused notAllowed s))
+    cond (is k2 bar) again (accepted (done ++ (c ∷ [])) n1))) in
+    cond (is k openSquare) more (refused notAllowed s))
 
 -- ---- the conditions of a no-change formula
 
@@ -59,8 +59,8 @@ listFrom (suc left) sc done at =
     onToken (tokenAt (sc .text) n1)
     (λ k2 s2 n2.
     let again = listFrom left sc (done ++ (c ∷ [])) n2 in
-    pick (is k2 bar) again (accepted (done ++ (c ∷ [])) n1))) in
-    pick (is k openSquare) more (refused notAllowed s))
+    cond (is k2 bar) again (accepted (done ++ (c ∷ [])) n1))) in
+    cond (is k openSquare) more (refused notAllowed s))
 
 -- what the second list reads as, its closing bracket included, whatever the first is
 unfoldable pub plainList : Scope → ℕ → Parsed (List Condition)
@@ -79,7 +79,7 @@ onCompared (differs p) f = differs p
 
 -- the token found: if it passes the test, `next` from the place after it; else it is the first that differs
 abbrev pub onFound : Read → (Kind → ℕ → ℕ → Bool) → (ℕ → Compared) → Compared
-onFound (token k s n) test next = let more = next n in pick (test k s n) more (differs s)
+onFound (token k s n) test next = let more = next n in cond (test k s n) more (differs s)
 onFound (fault p) test next = differs p
 
 -- the token wanted, from the first list (which was accepted, so it is a token)
@@ -92,7 +92,7 @@ unfoldable pub partFrom : ℕ → List ℕ → ℕ → ℕ → ℕ → Compared
 partFrom zero text from to at = agrees at
 partFrom (suc f) text from to at =
     let more = onWanted (tokenAt text from) (λ k s n. onFound (tokenAt text at) (sameToken text k s n) (λ m. partFrom f text n to m)) in
-    pick (ltb from to) more (agrees at)
+    cond (ltb from to) more (agrees at)
 
 unfoldable pub kindAt : List ℕ → Kind → ℕ → Compared
 kindAt text w at = onFound (tokenAt text at) (λ k s n. is k w) (λ m. agrees m)
@@ -110,7 +110,7 @@ partsFrom text (c ∷ d ∷ cs) at =
 unfoldable pub settled : {A : Type 0} → Parsed A → Compared → Parsed A
 settled r (agrees n) = r
 settled (accepted a n) (differs m) = refused listsDiffer m
-settled (refused k p) (differs m) = pick (ltb p m) (refused k p) (pick (eqb p m) (pick (leb k 5) (refused k p) (refused listsDiffer m)) (refused listsDiffer m))
+settled (refused k p) (differs m) = cond (ltb p m) (refused k p) (cond (eqb p m) (cond (leb k 5) (refused k p) (refused listsDiffer m)) (refused listsDiffer m))
 
 unfoldable pub agreeingList : Scope → List Spanned → ℕ → Parsed (List Condition)
 agreeingList sc cases at = settled (plainList sc at) (partsFrom (sc .text) cases at)
@@ -145,14 +145,14 @@ formulas sc w v at =
     (λ k s m.
     let changes = changeAt sc w v m in
     let computes = functionAt sc w v n in
-    pick (is k tilde) changes computes))
+    cond (is k tilde) changes computes))
 
 -- the rule whose name stands from s to n: 6 for an input or a variable that has its rule, whose current values are just those known
 unfoldable pub ruleAt : Scope → ℕ → ℕ → Parsed Rule
 ruleAt sc s n =
     withId sc s s n (λ v.
     let rule = formulas sc (part (sc .text) s n) v n in
-    pick (getD (sc .known) v false) (refused wrongRule s) rule)
+    cond (getD (sc .known) v false) (refused wrongRule s) rule)
 
 -- after a rule its variable's current value may be used
 abbrev pub ruled : Scope → ℕ → Scope
@@ -165,5 +165,5 @@ rulesFrom (suc f) sc done at =
     onToken (tokenAt (sc .text) at)
     (λ k s n.
     let more = andThen (ruleAt sc s n) (λ r m. rulesFrom f (ruled sc (target r)) (done ++ (r ∷ [])) m) in
-    let end = pick (allTrue (sc .known)) (accepted done n) (refused wrongRule s) in
-    pick (is k name) more (pick (is k ending) end (refused notAllowed s)))
+    let end = cond (allTrue (sc .known)) (accepted done n) (refused wrongRule s) in
+    cond (is k name) more (cond (is k ending) end (refused notAllowed s)))

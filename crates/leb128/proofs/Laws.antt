@@ -102,6 +102,11 @@ module _ (s : List ℕ) (at : ℕ) where
   unfolding numberIn
   at-more h l = rw (add-one, drop-cons s at 0 h, le-ltb (getD s at 0) 128 l)
 
+  -- a number of one group
+  pub one-group : at < length s → getD s at 0 < 128 → numberAt s at ≡ got (getD s at 0) (at + 1)
+  unfolding numberAt below32
+  one-group h l = rw (at-last h l, lt-ltb (getD s at 0) (2 ^ 32) (omega arith))
+
 -- a group joined to the answer behind it
 abbrev pub joined : ℕ → Read ℕ → Read ℕ
 joined low (got zero n) = nothing

@@ -1,5 +1,4 @@
 pub mod Laws
 pub mod Signs
 pub mod RoundTrip
-pub mod Short
 pub mod Stores

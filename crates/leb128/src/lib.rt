@@ -62,27 +62,15 @@ fn long_at(s: &[u8], at: usize) -> Unsigned
     Unsigned::Malformed
 }
 
-// The number at a place. Most have one group or two, which are read here without a call.
+// The number at a place. Most have one group, which is read here without a call.
 pub fn unsigned_at(s: &[u8], at: usize) -> Unsigned
     ensures { λ r. ⌜ unsignedRead r ≡ numberAt (now (s .entry)) at ⌝ }
 {
-    if s.len() <= at {
-        return Unsigned::Malformed;
-    }
-    let a = wide(s[at]);
-    let behind = at + 1;
-    if a < 128 {
-        return Unsigned::Number(a, behind);
-    }
-    if s.len() <= behind {
-        return Unsigned::Malformed;
-    }
-    let b = wide(s[behind]);
-    if b == 0 {
-        return Unsigned::Malformed;
-    }
-    if b < 128 {
-        return Unsigned::Number(a - 128 + b * 128, behind + 1);
+    if at < s.len() {
+        let b = wide(s[at]);
+        if b < 128 {
+            return Unsigned::Number(b, at + 1);
+        }
     }
     long_at(s, at)
 }

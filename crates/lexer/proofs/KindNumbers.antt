@@ -1,16 +1,15 @@
 -- Kinds by number: a test such as `kind == 17` decides `is (kindOf kind) openRound` both ways. Assumes nothing.
 use mathlib.Core.Path.{_≡_, refl, ap, sym, _∙_}
 use mathlib.Core.List.{List, [], _∷_}
-use mathlib.Core.Bool.{Bool, true, false}
+use mathlib.Core.Bool.{Bool, true, false, cond}
 use Prim.Native.Nat.{ℕ, zero, suc, _+_, _≤_, _<_}
 use native.Mathlib.Omega.{arith}
 use lib.ListN.{length, getD, List·getD-eq-default}
 use lib.Dec.{eqb, leb}
 use borrow.Author.Tests.{eq-eqb, ne-eqb, eqb-true, eqb-false, leb-true, leb-false}
-use Rattle.lexer.specs.Bytes.{pick}
 use Rattle.lexer.specs.Token.{Kind, kindNumber, unknown, ending, name, previous, digits, inputWord, varWord, initWord, modWord, nextWord, dots, arrow, lessEqual, greaterEqual, notEqual, semicolon, colon, openRound, closeRound, openSquare, closeSquare, tilde, ampersand, bar, equals, less, greater, plus, minus, star, slash, is}
 use Rattle.lexer.specs.Results.{kinds, kindOf}
-use Rattle.lexer.proofs.Laws.{pick-prop, both-true}
+use Rattle.lexer.proofs.Laws.{cond-prop, both-true}
 
 -- the kind of a kind's number is that kind
 pub number-kind : (w : Kind) → kindOf (kindNumber w) ≡ w
@@ -50,7 +49,7 @@ number-kind slash = refl
 -- the kinds are those of the numbers from i on
 abbrev counted : ℕ → List Kind → Bool
 counted i [] = true
-counted i (w ∷ l) = let r = counted (suc i) l in pick (eqb (kindNumber w) i) r false
+counted i (w ∷ l) = let r = counted (suc i) l in cond (eqb (kindNumber w) i) r false
 
 all-counted : counted 0 kinds ≡ true
 unfolding kindNumber
@@ -101,6 +100,6 @@ pub known-number : (k : ℕ) → is (kindOf k) unknown ≡ false → (1 ≤ k) �
 unfolding is kindNumber kindOf
 known-number k e =
     let known = eqb-false (kindNumber (kindOf k)) 0 e in
-    pick-prop (λ (x : ℕ). (1 ≤ k) × (k ≤ 30)) (leb k 30) 0 0
+    cond-prop (λ (x : ℕ). (1 ≤ k) × (k ≤ 30)) (leb k 30) 0 0
     (λ t. let low : k ≤ 30 = leb-true k 30 t in let some : k ≡ 0 → ⊥ = λ z. known (kind-number k low ∙ z) in (omega arith, low))
     (λ t. absurd (known (ap kindNumber (List·getD-eq-default kinds unknown (leb-false k 30 t)))))

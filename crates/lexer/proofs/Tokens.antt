@@ -13,7 +13,7 @@ use Rattle.lexer.specs.Lexer.{isSpace, isDigit, isLetter, isAlphanumeric
 use Rattle.lexer.specs.Results.{kindOf, tokenRead, Lies, Placed}
 use Rattle.lexer.specs.declared.Token.{Token}
 use Rattle.lexer.specs.declared.Token.the-variants.{Is, Fault}
-use Rattle.lexer.proofs.Laws.{pick-prop, run-out, token-at-moved}
+use Rattle.lexer.proofs.Laws.{cond-prop, run-out, token-at-moved}
 use Rattle.lexer.proofs.KindNumbers.{ending-number, is-unknown, is-known, numbered, known-number}
 
 -- ---- signs
@@ -65,7 +65,7 @@ AllKnown (w ∷ ws) = (is (w .kind) unknown ≡ false) × AllKnown ws
 word-in-known : (ws : List Word) (run : List ℕ) → AllKnown ws → is (wordIn ws run) unknown ≡ false
 unfolding is kindNumber
 word-in-known [] run h = refl
-word-in-known (w ∷ ws) run h = pick-prop (λ (k : Kind). is k unknown ≡ false) (sameBytes run (w .spelling)) _ _ (λ t. h .0) (λ t. word-in-known ws run (h .1))
+word-in-known (w ∷ ws) run h = cond-prop (λ (k : Kind). is k unknown ≡ false) (sameBytes run (w .spelling)) _ _ (λ t. h .0) (λ t. word-in-known ws run (h .1))
 
 word-known : (run : List ℕ) → is (wordOf run) unknown ≡ false
 unfolding wordOf is kindNumber
@@ -74,15 +74,15 @@ word-known run = word-in-known words run (refl, (refl, (refl, (refl, (refl, tt))
 sign-known : (a b s : ℕ) → Known (signAt a b s)
 unfolding signAt readOf
 sign-known a b s =
-    pick-prop Known (is (pairOf a b) unknown) _ _
-    (λ t. pick-prop Known (is (signOf a) unknown) _ _ (λ u. tt) (λ u. u))
+    cond-prop Known (is (pairOf a b) unknown) _ _
+    (λ t. cond-prop Known (is (signOf a) unknown) _ _ (λ u. tt) (λ u. u))
     (λ t. t)
 
 previous-known : (text : List ℕ) (s : ℕ) → Known (previousAt text s)
 unfolding previousAt is kindNumber
 previous-known text s =
-    pick-prop Known (isLetter (getD text (s + 1) 0)) _ _
-    (λ t. pick-prop Known (is (wordOf (part text (s + 1) (runEnd isAlphanumeric text (s + 1)))) name) _ _ (λ u. refl) (λ u. tt))
+    cond-prop Known (isLetter (getD text (s + 1) 0)) _ _
+    (λ t. cond-prop Known (is (wordOf (part text (s + 1) (runEnd isAlphanumeric text (s + 1)))) name) _ _ (λ u. refl) (λ u. tt))
     (λ t. tt)
 
 digits-known : is digits unknown ≡ false
@@ -96,15 +96,15 @@ ending-known = refl
 of-known : (text : List ℕ) (s b : ℕ) → Known (tokenOf text s b)
 unfolding tokenOf wordAt digitsAt
 of-known text s b =
-    pick-prop Known (isLetter b) _ _ (λ t. word-known _)
-    (λ n1. pick-prop Known (isDigit b) _ _ (λ t. digits-known)
-    (λ n2. pick-prop Known (eqb b 95) _ _ (λ t. previous-known text s) (λ n3. sign-known b _ s)))
+    cond-prop Known (isLetter b) _ _ (λ t. word-known _)
+    (λ n1. cond-prop Known (isDigit b) _ _ (λ t. digits-known)
+    (λ n2. cond-prop Known (eqb b 95) _ _ (λ t. previous-known text s) (λ n3. sign-known b _ s)))
 
 token-known : (text : List ℕ) (at : ℕ) → Known (tokenAt text at)
 unfolding tokenAt tokenPast
 token-known text at =
     let s = runEnd isSpace text at in
-    pick-prop Known (ltb s (length text)) _ _ (λ t. of-known text s (getD text s 0)) (λ t. ending-known)
+    cond-prop Known (ltb s (length text)) _ _ (λ t. of-known text s (getD text s 0)) (λ t. ending-known)
 
 -- ---- where a token stands
 
@@ -117,7 +117,7 @@ module _ (text : List ℕ) (at k s n : ℕ) (e : tokenRead (Is k s n) ≡ tokenA
   kind-known = known-number k (subst Known (sym e) (token-known text at))
 
   lies : Lies (length text) at k s n
-  lies = pick-prop (λ (x : ℕ). Lies (length text) at k s n) (leb at (length text)) 0 0 inside beyond
+  lies = cond-prop (λ (x : ℕ). Lies (length text) at k s n) (leb at (length text)) 0 0 inside beyond
     where
       inside : leb at (length text) ≡ true → Lies (length text) at k s n
       inside t =

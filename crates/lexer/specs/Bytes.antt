@@ -1,17 +1,13 @@
--- Lists of bytes: quoted texts, parts, equality, and a choice by a test. Assumes nothing.
+-- Lists of bytes: quoted texts, parts, equality. Where an arm of `cond` computes, here and above, it is bound by `let`, since arguments are
+-- computed before a call. Assumes nothing.
 use Prim.Native.Nat.{ℕ, _-_}
 use Prim.Native.String as S
 use Prim.Native.String.{String}
 use Prim.Native.Char.{code}
-use mathlib.Core.Bool.{Bool, true, false}
+use mathlib.Core.Bool.{Bool, true, false, cond}
 use mathlib.Core.List.{List, [], _∷_}
 use lib.ListN.{take, drop}
 use lib.Dec.{eqb}
-
--- a if the test holds, else b. The branches are bound by `let` where they compute, since arguments are computed before a call
-abbrev pub pick : {A : Type 0} → Bool → A → A → A
-pick true a b = a
-pick false a b = b
 
 -- the bytes of a quoted text
 abbrev pub bytes : String → List ℕ
@@ -27,4 +23,4 @@ unfoldable pub sameBytes : List ℕ → List ℕ → Bool
 sameBytes [] [] = true
 sameBytes [] (y ∷ l) = false
 sameBytes (x ∷ k) [] = false
-sameBytes (x ∷ k) (y ∷ l) = let r = sameBytes k l in pick (eqb x y) r false
+sameBytes (x ∷ k) (y ∷ l) = let r = sameBytes k l in cond (eqb x y) r false

@@ -1,35 +1,35 @@
 -- Reading tokens. Document 01, "The text", first paragraph: each comment is a sentence of it, or says how one is read. Assumes nothing.
 use Prim.Native.Nat.{ℕ, _+_, _-_, _*_, _%_}
-use mathlib.Core.Bool.{Bool, true, false, _&&_}
+use mathlib.Core.Bool.{Bool, true, false, _&&_, cond}
 use mathlib.Core.List.{List, [], _∷_}
 use lib.ListN.{length, getD, drop}
 use lib.Dec.{ltb, leb, eqb}
 use Rattle.limits.specs.Limits.{spellingLimit}
-use Rattle.lexer.specs.Bytes.{pick, bytes, part, sameBytes}
+use Rattle.lexer.specs.Bytes.{bytes, part, sameBytes}
 use Rattle.lexer.specs.Token.{Kind, unknown, ending, name, previous, digits, inputWord, varWord, initWord, modWord, nextWord, dots, arrow, lessEqual, greaterEqual, notEqual, semicolon, colon, openRound, closeRound, openSquare, closeSquare, tilde, ampersand, bar, equals, less, greater, plus, minus, star, slash, is, Read, token, fault}
 
 -- ---- bytes
 
 -- Space, tab, CR and LF separate.
 unfoldable pub isSpace : ℕ → Bool
-isSpace b = pick (eqb b 32) true (pick (eqb b 9) true (pick (eqb b 10) true (eqb b 13)))
+isSpace b = cond (eqb b 32) true (cond (eqb b 9) true (cond (eqb b 10) true (eqb b 13)))
 
 -- Letters and digits are those of ASCII.
 unfoldable pub isDigit : ℕ → Bool
 isDigit b = leb 48 b && ltb b 58
 
 unfoldable pub isLetter : ℕ → Bool
-isLetter b = pick (leb 65 b && ltb b 91) true (leb 97 b && ltb b 123)
+isLetter b = cond (leb 65 b && ltb b 91) true (leb 97 b && ltb b 123)
 
 unfoldable pub isAlphanumeric : ℕ → Bool
-isAlphanumeric b = pick (isLetter b) true (isDigit b)
+isAlphanumeric b = cond (isLetter b) true (isDigit b)
 
 -- ---- runs: longest match
 
 -- the end of a run of such bytes that has come to i, with l the rest of the text from there
 unfoldable pub runOn : (ℕ → Bool) → List ℕ → ℕ → ℕ
 runOn p [] i = i
-runOn p (b ∷ l) i = let r = runOn p l (i + 1) in pick (p b) r i
+runOn p (b ∷ l) i = let r = runOn p l (i + 1) in cond (p b) r i
 
 unfoldable pub runEnd : (ℕ → Bool) → List ℕ → ℕ → ℕ
 runEnd p text at = runOn p (drop at text) at
@@ -53,7 +53,7 @@ words =
 
 abbrev pub wordIn : List Word → List ℕ → Kind
 wordIn [] run = name
-wordIn (w ∷ ws) run = let r = wordIn ws run in pick (sameBytes run (w .spelling)) (w .kind) r
+wordIn (w ∷ ws) run = let r = wordIn ws run in cond (sameBytes run (w .spelling)) (w .kind) r
 
 -- A name is a letter, then letters or digits: such a run is a word of the grammar, else a name.
 unfoldable pub wordOf : List ℕ → Kind
@@ -72,42 +72,42 @@ sameName a b = sameBytes a b
 -- `..` `->` `<=` `>=` `<>`, by the first byte a and the second byte b
 unfoldable pub pairOf : ℕ → ℕ → Kind
 pairOf a b =
-    pick (eqb b 46 && eqb a 46) dots
-    (pick (eqb b 62 && eqb a 45) arrow
-    (pick (eqb b 61 && eqb a 60) lessEqual
-    (pick (eqb b 61 && eqb a 62) greaterEqual
-    (pick (eqb b 62 && eqb a 60) notEqual unknown))))
+    cond (eqb b 46 && eqb a 46) dots
+    (cond (eqb b 62 && eqb a 45) arrow
+    (cond (eqb b 61 && eqb a 60) lessEqual
+    (cond (eqb b 61 && eqb a 62) greaterEqual
+    (cond (eqb b 62 && eqb a 60) notEqual unknown))))
 
 -- `; : ( ) [ ] ~ & | = < > + - * /`
 unfoldable pub signOf : ℕ → Kind
 signOf b =
-    pick (eqb b 59) semicolon
-    (pick (eqb b 58) colon
-    (pick (eqb b 40) openRound
-    (pick (eqb b 41) closeRound
-    (pick (eqb b 91) openSquare
-    (pick (eqb b 93) closeSquare
-    (pick (eqb b 126) tilde
-    (pick (eqb b 38) ampersand
-    (pick (eqb b 124) bar
-    (pick (eqb b 61) equals
-    (pick (eqb b 60) less
-    (pick (eqb b 62) greater
-    (pick (eqb b 43) plus
-    (pick (eqb b 45) minus
-    (pick (eqb b 42) star
-    (pick (eqb b 47) slash unknown)))))))))))))))
+    cond (eqb b 59) semicolon
+    (cond (eqb b 58) colon
+    (cond (eqb b 40) openRound
+    (cond (eqb b 41) closeRound
+    (cond (eqb b 91) openSquare
+    (cond (eqb b 93) closeSquare
+    (cond (eqb b 126) tilde
+    (cond (eqb b 38) ampersand
+    (cond (eqb b 124) bar
+    (cond (eqb b 61) equals
+    (cond (eqb b 60) less
+    (cond (eqb b 62) greater
+    (cond (eqb b 43) plus
+    (cond (eqb b 45) minus
+    (cond (eqb b 42) star
+    (cond (eqb b 47) slash unknown)))))))))))))))
 
 -- a token, unless it is of no kind
 unfoldable pub readOf : Kind → ℕ → ℕ → Read
-readOf k s n = pick (is k unknown) (fault s) (token k s n)
+readOf k s n = cond (is k unknown) (fault s) (token k s n)
 
 -- Tokens are read by longest match: a sign of two bytes before one of one byte. At s stands a, then b.
 unfoldable pub signAt : ℕ → ℕ → ℕ → Read
 signAt a b s =
     let one = readOf (signOf a) s (s + 1) in
     let two = token (pairOf a b) s (s + 2) in
-    pick (is (pairOf a b) unknown) one two
+    cond (is (pairOf a b) unknown) one two
 
 -- ---- tokens
 
@@ -123,8 +123,8 @@ digitsAt text s = token digits s (runEnd isDigit text s)
 unfoldable pub previousAt : List ℕ → ℕ → Read
 previousAt text s =
     let e = runEnd isAlphanumeric text (s + 1) in
-    let named = pick (is (wordOf (part text (s + 1) e)) name) (token previous s e) (fault s) in
-    pick (isLetter (getD text (s + 1) 0)) named (fault s)
+    let named = cond (is (wordOf (part text (s + 1) e)) name) (token previous s e) (fault s) in
+    cond (isLetter (getD text (s + 1) 0)) named (fault s)
 
 -- the token whose first byte, b, is at s
 unfoldable pub tokenOf : List ℕ → ℕ → ℕ → Read
@@ -133,13 +133,13 @@ tokenOf text s b =
     let number = digitsAt text s in
     let underscore = previousAt text s in
     let sign = signAt b (getD text (s + 1) 0) s in
-    pick (isLetter b) word (pick (isDigit b) number (pick (eqb b 95) underscore sign))
+    cond (isLetter b) word (cond (isDigit b) number (cond (eqb b 95) underscore sign))
 
 -- the token at s, past the space
 unfoldable pub tokenPast : List ℕ → ℕ → Read
 tokenPast text s =
     let t = tokenOf text s (getD text s 0) in
-    pick (ltb s (length text)) t (token ending s s)
+    cond (ltb s (length text)) t (token ending s s)
 
 -- the first token at or after `at`
 unfoldable pub tokenAt : List ℕ → ℕ → Read
@@ -147,7 +147,7 @@ tokenAt text at = tokenPast text (runEnd isSpace text at)
 
 -- ---- equality of tokens: the same kind, the same spelling. (Names, numbers and signs are compared as names are.)
 unfoldable pub sameToken : List ℕ → Kind → ℕ → ℕ → Kind → ℕ → ℕ → Bool
-sameToken text k s n k2 s2 n2 = let r = sameName (part text s n) (part text s2 n2) in pick (is k k2) r false
+sameToken text k s n k2 s2 n2 = let r = sameName (part text s n) (part text s2 n2) in cond (is k k2) r false
 
 -- ---- the value of a run of digits, after the value v; a digit's byte is 48 and its value, so its lower half is the value
 unfoldable pub valueOn : List ℕ → ℕ → ℕ

@@ -1,15 +1,16 @@
 -- The table of names: where in the text each is spelled, in the order of their ids. Assumes nothing.
+use mathlib.Core.Bool.{cond}
 use Prim.Native.Nat.{ℕ, zero, suc, _+_, _≤_}
 use mathlib.Core.List.{List, [], _∷_}
 use mathlib.Core.Option.{Option, none, some}
 use lib.ListN.{length}
-use Rattle.lexer.specs.Bytes.{pick, part}
+use Rattle.lexer.specs.Bytes.{part}
 use Rattle.lexer.specs.Lexer.{sameName}
 
 -- the id of the name w, counted from i
 unfoldable pub idFrom : List (List ℕ) → List ℕ → ℕ → Option ℕ
 idFrom [] w i = none
-idFrom (x ∷ l) w i = let r = idFrom l w (i + 1) in pick (sameName w x) (some i) r
+idFrom (x ∷ l) w i = let r = idFrom l w (i + 1) in cond (sameName w x) (some i) r
 
 unfoldable pub idOf : List (List ℕ) → List ℕ → Option ℕ
 idOf names w = idFrom names w 0

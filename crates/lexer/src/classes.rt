@@ -18,7 +18,7 @@ pub fn wide(x: u8) -> u64
     x as u64
 }
 
-pub fn is_space(b: u8) -> bool
+fn is_space(b: u8) -> bool
     ensures { λ r. ⌜ r ≡ isSpace b ⌝ }
 {
     if b == 32 {
@@ -57,7 +57,7 @@ pub fn is_letter(b: u8) -> bool
     b < 123
 }
 
-pub fn is_in(class: u8, b: u8) -> bool
+fn is_in(class: u8, b: u8) -> bool
     ensures { λ r. ⌜ r ≡ member class b ⌝ }
 {
     if class == SPACE {

@@ -21,7 +21,7 @@ pub fn is_yes(z: i32) -> bool
     arith::is_not_equal(z, 0)
 }
 
-pub fn both_yes(a: i32, b: i32) -> bool
+fn both_yes(a: i32, b: i32) -> bool
     ensures { λ r. ⌜ r ≡ (yes a && yes b) ⌝ }
 {
     if is_yes(a) {
@@ -30,7 +30,7 @@ pub fn both_yes(a: i32, b: i32) -> bool
     false
 }
 
-pub fn either_yes(a: i32, b: i32) -> bool
+fn either_yes(a: i32, b: i32) -> bool
     ensures { λ r. ⌜ r ≡ (yes a || yes b) ⌝ }
 {
     if is_yes(a) {

@@ -7,6 +7,7 @@ ghost use mathlib.Core.List.{List};
 ghost use Prim.Native.Nat.{_≤_};
 ghost use lib.IntN.{ℤ};
 ghost use lib.ListN.{length};
+ghost use Rattle.limits.specs.Limits.{stackLimit};
 ghost use Rattle.semantics.specs.Program.{Range};
 ghost use Rattle.semantics.specs.Formula.{State};
 ghost use Rattle.bytecode.specs.Instructions.{gate as gating, pick as picking, assign as assigning, settle as settling};
@@ -118,7 +119,7 @@ pub fn pick(
 
 // Keeps the previous value if nothing was picked.
 pub fn settle(prev: &[i32], cur: &mut [i32], m: Registers, id: u64) -> Stepped
-    requires { ⌜ (m .held ≤ 40) × (length (now cur) ≡ length (now prev)) ⌝ }
+    requires { ⌜ (m .held ≤ stackLimit) × (length (now cur) ≡ length (now prev)) ⌝ }
     ensures { λ r. ⌜ ((ns : List Range) (vs : List ℤ) → length ns ≡ length (now (prev .entry)) → stepOutcome r vs (now (cur .exit))
         ≡ perform ns (now (prev .entry)) (settling id) (m .picked) (heldOf vs (m .held)) (now (cur .entry))) ⌝ }
     ensures { λ r. ⌜ Few r ⌝ }

@@ -13,7 +13,7 @@ use Rattle.lexer.specs.Token.{Kind, name, ending, is, token, fault}
 use Rattle.lexer.specs.Lexer.{tokenAt}
 use Rattle.lexer.specs.Names.{namesOf, Table}
 use Rattle.lexer.specs.Results.{kindOf}
-use Rattle.lexer.proofs.Laws.{pick-prop}
+use Rattle.lexer.proofs.Laws.{cond-prop}
 use Rattle.semantics.specs.Program.{Rule, function, change, target, allTrue}
 use Rattle.grammar.specs.Parsed.{accepted, refused}
 use Rattle.grammar.specs.Expressions.{Scope}
@@ -137,10 +137,10 @@ module _ {text starts ends : List ℕ} {count known₀ at to : ℕ} {out₀ out 
     pub ruling-end : {r : Part} → is (kindOf k) name ≡ false → r ≡ endOf k s n (naming count known) t done → Answer out r
     unfolding endOf kindOf
     ruling-end i e = subst (Answer out) (sym e)
-        (pick-prop (Answer out) (eqb k 1) _ _
+        (cond-prop (Answer out) (eqb k 1) _ _
         (λ y.
         let j = same-kinds k 1 (eqb-true k 1 y) in
-        pick-prop (Answer out) (allTrue (flagsOf count known)) _ _
+        cond-prop (Answer out) (allTrue (flagsOf count known)) _ _
         (λ z. writes (record {
           tree = x .rules;
           is = come ∙ rules-end (64 - done) sc (x .rules) a (f .read) i j z;

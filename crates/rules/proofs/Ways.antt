@@ -13,7 +13,7 @@ use Rattle.lexer.specs.Bytes.{part}
 use Rattle.lexer.specs.Token.{Kind, tilde, is, token, fault}
 use Rattle.lexer.specs.Lexer.{tokenAt, overLong}
 use Rattle.lexer.specs.Names.{idOf}
-use Rattle.lexer.proofs.Laws.{pick-prop}
+use Rattle.lexer.proofs.Laws.{cond-prop}
 use Rattle.semantics.specs.Program.{Expression, Condition, Rule, function, change, target}
 use Rattle.grammar.specs.Parsed.{Parsed, accepted, refused, Wanted, phrase, followed}
 use Rattle.grammar.specs.Expressions.{Scope, withId, wholeExpression}
@@ -174,7 +174,7 @@ unfolding formulas functionAt changeAt followed
 formulas-target sc w v at =
     then-prop (Targets v) (phrase (sc .text) _ at) _ (λ k q. tt)
     (λ u n e. token-prop (Targets v) (tokenAt (sc .text) n) _ (λ k q. tt)
-    (λ k s m f. pick-prop (Targets v) (is k tilde) _ _
+    (λ k s m f. cond-prop (Targets v) (is k tilde) _ _
     (λ i. then-prop (Targets v) (phrase (sc .text) _ m) _ (λ k q. tt)
     (λ u n1 e1. then-prop (Targets v) (casesFrom caseLimit sc w [] n1) _ (λ k q. tt)
     (λ cs n2 e2. then-prop (Targets v) (phrase (sc .text) _ n2) _ (λ k q. tt)
@@ -192,9 +192,9 @@ Fresh sc (refused k q) = Unit {0}
 pub rule-fresh : (sc : Scope) (s n : ℕ) → Fresh sc (ruleAt sc s n)
 unfolding ruleAt withId
 rule-fresh sc s n =
-    pick-prop (Fresh sc) (overLong s n) _ _ (λ e. tt)
+    cond-prop (Fresh sc) (overLong s n) _ _ (λ e. tt)
     (λ e. option-prop (Fresh sc) (idOf (sc .names) (part (sc .text) s n)) _ _ (λ z. tt)
-    (λ v ev. pick-prop (Fresh sc) (getD (sc .known) v false) _ _ (λ t. tt)
+    (λ v ev. cond-prop (Fresh sc) (getD (sc .known) v false) _ _ (λ t. tt)
     (λ t. fresh v (id-of (sc .names) (part (sc .text) s n) v ev) t (formulas sc (part (sc .text) s n) v n) (formulas-target sc (part (sc .text) s n) v n))))
   where
     fresh : (v : ℕ) → v < length (sc .names) → getD (sc .known) v false ≡ false → (p : Parsed Rule) → Targets v p → Fresh sc p

@@ -1,10 +1,10 @@
 -- What the contracts of this crate cite. Assumes nothing.
+use mathlib.Core.Bool.{cond}
 use Prim.Native.Nat.{ℕ, _≤_}
 use mathlib.Core.List.{List, [], _∷_}
 use lib.Dec.{eqb}
 use lib.ListN.{length}
 use Rattle.limits.specs.Limits.{caseLimit, notAllowed, wrongRule}
-use Rattle.lexer.specs.Bytes.{pick}
 use Rattle.semantics.specs.Program.{Rule, allTrue}
 use Rattle.grammar.specs.Emitted.{codeR}
 use Rattle.expressions.specs.declared.scope.Names.{Names}
@@ -23,4 +23,4 @@ pub record SpanRoom (from upto : List ℕ) : Type 0 where
 
 -- what is answered where no rule follows: at the end of the text 6 if a variable has no rule, elsewhere 2
 unfoldable pub endOf : ℕ → ℕ → ℕ → Names → ℕ → ℕ → Part
-endOf kind s n names t done = pick (eqb kind 1) (pick (allTrue (flagsOf (names .count) (names .known))) (Done n t done) (Refused wrongRule s)) (Refused notAllowed s)
+endOf kind s n names t done = cond (eqb kind 1) (cond (allTrue (flagsOf (names .count) (names .known))) (Done n t done) (Refused wrongRule s)) (Refused notAllowed s)

@@ -1,5 +1,6 @@
 // The rules of a text: functions, and change formulas with their no-change formulas. A rule is written as it is read.
 ghost use mathlib.Core.List.{[]};
+use bytecode::opcode;
 use cases::Part;
 use cases::Variable;
 use expressions::scope::Names;
@@ -18,10 +19,6 @@ ghost use Rattle.expressions.specs.Scopes.{scopeOf, Declared};
 ghost use Rattle.expressions.specs.Steps.{Room};
 ghost use Rattle.cases.specs.Post.{Writes};
 ghost use Rattle.rules.specs.Post.{codeOfRule, SpanRoom, endOf};
-
-const LET: u8 = 21;
-
-const SETTLE: u8 = 22;
 
 // `w = (e));`
 fn function(
@@ -51,7 +48,11 @@ fn function(
     let Expected::After(b) = closed else {
         return cases::unexpected(closed);
     };
-    Part::Done(b, bytecode::put_instruction(out, t, LET, w.id as u64), w.id)
+    Part::Done(
+        b,
+        bytecode::put_instruction(out, t, opcode::LET, w.id as u64),
+        w.id,
+    )
 }
 
 // `(w = _w) -> [c] & w = (e) | ..);` and `w: GX(w = _w -> ~([c] | ..));`. Where the conditions stand is kept in `from` and `upto`.
@@ -95,7 +96,7 @@ fn change(
     };
     Part::Done(
         f,
-        bytecode::put_instruction(out, t, SETTLE, w.id as u64),
+        bytecode::put_instruction(out, t, opcode::SETTLE, w.id as u64),
         w.id,
     )
 }
@@ -255,7 +256,7 @@ pub fn rules(
     requires { ⌜ Room (now text) at to ⌝ }
     ensures { λ r. ⌜ Writes codeR length (rulesFrom 65 (scopeOf (now (text .entry)) (now (starts .entry)) (now (ends .entry)) names) [] at) to (now (out .entry)) (now (out .exit)) r ⌝ }
 {
-    let mut from = [0usize; 32];
-    let mut upto = [0usize; 32];
+    let mut from = [0usize; limits::CASE_LIMIT];
+    let mut upto = [0usize; limits::CASE_LIMIT];
     rules_in(text, starts, ends, names, &mut from, &mut upto, at, out, to)
 }

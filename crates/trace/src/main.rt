@@ -263,7 +263,7 @@ fn trace_image(image: &[u8], state: &mut [i32], chunk: &mut [u8], taken: Taken, 
     let number = start_number(scan::start(image, state));
     let put = trace_text::print::put_row(out, 0, 0, state, number);
     if flush(out, put) {
-        let mut cells = [0i32; 65];
+        let mut cells = [0i32; trace_text::LONG_ROW];
         trace_rows(image, state, &mut cells, chunk, taken, out);
     }
 }
@@ -289,7 +289,7 @@ fn main() {
     // One byte more than a text may have, so that a longer one is refused (trace_text's laws `text-seen`, `text-over`); room for the
     // image of any text. The large buffer holds any one line (`head-length`, `refused-length`, `row-length`).
     let mut text = [0u8; 32769];
-    let mut image = [0u8; 49154];
+    let mut image = [0u8; limits::IMAGE_ROOM];
     let mut chunk = io::large_buffer();
     let mut out = io::large_buffer();
     let taken = read_text(&mut text, &mut chunk);

@@ -1,6 +1,6 @@
 -- The rows that are handed to scan, one after the other, are those of the lines behind the line `#`. Assumes nothing.
 use mathlib.Core.Path.{_≡_, refl, sym, ap, _∙_}
-use mathlib.Core.Bool.{Bool, true, false}
+use mathlib.Core.Bool.{Bool, true, false, cond}
 use mathlib.Core.List.{List, [], _∷_, _++_, map, append-nil}
 use mathlib.Core.Option.{Option, none, some}
 use Prim.Native.Nat.{ℕ, _+_, _≤_}
@@ -10,7 +10,6 @@ use lib.IntN.{ℤ}
 use lib.ListN.{length, drop, length-append}
 use lib.Seq.{sets-eq, length-sets, take-at, drop-at, append-snoc}
 use borrow.Author.Tests.{leb-true, eqb-true}
-use Rattle.lexer.specs.Bytes.{pick}
 use Rattle.trace_text.specs.declared.Line.{Line}
 use Rattle.trace_text.specs.declared.Line.the-variants.{Start}
 use Rattle.trace_text.specs.declared.Stage.the-variants.{LineStart}
@@ -23,18 +22,18 @@ use Rattle.trace_text.proofs.Splitting.{rows-split, line-ended, line-op
 
 -- what is handed to scan while bytes are read, line by line, and at the end of the input for a line that has begun
 pub rowsRead : Line → List ℤ → List ℕ → List (List ℤ)
-rowsRead s cells [] = pick (isBegun s) (handedRow s cells ∷ []) []
+rowsRead s cells [] = cond (isBegun s) (handedRow s cells ∷ []) []
 rowsRead s cells (b ∷ l) =
     let ended = handedRow s cells ∷ rowsRead Start (cellsOf s cells) l in
     let more = rowsRead (lineAfter s b) (cellsAfter s cells b) l in
-    pick (eqb b 10) ended more
+    cond (eqb b 10) ended more
 
 -- ---- a line that has ended
 
 handed-length : (l : List ℕ) → length (handedOf l) ≤ 65
 unfolding handedOf
 handed-length l = by (rowOf l) where
-  chosen : (zs : List ℤ) (t : Bool) → (t ≡ true → length zs ≤ 64) → length (pick t zs longRow) ≤ 65
+  chosen : (zs : List ℤ) (t : Bool) → (t ≡ true → length zs ≤ 64) → length (cond t zs longRow) ≤ 65
   chosen zs true h = let g = h refl in omega arith
   chosen zs false h = rw long-length (omega arith)
 

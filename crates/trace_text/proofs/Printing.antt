@@ -1,6 +1,6 @@
 -- Laws of the decimals and lines that are printed. Assumes nothing.
 use mathlib.Core.Path.{_≡_, refl, sym, ap, _∙_}
-use mathlib.Core.Bool.{Bool, true, false}
+use mathlib.Core.Bool.{Bool, true, false, cond}
 use mathlib.Core.List.{List, [], _∷_, _++_, map, append-nil, append-assoc}
 use Prim.Native.Nat.{ℕ, zero, suc, _+_, _-_, _/_, _%_, _≤_, _<_}
 use native.Mathlib.Numerals.{add-one}
@@ -10,7 +10,7 @@ use lib.IntN.{ℤ, pos, negsuc}
 use lib.ListN.{length, getD, drop, length-append}
 use lib.Seq.{drop-cons}
 use borrow.Author.Tests.{lt-ltb, le-ltb, le-leb, ltb-true, ltb-false}
-use Rattle.lexer.specs.Bytes.{pick, bytes, part}
+use Rattle.lexer.specs.Bytes.{bytes, part}
 use Rattle.lexer.specs.Lexer.{isDigit, valueOf, valueOn}
 use Rattle.trace_text.specs.Row.{allDigits, within32, numberOf}
 use Rattle.trace_text.specs.Output.{digitsUpTo, unsignedDecimal, decimalOf, spaced, headLine, rowLine, refusedLine}
@@ -24,7 +24,7 @@ use Rattle.trace_text.proofs.Decimals.{all-append, value-append, signs,
 one-more : (k n : ℕ) → n ≤ k → digitsUpTo (suc k) n ≡ digitsUpTo k n
 unfolding digitsUpTo
 one-more zero n h = let e : n ≡ 0 = omega arith in rw e
-one-more (suc k) n h = ap (λ (l : List ℕ). pick (ltb n 10) ((48 + n) ∷ []) (l ++ (48 + n % 10) ∷ [])) (one-more k (n / 10) (omega arith))
+one-more (suc k) n h = ap (λ (l : List ℕ). cond (ltb n 10) ((48 + n) ∷ []) (l ++ (48 + n % 10) ∷ [])) (one-more k (n / 10) (omega arith))
 
 enough : (j n : ℕ) → digitsUpTo (j + n) n ≡ unsignedDecimal n
 unfolding unsignedDecimal

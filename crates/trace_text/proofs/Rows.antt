@@ -1,6 +1,6 @@
 -- A line that is read byte by byte comes to the row that Row says. Assumes nothing.
 use mathlib.Core.Path.{_≡_, refl, sym, ap, _∙_}
-use mathlib.Core.Bool.{Bool, true, false, false≢true}
+use mathlib.Core.Bool.{Bool, true, false, false≢true, cond}
 use mathlib.Core.List.{List, [], _∷_, _++_, append-nil}
 use mathlib.Core.Option.{Option, none, some}
 use Prim.Native.Nat.{ℕ, suc, _+_, _*_, _%_, _≤_, _<_}
@@ -10,7 +10,6 @@ use lib.IntN.{ℤ}
 use lib.ListN.{length, set, length-append}
 use lib.Seq.{sets, set-set, append-snoc}
 use borrow.Author.Tests.{le-leb, lt-leb, leb-true, leb-false, ltb-true, ltb-false, eq-eqb, ne-eqb, eqb-true, eqb-false}
-use Rattle.lexer.specs.Bytes.{pick}
 use Rattle.lexer.specs.Lexer.{isDigit, valueOf, valueOn}
 use Rattle.trace_text.specs.declared.Line.{Line}
 use Rattle.trace_text.specs.declared.Line.the-variants.{Start, Wanted, Minus, Number, NoRow}
@@ -53,7 +52,7 @@ begun-nothing : (l : List ℕ) → begun [] (fieldsOf l) ≡ fieldsOf l
 unfolding fieldsOf
 begun-nothing [] = refl
 begun-nothing (b ∷ l) = by (eqb b 32) (fieldsOf l) where
-  by : (t : Bool) (fields : List (List ℕ)) → begun [] (pick t ([] ∷ fields) (before b fields)) ≡ pick t ([] ∷ fields) (before b fields)
+  by : (t : Bool) (fields : List (List ℕ)) → begun [] (cond t ([] ∷ fields) (before b fields)) ≡ cond t ([] ∷ fields) (before b fields)
   by true fields = refl
   by false [] = refl
   by false (field ∷ fields) = refl
@@ -342,7 +341,7 @@ row-handed l h = by (rowOf l) h where
   long : {A : Type 0} → length longRow ≤ 64 → A
   long g = absurd (omega (arith, long-length))
 
-  chosen : (row : List ℤ) (t : Bool) → length (pick t row longRow) ≤ 64 → some row ≡ some (pick t row longRow)
+  chosen : (row : List ℤ) (t : Bool) → length (cond t row longRow) ≤ 64 → some row ≡ some (cond t row longRow)
   chosen row true g = refl
   chosen row false g = long g
 

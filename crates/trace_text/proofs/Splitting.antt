@@ -1,6 +1,6 @@
 -- Standard input that is split byte by byte comes to the text and the rows that Input says. Assumes nothing.
 use mathlib.Core.Path.{_≡_, refl, sym, ap, subst, _∙_}
-use mathlib.Core.Bool.{Bool, true, false, true≢false}
+use mathlib.Core.Bool.{Bool, true, false, true≢false, cond}
 use mathlib.Core.List.{List, [], _∷_, _++_, map}
 use Prim.Native.Nat.{ℕ, _+_, _≤_, _<_}
 use native.Mathlib.Omega.{arith}
@@ -8,7 +8,7 @@ use lib.Dec.{eqb, leb}
 use lib.ListN.{length, take, drop, length-take}
 use lib.Seq.{take-all}
 use borrow.Author.Tests.{eqb-true}
-use Rattle.lexer.specs.Bytes.{pick, sameBytes}
+use Rattle.lexer.specs.Bytes.{sameBytes}
 use Rattle.lexer.specs.Lexer.{isDigit}
 use Rattle.trace_text.specs.declared.Stage.{Stage}
 use Rattle.trace_text.specs.declared.Stage.the-variants.{LineStart, InLine, Hash}
@@ -210,7 +210,7 @@ open-ended [] b e = refl
 open-ended (x ∷ a) b e = let o = open-cons x a e in ended-cons x (a ++ b) (o .0) ∙ open-ended a b (o .1)
 
 -- a state is Start just where no byte of the line was read
-begun-pick : (t : Bool) (a b : Line) → isBegun a ≡ true → isBegun b ≡ true → isBegun (pick t a b) ≡ true
+begun-pick : (t : Bool) (a b : Line) → isBegun a ≡ true → isBegun b ≡ true → isBegun (cond t a b) ≡ true
 begun-pick true a b p q = p
 begun-pick false a b p q = q
 

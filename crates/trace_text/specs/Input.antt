@@ -1,9 +1,9 @@
 -- Standard input of the trace program. Document 01, "Latches to try", second paragraph, its first two sentences. Assumes nothing.
 use Prim.Native.Nat.{ℕ}
-use mathlib.Core.Bool.{Bool}
+use mathlib.Core.Bool.{Bool, cond}
 use mathlib.Core.List.{List, [], _∷_, _++_, map}
 use lib.Dec.{eqb}
-use Rattle.lexer.specs.Bytes.{pick, bytes, sameBytes}
+use Rattle.lexer.specs.Bytes.{bytes, sameBytes}
 
 -- ---- lines, each with the LF that ends it; nothing after the last LF is no line
 
@@ -14,12 +14,12 @@ before b (part ∷ parts) = (b ∷ part) ∷ parts
 
 unfoldable pub linesOf : List ℕ → List (List ℕ)
 linesOf [] = []
-linesOf (b ∷ input) = let more = linesOf input in pick (eqb b 10) ((10 ∷ []) ∷ more) (before b more)
+linesOf (b ∷ input) = let more = linesOf input in cond (eqb b 10) ((10 ∷ []) ∷ more) (before b more)
 
 -- a line without its line end: the bytes before the first LF
 unfoldable pub bare : List ℕ → List ℕ
 bare [] = []
-bare (b ∷ line) = let more = bare line in pick (eqb b 10) [] (b ∷ more)
+bare (b ∷ line) = let more = bare line in cond (eqb b 10) [] (b ∷ more)
 
 -- a line that is just `#`
 unfoldable pub isHashLine : List ℕ → Bool
@@ -29,7 +29,7 @@ isHashLine line = sameBytes (bare line) (bytes "#")
 
 unfoldable pub textIn : List (List ℕ) → List ℕ
 textIn [] = []
-textIn (line ∷ lines) = let more = line ++ textIn lines in pick (isHashLine line) [] more
+textIn (line ∷ lines) = let more = line ++ textIn lines in cond (isHashLine line) [] more
 
 unfoldable pub textOf : List ℕ → List ℕ
 textOf input = textIn (linesOf input)
@@ -38,7 +38,7 @@ textOf input = textIn (linesOf input)
 
 unfoldable pub rowsIn : List (List ℕ) → List (List ℕ)
 rowsIn [] = []
-rowsIn (line ∷ lines) = let more = rowsIn lines in pick (isHashLine line) (map bare lines) more
+rowsIn (line ∷ lines) = let more = rowsIn lines in cond (isHashLine line) (map bare lines) more
 
 unfoldable pub rowLines : List ℕ → List (List ℕ)
 rowLines input = rowsIn (linesOf input)

@@ -1,4 +1,5 @@
 -- What the trace program prints. Document 01, "Latches to try", second paragraph and the printed example. Assumes nothing.
+use mathlib.Core.Bool.{cond}
 use Prim.Native.Nat.{ℕ, zero, suc, _+_, _/_, _%_, min}
 use mathlib.Core.Path.{_≡_}
 use mathlib.Core.List.{List, [], _∷_, _++_, map}
@@ -6,7 +7,7 @@ use lib.Dec.{ltb}
 use lib.IntN.{ℤ, pos, negsuc}
 use lib.ListN.{length}
 use lib.Seq.{sets}
-use Rattle.lexer.specs.Bytes.{pick, bytes}
+use Rattle.lexer.specs.Bytes.{bytes}
 
 -- ---- decimals, the shortest, `-` for negative numbers
 
@@ -15,7 +16,7 @@ unfoldable pub digitsUpTo : ℕ → ℕ → List ℕ
 digitsUpTo zero n = (48 + n % 10) ∷ []
 digitsUpTo (suc k) n =
     let more = digitsUpTo k (n / 10) ++ (48 + n % 10) ∷ [] in
-    pick (ltb n 10) ((48 + n) ∷ []) more
+    cond (ltb n 10) ((48 + n) ∷ []) more
 
 unfoldable pub unsignedDecimal : ℕ → List ℕ
 unsignedDecimal n = digitsUpTo n n

@@ -1,7 +1,7 @@
 -- The row of a line. Document 01, "Latches to try", second paragraph: decimals, `-` allowed, with single spaces; a line that isn't
 -- so, or has a number outside 32 bits, has the wrong length. Assumes nothing.
 use Prim.Native.Nat.{ℕ, suc}
-use mathlib.Core.Bool.{Bool, true, _&&_}
+use mathlib.Core.Bool.{Bool, true, _&&_, cond}
 use mathlib.Core.List.{List, [], _∷_}
 use mathlib.Core.Option.{Option, none, some}
 use lib.Dec.{eqb, leb}
@@ -9,7 +9,6 @@ use lib.IntN.{ℤ, pos, negℤ}
 use lib.ListN.{length, replicate}
 use Rattle.limits.specs.Limits.{nameLimit}
 use Rattle.arith.specs.Values.{isInt32}
-use Rattle.lexer.specs.Bytes.{pick}
 use Rattle.lexer.specs.Lexer.{isDigit, valueOf}
 use Rattle.trace_text.specs.Input.{before}
 
@@ -28,22 +27,22 @@ allDigits (b ∷ field) = isDigit b && allDigits field
 -- the value of digits, at least one
 abbrev pub digitsValue : List ℕ → Option ℕ
 digitsValue [] = none
-digitsValue (b ∷ field) = pick (allDigits (b ∷ field)) (some (valueOf (b ∷ field))) none
+digitsValue (b ∷ field) = cond (allDigits (b ∷ field)) (some (valueOf (b ∷ field))) none
 
 -- a number outside 32 bits is none
 abbrev pub within32 : ℤ → Option ℤ
-within32 z = pick (isInt32 z) (some z) none
+within32 z = cond (isInt32 z) (some z) none
 
 unfoldable pub numberOf : List ℕ → Option ℤ
 numberOf [] = none
 numberOf (b ∷ field) =
-    pick (eqb b 45) (digitsValue field andIf λ v. within32 (negℤ (pos v))) (digitsValue (b ∷ field) andIf λ v. within32 (pos v))
+    cond (eqb b 45) (digitsValue field andIf λ v. within32 (negℤ (pos v))) (digitsValue (b ∷ field) andIf λ v. within32 (pos v))
 
 -- ---- with single spaces: a field before each space, and one behind the last
 
 unfoldable pub fieldsOf : List ℕ → List (List ℕ)
 fieldsOf [] = [] ∷ []
-fieldsOf (b ∷ line) = let more = fieldsOf line in pick (eqb b 32) ([] ∷ more) (before b more)
+fieldsOf (b ∷ line) = let more = fieldsOf line in cond (eqb b 32) ([] ∷ more) (before b more)
 
 -- all fields are numbers
 unfoldable pub numbersOf : List (List ℕ) → Option (List ℤ)
@@ -62,7 +61,7 @@ longRow = replicate (suc nameLimit) (pos 0)
 
 abbrev pub handed : Option (List ℤ) → List ℤ
 handed none = longRow
-handed (some row) = pick (leb (length row) nameLimit) row longRow
+handed (some row) = cond (leb (length row) nameLimit) row longRow
 
 unfoldable pub handedOf : List ℕ → List ℤ
 handedOf line = handed (rowOf line)

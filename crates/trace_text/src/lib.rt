@@ -13,6 +13,9 @@ use lexer::classes;
 
 pub mod print;
 
+// The length of a row that no image has.
+pub const LONG_ROW: usize = 65;
+
 // ---- the text and the rows
 
 // Where the splitting of standard input has come to.
@@ -69,7 +72,7 @@ fn text_stage(b: u8) -> Stage
 }
 
 // The stage behind one byte of standard input.
-pub fn stage_after(stage: Stage, b: u8) -> Stage
+fn stage_after(stage: Stage, b: u8) -> Stage
     ensures { λ r. ⌜ r ≡ stageAfter stage b ⌝ }
 {
     match stage {
@@ -91,7 +94,7 @@ pub fn stage_after(stage: Stage, b: u8) -> Stage
 }
 
 // What one byte of standard input adds to the text, as far as there is room; the place behind it.
-pub fn put_text(text: &mut [u8], at: usize, stage: Stage, b: u8) -> usize
+fn put_text(text: &mut [u8], at: usize, stage: Stage, b: u8) -> usize
     ensures { λ r. ⌜ Put (now (text .entry)) at (textAfter stage b) (now (text .exit)) r ⌝ }
 {
     match stage {
@@ -271,7 +274,7 @@ fn number_byte(cells: &mut [i32], n: usize, negative: bool, v: u64, b: u8) -> Li
 }
 
 // One byte of a line. Numbers are stored where they end.
-pub fn line_byte(cells: &mut [i32], s: Line, b: u8) -> Line
+fn line_byte(cells: &mut [i32], s: Line, b: u8) -> Line
     ensures { λ r. ⌜ (r ≡ lineAfter s b) × (now (cells .exit) ≡ cellsAfter s (now (cells .entry)) b) ⌝ }
 {
     match s {
@@ -315,7 +318,7 @@ fn put_long_row(cells: &mut [i32]) -> usize
     ensures { λ r. ⌜ (r ≡ 65) × (now (cells .exit) ≡ sets (now (cells .entry)) 0 longRow) ⌝ }
 {
     let mut i = 0;
-    while i < 65 {
+    while i < LONG_ROW {
         store(cells, i, 0);
         i += 1;
     }

@@ -29,7 +29,7 @@ pub fn put_byte(out: &mut [u8], at: usize, b: u8) -> usize
 }
 
 // The shortest decimal.
-pub fn put_unsigned_decimal(out: &mut [u8], at: usize, n: u64) -> usize
+fn put_unsigned_decimal(out: &mut [u8], at: usize, n: u64) -> usize
     ensures { λ r. ⌜ Put (now (out .entry)) at (unsignedDecimal n) (now (out .exit)) r ⌝ }
 {
     if n < 10 {
@@ -39,7 +39,7 @@ pub fn put_unsigned_decimal(out: &mut [u8], at: usize, n: u64) -> usize
     put_byte(out, next, (48 + n % 10) as u8)
 }
 
-pub fn put_decimal(out: &mut [u8], at: usize, z: i32) -> usize
+fn put_decimal(out: &mut [u8], at: usize, z: i32) -> usize
     ensures { λ r. ⌜ Put (now (out .entry)) at (decimalOf z) (now (out .exit)) r ⌝ }
 {
     if 0 <= z {

@@ -185,7 +185,7 @@ fn translate_any(text: &[u8], image: &mut [u8]) -> Translated
 {
     let mut starts = [0usize; limits::NAME_LIMIT];
     let mut ends = [0usize; limits::NAME_LIMIT];
-    let mut scratch = [0u8; 49154];
+    let mut scratch = [0u8; limits::IMAGE_ROOM];
     translate_in(text, image, &mut starts, &mut ends, &mut scratch)
 }
 

@@ -51,7 +51,7 @@ start-is c =
     sym (start-kept _ _ (low-fits (at-high .before .before .before .before .before .before .before .before)) (high-fits at-high) _ _ (c .before .before .before .start-at .ensures)) ∙ ap boundOf (c .before .third .given .1)
 
 returns : tie.Need-returns
-returns c = refuses-bound _ _ _ _ _ (c .before .enum-told .given .1) (c .out-of-limit .ensures) (no-low _ _ _ _ (sym (c .before .before .before .bound-at .ensures) ∙ ap boundOf (c .before .enum-told .given .1)))
+returns c = refuses-bound _ _ _ _ _ (c .before .enum-told .given .1) (c .no-bound .ensures) (no-low _ _ _ _ (sym (c .before .before .before .bound-at .ensures) ∙ ap boundOf (c .before .enum-told .given .1)))
 
 returns-2 : tie.Need-returns-2
 unfolding kindOf
@@ -63,7 +63,7 @@ returns-3 : tie.Need-returns-3
 returns-3 c =
     let at-dots = c .before .before .before .before in
     let at-low = at-dots .before .before .before .before in
-    refuses-bound _ _ _ _ _ (c .before .enum-told3 .given .1) (c .out-of-limit2 .ensures)
+    refuses-bound _ _ _ _ _ (c .before .enum-told3 .given .1) (c .no-bound2 .ensures)
     (no-high _ _ _ _ (low-is at-low) _ (dots-is at-dots) _ _
     (sym (bound-kept _ _ (low-fits at-low) highest-fits _ _ (c .before .before .before .bound-at2 .ensures)) ∙ ap boundOf (c .before .enum-told3 .given .1)))
 
@@ -72,7 +72,7 @@ returns-4 c =
     let at-high = c .before .before .before .before in
     let at-dots = at-high .before .before .before .before in
     let at-low = at-dots .before .before .before .before in
-    refuses-bound _ _ _ _ _ (c .before .enum-told4 .given .1) (c .out-of-limit3 .ensures)
+    refuses-bound _ _ _ _ _ (c .before .enum-told4 .given .1) (c .no-bound3 .ensures)
     (no-start _ _ _ _ (low-is at-low) _ (dots-is at-dots) _ _ (high-is at-high) _ _
     (sym (start-kept _ _ (low-fits at-low) (high-fits at-high) _ _ (c .before .before .before .start-at .ensures)) ∙ ap boundOf (c .before .enum-told4 .given .1)))
 
