@@ -6,7 +6,7 @@ use native.Mathlib.Omega.{arith}
 use native.Mathlib.Nat.{div-one}
 use lib.Bits.{bitOr, or-step, or-zero-r, or-lt}
 use lib.Dec.{eqb}
-use lib.ListN.{length, getD, set}
+use lib.ListN.{length, getD, set, List·getD-eq-default}
 use lib.Pow.{pow-lt, shr-shr, shl-exact}
 use Rattle.arith.specs.Flags.{flagsOf}
 
@@ -26,10 +26,7 @@ flag-at (suc n) b zero h = rw div-one
 flag-at (suc n) b (suc i) h = flag-at n (b / 2) i (omega arith) ∙ ap (λ (k : ℕ). eqb (k % 2) 1) (halved b i)
 
 pub flag-out : (n b i : ℕ) → n ≤ i → getD (flagsOf n b) i false ≡ false
-unfolding flagsOf
-flag-out zero b i h = refl
-flag-out (suc n) b zero h = let f : ⊥ = omega arith in absurd f
-flag-out (suc n) b (suc i) h = flag-out n (b / 2) i (omega arith)
+flag-out n b i h = List·getD-eq-default (flagsOf n b) false (omega (arith, length-flags n b))
 
 -- a bit set sets its flag
 pub flag-set : (n b i : ℕ) → flagsOf n (bitOr b (2 ^ i)) ≡ set (flagsOf n b) i true
