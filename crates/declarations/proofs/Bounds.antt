@@ -46,13 +46,13 @@ absorbed a true h = rw (h refl)
 absorbed a false h = and-false a
 
 -- what an answer by a test tells of it
-picked : {A : Type 0} (t : Bool) (a z : A) → some z ≡ cond t (some a) none → (t ≡ true) × (z ≡ a)
-picked true a z e = (refl, cc)
-picked false a z e = let y : _≡_ {A = ℕ} 0 1 = cc in absurd (omega arith)
+some-cond : {A : Type 0} (t : Bool) (a z : A) → some z ≡ cond t (some a) none → (t ≡ true) × (z ≡ a)
+some-cond true a z e = (refl, cc)
+some-cond false a z e = let y : _≡_ {A = ℕ} 0 1 = cc in absurd (omega arith)
 
-unpicked : {A : Type 0} (t : Bool) (a : A) → none ≡ cond t (some a) none → t ≡ false
-unpicked true a e = let y : _≡_ {A = ℕ} 0 1 = cc in absurd (omega arith)
-unpicked false a e = refl
+none-cond : {A : Type 0} (t : Bool) (a : A) → none ≡ cond t (some a) none → t ≡ false
+none-cond true a e = let y : _≡_ {A = ℕ} 0 1 = cc in absurd (omega arith)
+none-cond false a e = refl
 
 -- ---- a range of 32-bit numbers
 
@@ -104,7 +104,7 @@ module _ (low high : ℤ) (fl : SFits w32 low) (fh : SFits w32 high) where
       pub digits-in : {z : ℤ} → num ≡ Is z → accepted z n ≡ signedAt (inRange low high) (signedBy neg) text k s n
       unfolding signedAt
       digits-in {z} g =
-          let p = picked (inRange low high (signedBy neg (pos v))) (signedBy neg (pos v)) z (sym (ap numberOf g) ∙ hn) in
+          let p = some-cond (inRange low high (signedBy neg (pos v))) (signedBy neg (pos v)) z (sym (ap numberOf g) ∙ hn) in
           let c = capped-same neg (valueOf (part text s n)) in
           let i : inRange low high (capped neg (valueOf (part text s n))) ≡ true = rw hv at (p .0) in
           let w : z ≡ whole neg (valueOf (part text s n)) = p .1 ∙ ap (λ (m : ℕ). signedBy neg (pos m)) hv ∙ c .1 i in
@@ -113,7 +113,7 @@ module _ (low high : ℤ) (fl : SFits w32 low) (fh : SFits w32 high) where
       pub digits-out : num ≡ Outside → refused outOfLimit s ≡ signedAt (inRange low high) (signedBy neg) text k s n
       unfolding signedAt
       digits-out g =
-          let p = unpicked (inRange low high (signedBy neg (pos v))) (signedBy neg (pos v)) (sym (ap numberOf g) ∙ hn) in
+          let p = none-cond (inRange low high (signedBy neg (pos v))) (signedBy neg (pos v)) (sym (ap numberOf g) ∙ hn) in
           let c = capped-same neg (valueOf (part text s n)) in
           let i : inRange low high (capped neg (valueOf (part text s n))) ≡ false = rw hv at p in
           rw (d, c .0 ∙ i)
@@ -160,10 +160,10 @@ module _ (test : ℤ → Bool) (text : List ℕ) (at : ℕ) where
 
 module _ (low high : ℤ) (s : ℕ) {num : Number} (hn : numberOf num ≡ cond (inRange low high (pos 0)) (some (pos 0)) none) where
   pub absent-out : (n : ℕ) → num ≡ Outside → refused outOfLimit s ≡ cond (inRange low high (pos 0)) (accepted (pos 0) n) (refused outOfLimit s)
-  absent-out n g = rw (unpicked (inRange low high (pos 0)) (pos 0) (sym (ap numberOf g) ∙ hn))
+  absent-out n g = rw (none-cond (inRange low high (pos 0)) (pos 0) (sym (ap numberOf g) ∙ hn))
 
   pub absent-in : {z : ℤ} (n : ℕ) → SFits w32 z → num ≡ Is z → accepted (kept z) n ≡ cond (inRange low high (pos 0)) (accepted (pos 0) n) (refused outOfLimit s)
-  absent-in {z} n f g = let p = picked (inRange low high (pos 0)) (pos 0) z (sym (ap numberOf g) ∙ hn) in rw (p .0, same32 f, p .1)
+  absent-in {z} n f g = let p = some-cond (inRange low high (pos 0)) (pos 0) z (sym (ap numberOf g) ∙ hn) in rw (p .0, same32 f, p .1)
 
 module _ (text : List ℕ) (low high : ℤ) (at : ℕ) where
   pub start-fault : (p : ℕ) → tokenAt text at ≡ fault p → startAt text low high at ≡ refused noToken p

@@ -30,9 +30,9 @@ pub then-within : {A B : Type 0} (len : ℕ) (p : Parsed A) (f : A → ℕ → P
 then-within len (accepted a n) f h g = g a n h
 then-within len (refused k q) f h g = h
 
-pub pick-within : {A : Type 0} (len : ℕ) (t : Bool) (a b : Parsed A) → Within len a → Within len b → Within len (cond t a b)
-pick-within len true a b f g = f
-pick-within len false a b f g = g
+pub cond-within : {A : Type 0} (len : ℕ) (t : Bool) (a b : Parsed A) → Within len a → Within len b → Within len (cond t a b)
+cond-within len true a b f g = f
+cond-within len false a b f g = g
 
 pub option-within : {A B : Type 0} (len : ℕ) (o : Option A) (b : Parsed B) (f : A → Parsed B) → Within len b → ((a : A) → Within len (f a)) → Within len (onOption o b f)
 option-within len none b f g h = g
@@ -48,7 +48,7 @@ module _ (text : List ℕ) where
 
   expected-within : (w : Wanted) (at : ℕ) → at ≤ length text → Within (length text) (expected text w at)
   unfolding expected
-  expected-within w at h = token-within at _ h (λ k s n l m. pick-within (length text) (isWanted text w k s n) _ _ m (omega arith, omega arith, l))
+  expected-within w at h = token-within at _ h (λ k s n l m. cond-within (length text) (isWanted text w k s n) _ _ m (omega arith, omega arith, l))
 
   pub phrase-within : (ws : List Wanted) (at : ℕ) → at ≤ length text → Within (length text) (phrase text ws at)
   unfolding phrase
@@ -77,12 +77,12 @@ module _ (sc : Scope) where
   pub id-within : {A : Type 0} (p s n : ℕ) (f : ℕ → Parsed A) → p ≤ length (sc .text) → ((i : ℕ) → Within (length (sc .text)) (f i)) → Within (length (sc .text)) (withId sc p s n f)
   unfolding withId
   id-within p s n f h g =
-      pick-within (length (sc .text)) (overLong s n) _ _ (omega arith, omega arith, h)
+      cond-within (length (sc .text)) (overLong s n) _ _ (omega arith, omega arith, h)
       (option-within (length (sc .text)) (idOf (sc .names) (part (sc .text) s n)) _ _ (omega arith, omega arith, h) g)
 
   current-within : (s n : ℕ) → s ≤ length (sc .text) → n ≤ length (sc .text) → Within (length (sc .text)) (currentAt sc s n)
   unfolding currentAt
-  current-within s n l m = id-within s s n _ l (λ i. pick-within (length (sc .text)) (getD (sc .known) i false) _ _ m (omega arith, omega arith, l))
+  current-within s n l m = id-within s s n _ l (λ i. cond-within (length (sc .text)) (getD (sc .known) i false) _ _ m (omega arith, omega arith, l))
 
   previous-within : (s n : ℕ) → s ≤ length (sc .text) → n ≤ length (sc .text) → Within (length (sc .text)) (previousAt sc s n)
   unfolding previousAt
@@ -90,7 +90,7 @@ module _ (sc : Scope) where
 
   number-within : (s n : ℕ) → s ≤ length (sc .text) → n ≤ length (sc .text) → Within (length (sc .text)) (numberAt sc s n)
   unfolding numberAt
-  number-within s n l m = pick-within (length (sc .text)) (ltb numberLimit (valueOf (part (sc .text) s n))) _ _ (omega arith, omega arith, l) m
+  number-within s n l m = cond-within (length (sc .text)) (ltb numberLimit (valueOf (part (sc .text) s n))) _ _ (omega arith, omega arith, l) m
 
   -- a parser of what stands from s on, and of the rest of a bracket from s to n
   abbrev Reads : {A : Type 0} → (ℕ → Parsed A) → Type 0
@@ -105,17 +105,17 @@ module _ (sc : Scope) where
     primary-within at h =
         token-within (sc .text) at _ h
         (λ k s n l m.
-        pick-within (length (sc .text)) (is k digits) _ _ (number-within s n l m)
-        (pick-within (length (sc .text)) (is k name) _ _ (current-within s n l m)
-        (pick-within (length (sc .text)) (is k T.previous) _ _ (previous-within s n l m)
-        (pick-within (length (sc .text)) (is k openRound) _ _ (hi s n l m) (omega arith, omega arith, l)))))
+        cond-within (length (sc .text)) (is k digits) _ _ (number-within s n l m)
+        (cond-within (length (sc .text)) (is k name) _ _ (current-within s n l m)
+        (cond-within (length (sc .text)) (is k T.previous) _ _ (previous-within s n l m)
+        (cond-within (length (sc .text)) (is k openRound) _ _ (hi s n l m) (omega arith, omega arith, l)))))
 
     factor-within : Reads (λ at. factor inner sc at)
     unfolding factor negative
     factor-within at h =
         token-within (sc .text) at _ h
         (λ k s n l m.
-        pick-within (length (sc .text)) (is k minus) _ _ (then-within (length (sc .text)) (primary inner sc n) _ (primary-within n m) (λ e j i. i)) (primary-within at h))
+        cond-within (length (sc .text)) (is k minus) _ _ (then-within (length (sc .text)) (primary inner sc n) _ (primary-within n m) (λ e j i. i)) (primary-within at h))
 
     term-within : Reads (λ at. term inner sc at)
     unfolding term
@@ -152,13 +152,13 @@ module _ (sc : Scope) where
     unfolding inverted opposite
     inverted-within at h =
         token-within (sc .text) at _ h
-        (λ k s n l m. pick-within (length (sc .text)) (is k openSquare) _ _ (then-within (length (sc .text)) (inside s n) _ (hc s n l m) (λ c e j. j)) (omega arith, omega arith, l))
+        (λ k s n l m. cond-within (length (sc .text)) (is k openSquare) _ _ (then-within (length (sc .text)) (inside s n) _ (hc s n l m) (λ c e j. j)) (omega arith, omega arith, l))
 
     atom-within : Reads (λ at. atom inner inside sc at)
     unfolding atom
     atom-within at h =
         token-within (sc .text) at _ h
-        (λ k s n l m. pick-within (length (sc .text)) (is k tilde) _ _ (inverted-within n m) (pick-within (length (sc .text)) (is k openSquare) _ _ (hc s n l m) (comparison-within at h)))
+        (λ k s n l m. cond-within (length (sc .text)) (is k tilde) _ _ (inverted-within n m) (cond-within (length (sc .text)) (is k openSquare) _ _ (hc s n l m) (comparison-within at h)))
 
     conjunction-within : Reads (λ at. conjunction inner inside sc at)
     unfolding conjunction

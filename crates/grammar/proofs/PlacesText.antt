@@ -25,7 +25,7 @@ use Rattle.grammar.specs.Conditions.{listed}
 use Rattle.grammar.specs.Declarations.{inRange, signedAt, boundAt, spellings, newName, startAt, declaration, declarationsFrom, declarations}
 use Rattle.grammar.specs.Rules.{Spanned, caseAt, casesFrom, listFrom, plainList, Compared, agrees, differs, onCompared, onFound, onWanted, partFrom, kindAt, partsFrom, settled, agreeingList, functionAt, changeAt, formulas, ruleAt, ruled, rulesFrom}
 use Rattle.grammar.specs.Parse.{program, parse, answerOf, programOf}
-use Rattle.grammar.proofs.Places.{Within, then-within, pick-within, option-within, token-within, phrase-within, followed-within, id-within, whole-expression-within, listed-within}
+use Rattle.grammar.proofs.Places.{Within, then-within, cond-within, option-within, token-within, phrase-within, followed-within, id-within, whole-expression-within, listed-within}
 
 -- ---- declarations
 
@@ -34,22 +34,22 @@ module _ (text : List ℕ) where
   unfolding signedAt
   signed-within test signed k s n l m =
       let z = signed (pos (valueOf (part text s n))) in
-      pick-within (length text) (is k digits) _ _ (pick-within (length text) (isInt32 z && test z) _ _ m (omega arith, omega arith, l)) (omega arith, omega arith, l)
+      cond-within (length text) (is k digits) _ _ (cond-within (length text) (isInt32 z && test z) _ _ m (omega arith, omega arith, l)) (omega arith, omega arith, l)
 
   bound-within : (test : ℤ → Bool) (at : ℕ) → at ≤ length text → Within (length text) (boundAt test text at)
   unfolding boundAt
   bound-within test at h =
       token-within text at _ h
-      (λ k s n l m. pick-within (length text) (is k minus) _ _ (token-within text n _ m (λ k s n l m. signed-within test negℤ k s n l m)) (signed-within test (λ z. z) k s n l m))
+      (λ k s n l m. cond-within (length text) (is k minus) _ _ (token-within text n _ m (λ k s n l m. signed-within test negℤ k s n l m)) (signed-within test (λ z. z) k s n l m))
 
   name-within : (names : List Name) (at : ℕ) → at ≤ length text → Within (length text) (newName text names at)
   unfolding newName
   name-within names at h =
       token-within text at _ h
       (λ k s n l m.
-      pick-within (length text) (is k name) _ _
+      cond-within (length text) (is k name) _ _
       (option-within (length text) (idOf (spellings names) (part text s n)) _ _
-      (pick-within (length text) (overLong s n) _ _ (omega arith, omega arith, l) (pick-within (length text) (ltb (length names) nameLimit) _ _ m (omega arith, omega arith, l)))
+      (cond-within (length text) (overLong s n) _ _ (omega arith, omega arith, l) (cond-within (length text) (ltb (length names) nameLimit) _ _ m (omega arith, omega arith, l)))
       (λ i. (omega arith, omega arith, l)))
       (omega arith, omega arith, l))
 
@@ -58,9 +58,9 @@ module _ (text : List ℕ) where
   start-within low high at h =
       token-within text at _ h
       (λ k s n l m.
-      pick-within (length text) (is k initWord) _ _
+      cond-within (length text) (is k initWord) _ _
       (then-within (length text) (boundAt (inRange low high) text n) _ (bound-within (inRange low high) n m) (λ z e i. followed-within text _ z e i))
-      (pick-within (length text) (is k semicolon) _ _ (pick-within (length text) (inRange low high (pos 0)) _ _ m (omega arith, omega arith, l)) (omega arith, omega arith, l)))
+      (cond-within (length text) (is k semicolon) _ _ (cond-within (length text) (inRange low high (pos 0)) _ _ m (omega arith, omega arith, l)) (omega arith, omega arith, l)))
 
   declaration-within : (names : List Name) (at : ℕ) → at ≤ length text → Within (length text) (declaration text names at)
   unfolding declaration
@@ -77,7 +77,7 @@ module _ (text : List ℕ) where
   declarations-within (suc f) word names at h =
       token-within text at _ h
       (λ k s n l m.
-      pick-within (length text) (is k word) _ _
+      cond-within (length text) (is k word) _ _
       (then-within (length text) (declaration text names n) _ (declaration-within names n m) (λ x e i. declarations-within f word (names ++ (x ∷ [])) e i))
       h)
 
@@ -131,8 +131,8 @@ module _ (text : List ℕ) where
   settled-within r (agrees n) h g = h
   settled-within (accepted a n) (differs m) h g = (omega arith, omega arith, g)
   settled-within (refused k q) (differs m) h g =
-      pick-within (length text) (ltb q m) _ _ h
-      (pick-within (length text) (eqb q m) _ _ (pick-within (length text) (leb k 5) _ _ h (omega arith, omega arith, g)) (omega arith, omega arith, g))
+      cond-within (length text) (ltb q m) _ _ h
+      (cond-within (length text) (eqb q m) _ _ (cond-within (length text) (leb k 5) _ _ h (omega arith, omega arith, g)) (omega arith, omega arith, g))
 
 -- ---- rules
 
@@ -147,13 +147,13 @@ module _ (sc : Scope) where
   cases-within : (left : ℕ) (w : List ℕ) (done : List Spanned) (at : ℕ) → at ≤ length (sc .text) → Within (length (sc .text)) (casesFrom left sc w done at)
   unfolding casesFrom
   cases-within zero w done at h =
-      token-within (sc .text) at _ h (λ k s n l m. pick-within (length (sc .text)) (is k openSquare) _ _ (omega arith, omega arith, l) (omega arith, omega arith, l))
+      token-within (sc .text) at _ h (λ k s n l m. cond-within (length (sc .text)) (is k openSquare) _ _ (omega arith, omega arith, l) (omega arith, omega arith, l))
   cases-within (suc left) w done at h =
       token-within (sc .text) at _ h
       (λ k s n l m.
-      pick-within (length (sc .text)) (is k openSquare) _ _
+      cond-within (length (sc .text)) (is k openSquare) _ _
       (then-within (length (sc .text)) (caseAt sc w at n) _ (case-within w at n m)
-      (λ c n1 h1. token-within (sc .text) n1 _ h1 (λ k2 s2 n2 l2 m2. pick-within (length (sc .text)) (is k2 bar) _ _ (cases-within left w (done ++ (c ∷ [])) n2 m2) h1)))
+      (λ c n1 h1. token-within (sc .text) n1 _ h1 (λ k2 s2 n2 l2 m2. cond-within (length (sc .text)) (is k2 bar) _ _ (cases-within left w (done ++ (c ∷ [])) n2 m2) h1)))
       (omega arith, omega arith, l))
 
   list-within : (left : ℕ) (done : List Condition) (at : ℕ) → at ≤ length (sc .text) → Within (length (sc .text)) (listFrom left sc done at)
@@ -162,9 +162,9 @@ module _ (sc : Scope) where
   list-within (suc left) done at h =
       token-within (sc .text) at _ h
       (λ k s n l m.
-      pick-within (length (sc .text)) (is k openSquare) _ _
+      cond-within (length (sc .text)) (is k openSquare) _ _
       (then-within (length (sc .text)) (listed sc n) _ (listed-within sc n m)
-      (λ c n1 h1. token-within (sc .text) n1 _ h1 (λ k2 s2 n2 l2 m2. pick-within (length (sc .text)) (is k2 bar) _ _ (list-within left (done ++ (c ∷ [])) n2 m2) h1)))
+      (λ c n1 h1. token-within (sc .text) n1 _ h1 (λ k2 s2 n2 l2 m2. cond-within (length (sc .text)) (is k2 bar) _ _ (list-within left (done ++ (c ∷ [])) n2 m2) h1)))
       (omega arith, omega arith, l))
 
   agreeing-within : (cases : List Spanned) (at : ℕ) → at ≤ length (sc .text) → Within (length (sc .text)) (agreeingList sc cases at)
@@ -192,13 +192,13 @@ module _ (sc : Scope) where
   unfolding formulas
   formulas-within w v at h =
       then-within (length (sc .text)) (phrase (sc .text) _ at) _ (phrase-within (sc .text) _ at h)
-      (λ u n m. token-within (sc .text) n _ m (λ k s e l i. pick-within (length (sc .text)) (is k tilde) _ _ (change-within w v e i) (function-within w v n m)))
+      (λ u n m. token-within (sc .text) n _ m (λ k s e l i. cond-within (length (sc .text)) (is k tilde) _ _ (change-within w v e i) (function-within w v n m)))
 
   rule-within : (s n : ℕ) → s ≤ length (sc .text) → n ≤ length (sc .text) → Within (length (sc .text)) (ruleAt sc s n)
   unfolding ruleAt
   rule-within s n l m =
       id-within sc s s n _ l
-      (λ v. pick-within (length (sc .text)) (getD (sc .known) v false) _ _ (omega arith, omega arith, l) (formulas-within (part (sc .text) s n) v n m))
+      (λ v. cond-within (length (sc .text)) (getD (sc .known) v false) _ _ (omega arith, omega arith, l) (formulas-within (part (sc .text) s n) v n m))
 
 rules-within : (f : ℕ) (sc : Scope) (done : List Rule) (at : ℕ) → at ≤ length (sc .text) → Within (length (sc .text)) (rulesFrom f sc done at)
 unfolding rulesFrom
@@ -206,9 +206,9 @@ rules-within zero sc done at h = (omega arith, omega arith, h)
 rules-within (suc f) sc done at h =
     token-within (sc .text) at _ h
     (λ k s n l m.
-    pick-within (length (sc .text)) (is k name) _ _
+    cond-within (length (sc .text)) (is k name) _ _
     (then-within (length (sc .text)) (ruleAt sc s n) _ (rule-within sc s n l m) (λ r e i. rules-within f (ruled sc (target r)) (done ++ (r ∷ [])) e i))
-    (pick-within (length (sc .text)) (is k ending) _ _ (pick-within (length (sc .text)) (allTrue (sc .known)) _ _ m (omega arith, omega arith, l)) (omega arith, omega arith, l)))
+    (cond-within (length (sc .text)) (is k ending) _ _ (cond-within (length (sc .text)) (allTrue (sc .known)) _ _ m (omega arith, omega arith, l)) (omega arith, omega arith, l)))
 
 -- ---- the whole text
 
@@ -222,7 +222,7 @@ program-within text =
 -- what is accepted ends within the text; a refusal has a number of 1 to 9 and its place is within the text, or at its end
 pub parse-within : (text : List ℕ) → Within (length text) (parse text)
 unfolding parse
-parse-within text = pick-within (length text) (ltb textLimit (length text)) _ _ (omega arith, omega arith, omega arith) (program-within text)
+parse-within text = cond-within (length text) (ltb textLimit (length text)) _ _ (omega arith, omega arith, omega arith) (program-within text)
 
 -- and so within the limit of texts, since a longer text is refused at 0
 pub parse-limited : (text : List ℕ) → Within textLimit (parse text)

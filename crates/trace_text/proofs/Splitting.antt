@@ -210,20 +210,20 @@ open-ended [] b e = refl
 open-ended (x ∷ a) b e = let o = open-cons x a e in ended-cons x (a ++ b) (o .0) ∙ open-ended a b (o .1)
 
 -- a state is Start just where no byte of the line was read
-begun-pick : (t : Bool) (a b : Line) → isBegun a ≡ true → isBegun b ≡ true → isBegun (cond t a b) ≡ true
-begun-pick true a b p q = p
-begun-pick false a b p q = q
+begun-cond : (t : Bool) (a b : Line) → isBegun a ≡ true → isBegun b ≡ true → isBegun (cond t a b) ≡ true
+begun-cond true a b p q = p
+begun-cond false a b p q = q
 
 digit-begun : (n : ℕ) (negative : Bool) (v b : ℕ) → isBegun (digitAfter n negative v b) ≡ true
 unfolding digitAfter longerBy
-digit-begun n negative v b = begun-pick (isDigit b) _ _ (begun-pick (leb v 214748364) _ _ refl refl) refl
+digit-begun n negative v b = begun-cond (isDigit b) _ _ (begun-cond (leb v 214748364) _ _ refl refl) refl
 
 after-begun : (s : Line) (b : ℕ) → isBegun (lineAfter s b) ≡ true
 unfolding lineAfter numberBegins
-after-begun Start b = begun-pick (eqb b 45) _ _ refl (digit-begun 0 false 0 b)
-after-begun (Wanted n) b = begun-pick (eqb b 45) _ _ refl (digit-begun n false 0 b)
+after-begun Start b = begun-cond (eqb b 45) _ _ refl (digit-begun 0 false 0 b)
+after-begun (Wanted n) b = begun-cond (eqb b 45) _ _ refl (digit-begun n false 0 b)
 after-begun (Minus n) b = digit-begun n true 0 b
-after-begun (Number n negative v) b = begun-pick (eqb b 32) _ _ (begun-pick (counts n negative v) _ _ refl refl) (digit-begun n negative v b)
+after-begun (Number n negative v) b = begun-cond (eqb b 32) _ _ (begun-cond (counts n negative v) _ _ refl refl) (digit-begun n negative v b)
 after-begun NoRow b = refl
 
 begun-over : (s : Line) (l : List ℕ) → isBegun s ≡ true → isBegun (lineOver s l) ≡ true
