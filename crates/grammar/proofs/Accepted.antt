@@ -19,10 +19,10 @@ use Rattle.grammar.specs.Parsed.{Parsed, accepted, refused}
 use Rattle.grammar.specs.Parse.{program, parse, answerOf, programOf}
 use Rattle.grammar.specs.Derivation.{IsWord, IsName}
 use Rattle.grammar.specs.Spelled.{namesOf}
+use Rattle.grammar.specs.Internal.{Named}
 use Rattle.grammar.proofs.Combine.{never}
 use Rattle.grammar.proofs.Shape.{CasesFit, RuleFits, RulesFit, NamesFit, Fitting}
 use Rattle.grammar.proofs.Fits.{Holds, cases-usable}
-use Rattle.grammar.proofs.Converse.{Named}
 use Rattle.grammar.proofs.Whole.{named, parse-fits}
 use Rattle.grammar.proofs.Size.{Small, parse-small}
 use Rattle.grammar.proofs.Image.{image-emitted}

@@ -21,21 +21,14 @@ use Rattle.semantics.specs.Program.{Expression, constant, current, previous, op
 use Rattle.grammar.specs.Parsed.{Parsed, accepted, refused, expected, rest, chain}
 use Rattle.grammar.specs.Expressions.{Scope, withId, currentAt, previousAt, numberLimit, numberAt, primary, negative, factor, productOf, sumOf, term, expression, bracket, wholeExpression}
 use Rattle.grammar.specs.Conditions.{comparisonOf, compared, comparisonAt, opposite as opposed, inverted, atom, andAlso, orElse, connect, andOf, orOf, conjunction, condition, square, wholeCondition, listed}
-use Rattle.grammar.specs.Derivation.{Spells, IsName, IsDigits, ProductSign, SumSign, ComparisonSign, Level, SpellsE, a-number, a-current, a-previous, brackets, plain, opposite, one-factor, product, one-term, sum, LevelC, SpellsC, not-square, one-atom, conjoined, one-conjunction, disjoined}
+use Rattle.grammar.specs.Derivation.{Spells, IsDigits, ProductSign, SumSign, ComparisonSign, Level, SpellsE, a-number, a-current, a-previous, brackets, plain, opposite, one-factor, product, one-term, sum, LevelC, SpellsC, not-square, one-atom, conjoined, one-conjunction, disjoined}
 use Rattle.grammar.specs.Derivation as D
-use Rattle.grammar.specs.Spelled.{Distinct}
+use Rattle.grammar.specs.Internal.{Named}
 use Rattle.grammar.proofs.Combine.{one-sign, never}
 use Rattle.grammar.proofs.Bytes.{part-length, part-cons, tails}
 use Rattle.grammar.proofs.Spellings.{Spelling}
 use Rattle.grammar.proofs.Distinct.{place-id}
 use Rattle.grammar.proofs.Standing.{at-kind, split, stands-in, spells-in}
-
--- ---- names
-
--- the names of a text: no two the same, each of them a name
-pub record Named (names : List (List ℕ)) : Type 0 where
-  pub distinct : Distinct names
-  pub each : (i : ℕ) (w : List ℕ) → getElem? names i ≡ some w → IsName w
 
 -- ---- loops
 

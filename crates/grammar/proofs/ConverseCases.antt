@@ -22,11 +22,12 @@ use Rattle.grammar.specs.Rules.{Spanned, caseAt, casesFrom, listFrom, pl
 use Rattle.grammar.specs.Derivation.{Spells, IsName, Level, SpellsE, a-number, a-current, a-previous, brackets, plain, opposite, one-factor, product, one-term, sum, LevelC, SpellsC, not-square, one-atom, conjoined, one-conjunction, disjoined}
 use Rattle.grammar.specs.Derivation as D
 use Rattle.grammar.specs.Spelled.{squared, cased, SpellsCases, one-case, more-cases, SpellsList, one-listed, more-listed}
+use Rattle.grammar.specs.Internal.{Named}
 use Rattle.grammar.proofs.Spellings.{isFixed}
 use Rattle.grammar.proofs.Standing.{split, stands-in, spells-in}
 use Rattle.grammar.proofs.Phrases.{signs, fixed-at, phrase-reads, followed-reads}
 use Rattle.grammar.proofs.Listed.{Listed, last, next}
-use Rattle.grammar.proofs.Converse.{Named, spelled-expression, spelled-listed}
+use Rattle.grammar.proofs.Converse.{spelled-expression, spelled-listed}
 use Rattle.grammar.proofs.DerivedCases.{cases-list}
 
 -- ---- values that may be used where every name is known

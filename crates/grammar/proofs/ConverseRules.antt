@@ -22,11 +22,12 @@ use Rattle.grammar.specs.Derivation.{Spells, IsName, SpellsE}
 use Rattle.grammar.specs.Derivation as D
 use Rattle.grammar.specs.Spelled.{SpellsCases, SpellsList, SpellsR, a-change, a-function, SpellsRules}
 use Rattle.grammar.specs.Spelled as S
+use Rattle.grammar.specs.Internal.{Named}
 use Rattle.grammar.proofs.Spellings.{isFixed}
 use Rattle.grammar.proofs.Standing.{split, stands-in, spells-in, spells-append}
 use Rattle.grammar.proofs.Phrases.{signs, fixed-at, name-at, phrase-reads, followed-reads, headTokens, middleTokens}
 use Rattle.grammar.proofs.Listed.{spells-parts}
-use Rattle.grammar.proofs.Converse.{Named, named-id, spelled-expression}
+use Rattle.grammar.proofs.Converse.{named-id, spelled-expression}
 use Rattle.grammar.proofs.ConverseCases.{cases-read, no-change-reads}
 
 module _ (sc : Scope) (good : Named (sc .names)) (w : List ℕ) (nm : IsName w) (v : ℕ) where

@@ -21,11 +21,11 @@ use Rattle.grammar.specs.Derivation.{Spells, TokensOf}
 use Rattle.grammar.specs.Spelled.{declares, DeclareAll, Distinct, Apart, a-change, a-function, SpellsRules, namesOf, Spelled}
 use Rattle.grammar.specs.Spelled as S
 use Rattle.grammar.specs.Accepts.{Accepts}
+use Rattle.grammar.specs.Internal.{Named}
 use Rattle.grammar.proofs.Shape.{NamesFit}
 use Rattle.grammar.proofs.Spellings.{isFixed}
 use Rattle.grammar.proofs.Standing.{split, spells-in}
 use Rattle.grammar.proofs.Phrases.{fixed-at, name-at}
-use Rattle.grammar.proofs.Converse.{Named}
 use Rattle.grammar.proofs.Whole.{named}
 use Rattle.grammar.proofs.Accepted.{program-parsed}
 use Rattle.grammar.proofs.ConverseDeclarations.{declarations-read}

@@ -21,11 +21,11 @@ use Rattle.grammar.specs.Derivation.{Stands, Spells, SpellsE}
 use Rattle.grammar.specs.Derivation as D
 use Rattle.grammar.specs.Spelled.{SpellsCases, SpellsList, SpellsR, a-change, a-function, SpellsRules}
 use Rattle.grammar.specs.Spelled as S
+use Rattle.grammar.specs.Internal.{Named}
 use Rattle.grammar.proofs.Combine.{token-prop, then-prop, option-prop}
 use Rattle.grammar.proofs.Spellings.{isFixed, end-place}
 use Rattle.grammar.proofs.Standing.{spells-in, split, spells-append, id-names}
 use Rattle.grammar.proofs.Phrases.{signs, fixed-stands, phrase-spells, headTokens, middleTokens}
-use Rattle.grammar.proofs.Converse.{Named}
 use Rattle.grammar.proofs.DerivedCases.{cases-list}
 use Rattle.grammar.proofs.Lists.{cases-in, agreeing-same}
 use Rattle.grammar.proofs.Derived.{Derived, Derives, before, sign-stands, whole-expression-derives}

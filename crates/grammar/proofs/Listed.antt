@@ -141,7 +141,7 @@ module _ (text : List ℕ) where
       let q : st .kind ≡ su .kind = one-kind (st .kind) (su .kind) t (stands-kind text from n t h st) (stands-kind text at m t i su) in
       rw (eq-eqb (kindNumber (st .kind)) (kindNumber (su .kind)) (ap kindNumber q), st .spelled, su .spelled, same-itself t)
 
-  spells-part : (ts : List (List ℕ)) (f from to at m : ℕ) → from ≤ length text → at ≤ length text → to ≤ from + f → Spells text from to ts → Spells text at m ts → partFrom f text from to at ≡ agrees m
+  pub spells-part : (ts : List (List ℕ)) (f from to at m : ℕ) → from ≤ length text → at ≤ length text → to ≤ from + f → Spells text from to ts → Spells text at m ts → partFrom f text from to at ≡ agrees m
   unfolding partFrom
   spells-part [] f from to at m h i en g k = rw (g, k) (stop f)
     where

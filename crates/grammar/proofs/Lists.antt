@@ -14,12 +14,12 @@ use Rattle.grammar.specs.Expressions.{Scope}
 use Rattle.grammar.specs.Rules.{Spanned, casesFrom, plainList, Compared, agrees, differs, partsFrom, settled, agreeingList, casesOf}
 use Rattle.grammar.specs.Derivation.{Spells}
 use Rattle.grammar.specs.Spelled.{SpellsCases}
+use Rattle.grammar.specs.Internal.{Named}
 use Rattle.grammar.proofs.Shape.{conditionsOf}
 use Rattle.grammar.proofs.Combine.{never}
 use Rattle.grammar.proofs.Fits.{Holds, Fine, cases-usable, cases-fit}
 use Rattle.grammar.proofs.Standing.{spells-in}
 use Rattle.grammar.proofs.Listed.{Listed, parts-spells}
-use Rattle.grammar.proofs.Converse.{Named}
 use Rattle.grammar.proofs.DerivedCases.{CasesRead, CasesReads, cases-derive, cases-list}
 use Rattle.grammar.proofs.ConverseCases.{no-change-reads}
 
@@ -64,6 +64,12 @@ module _ (sc : Scope) (few : length (sc .names) ≤ 64) (lengths : length (sc .n
         lists = subst (λ (x : List Spanned). Listed (sc .text) x (r .list)) (sym (r .is-more)) (r .lists);
       }
 
+  -- a list that agrees reads as the conditions of the cases
+  pub agreeing-reads : Named (sc .names) → (w : List ℕ) (from to : ℕ) (cs : List Spanned) → CasesIn w from to cs → (at n : ℕ) → at ≤ length (sc .text) → partsFrom (sc .text) cs at ≡ agrees n → plainList sc at ≡ accepted (conditionsOf (casesOf cs)) n
+  agreeing-reads good w from to cs c at n h e =
+      no-change-reads sc good w (c .tokens) (c .list) (casesOf cs) (conditionsOf (casesOf cs)) (c .derives) (cases-list (sc .names) w (c .tokens) (c .list) (casesOf cs) (c .derives))
+      (cases-usable (sc .known) (casesOf cs) (c .fine .2)) (c .fine .1) at n h (parts-spells (sc .text) cs (c .list) (c .lists) at n h e)
+
   -- a no-change list that is accepted lists the conditions of the cases, in the same tokens, and a `)`
   pub record Agreeing (cs : List Spanned) (ls : List (List ℕ)) (at m : ℕ) (ds : List Condition) : Type 0 where
     pub same : ds ≡ conditionsOf (casesOf cs)
@@ -74,9 +80,7 @@ module _ (sc : Scope) (few : length (sc .names) ≤ 64) (lengths : length (sc .n
   agreeing-same good w from to cs c at m ds h e =
       let i = settled-inv (plainList sc at) (partsFrom (sc .text) cs at) ds m e in
       let s = parts-spells (sc .text) cs (c .list) (c .lists) at (i .place) h (i .agrees-at) in
-      let r = no-change-reads sc good w (c .tokens) (c .list) (casesOf cs) (conditionsOf (casesOf cs)) (c .derives) (cases-list (sc .names) w (c .tokens) (c .list) (casesOf cs) (c .derives))
-      (cases-usable (sc .known) (casesOf cs) (c .fine .2)) (c .fine .1) at (i .place) h s in
-      same (i .place) s (sym (i .plain) ∙ r)
+      same (i .place) s (sym (i .plain) ∙ agreeing-reads good w from to cs c at (i .place) h (i .agrees-at))
     where
       same : (n : ℕ) → Spells (sc .text) at n (c .list ++ bytes ")" ∷ []) → accepted ds m ≡ accepted (conditionsOf (casesOf cs)) n → Agreeing cs (c .list) at m ds
       same n s q = let j : n ≡ m = cc in record { same = cc; spells = subst (λ (x : ℕ). Spells (sc .text) at x (c .list ++ bytes ")" ∷ [])) j s }

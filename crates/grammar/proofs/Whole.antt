@@ -28,6 +28,7 @@ use Rattle.grammar.specs.Parse.{program, parse}
 use Rattle.grammar.specs.Emitted.{codeE, codeC}
 use Rattle.grammar.specs.Derivation.{IsName}
 use Rattle.grammar.specs.Spelled.{Apart, Distinct}
+use Rattle.grammar.specs.Internal.{Named}
 use Rattle.grammar.proofs.Shape.{RuleFits, RulesFit, NameFits, NamesFit, Fitting}
 use Rattle.grammar.proofs.Combine.{token-prop, then-prop, option-prop}
 use Rattle.grammar.proofs.Bytes.{part-length, id-of}
@@ -35,7 +36,6 @@ use Rattle.grammar.proofs.Growth.{Grown, Kept, kept-later, phrase-kept,
 use Rattle.grammar.proofs.Lists.{cases-in, agreeing-same}
 use Rattle.grammar.proofs.Distinct.{new-apart, distinct-snoc}
 use Rattle.grammar.proofs.Derived.{sign-stands}
-use Rattle.grammar.proofs.Converse.{Named}
 use Rattle.grammar.proofs.Fits.{Holds, FitE, whole-expression-fits}
 use Rattle.bytecode.specs.Translation.{RangeFits}
 use Rattle.limits.specs.Limits.{nameLimit, caseLimit, textLimit}

@@ -7,5 +7,6 @@ pub mod Rules
 pub mod Parse
 pub mod Derivation
 pub mod Spelled
+pub mod Internal
 pub mod Accepts
 pub mod Emitted
