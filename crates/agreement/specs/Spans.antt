@@ -3,6 +3,7 @@ use Prim.Native.Nat.{ℕ, zero, suc, _≤_, _<_}
 use mathlib.Core.List.{List, [], _∷_, map}
 use lib.ListN.{length, getD}
 use Rattle.grammar.specs.Rules.{Span, Spanned}
+use Rattle.grammar.specs.Internal.{TokensIn}
 
 -- the spans that the first n entries hold
 unfoldable pub spansIn : List ℕ → List ℕ → ℕ → List Span
@@ -19,3 +20,7 @@ pub record Spans (text from to : List ℕ) (n : ℕ) : Type 0 where
   pub in-from : n ≤ length from
   pub in-to : n ≤ length to
   pub inside : (i : ℕ) → i < n → getD to i 0 ≤ length text
+
+-- in each of them just tokens stand
+pub record SpansRead (text from to : List ℕ) (n : ℕ) : Type 0 where
+  pub each : (i : ℕ) → i < n → TokensIn text (getD from i 0) (getD to i 0)

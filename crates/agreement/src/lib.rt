@@ -8,8 +8,9 @@ ghost use lib.Dec.{ltb};
 ghost use lib.ListN.{length};
 ghost use Rattle.lexer.specs.Results.{kindOf};
 ghost use Rattle.grammar.specs.Rules.{Spanned, partFrom, kindAt, partsFrom};
-ghost use Rattle.agreement.specs.Results.{comparedOf, faultAt};
-ghost use Rattle.agreement.specs.Spans.{spansIn, spansOf, Spans};
+ghost use Rattle.grammar.specs.Internal.{TokensIn};
+ghost use Rattle.agreement.specs.Results.{comparedOf, faultAt, RepetitionBy};
+ghost use Rattle.agreement.specs.Spans.{spansIn, spansOf, Spans, SpansRead};
 
 // The place after what agrees, or the place of the first token that is not the one wanted.
 pub enum Compared {
@@ -27,8 +28,8 @@ fn fault(read: Token) -> Compared
     }
 }
 
-// The tokens from `from` up to `to` are wanted at `at`.
-fn compare_part(text: &[u8], from: usize, to: usize, at: usize) -> Compared
+// The tokens from `from` up to `to` are wanted at `at`, token by token.
+fn compare_tokens(text: &[u8], from: usize, to: usize, at: usize) -> Compared
     requires { ⌜ to ≤ length (now text) ⌝ }
     ensures { λ r. ⌜ comparedOf r ≡ partFrom (length (now (text .entry))) (now (text .entry)) from to at ⌝ }
 {
@@ -51,6 +52,54 @@ fn compare_part(text: &[u8], from: usize, to: usize, at: usize) -> Compared
         }
     }
     Compared::Agrees(b)
+}
+
+// The end of a part that stands once more, or that its bytes do not.
+enum Repetition {
+    Until(usize),
+    Other,
+}
+
+// Where the bytes of a part stand once more at `at`, the space before them apart, so do its tokens: it ends with a `]`, over which no
+// token goes on.
+fn repeated(text: &[u8], from: usize, to: usize, at: usize) -> Repetition
+    requires { ⌜ to ≤ length (now text) ⌝ }
+    ensures { λ r. ⌜ RepetitionBy (now (text .entry)) from to at r ⌝ }
+{
+    let first = lexer::classes::run(text, from, lexer::classes::SPACE);
+    let second = lexer::classes::run(text, at, lexer::classes::SPACE);
+    if to <= first {
+        return Repetition::Other;
+    }
+    let last = to - 1;
+    if text[last] != 93 {
+        return Repetition::Other;
+    }
+    let size = to - first;
+    if text.len() - size < second {
+        return Repetition::Other;
+    }
+    let end = second + size;
+    if lexer::classes::same_bytes(
+        lexer::name(text, first, to),
+        lexer::name(text, second, end),
+    ) {
+        return Repetition::Until(end);
+    }
+    Repetition::Other
+}
+
+// The tokens from `from` up to `to` are wanted at `at`: compared as bytes first, which settles nearly every text that is accepted.
+fn compare_part(text: &[u8], from: usize, to: usize, at: usize) -> Compared
+    requires { ⌜ to ≤ length (now text) ⌝ }
+    requires { ⌜ TokensIn (now text) from to ⌝ }
+    ensures { λ r. ⌜ comparedOf r ≡ partFrom (length (now (text .entry))) (now (text .entry)) from to at ⌝ }
+{
+    let again = repeated(text, from, to, at);
+    let Repetition::Until(end) = again else {
+        return compare_tokens(text, from, to, at);
+    };
+    Compared::Agrees(end)
 }
 
 // A token of a kind is wanted at `at`.
@@ -81,6 +130,7 @@ fn separator(next: usize, count: usize) -> u8
 // The conditions that stand from `from[i]` up to `to[i]` are wanted at `at`, with `|` between them and `)` after the last.
 pub fn compare_lists(text: &[u8], from: &[usize], to: &[usize], count: usize, at: usize) -> Compared
     requires { ⌜ Spans (now text) (now from) (now to) count ⌝ }
+    requires { ⌜ SpansRead (now text) (now from) (now to) count ⌝ }
     ensures { λ r. ⌜ ((cases : List Spanned) → spansOf cases ≡ spansIn (now (from .entry)) (now (to .entry)) count → comparedOf r ≡ partsFrom (now (text .entry)) cases at) ⌝ }
 {
     let mut i = 0;

@@ -50,22 +50,30 @@ module _ (text : List ℕ) where
         let en : f + (n - f) ≡ n = omega (arith, in1 .0) in
         (there n, stands-twice t i n (omega (arith, in1 .0, in2 .0)) (in2 .0) (e .1), spells-twice ts (n - f) (omega (arith, in2 .0)) (rw en (e .2)))
 
+    -- the same with space before either
+    spells-again : (from at : ℕ) → f ≡ runEnd isSpace text from → g ≡ runEnd isSpace text at → (t : List ℕ) (ts : List (List ℕ)) → Spells text from (f + last + 1) (t ∷ ts) → Spells text at (g + last + 1) (t ∷ ts)
+    spells-again from at ef eg t ts e =
+        let zf : runEnd isSpace text from ≡ f + 0 = omega arith in
+        let zg : g + 0 ≡ runEnd isSpace text at = omega arith in
+        let r = spells-twice (t ∷ ts) 0 (omega arith) (e .0, subst (λ (x : ℕ). Stands text x (e .0) t) zf (past-space from (e .0) t (e .1)), e .2) in
+        (r .0, with-space at (r .0) t (subst (λ (x : ℕ). Stands text x (r .0) t) zg (r .1)), r .2)
+
   -- the part from `from` up to `to`, whose first token begins at f, stands once more at `at`, there from g on
-  pub part-repeated : (from to at : ℕ) → TokensIn text from to → (f g : ℕ) → f ≡ runEnd isSpace text from → g ≡ runEnd isSpace text at → f < to → to ≤ length text → g + (to - f) ≤ length text → getD text (to - 1) 0 ≡ 93 → part text f to ≡ part text g (g + (to - f)) → partFrom (length text) text from to at ≡ agrees (g + (to - f))
-  part-repeated from to at r f g ef eg lf lt lg closed same = go (r .tokens) (r .spells)
-    where
-      go : (ts : List (List ℕ)) → Spells text from to ts → partFrom (length text) text from to at ≡ agrees (g + (to - f))
-      go [] e = absurd (omega (arith, e, run-from isSpace text from))
-      go (t ∷ ts) e =
-          let last = to - f - 1 in
-          let size : to - f ≡ last + 1 = omega arith in
-          let size-g : g + (to - f) - g ≡ to - f = omega arith in
-          let to-f : f + last + 1 ≡ to = omega arith in
-          let to-g : g + last + 1 ≡ g + (to - f) = omega arith in
-          let at-last : f + last ≡ to - 1 = omega arith in
-          let from-f : f + 0 ≡ runEnd isSpace text from = omega arith in
-          let from-g : g + 0 ≡ runEnd isSpace text at = omega arith in
-          let first : Spells text (f + 0) (f + last + 1) (t ∷ ts) = rw (from-f, to-f) (e .0, past-space from (e .0) t (e .1), e .2) in
-          let second : Spells text (runEnd isSpace text at) (g + (to - f)) (t ∷ ts) = rw (← from-g, ← to-g)
-          (spells-twice f g last (omega arith) (omega arith) (rw (← size) (rw size-g at same)) (rw at-last closed) (t ∷ ts) 0 (omega arith) first) in
-          spells-part text (t ∷ ts) (length text) from to at (g + (to - f)) (r .within) (omega (arith, run-from isSpace text at)) (omega arith) e (second .0, with-space at (second .0) t (second .1), second .2)
+  module _ (from to at f g : ℕ) (ef : f ≡ runEnd isSpace text from) (eg : g ≡ runEnd isSpace text at) (lf : f < to) (lt : to ≤ length text) (lg : g + (to - f) ≤ length text) where
+    again : (last : ℕ) → to - f ≡ last + 1 → getD text (to - 1) 0 ≡ 93 → part text f to ≡ part text g (g + (to - f)) → (t : List ℕ) (ts : List (List ℕ)) → Spells text from to (t ∷ ts) → Spells text at (g + (to - f)) (t ∷ ts)
+    again last size closed same t ts e =
+        let end-f : to ≡ f + last + 1 = omega arith in
+        let end-g : g + last + 1 ≡ g + (to - f) = omega arith in
+        let at-last : to - 1 ≡ f + last = omega arith in
+        let size-g : g + (to - f) - g ≡ last + 1 = omega arith in
+        let bytes : take (last + 1) (drop f text) ≡ take (last + 1) (drop g text) = ap (λ (x : ℕ). take x (drop f text)) (sym size) ∙ same ∙ ap (λ (x : ℕ). take x (drop g text)) size-g in
+        let byte : getD text (f + last) 0 ≡ 93 = subst (λ (x : ℕ). getD text x 0 ≡ 93) at-last closed in
+        subst (λ (x : ℕ). Spells text at x (t ∷ ts)) end-g
+        (spells-again f g last (omega arith) (omega arith) bytes byte from at ef eg t ts (subst (λ (x : ℕ). Spells text from x (t ∷ ts)) end-f e))
+
+    pub part-repeated : TokensIn text from to → getD text (to - 1) 0 ≡ 93 → part text f to ≡ part text g (g + (to - f)) → partFrom (length text) text from to at ≡ agrees (g + (to - f))
+    part-repeated r closed same = agree (r .tokens) (r .spells)
+      where
+        agree : (ts : List (List ℕ)) → Spells text from to ts → partFrom (length text) text from to at ≡ agrees (g + (to - f))
+        agree [] e = absurd (omega (arith, e, run-from isSpace text from))
+        agree (t ∷ ts) e = spells-part text (t ∷ ts) (length text) from to at (g + (to - f)) (r .within) (omega (arith, run-from isSpace text at)) (omega arith) e (again (to - f - 1) (omega arith) closed same t ts e)

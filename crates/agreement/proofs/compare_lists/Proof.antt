@@ -16,39 +16,39 @@ abbrev μ-loop : tie.MeasureT-loop
 μ-loop text from to count at i₀ a₀ i a = count - i
 
 loop-holds : tie.Need-loop-holds Inv-loop μ-loop
-loop-holds c = comparing _ _ _ _ (c .before .before .before .pre) _
+loop-holds c = comparing _ _ _ _ (c .before .before .before .pre .0) _
 
 mul-first : tie.Need-mul-first Inv-loop μ-loop
 mul-first c =
     let start = c .before .before .before .before .before in
-    record { fits = omega (arith, start .good .1 .0 .1, start .pre .in-from, c .loop-test .taken) }
+    record { fits = omega (arith, start .good .1 .0 .1, start .pre .0 .in-from, c .loop-test .taken) }
 
 shared-slice-read-first : tie.Need-shared-slice-read-first Inv-loop μ-loop
-shared-slice-read-first c = omega (arith, c .before .before .before .before .before .before .pre .in-from, c .before .loop-test .taken)
+shared-slice-read-first c = omega (arith, c .before .before .before .before .before .before .pre .0 .in-from, c .before .loop-test .taken)
 
 mul-last : tie.Need-mul-last Inv-loop μ-loop
 mul-last c =
     let start = c .before .before .before .before .before .before in
-    record { fits = omega (arith, start .good .1 .1 .0 .1, start .pre .in-to, c .before .loop-test .taken) }
+    record { fits = omega (arith, start .good .1 .1 .0 .1, start .pre .0 .in-to, c .before .loop-test .taken) }
 
 shared-slice-read-last : tie.Need-shared-slice-read-last Inv-loop μ-loop
-shared-slice-read-last c = omega (arith, c .before .before .before .before .before .before .before .pre .in-to, c .before .before .loop-test .taken)
+shared-slice-read-last c = omega (arith, c .before .before .before .before .before .before .before .pre .0 .in-to, c .before .before .loop-test .taken)
 
 compare-part-requires : tie.Need-compare-part-requires Inv-loop μ-loop
-compare-part-requires c κs = c .before .before .before .before .before .before .before .pre .inside _ (c .before .before .loop-test .taken)
+compare-part-requires c κs = let start = c .before .before .before .before .before .before .before in (start .pre .0 .inside _ (c .before .before .loop-test .taken), start .pre .1 .each _ (c .before .before .loop-test .taken))
 
 returns : tie.Need-returns Inv-loop μ-loop
 returns c =
     let at-loop-test = c .before .before .before .before .before in
     let at-loop = at-loop-test .before in
     let start = at-loop .before .before .before .before in
-    part-differs _ _ _ _ (start .pre) _ _ _ (at-loop .loop .inv) (at-loop-test .loop-test .taken) _ (c .before .before .compare-part .ensures) (ap comparedOf (c .enum-told .given .1))
+    part-differs _ _ _ _ (start .pre .0) _ _ _ (at-loop .loop .inv) (at-loop-test .loop-test .taken) _ (c .before .before .compare-part .ensures) (ap comparedOf (c .enum-told .given .1))
 
 add-i : tie.Need-add-i Inv-loop μ-loop
 add-i c =
     let at-loop-test = c .before .before .before .before .before .before in
     let start = at-loop-test .before .before .before .before .before in
-    record { fits = omega (arith, start .good .1 .0 .0, start .pre .in-from, at-loop-test .loop-test .taken) }
+    record { fits = omega (arith, start .good .1 .0 .0, start .pre .0 .in-from, at-loop-test .loop-test .taken) }
 
 compare-sign-requires : tie.Need-compare-sign-requires Inv-loop μ-loop
 compare-sign-requires c κs =
@@ -63,7 +63,7 @@ returns-2 c =
     let at-loop-test = at-compare-part .before .before .before in
     let at-loop = at-loop-test .before in
     let start = at-loop .before .before .before .before in
-    sign-differs _ _ _ _ (start .pre) _ _ _ (at-loop .loop .inv) (at-loop-test .loop-test .taken) _ (at-compare-part .compare-part .ensures) (ap comparedOf (at-part .part .given .1)) _ (c .before .before .before .separator .ensures) (c .before .before .compare-sign .ensures) _ (ap comparedOf (c .enum-told2 .given .1))
+    sign-differs _ _ _ _ (start .pre .0) _ _ _ (at-loop .loop .inv) (at-loop-test .loop-test .taken) _ (at-compare-part .compare-part .ensures) (ap comparedOf (at-part .part .given .1)) _ (c .before .before .before .separator .ensures) (c .before .before .compare-sign .ensures) _ (ap comparedOf (c .enum-told2 .given .1))
 
 loop-less : tie.Need-loop-less Inv-loop μ-loop
 loop-less c = omega (arith, c .before .before .before .before .before .before .before .before .before .before .before .loop-test .taken)
@@ -75,10 +75,10 @@ loop-again c =
     let at-loop-test = at-compare-part .before .before .before in
     let at-loop = at-loop-test .before in
     let start = at-loop .before .before .before .before in
-    next-part _ _ _ _ (start .pre) _ _ _ (at-loop .loop .inv) (at-loop-test .loop-test .taken) _ (at-compare-part .compare-part .ensures) (ap comparedOf (at-part .part .given .1)) _ (c .before .before .before .before .separator .ensures) (c .before .before .before .compare-sign .ensures) _ (ap comparedOf (c .before .sign .given .1))
+    next-part _ _ _ _ (start .pre .0) _ _ _ (at-loop .loop .inv) (at-loop-test .loop-test .taken) _ (at-compare-part .compare-part .ensures) (ap comparedOf (at-part .part .given .1)) _ (c .before .before .before .before .separator .ensures) (c .before .before .before .compare-sign .ensures) _ (ap comparedOf (c .before .sign .given .1))
 
 returns-3 : tie.Need-returns-3 Inv-loop μ-loop
-returns-3 c = compared _ _ _ _ (c .before .before .before .before .before .pre) _ _ _ (c .before .loop .inv) (c .loop-test .left)
+returns-3 c = compared _ _ _ _ (c .before .before .before .before .before .pre .0) _ _ _ (c .before .loop .inv) (c .loop-test .left)
 
 pub compare-lists-spec : {M : Type 1} → statement M
 compare-lists-spec =
