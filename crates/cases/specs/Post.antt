@@ -1,11 +1,13 @@
 -- What the contracts of this crate say of lent memory. Assumes nothing.
-use Prim.Native.Nat.{ℕ, _+_}
+use Prim.Native.Nat.{ℕ, _+_, _≤_}
 use mathlib.Core.Path.{_≡_}
 use mathlib.Core.List.{List, [], _∷_}
 use lib.ListN.{length}
 use lib.Seq.{sets}
 use Rattle.grammar.specs.Parsed.{Parsed, accepted, andThen}
-use Rattle.grammar.specs.Rules.{Spanned, casesOf}
+use Rattle.limits.specs.Limits.{caseLimit}
+use Rattle.grammar.specs.Expressions.{Scope}
+use Rattle.grammar.specs.Rules.{Spanned, casesOf, casesFrom}
 use Rattle.grammar.specs.Emitted.{codeK}
 use Rattle.agreement.specs.Spans.{spansIn, spansOf, Spans}
 use Rattle.cases.specs.declared.Part.{Part}
@@ -36,3 +38,13 @@ endOfCondition c = c .span .to
 pub record Lists (p : Parsed (List Spanned)) (text from upto : List ℕ) : Type 0 where
   pub held : (cs : List Spanned) (n : ℕ) → p ≡ accepted cs n → Spans text from upto (length cs)
   pub listed : (cs : List Spanned) (n : ℕ) → p ≡ accepted cs n → spansOf cs ≡ spansIn from upto (length cs)
+
+-- `from` and `upto` hold where the conditions of cases stand that were read in this scope
+pub record Kept (sc : Scope) (from upto : List ℕ) (count : ℕ) : Type 0 where
+  pub variable : List ℕ
+  pub place : ℕ
+  pub end : ℕ
+  pub cases : List Spanned
+  pub within : place ≤ length (sc .text)
+  pub read : casesFrom caseLimit sc variable [] place ≡ accepted cases end
+  pub spans : spansOf cases ≡ spansIn from upto count

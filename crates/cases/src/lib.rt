@@ -12,14 +12,14 @@ ghost use Rattle.limits.specs.Limits.{caseLimit, nameLimit};
 ghost use Rattle.lexer.specs.Bytes.{part};
 ghost use Rattle.semantics.specs.Program.{Condition};
 ghost use Rattle.grammar.specs.Parsed.{Parsed};
-ghost use Rattle.grammar.specs.Rules.{Spanned, caseAt, casesFrom, plainList, settled as settledOf, agreeingList};
+ghost use Rattle.grammar.specs.Rules.{Spanned, caseAt, casesFrom, plainList, differs, settled as settledOf, agreeingList};
+ghost use Rattle.grammar.specs.Internal.{Named};
 ghost use Rattle.expressions.specs.Scopes.{scopeOf, Declared};
 ghost use Rattle.expressions.specs.Steps.{Room};
 ghost use Rattle.phrases.specs.Results.{expectedOf};
 ghost use Rattle.agreement.specs.Spans.{spansIn, spansOf, Spans};
-ghost use Rattle.agreement.specs.Results.{comparedOf};
 ghost use Rattle.cases.specs.Results.{unexpectedPart, unreadPart, unlistedPart, placeOnly};
-ghost use Rattle.cases.specs.Post.{Writes, codeOfCase, codeOfCases, endOfCondition, Lists};
+ghost use Rattle.cases.specs.Post.{Writes, codeOfCase, codeOfCases, endOfCondition, Lists, Kept};
 
 // The variable of a rule: its name stands from `start` to `end`.
 pub struct Variable {
@@ -187,13 +187,10 @@ fn plain_list(text: &[u8], starts: &[usize], ends: &[usize], names: Names, at: u
     }
 }
 
-// Token by token and in number order at each: a refusal before the first token that differs, or of 1 to 5 at it; else 7.
-fn settled(read: Expected, compared: Compared) -> Expected
-    ensures { λ r. ⌜ ((p : Parsed (List Condition)) → expectedOf read ≡ placeOnly p → expectedOf r ≡ placeOnly (settledOf p (comparedOf compared))) ⌝ }
+// The second list differs first at m. Token by token and in number order at each: a refusal before m, or of 1 to 5 at m; else 7.
+fn settled(read: Expected, m: usize) -> Expected
+    ensures { λ r. ⌜ ((p : Parsed (List Condition)) → expectedOf read ≡ placeOnly p → expectedOf r ≡ placeOnly (settledOf p (differs m))) ⌝ }
 {
-    let Compared::Differs(m) = compared else {
-        return read;
-    };
     let Expected::Refused(k, p) = read else {
         return Expected::Refused(limits::LISTS_DIFFER, m);
     };
@@ -208,7 +205,8 @@ fn settled(read: Expected, compared: Compared) -> Expected
     Expected::Refused(limits::LISTS_DIFFER, m)
 }
 
-// The no-change formula's list and its closing bracket, where the list of the change formula is kept in `from` and `upto`.
+// The no-change formula's list and its closing bracket, where the list of the change formula, which was read, is kept in `from` and
+// `upto`. A list that agrees needs no reading: its tokens read as the conditions that they read as before.
 pub fn agreeing_list(
     text: &[u8],
     starts: &[usize],
@@ -222,9 +220,16 @@ pub fn agreeing_list(
     requires { ⌜ Declared (now starts) (now ends) names ⌝ }
     requires { ⌜ Room (now text) at 0 ⌝ }
     requires { ⌜ Spans (now text) (now from) (now upto) count ⌝ }
+    requires { ⌜ Named (scopeOf (now text) (now starts) (now ends) names .names) ⌝ }
+    requires { ⌜ Kept (scopeOf (now text) (now starts) (now ends) names) (now from) (now upto) count ⌝ }
     ensures { λ r. ⌜ ((cases : List Spanned) → spansOf cases ≡ spansIn (now (from .entry)) (now (upto .entry)) count → expectedOf r ≡ placeOnly (agreeingList (scopeOf (now (text .entry)) (now (starts .entry)) (now (ends .entry)) names) cases at)) ⌝ }
 {
-    let read = plain_list(text, starts, ends, names, at);
     let compared = agreement::compare_lists(text, from, upto, count, at);
-    settled(read, compared)
+    match compared {
+        Compared::Agrees(n) => Expected::After(n),
+        Compared::Differs(m) => {
+            let read = plain_list(text, starts, ends, names, at);
+            settled(read, m)
+        }
+    }
 }

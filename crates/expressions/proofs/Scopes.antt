@@ -1,5 +1,5 @@
 -- Laws of the names in use: ids are below the count, and a bit tells whether a current value may be used. Assumes nothing.
-use mathlib.Core.Path.{_≡_}
+use mathlib.Core.Path.{_≡_, refl, ap, sym, _∙_}
 use mathlib.Core.List.{List, [], _∷_}
 use mathlib.Core.Bool.{true, false}
 use mathlib.Core.Option.{some}
@@ -11,7 +11,7 @@ use lib.ListN.{length, getD, set, drop, drop-of-length-le}
 use Rattle.arith.specs.Flags.{flagsOf}
 use Rattle.arith.proofs.Flags.{length-flags}
 use Rattle.semantics.specs.Program.{allTrue}
-use Rattle.lexer.specs.Names.{idOf, namesOf}
+use Rattle.lexer.specs.Names.{idOf, namesOf, Table}
 use Rattle.grammar.specs.Rules.{ruled}
 use Rattle.grammar.proofs.Bytes.{id-of}
 use Rattle.expressions.specs.Scopes.{scopeOf, Declared}
@@ -23,6 +23,17 @@ names-length text [] ends n = omega arith
 names-length text (s ∷ starts) [] n = omega arith
 names-length text (s ∷ starts) (e ∷ ends) zero = omega arith
 names-length text (s ∷ starts) (e ∷ ends) (suc n) = omega (arith, names-length text starts ends n)
+
+-- as many names as are counted
+counted-from : (text starts ends : List ℕ) (n : ℕ) → n ≤ length starts → n ≤ length ends → length (namesOf text starts ends n) ≡ n
+unfolding namesOf
+counted-from text [] ends n hs he = omega arith
+counted-from text (s ∷ starts) [] n hs he = omega arith
+counted-from text (s ∷ starts) (e ∷ ends) zero hs he = refl
+counted-from text (s ∷ starts) (e ∷ ends) (suc n) hs he = ap suc (counted-from text starts ends n (omega arith) (omega arith))
+
+pub names-counted : (text starts ends : List ℕ) (n : ℕ) → Table starts ends n → length (namesOf text starts ends n) ≡ n
+names-counted text starts ends n t = counted-from text starts ends n (t .in-starts) (t .in-ends)
 
 -- all known, from the name i on
 module _ (known n i : ℕ) where
@@ -44,6 +55,9 @@ module _ (known n i : ℕ) where
 module _ (text : List ℕ) {starts ends : List ℕ} {names : Names} (d : Declared starts ends names) where
   pub few-names : length (scopeOf text starts ends names .names) ≤ 64
   few-names = omega (arith, names-length text starts ends (names .count), d .few)
+
+  pub as-long : length (scopeOf text starts ends names .names) ≡ length (scopeOf text starts ends names .known)
+  as-long = names-counted text starts ends (names .count) (d .table) ∙ sym (length-flags (names .count) (names .known))
 
   -- the id of a name w
   module _ (w : List ℕ) {i : ℕ} (e : idOf (scopeOf text starts ends names .names) w ≡ some i) where

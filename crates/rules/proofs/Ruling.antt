@@ -37,18 +37,6 @@ use Rattle.cases.proofs.Listing.{Found}
 use Rattle.rules.specs.Post.{codeOfRule, endOf}
 use Rattle.rules.proofs.Ways.{Fresh, rule-fresh}
 
--- ---- as many names as are counted
-
-counted-from : (text starts ends : List ℕ) (n : ℕ) → n ≤ length starts → n ≤ length ends → length (namesOf text starts ends n) ≡ n
-unfolding namesOf
-counted-from text [] ends n hs he = omega arith
-counted-from text (s ∷ starts) [] n hs he = omega arith
-counted-from text (s ∷ starts) (e ∷ ends) zero hs he = refl
-counted-from text (s ∷ starts) (e ∷ ends) (suc n) hs he = ap suc (counted-from text starts ends n (omega arith) (omega arith))
-
-pub names-counted : (text starts ends : List ℕ) (n : ℕ) → Table starts ends n → length (namesOf text starts ends n) ≡ n
-names-counted text starts ends n t = counted-from text starts ends n (t .in-starts) (t .in-ends)
-
 -- ---- rules
 
 module _ (f : ℕ) (sc : Scope) (done : List Rule) (a : ℕ) where
