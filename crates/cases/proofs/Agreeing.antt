@@ -17,7 +17,7 @@ use Rattle.expressions.specs.Scopes.{scopeOf, Declared}
 use Rattle.expressions.proofs.Scopes.{few-names, as-long}
 use Rattle.agreement.specs.Spans.{spansIn, spansOf, Spans, SpansRead}
 use Rattle.cases.specs.Results.{placeOnly}
-use Rattle.cases.specs.Post.{Kept}
+use Rattle.cases.specs.Post.{ListKept}
 
 some-same : {A : Type 0} {a b : A} → some a ≡ some b → a ≡ b
 some-same e = cc
@@ -41,7 +41,7 @@ span-read text cs ls (last c ts h sp) (suc i) s e = absurd (none-some e)
 span-read text cs ls (next c ds ts us h sp r) zero s e = subst (λ (x : Span). TokensIn text (x .from) (x .to)) (some-same e) (record { tokens = ts; within = h; spells = sp })
 span-read text cs ls (next c ds ts us h sp r) (suc i) s e = span-read text ds us r i s e
 
-module _ (text starts ends : List ℕ) (names : Names) (d : Declared starts ends names) (good : Named (scopeOf text starts ends names .names)) (from upto : List ℕ) (count : ℕ) (sp : Spans text from upto count) (k : Kept (scopeOf text starts ends names) from upto count) where
+module _ (text starts ends : List ℕ) (names : Names) (d : Declared starts ends names) (good : Named (scopeOf text starts ends names .names)) (from upto : List ℕ) (count : ℕ) (sp : Spans text from upto count) (k : ListKept (scopeOf text starts ends names) from upto count) where
   kept-cases : CasesIn (scopeOf text starts ends names) (few-names text d) (as-long text d) (k .variable) (k .place) (k .end) (k .cases)
   kept-cases = cases-in (scopeOf text starts ends names) (few-names text d) (as-long text d) (k .variable) (k .place) (k .end) (k .cases) (k .within) (k .read)
 

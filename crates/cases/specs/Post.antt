@@ -40,7 +40,7 @@ pub record Lists (p : Parsed (List Spanned)) (text from upto : List ℕ) : Type 
   pub listed : (cs : List Spanned) (n : ℕ) → p ≡ accepted cs n → spansOf cs ≡ spansIn from upto (length cs)
 
 -- `from` and `upto` hold where the conditions of cases stand that were read in this scope
-pub record Kept (sc : Scope) (from upto : List ℕ) (count : ℕ) : Type 0 where
+pub record ListKept (sc : Scope) (from upto : List ℕ) (count : ℕ) : Type 0 where
   pub variable : List ℕ
   pub place : ℕ
   pub end : ℕ

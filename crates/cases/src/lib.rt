@@ -19,7 +19,7 @@ ghost use Rattle.expressions.specs.Steps.{Room};
 ghost use Rattle.phrases.specs.Results.{expectedOf};
 ghost use Rattle.agreement.specs.Spans.{spansIn, spansOf, Spans};
 ghost use Rattle.cases.specs.Results.{unexpectedPart, unreadPart, unlistedPart, placeOnly};
-ghost use Rattle.cases.specs.Post.{Writes, codeOfCase, codeOfCases, endOfCondition, Lists, Kept};
+ghost use Rattle.cases.specs.Post.{Writes, codeOfCase, codeOfCases, endOfCondition, Lists, ListKept};
 
 // The variable of a rule: its name stands from `start` to `end`.
 pub struct Variable {
@@ -221,7 +221,7 @@ pub fn agreeing_list(
     requires { ⌜ Room (now text) at 0 ⌝ }
     requires { ⌜ Spans (now text) (now from) (now upto) count ⌝ }
     requires { ⌜ Named (scopeOf (now text) (now starts) (now ends) names .names) ⌝ }
-    requires { ⌜ Kept (scopeOf (now text) (now starts) (now ends) names) (now from) (now upto) count ⌝ }
+    requires { ⌜ ListKept (scopeOf (now text) (now starts) (now ends) names) (now from) (now upto) count ⌝ }
     ensures { λ r. ⌜ ((cases : List Spanned) → spansOf cases ≡ spansIn (now (from .entry)) (now (upto .entry)) count → expectedOf r ≡ placeOnly (agreeingList (scopeOf (now (text .entry)) (now (starts .entry)) (now (ends .entry)) names) cases at)) ⌝ }
 {
     let compared = agreement::compare_lists(text, from, upto, count, at);

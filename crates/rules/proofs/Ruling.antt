@@ -26,7 +26,7 @@ use Rattle.arith.specs.Flags.{flagsOf}
 use Rattle.arith.proofs.Flags.{length-flags}
 use Rattle.expressions.specs.Scopes.{scopeOf, Declared}
 use Rattle.expressions.specs.Steps.{Room}
-use Rattle.expressions.proofs.Scopes.{few-names, scope-ruled}
+use Rattle.expressions.proofs.Scopes.{few-names, names-counted, as-long, scope-ruled}
 use Rattle.phrases.proofs.Laws.{same-kinds, other-kinds}
 use Rattle.cases.specs.declared.Part.{Part}
 use Rattle.cases.specs.declared.Part.the-variants.{Refused}
@@ -158,7 +158,7 @@ module _ {text starts ends : List ℕ} {count known₀ at to : ℕ} {out₀ out 
 
         paid : (2 * length (codeOfRule (g .tree)) + 3 * n ≤ 3 * m) × (m ≤ length text)
         paid = subst (Pays ruleBytes (length text) n) (g .is)
-            (rule-pays sc (few-names text d) (names-counted text starts ends count (d .table) ∙ sym (length-flags count known)) s n (ruling-room .within))
+            (rule-pays sc (few-names text d) (as-long text d) s n (ruling-room .within))
 
         pub ruling-more : (more : Names) → flagsOf count (more .known) ≡ set (flagsOf count known) id true → Ruling text starts ends count known₀ at to out₀ out′ (more .known) m u (done + 1)
         ruling-more more ek = record {

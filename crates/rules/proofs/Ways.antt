@@ -27,7 +27,7 @@ use Rattle.expressions.specs.Steps.{Room}
 use Rattle.expressions.proofs.Steps.{Refuses}
 use Rattle.agreement.specs.Spans.{spansIn, spansOf, Spans}
 use Rattle.grammar.specs.Forms.{ruleOpening, formulaClosing, functionClosing, valueOpening, changeOpening, noChangeOpening}
-use Rattle.cases.specs.Post.{codeOfCases, Lists}
+use Rattle.cases.specs.Post.{codeOfCases, Lists, ListKept}
 use Rattle.cases.proofs.Parts.{Got, phrase-fault, behind-refused}
 use Rattle.cases.proofs.Ways.{then-bytes}
 use Rattle.rules.specs.Post.{codeOfRule}
@@ -115,6 +115,9 @@ module _ (sc : Scope) (w : List ℕ) (v n1 to : ℕ) {before after : List ℕ} {
 
   pub told-listed : {from upto : List ℕ} → Lists (casesFrom caseLimit sc w [] n1) (sc .text) from upto → (g : Got (codeOfCases v) length (casesFrom caseLimit sc w [] n1) to before after n2 t x) → spansOf (g .tree) ≡ spansIn from upto x
   told-listed l g = rw (g .told) (l .listed (g .tree) n2 (g .is))
+
+  pub told-kept : {from upto : List ℕ} → n1 ≤ length (sc .text) → Lists (casesFrom caseLimit sc w [] n1) (sc .text) from upto → Got (codeOfCases v) length (casesFrom caseLimit sc w [] n1) to before after n2 t x → ListKept sc from upto x
+  told-kept h l g = record { variable = w; place = n1; end = n2; cases = g .tree; within = h; read = g .is; spans = told-listed l g }
 
 pub room-list : {text : List ℕ} (ws : List Wanted) {n m t : ℕ} → Room text n t → phrase text ws n ≡ accepted tt m → Room text m 0
 room-list {text} ws {n} r e =

@@ -13,6 +13,7 @@ ghost use lib.ListN.{length};
 ghost use Rattle.limits.specs.Limits.{nameLimit};
 ghost use Rattle.lexer.specs.Bytes.{part};
 ghost use Rattle.grammar.specs.Rules.{functionAt, changeAt, formulas as formulasAt, ruleAt, rulesFrom};
+ghost use Rattle.grammar.specs.Internal.{Named};
 ghost use Rattle.grammar.specs.Emitted.{codeR};
 ghost use Rattle.semantics.specs.Program.{target};
 ghost use Rattle.expressions.specs.Scopes.{scopeOf, Declared};
@@ -72,6 +73,7 @@ fn change(
     requires { ⌜ Room (now text) at to ⌝ }
     requires { ⌜ w .id < nameLimit ⌝ }
     requires { ⌜ SpanRoom (now from) (now upto) ⌝ }
+    requires { ⌜ Named (scopeOf (now text) (now starts) (now ends) names .names) ⌝ }
     ensures { λ r. ⌜ Writes codeOfRule target (changeAt (scopeOf (now (text .entry)) (now (starts .entry)) (now (ends .entry)) names) (part (now (text .entry)) (w .start) (w .end)) (w .id) at) to (now (out .entry)) (now (out .exit)) r ⌝ }
 {
     let opened = phrases::change_opening(text, at, w.start, w.end);
@@ -118,6 +120,7 @@ fn formulas(
     requires { ⌜ Room (now text) at to ⌝ }
     requires { ⌜ w .id < nameLimit ⌝ }
     requires { ⌜ SpanRoom (now from) (now upto) ⌝ }
+    requires { ⌜ Named (scopeOf (now text) (now starts) (now ends) names .names) ⌝ }
     ensures { λ r. ⌜ Writes codeOfRule target (formulasAt (scopeOf (now (text .entry)) (now (starts .entry)) (now (ends .entry)) names) (part (now (text .entry)) (w .start) (w .end)) (w .id) at) to (now (out .entry)) (now (out .exit)) r ⌝ }
 {
     let opened = phrases::rule_opening(text, at);
@@ -150,6 +153,7 @@ fn rule(
     requires { ⌜ Declared (now starts) (now ends) names ⌝ }
     requires { ⌜ Room (now text) end to ⌝ }
     requires { ⌜ SpanRoom (now from) (now upto) ⌝ }
+    requires { ⌜ Named (scopeOf (now text) (now starts) (now ends) names .names) ⌝ }
     ensures { λ r. ⌜ Writes codeOfRule target (ruleAt (scopeOf (now (text .entry)) (now (starts .entry)) (now (ends .entry)) names) start end) to (now (out .entry)) (now (out .exit)) r ⌝ }
 {
     if lexer::is_over_long(start, end) {
@@ -205,6 +209,7 @@ fn rules_in(
     requires { ⌜ Declared (now starts) (now ends) names ⌝ }
     requires { ⌜ Room (now text) at to ⌝ }
     requires { ⌜ SpanRoom (now from) (now upto) ⌝ }
+    requires { ⌜ Named (scopeOf (now text) (now starts) (now ends) names .names) ⌝ }
     ensures { λ r. ⌜ Writes codeR length (rulesFrom 65 (scopeOf (now (text .entry)) (now (starts .entry)) (now (ends .entry)) names) [] at) to (now (out .entry)) (now (out .exit)) r ⌝ }
 {
     let count = names.count;
@@ -254,6 +259,7 @@ pub fn rules(
 ) -> Part
     requires { ⌜ Declared (now starts) (now ends) names ⌝ }
     requires { ⌜ Room (now text) at to ⌝ }
+    requires { ⌜ Named (scopeOf (now text) (now starts) (now ends) names .names) ⌝ }
     ensures { λ r. ⌜ Writes codeR length (rulesFrom 65 (scopeOf (now (text .entry)) (now (starts .entry)) (now (ends .entry)) names) [] at) to (now (out .entry)) (now (out .exit)) r ⌝ }
 {
     let mut from = [0usize; limits::CASE_LIMIT];

@@ -7,11 +7,13 @@ use lib.ListN.{length, set, length-append}
 use lib.Seq.{sets}
 use Rattle.limits.specs.Limits.{textLimit, nameLimit}
 use Rattle.lexer.specs.Token.{inputWord, varWord}
+use Rattle.lexer.specs.Names.{namesOf}
 use Rattle.semantics.specs.Program.{Name, Rule, Program, knownFirst}
 use Rattle.leb128.proofs.Laws.{groups-one}
 use Rattle.leb128.proofs.RoundTrip.{sets-join}
 use Rattle.grammar.specs.Parsed.{Parsed, accepted, refused, andThen}
-use Rattle.grammar.specs.Declarations.{declarations}
+use Rattle.grammar.specs.Declarations.{declarations, spellings}
+use Rattle.grammar.specs.Internal.{Named}
 use Rattle.grammar.specs.Rules.{rulesFrom}
 use Rattle.grammar.specs.Emitted.{header, codeR, image}
 use Rattle.grammar.specs.Parse.{program}
@@ -60,12 +62,13 @@ module _ (text before mid starts ends : List ℕ) {r : Heading} (h : Heads text 
         held = subst (λ (k : ℕ). Holds text starts ends k (x .0 .names)) (sym q) (h .named (x .0) a (x .1));
       }
 
--- few names, few bytes, within the text
+-- few names, few bytes, within the text; the names are names of a text
 pub record Few (text : List ℕ) (d : Declarations) (n : ℕ) : Type 0 where
   pub names : length (d .names) ≤ nameLimit
   pub inputs : d .inputs ≤ length (d .names)
   pub within : n ≤ length text
   pub room : 2 * length (header (d .names)) ≤ 3 * n
+  pub spelled : Named (spellings (d .names))
 
 pub heading-few : (text : List ℕ) → length text ≤ textLimit → (d : Declarations) (n : ℕ) → headingOf text ≡ accepted d n → Few text d n
 unfolding headingOf
@@ -75,7 +78,7 @@ heading-few text short d n e = first (declarations inputWord text [] 0) refl e
         → _≡_ {A = Parsed Declarations} (andThen p (λ names n2. accepted (record { inputs = length inputs; names = names }) n2)) (accepted d n) → Few text d n
     second inputs n1 f (accepted names n2) g i =
         let x = names-few text short inputs names n1 n2 f g in
-        let y : Few text (record { inputs = length inputs; names = names }) n2 = record { names = x .0; inputs = x .1; within = x .2; room = x .3 } in
+        let y : Few text (record { inputs = length inputs; names = names }) n2 = record { names = x .0; inputs = x .1; within = x .2; room = x .3; spelled = x .4 } in
         let ed : record { inputs = length inputs; names = names } ≡ d = cc in
         let en : n2 ≡ n = cc in
         subst (λ (k : ℕ). Few text d k) en (subst (λ (z : Declarations). Few text z n2) ed y)
@@ -87,6 +90,10 @@ heading-few text short d n e = first (declarations inputWord text [] 0) refl e
     first (refused k q) f i = never d n k q (sym i)
 
 -- ---- the rules
+
+-- the names in the table are those declared
+pub table-named : (text starts ends : List ℕ) (d : Declarations) (m k : ℕ) → Holds text starts ends m (d .names) → k ≡ m → Named (spellings (d .names)) → Named (namesOf text starts ends k)
+table-named text starts ends d m k h e n = rw (e, h .spelled) n
 
 -- the scope of the rules at their start: all the names, and the inputs among them known
 pub scope-is : (text starts ends : List ℕ) (d : Declarations) (c m : ℕ) (names : Names) → Holds text starts ends m (d .names) → c ≡ d .inputs → m ≡ length (d .names)

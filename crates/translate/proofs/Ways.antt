@@ -11,11 +11,12 @@ use Rattle.lexer.specs.Token.{inputWord, varWord}
 use Rattle.semantics.specs.Program.{Name, Program}
 use Rattle.leb128.proofs.RoundTrip.{sets-join}
 use Rattle.grammar.specs.Parsed.{Parsed, accepted, refused, andThen}
-use Rattle.grammar.specs.Declarations.{declarations}
+use Rattle.grammar.specs.Declarations.{declarations, spellings}
+use Rattle.grammar.specs.Internal.{Named}
 use Rattle.grammar.specs.Rules.{rulesFrom}
 use Rattle.grammar.specs.Emitted.{header}
 use Rattle.grammar.specs.Parse.{program}
-use Rattle.grammar.proofs.Whole.{Ends, Names, declarations-fit}
+use Rattle.grammar.proofs.Whole.{Ends, Names, declarations-fit, named}
 use Rattle.grammar.proofs.Size.{Pays, declarations-pay}
 use Rattle.declarations.specs.Post.{Holds, headerAfter}
 use Rattle.declarations.proofs.Known.{AllDeclared, header-joined}
@@ -62,14 +63,14 @@ module _ (text : List ℕ) where
         (g .0 .1, g .1, omega (arith, p .0))
 
     pub names-few : (inputs names : List Name) (n1 n2 : ℕ) → declarations inputWord text [] 0 ≡ accepted inputs n1 → declarations varWord text inputs n1 ≡ accepted names n2
-        → (length names ≤ nameLimit) × (length inputs ≤ length names) × (n2 ≤ length text) × (2 * length (header names) ≤ 3 * n2)
+        → (length names ≤ nameLimit) × (length inputs ≤ length names) × (n2 ≤ length text) × (2 * length (header names) ≤ 3 * n2) × Named (spellings names)
     unfolding declarations header
     names-few inputs names n1 n2 e f =
         let g1 = subst (Ends (length text) (Names text 0)) e (declarations-fit text 65 inputWord [] 0 0 (omega arith) (tt, omega arith, omega arith, tt)) in
         let p1 = subst (Pays (λ (l : List Name). length (header l)) (length text) 0) e (declarations-pay text 65 inputWord [] 0 (omega arith) (omega arith)) in
         let g2 = subst (Ends (length text) (Names text (length inputs))) f (declarations-fit text 65 varWord inputs n1 (length inputs) (g1 .1) (g1 .0 .0, g1 .0 .1, le-refl (length inputs), g1 .0 .3)) in
         let p2 = subst (Pays (λ (l : List Name). length (header l)) (length text) 0) f (declarations-pay text 65 varWord inputs n1 (g1 .1) (omega (arith, p1 .0))) in
-        (g2 .0 .1, g2 .0 .2, g2 .1, omega (arith, p2 .0))
+        (g2 .0 .1, g2 .0 .2, g2 .1, omega (arith, p2 .0), named names (g2 .0 .0) (g2 .0 .3))
 
 -- ---- what reading the declarations answers and leaves
 

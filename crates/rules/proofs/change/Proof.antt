@@ -8,7 +8,7 @@ use Rattle.expressions.proofs.Scopes.{few-names}
 use Rattle.grammar.specs.Forms.{changeOpening, noChangeOpening}
 use Rattle.cases.proofs.Parts.{got, writes, not-expected, not-part, found, placed}
 use Rattle.cases.proofs.Ways.{room-phrase, place-refused}
-use Rattle.rules.proofs.Ways.{change-unopened, cases-refused, no-change-unopened, list-refused, change-unclosed, change-accepted, change-bytes, change-length, room-cases, room-list, told-spans, told-listed}
+use Rattle.rules.proofs.Ways.{change-unopened, cases-refused, no-change-unopened, list-refused, change-unclosed, change-accepted, change-bytes, change-length, room-cases, room-list, told-spans, told-listed, told-kept}
 use borrow.Author.Needs.{needs}
 use Rattle.rules.proofs.change.Statement.{statement}
 use Rattle.rules.proofs.change.Tie as tie
@@ -23,7 +23,7 @@ cases-requires c κs =
     let start = at-change-opening .before .before .before .before .before .before .before in
     let p = found (at-change-opening .change-opening .ensures) (c .before .before .before .before .opened .given .1) in
     let r = room-phrase {u = start .args .to} (changeOpening _) (refl, (refl, (refl, (refl, tt)))) (start .pre .1 .0) p (omega arith) in
-    (start .pre .0, (r, (start .pre .1 .1 .0, (start .pre .1 .1 .1 .in-from, start .pre .1 .1 .1 .in-upto))))
+    (start .pre .0, (r, (start .pre .1 .1 .0, (start .pre .1 .1 .1 .0 .in-from, start .pre .1 .1 .1 .0 .in-upto))))
 
 returns-2 : tie.Need-returns-2
 returns-2 c =
@@ -57,7 +57,8 @@ agreeing-list-requires c κs =
     let g = got (at-cases .cases .ensures .0) (at-listed .listed .given .1) in
     let q = found (at-no-change-opening .no-change-opening .ensures) (c .before .before .before .next .given .1) in
     let rc = room-cases _ _ _ _ _ (few-names _ (start .pre .0)) (start .pre .1 .1 .0) r g in
-    (start .pre .0, (room-list (noChangeOpening _) rc q, told-spans _ _ _ _ _ (at-cases .cases .ensures .1) g))
+    let l = at-cases .cases .ensures .1 in
+    (start .pre .0, (room-list (noChangeOpening _) rc q, (told-spans _ _ _ _ _ l g, (start .pre .1 .1 .1 .1, told-kept _ _ _ _ _ (r .within) l g))))
 
 returns-4 : tie.Need-returns-4
 returns-4 c =

@@ -70,7 +70,7 @@ rule-requires c κs =
     let start = at-loop .before .before .before .before .before .before .before in
     let d = declared-as (start .pre .0) (at-loop .loop .known) in
     let f = found-token _ _ (at-token-at .token-at .ensures) (at-read .read .given .1) in
-    (d, (ruling-room (at-loop .loop .inv .0) d f, record { in-from = omega (arith, at-loop .loop .inv .1, start .pre .1 .1 .in-from); in-upto = omega (arith, at-loop .loop .inv .2, start .pre .1 .1 .in-upto) }))
+    (d, (ruling-room (at-loop .loop .inv .0) d f, (record { in-from = omega (arith, at-loop .loop .inv .1, start .pre .1 .1 .0 .in-from); in-upto = omega (arith, at-loop .loop .inv .2, start .pre .1 .1 .0 .in-upto) }, start .pre .1 .1 .1)))
 
 same-length-7 : tie.Need-same-length-7 Inv-loop μ-loop
 same-length-7 c =

@@ -9,7 +9,7 @@ use Rattle.grammar.specs.Expressions.{Scope}
 use Rattle.grammar.specs.Emitted.{codeR}
 use Rattle.cases.specs.Post.{Writes}
 use Rattle.translate.specs.Internal.{scopeAfter}
-use Rattle.translate.proofs.Descent.{HeadingRead, heading-refused, heading-read, Few, heading-few, scope-is, rules-refused, rules-read, no-heading, no-rules, descends-whole}
+use Rattle.translate.proofs.Descent.{HeadingRead, heading-refused, heading-read, Few, heading-few, table-named, scope-is, rules-refused, rules-read, no-heading, no-rules, descends-whole}
 use Rattle.translate.proofs.descend.Statement.{statement}
 use Rattle.translate.proofs.descend.Tie as tie
 
@@ -38,7 +38,7 @@ rules-requires c κs =
     let e = c .before .before .before .first-names .ensures .0 in
     let r = start .pre .1 in (
       record { table = record { in-starts = omega (arith, e, x .named, f .names, r .in-starts); in-ends = omega (arith, e, x .named, f .names, r .in-ends) }; few = omega (arith, e, x .named, f .names) },
-      record { short = start .pre .0; within = f .within; room = omega (arith, x .ended, f .room) },
+      (record { short = start .pre .0; within = f .within; room = omega (arith, x .ended, f .room) }, table-named _ _ _ (x .read) _ _ (x .held) e (f .spelled)),
     )
 
 -- the rules, in the scope of the names declared
