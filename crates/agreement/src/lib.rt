@@ -80,10 +80,7 @@ fn repeated(text: &[u8], from: usize, to: usize, at: usize) -> Repetition
         return Repetition::Other;
     }
     let end = second + size;
-    if lexer::classes::same_bytes(
-        lexer::name(text, first, to),
-        lexer::name(text, second, end),
-    ) {
+    if lexer::classes::same_bytes(lexer::name(text, first, to), lexer::name(text, second, end)) {
         return Repetition::Until(end);
     }
     Repetition::Other

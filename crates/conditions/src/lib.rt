@@ -11,7 +11,6 @@ ghost use Rattle.expressions.specs.Steps.{Parses, Room};
 ghost use Rattle.expressions.specs.Internal.{Codes};
 ghost use Rattle.conditions.specs.Internal.{comparisonIn, invertedIn, atomIn, conjunctionIn, conditionIn};
 
-// Code bytes.
 // The code of a comparison sign, of `&` and of `|`; 0 for any other token.
 fn comparison_code(kind: u8) -> u8
     ensures { λ r. ⌜ Codes comparisonCode comparisonOf kind r ⌝ }

@@ -19,7 +19,6 @@ ghost use Rattle.expressions.specs.Internal.{textOnly, primaryIn, factor
 
 pub mod scope;
 
-// Code bytes.
 // A token, and the place from which it was read.
 pub struct Lookahead {
     pub at: usize,
