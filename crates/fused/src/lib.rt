@@ -294,7 +294,7 @@ fn refused(code: &[u8], behind: usize, w: Walk, number: u8, steps: usize) -> Att
 }
 
 // The whole code, from nothing held, on current values that hold the row.
-pub fn run(
+fn run_in(
     code: &[u8],
     low: &[i32],
     high: &[i32],
@@ -331,4 +331,21 @@ pub fn run(
         return Attempt::Done(steps);
     }
     Attempt::Doubt
+}
+
+// The same, with a stack of its own for the values held.
+pub fn run(
+    code: &[u8],
+    low: &[i32],
+    high: &[i32],
+    prev: &[i32],
+    cur: &mut [i32],
+    inputs: usize,
+) -> Attempt
+    requires { ⌜ Named (now low) (now high) (now prev) (now cur) ⌝ }
+    requires { ⌜ (inputs ≤ length (now low)) × (length (now low) ≤ nameLimit) ⌝ }
+    ensures { λ r. ⌜ RunBy (now (code .entry)) (now (low .entry)) (now (high .entry)) (now (prev .entry)) inputs (now (cur .entry)) (now (cur .exit)) r ⌝ }
+{
+    let mut vals = [0i32; limits::STACK_LIMIT];
+    run_in(code, low, high, prev, cur, &mut vals, inputs)
 }

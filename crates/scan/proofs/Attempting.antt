@@ -1,7 +1,6 @@
 -- An attempt to check and scan in one pass: what it answers is the answer of the scan. Assumes nothing.
 use mathlib.Core.Path.{_≡_, subst, _∙_}
-use mathlib.Core.Bool.{true, false}
-use mathlib.Core.List.{List, []}
+use mathlib.Core.List.{List}
 use Prim.Native.Nat.{ℕ, _≤_}
 use native.Mathlib.Omega.{arith}
 use lib.IntN.{ℤ}
@@ -9,50 +8,27 @@ use lib.ListN.{length, drop}
 use Rattle.limits.specs.Answer.{accepted, _andThen_}
 use Rattle.semantics.specs.Program.{Range}
 use Rattle.semantics.specs.Formula.{State}
-use Rattle.semantics.specs.ReferenceScan.{allWithin, withInputs}
 use Rattle.bytecode.specs.Check.{checkCounts, checkRanges, withInputs as withCounted, checkHeader, checkOf}
 use Rattle.bytecode.specs.Counting.{extentOf}
 use Rattle.bytecode.specs.Results.{Extends}
 use Rattle.checker.proofs.Checking.{whole-header}
-use Rattle.machine.specs.Step.{machine}
-use Rattle.machine.specs.Runs.{run}
-use Rattle.machine.specs.Memory.{RangesIn}
 use Rattle.fused.specs.declared.Attempt.{Attempt}
 use Rattle.fused.specs.declared.Attempt.the-variants as A
 use Rattle.fused.specs.declared.header.Placed.{Placed}
 use Rattle.fused.specs.declared.header.Placed.the-variants as P
-use Rattle.fused.specs.Together.{Succeeds, Fails, RunBy}
 use Rattle.fused.specs.Header.{Stands, PlacedBy}
+use Rattle.attempt.specs.Attempts.{TriedCode, SoundCodeBy, AttemptWithin}
 use Rattle.scan.specs.Services.{scanOf}
-use Rattle.scan.specs.Results.{afterScan}
-use Rattle.scan.specs.Internal.{ranOn, scannedIn, scannedFrom}
-use Rattle.scan.specs.Attempts.{Tried, SoundCodeBy, SoundRest, SoundFromBy, AttemptWithin}
-use Rattle.scan.specs.declared.Scanned.the-variants as R
-use Rattle.scan.proofs.Copies.{over-all}
-use Rattle.scan.proofs.Scanning.{copied, length-copied}
+use Rattle.scan.specs.Internal.{scannedIn, scannedFrom}
+use Rattle.scan.specs.Attempts.{Tried, SoundRest, SoundFromBy}
 use Rattle.scan.proofs.Images.{sound-counts, scan-from}
 
 -- ---- the code
 
-module _ (code : List ℕ) (low high found row w₀ w₁ w₂ ws : List ℤ) (r : Attempt)
-    (long : length w₀ ≡ length found) (one : w₁ ≡ withInputs w₀ found) (two : w₂ ≡ withInputs w₁ row)
-    (went : RunBy code low high found (length row) w₂ ws r) where
-  start-is : (ns : List Range) → ranOn ns code found row ≡ run ns found code (length code) 0 0 (machine false false [] w₂)
-  start-is ns = rw (copied found row w₀ w₁ w₂ long one two)
-
-  pub succeeds : (n : ℕ) → r ≡ A.Done n → Succeeds code low high found (length row) w₂ ws n
-  succeeds n e = subst (λ x. RunBy code low high found (length row) w₂ ws x) e went
-
-  pub fails : (k n : ℕ) → r ≡ A.Refused k n → Fails code low high found (length row) w₂ k n
-  fails k n e = subst (λ x. RunBy code low high found (length row) w₂ ws x) e went
-
-  module _ (ns : List Range) (q : RangesIn ns low high) (a : allWithin ns found ≡ true) (b : allWithin ns row ≡ true) where
-    -- the state is written at success
-    pub fused-done : (n : ℕ) → r ≡ A.Done n → (left : List ℤ) → length row ≤ length found → length ws ≡ length w₂ → left ≡ withInputs found ws → afterScan (R.Done n) left ≡ scannedIn ns code found row
-    fused-done n e left rows k o = rw (a, b, start-is ns ∙ succeeds n e .went ns q, o, over-all ws found (k ∙ length-copied found row w₀ w₁ w₂ long one two rows))
-
-    pub fused-refused : (k n : ℕ) → r ≡ A.Refused k n → afterScan (R.Refused k 0 n) found ≡ scannedIn ns code found row
-    fused-refused k n e = rw (a, b, start-is ns ∙ fails k n e .went ns q)
+pub tried-code : (ns : List Range) (code : List ℕ) (found : State) (row : List ℤ) (left : State) (r : Attempt) → TriedCode ns code found row left r → Tried found left (scannedIn ns code found row) r
+tried-code ns code found row left (A.Done n) t = rw (t .state-within, t .row-within, t .went)
+tried-code ns code found row left (A.Refused k n) t = rw (t .state-within, t .row-within, t .went, t .kept)
+tried-code ns code found row left A.Doubt t = t
 
 -- ---- the ranges and the code behind them
 

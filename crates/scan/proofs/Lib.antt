@@ -1,5 +1,3 @@
-pub mod Copies
-pub mod InRange
 pub mod Scanning
 pub mod Images
 pub mod Attempting

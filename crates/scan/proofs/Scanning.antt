@@ -1,5 +1,5 @@
 -- Laws of a scan on a copy of the state. Assumes nothing.
-use mathlib.Core.Path.{_≡_, sym, ap, _∙_}
+use mathlib.Core.Path.{_≡_, ap, _∙_}
 use mathlib.Core.Bool.{false}
 use mathlib.Core.List.{List}
 use Prim.Native.Nat.{ℕ, _≤_}
@@ -13,40 +13,42 @@ use Rattle.machine.specs.declared.Executed.{Executed}
 use Rattle.machine.specs.declared.Stepped.the-variants.{Next, Refused}
 use Rattle.machine.specs.Runs.{run}
 use Rattle.machine.specs.Memory.{heldOf, machineOf, ranOf, RangesIn}
+use Rattle.machine.proofs.Copies.{over-all, length-over}
+use Rattle.attempt.specs.Attempts.{ranOn}
 use Rattle.scan.specs.declared.Scanned.{Scanned}
 use Rattle.scan.specs.Results.{afterScan, ScannedWithin}
-use Rattle.scan.specs.Internal.{ranOn, scannedCode}
-use Rattle.scan.proofs.Copies.{over-all, length-over}
+use Rattle.scan.specs.Internal.{scannedCode, Scratch}
 use Rattle.scan.specs.declared.Scanned.the-variants as R
 
 -- nothing held, nothing picked, nothing passed over
 abbrev pub first : Registers
 first = record { held = 0; picked = false; passing = false }
 
--- the copy: the state found, then the row over its front
-module _ (found row w₀ w₁ w₂ : List ℤ) (long : length w₀ ≡ length found) (one : w₁ ≡ withInputs w₀ found) (two : w₂ ≡ withInputs w₁ row) where
-  pub copied : w₂ ≡ withInputs found row
-  copied = two ∙ ap (λ w. withInputs w row) (one ∙ over-all found w₀ (sym long))
-
-  pub length-copied : length row ≤ length found → length w₂ ≡ length found
-  length-copied rows = ap length copied ∙ length-over row found rows
-
--- the run on it
-module _ (code : List ℕ) (low high found row w₀ w₁ w₂ vals vs ws : List ℤ) (e : Executed)
-    (long : length w₀ ≡ length found) (rows : length row ≤ length found)
-    (one : w₁ ≡ withInputs w₀ found) (two : w₂ ≡ withInputs w₁ row)
-    (went : (ns : List Range) → RangesIn ns low high → ranOf e vs ws ≡ run ns found code (length code) 0 0 (machineOf first vals w₂)) where
+-- the copy before the run and behind it
+module _ (code : List ℕ) (low high found row w vals vs ws : List ℤ) (e : Executed)
+    (rows : length row ≤ length found) (copy : w ≡ withInputs found row)
+    (went : (ns : List Range) → RangesIn ns low high → ranOf e vs ws ≡ run ns found code (length code) 0 0 (machineOf first vals w)) where
   run-was : (ns : List Range) → RangesIn ns low high → ranOf e vs ws ≡ ranOn ns code found row
   unfolding heldOf
-  run-was ns r = went ns r ∙ rw (copied found row w₀ w₁ w₂ long one two)
+  run-was ns r = went ns r ∙ rw copy
 
   -- the state is written at success
-  pub code-done : (t : Registers) (left : List ℤ) → e .last ≡ Next t → length ws ≡ length w₂ → left ≡ withInputs found ws
+  pub code-done : (t : Registers) (left : List ℤ) → e .last ≡ Next t → length ws ≡ length w → left ≡ withInputs found ws
       → (ns : List Range) → RangesIn ns low high → afterScan (R.Done (e .steps)) left ≡ scannedCode ns code found row
-  code-done t left l k o ns r = rw (← run-was ns r, l, o, over-all ws found (k ∙ length-copied found row w₀ w₁ w₂ long one two rows))
+  code-done t left l k o ns r = rw (← run-was ns r, l, o, over-all ws found (k ∙ ap length copy ∙ length-over row found rows))
 
   pub code-refused : (k : ℕ) → e .last ≡ Refused k → (ns : List Range) → RangesIn ns low high → afterScan (R.Refused k 0 (e .steps)) found ≡ scannedCode ns code found row
   code-refused k l ns r = rw (← run-was ns r, l)
+
+-- ---- the memory lent
+
+-- lent memory keeps its lengths
+pub scratch-kept : (s l h w s₁ l₁ h₁ w₁ : List ℤ) → length s₁ ≡ length s → length l₁ ≡ length l → length h₁ ≡ length h → length w₁ ≡ length w → Scratch s l h w → Scratch s₁ l₁ h₁ w₁
+scratch-kept s l h w s₁ l₁ h₁ w₁ es el eh ew room = record {
+  lows = λ few. omega (arith, es, el, room .lows (omega (arith, es, few)));
+  highs = λ few. omega (arith, es, eh, room .highs (omega (arith, es, few)));
+  copies = λ few. omega (arith, es, ew, room .copies (omega (arith, es, few)));
+}
 
 -- ---- how large the numbers are
 

@@ -23,12 +23,6 @@ Tried found left scan (A.Done n) = afterScan (R.Done n) left ≡ scan
 Tried found left scan (A.Refused number n) = afterScan (R.Refused number 0 n) left ≡ scan
 Tried found left scan A.Doubt = left ≡ found
 
--- the code is sound
-abbrev pub SoundCodeBy : List ℕ → ℕ → ℕ → Attempt → Type 0
-SoundCodeBy code inputs names (A.Done n) = SoundCode code inputs names
-SoundCodeBy code inputs names (A.Refused number n) = SoundCode code inputs names
-SoundCodeBy code inputs names A.Doubt = Unit {0}
-
 -- behind the counts of an image, the ranges fit and the code behind them is sound
 pub record SoundRest (image : List ℕ) (first inputs names : ℕ) : Type 0 where
   pub place : ℕ
@@ -39,12 +33,6 @@ abbrev pub SoundFromBy : List ℕ → ℕ → ℕ → ℕ → Attempt → Type 0
 SoundFromBy image first inputs names (A.Done n) = SoundRest image first inputs names
 SoundFromBy image first inputs names (A.Refused number n) = SoundRest image first inputs names
 SoundFromBy image first inputs names A.Doubt = Unit {0}
-
--- how large the steps are
-abbrev pub AttemptWithin : ℕ → Attempt → Type 0
-AttemptWithin most (A.Done n) = n ≤ most
-AttemptWithin most (A.Refused number n) = n ≤ most
-AttemptWithin most A.Doubt = Unit {0}
 
 -- a place behind counts: at most 64 names, no fewer than inputs
 pub record Beginning (image : List ℕ) (first : ℕ) (state row : List ℤ) : Type 0 where

@@ -1,22 +1,16 @@
 -- The parts of a scan as the running code works them: auxiliary definitions for proofs. Assumes nothing.
 use mathlib.Core.Path.{_≡_}
-use mathlib.Core.Bool.{false}
-use mathlib.Core.List.{List, []}
+use mathlib.Core.List.{List}
 use Prim.Native.Nat.{ℕ, _≤_}
 use lib.IntN.{ℤ}
 use lib.ListN.{length, drop}
-use Rattle.limits.specs.Limits.{nameLimit, stackLimit, stateOutOfRange, inputOutOfRange}
+use Rattle.limits.specs.Limits.{nameLimit, stateOutOfRange, inputOutOfRange}
 use Rattle.semantics.specs.Program.{Range}
 use Rattle.semantics.specs.Formula.{State}
-use Rattle.semantics.specs.ReferenceScan.{allWithin, withInputs}
+use Rattle.semantics.specs.ReferenceScan.{allWithin}
 use Rattle.bytecode.specs.Counting.{rangesFrom, rangesEnd}
-use Rattle.machine.specs.Step.{machine}
-use Rattle.machine.specs.Runs.{Ran, run}
+use Rattle.attempt.specs.Attempts.{ranOn}
 use Rattle.scan.specs.Services.{AfterScan, finished, testedScan}
-
--- the run of a code with the ranges of its names
-abbrev pub ranOn : List Range → List ℕ → State → List ℤ → Ran
-ranOn ns code found row = run ns found code (length code) 0 0 (machine false false [] (withInputs found row))
 
 abbrev pub scannedCode : List Range → List ℕ → State → List ℤ → AfterScan
 scannedCode ns code found row = finished found (ranOn ns code found row .steps) (ranOn ns code found row .last)
@@ -26,20 +20,11 @@ abbrev pub scannedIn : List Range → List ℕ → State → List ℤ → AfterS
 scannedIn ns code found row =
     testedScan (allWithin ns found) stateOutOfRange found (testedScan (allWithin ns row) inputOutOfRange found (scannedCode ns code found row))
 
--- The memory of a scan: a low, a high and a copy for each value of the state, no more inputs than names, room for 40 values.
-pub record Fitting (state row low high work vals : List ℤ) : Type 0 where
-  pub rows : length row ≤ length state
-  pub lows : length low ≡ length state
-  pub highs : length high ≡ length state
-  pub copy : length work ≡ length state
-  pub room : stackLimit ≤ length vals
-
--- Room for 64 names, and for 40 values.
-pub record Scratch (low high work vals : List ℤ) : Type 0 where
-  pub lows : nameLimit ≤ length low
-  pub highs : nameLimit ≤ length high
-  pub copies : nameLimit ≤ length work
-  pub room : stackLimit ≤ length vals
+-- A low, a high and a copy for each value of a state of at most 64; of a longer state the names differ, and nothing is stored.
+pub record Scratch (state low high work : List ℤ) : Type 0 where
+  pub lows : length state ≤ nameLimit → length state ≤ length low
+  pub highs : length state ≤ nameLimit → length state ≤ length high
+  pub copies : length state ≤ nameLimit → length state ≤ length work
 
 -- the ranges of as many names as the state has values, from a place on; behind them the code
 abbrev pub scannedFrom : List ℕ → ℕ → State → List ℤ → AfterScan

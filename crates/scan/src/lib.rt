@@ -4,18 +4,19 @@ use checker::Checked;
 use fused::Attempt;
 use machine::Registers;
 use machine::Stepped;
+use machine::lists;
 ghost use mathlib.Core.Path.{_≡_};
-ghost use mathlib.Core.List.{List, _++_};
+ghost use mathlib.Core.List.{List};
 ghost use Prim.Native.Nat.{_≤_};
-ghost use lib.ListN.{length, drop};
-ghost use Rattle.limits.specs.Limits.{imageLimit, nameLimit};
+ghost use lib.ListN.{length};
+ghost use Rattle.limits.specs.Limits.{imageLimit, stackLimit};
 ghost use Rattle.semantics.specs.Program.{Range};
-ghost use Rattle.semantics.specs.ReferenceScan.{allWithin};
 ghost use Rattle.machine.specs.Memory.{RangesIn};
+ghost use Rattle.attempt.specs.Attempts.{Fitting, AttemptWithin};
 ghost use Rattle.scan.specs.Services.{startOf, scanOf};
 ghost use Rattle.scan.specs.Results.{afterStart, StartedWithin, afterScan, ScannedWithin};
-ghost use Rattle.scan.specs.Internal.{scannedCode, scannedIn, scannedFrom, Fitting, Scratch, Announced};
-ghost use Rattle.scan.specs.Attempts.{Tried, SoundCodeBy, SoundFromBy, AttemptWithin, Beginning};
+ghost use Rattle.scan.specs.Internal.{scannedCode, scannedIn, scannedFrom, Scratch, Announced};
+ghost use Rattle.scan.specs.Attempts.{Tried, SoundFromBy, Beginning};
 
 // Done, or the number of a refusal and its place.
 pub enum Started {
@@ -29,35 +30,8 @@ pub enum Scanned {
     Refused(u8, usize, usize),
 }
 
-// `from`, written over the front of `to`.
-fn fill(to: &mut [i32], from: &[i32])
-    requires { ⌜ length (now from) ≤ length (now to) ⌝ }
-    ensures { λ _. ⌜ now (to .exit) ≡ now (from .entry) ++ drop (length (now (from .entry))) (now (to .entry)) ⌝ }
-{
-    let mut i = 0;
-    while i < from.len() {
-        to[i] = from[i];
-        i += 1;
-    }
-}
-
-// Whether each value lies in the range at its place.
-fn all_in_range(low: &[i32], high: &[i32], values: &[i32]) -> bool
-    requires { ⌜ (length (now values) ≤ length (now low)) × (length (now high) ≡ length (now low)) ⌝ }
-    ensures { λ r. ⌜ ((ns : List Range) → RangesIn ns (now (low .entry)) (now (high .entry)) → r ≡ allWithin ns (now (values .entry))) ⌝ }
-{
-    let mut i = 0;
-    while i < values.len() {
-        if !machine::values::in_range(low[i], high[i], values[i]) {
-            return false;
-        }
-        i += 1;
-    }
-    true
-}
-
 // The code on a copy of the state, in lent memory; the state is written once, at success.
-fn scan_code(
+fn scan_code_in(
     code: &[u8],
     state: &mut [i32],
     row: &[i32],
@@ -66,13 +40,13 @@ fn scan_code(
     work: &mut [i32],
     vals: &mut [i32],
 ) -> Scanned
-    requires { ⌜ Fitting (now state) (now row) (now low) (now high) (now work) (now vals) ⌝ }
+    requires { ⌜ Fitting (now state) (now row) (now low) (now high) (now work) ⌝ }
+    requires { ⌜ stackLimit ≤ length (now vals) ⌝ }
     ensures { λ r. ⌜ ((ns : List Range) → RangesIn ns (now (low .entry)) (now (high .entry))
         → afterScan r (now (state .exit)) ≡ scannedCode ns (now (code .entry)) (now (state .entry)) (now (row .entry))) ⌝ }
     ensures { λ r. ⌜ ScannedWithin (length (now (code .entry))) r ⌝ }
 {
-    fill(work, state);
-    fill(work, row);
+    lists::take_row(work, state, row);
     let m = Registers {
         held: 0,
         picked: false,
@@ -82,11 +56,29 @@ fn scan_code(
     let last = ran.last;
     match last {
         Stepped::Next(_) => {
-            fill(state, work);
+            lists::fill(state, work);
             Scanned::Done(ran.steps)
         }
         Stepped::Refused(number) => Scanned::Refused(number, 0, ran.steps),
     }
+}
+
+// The same, with a stack of its own for the values held.
+fn scan_code(
+    code: &[u8],
+    state: &mut [i32],
+    row: &[i32],
+    low: &[i32],
+    high: &[i32],
+    work: &mut [i32],
+) -> Scanned
+    requires { ⌜ Fitting (now state) (now row) (now low) (now high) (now work) ⌝ }
+    ensures { λ r. ⌜ ((ns : List Range) → RangesIn ns (now (low .entry)) (now (high .entry))
+        → afterScan r (now (state .exit)) ≡ scannedCode ns (now (code .entry)) (now (state .entry)) (now (row .entry))) ⌝ }
+    ensures { λ r. ⌜ ScannedWithin (length (now (code .entry))) r ⌝ }
+{
+    let mut vals = [0i32; limits::STACK_LIMIT];
+    scan_code_in(code, state, row, low, high, work, &mut vals)
 }
 
 // The state, then the row, then the code.
@@ -97,20 +89,19 @@ fn scan_ranges(
     low: &[i32],
     high: &[i32],
     work: &mut [i32],
-    vals: &mut [i32],
 ) -> Scanned
-    requires { ⌜ Fitting (now state) (now row) (now low) (now high) (now work) (now vals) ⌝ }
+    requires { ⌜ Fitting (now state) (now row) (now low) (now high) (now work) ⌝ }
     ensures { λ r. ⌜ ((ns : List Range) → RangesIn ns (now (low .entry)) (now (high .entry))
         → afterScan r (now (state .exit)) ≡ scannedIn ns (now (code .entry)) (now (state .entry)) (now (row .entry))) ⌝ }
     ensures { λ r. ⌜ ScannedWithin (length (now (code .entry))) r ⌝ }
 {
-    if !all_in_range(low, high, state) {
+    if !lists::all_in_range(low, high, state) {
         return Scanned::Refused(limits::STATE_OUT_OF_RANGE, 0, 0);
     }
-    if !all_in_range(low, high, row) {
+    if !lists::all_in_range(low, high, row) {
         return Scanned::Refused(limits::INPUT_OUT_OF_RANGE, 0, 0);
     }
-    scan_code(code, state, row, low, high, work, vals)
+    scan_code(code, state, row, low, high, work)
 }
 
 // The ranges of as many names as the state has values, from a place of the image on; then the values and the code behind them.
@@ -122,10 +113,9 @@ fn scan_names(
     low: &mut [i32],
     high: &mut [i32],
     work: &mut [i32],
-    vals: &mut [i32],
 ) -> Scanned
     requires { ⌜ Announced (now image) first (now state) (now row) ⌝ }
-    requires { ⌜ Scratch (now low) (now high) (now work) (now vals) ⌝ }
+    requires { ⌜ Scratch (now state) (now low) (now high) (now work) ⌝ }
     ensures { λ r. ⌜ afterScan r (now (state .exit)) ≡ scannedFrom (now (image .entry)) first (now (state .entry)) (now (row .entry)) ⌝ }
     ensures { λ r. ⌜ ScannedWithin (length (now (image .entry))) r ⌝ }
 {
@@ -138,7 +128,6 @@ fn scan_names(
         &low[..names],
         &high[..names],
         &mut work[..names],
-        vals,
     )
 }
 
@@ -150,9 +139,8 @@ fn scan_plain(
     low: &mut [i32],
     high: &mut [i32],
     work: &mut [i32],
-    vals: &mut [i32],
 ) -> Scanned
-    requires { ⌜ Scratch (now low) (now high) (now work) (now vals) ⌝ }
+    requires { ⌜ Scratch (now state) (now low) (now high) (now work) ⌝ }
     ensures { λ r. ⌜ afterScan r (now (state .exit)) ≡ scanOf (now (image .entry)) (now (state .entry)) (now (row .entry)) ⌝ }
     ensures { λ r. ⌜ ScannedWithin imageLimit r ⌝ }
 {
@@ -170,44 +158,8 @@ fn scan_plain(
             if row.len() != inputs {
                 return Scanned::Refused(limits::WRONG_LENGTH, 0, 0);
             }
-            scan_names(image, first, state, row, low, high, work, vals)
+            scan_names(image, first, state, row, low, high, work)
         }
-    }
-}
-
-// On a copy of the state: check and run in one pass. A value out of range is left to the plain way, since the code is tested before it.
-fn scan_fused(
-    code: &[u8],
-    state: &mut [i32],
-    row: &[i32],
-    low: &[i32],
-    high: &[i32],
-    copy: &mut [i32],
-    vals: &mut [i32],
-) -> Attempt
-    requires { ⌜ Fitting (now state) (now row) (now low) (now high) (now copy) (now vals) ⌝ }
-    requires { ⌜ length (now low) ≤ nameLimit ⌝ }
-    ensures { λ r. ⌜ ((ns : List Range) → RangesIn ns (now (low .entry)) (now (high .entry))
-        → Tried (now (state .entry)) (now (state .exit)) (scannedIn ns (now (code .entry)) (now (state .entry)) (now (row .entry))) r) ⌝ }
-    ensures { λ r. ⌜ SoundCodeBy (now (code .entry)) (length (now (row .entry))) (length (now (low .entry))) r ⌝ }
-    ensures { λ r. ⌜ AttemptWithin (length (now (code .entry))) r ⌝ }
-{
-    if !all_in_range(low, high, state) {
-        return Attempt::Doubt;
-    }
-    if !all_in_range(low, high, row) {
-        return Attempt::Doubt;
-    }
-    fill(copy, state);
-    fill(copy, row);
-    let ran = fused::run(code, low, high, state, copy, vals, row.len());
-    match ran {
-        Attempt::Done(n) => {
-            fill(state, copy);
-            Attempt::Done(n)
-        }
-        Attempt::Refused(number, n) => Attempt::Refused(number, n),
-        Attempt::Doubt => Attempt::Doubt,
     }
 }
 
@@ -220,10 +172,9 @@ fn scan_from_fused(
     low: &mut [i32],
     high: &mut [i32],
     work: &mut [i32],
-    vals: &mut [i32],
 ) -> Attempt
     requires { ⌜ Beginning (now image) first (now state) (now row) ⌝ }
-    requires { ⌜ Scratch (now low) (now high) (now work) (now vals) ⌝ }
+    requires { ⌜ Scratch (now state) (now low) (now high) (now work) ⌝ }
     ensures { λ r. ⌜ Tried (now (state .entry)) (now (state .exit)) (scannedFrom (now (image .entry)) first (now (state .entry)) (now (row .entry))) r ⌝ }
     ensures { λ r. ⌜ SoundFromBy (now (image .entry)) first (length (now (row .entry))) (length (now (state .entry))) r ⌝ }
     ensures { λ r. ⌜ AttemptWithin (length (now (image .entry))) r ⌝ }
@@ -233,14 +184,13 @@ fn scan_from_fused(
     else {
         return Attempt::Doubt;
     };
-    scan_fused(
+    attempt::scan_fused(
         &image[place..],
         state,
         row,
         &low[..names],
         &high[..names],
         &mut work[..names],
-        vals,
     )
 }
 
@@ -252,9 +202,8 @@ fn scan_once(
     low: &mut [i32],
     high: &mut [i32],
     work: &mut [i32],
-    vals: &mut [i32],
 ) -> Attempt
-    requires { ⌜ Scratch (now low) (now high) (now work) (now vals) ⌝ }
+    requires { ⌜ Scratch (now state) (now low) (now high) (now work) ⌝ }
     ensures { λ r. ⌜ Tried (now (state .entry)) (now (state .exit)) (scanOf (now (image .entry)) (now (state .entry)) (now (row .entry))) r ⌝ }
     ensures { λ r. ⌜ AttemptWithin imageLimit r ⌝ }
 {
@@ -271,7 +220,7 @@ fn scan_once(
     if row.len() != inputs {
         return Attempt::Doubt;
     }
-    scan_from_fused(image, first, state, row, low, high, work, vals)
+    scan_from_fused(image, first, state, row, low, high, work)
 }
 
 // The fast way, and the plain one where it leaves a doubt.
@@ -282,18 +231,39 @@ fn scan_in(
     low: &mut [i32],
     high: &mut [i32],
     work: &mut [i32],
-    vals: &mut [i32],
 ) -> Scanned
-    requires { ⌜ Scratch (now low) (now high) (now work) (now vals) ⌝ }
+    requires { ⌜ Scratch (now state) (now low) (now high) (now work) ⌝ }
     ensures { λ r. ⌜ afterScan r (now (state .exit)) ≡ scanOf (now (image .entry)) (now (state .entry)) (now (row .entry)) ⌝ }
     ensures { λ r. ⌜ ScannedWithin imageLimit r ⌝ }
 {
-    let tried = scan_once(image, state, row, low, high, work, vals);
+    let tried = scan_once(image, state, row, low, high, work);
     match tried {
         Attempt::Done(n) => Scanned::Done(n),
         Attempt::Refused(number, n) => Scanned::Refused(number, 0, n),
-        Attempt::Doubt => scan_plain(image, state, row, low, high, work, vals),
+        Attempt::Doubt => scan_plain(image, state, row, low, high, work),
     }
+}
+
+// Small arrays for few names: they are cleared at each scan.
+fn scan_short(image: &[u8], state: &mut [i32], row: &[i32]) -> Scanned
+    requires { ⌜ length (now state) ≤ 8 ⌝ }
+    ensures { λ r. ⌜ afterScan r (now (state .exit)) ≡ scanOf (now (image .entry)) (now (state .entry)) (now (row .entry)) ⌝ }
+    ensures { λ r. ⌜ ScannedWithin imageLimit r ⌝ }
+{
+    let mut low = [0i32; 8];
+    let mut high = [0i32; 8];
+    let mut work = [0i32; 8];
+    scan_in(image, state, row, &mut low, &mut high, &mut work)
+}
+
+fn scan_any(image: &[u8], state: &mut [i32], row: &[i32]) -> Scanned
+    ensures { λ r. ⌜ afterScan r (now (state .exit)) ≡ scanOf (now (image .entry)) (now (state .entry)) (now (row .entry)) ⌝ }
+    ensures { λ r. ⌜ ScannedWithin imageLimit r ⌝ }
+{
+    let mut low = [0i32; limits::NAME_LIMIT];
+    let mut high = [0i32; limits::NAME_LIMIT];
+    let mut work = [0i32; limits::NAME_LIMIT];
+    scan_in(image, state, row, &mut low, &mut high, &mut work)
 }
 
 // One scan: 9, 11, 12, 18, 13, then the code. A refusal leaves the state as found; success writes it.
@@ -301,11 +271,10 @@ pub fn scan(image: &[u8], state: &mut [i32], row: &[i32]) -> Scanned
     ensures { λ r. ⌜ afterScan r (now (state .exit)) ≡ scanOf (now (image .entry)) (now (state .entry)) (now (row .entry)) ⌝ }
     ensures { λ r. ⌜ ScannedWithin imageLimit r ⌝ }
 {
-    let mut low = [0i32; limits::NAME_LIMIT];
-    let mut high = [0i32; limits::NAME_LIMIT];
-    let mut work = [0i32; limits::NAME_LIMIT];
-    let mut vals = [0i32; limits::STACK_LIMIT];
-    scan_in(image, state, row, &mut low, &mut high, &mut work, &mut vals)
+    if state.len() <= 8 {
+        return scan_short(image, state, row);
+    }
+    scan_any(image, state, row)
 }
 
 // Lows and highs are stored as far as there is room for them; a start needs neither.

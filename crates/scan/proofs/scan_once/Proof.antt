@@ -10,7 +10,7 @@ use Rattle.scan.proofs.scan_once.Tie as tie
 
 scan-from-fused-requires : tie.Need-scan-from-fused-requires
 scan-from-fused-requires c κs =
-    let at-if3 = c .before .before .before .before .before in
+    let at-if3 = c .before .before .before .before in
     let at-if2 = at-if3 .before in
     let at-counted = at-if2 .before .before in
     let at-counts = at-counted .before .before in
@@ -20,8 +20,8 @@ scan-from-fused-requires c κs =
 
 returns-5 : tie.Need-returns-5
 returns-5 c =
-    let at-scan-from-fused = c .before .before .before .before .before in
-    let at-if3 = at-scan-from-fused .before .before .before .before .before .before in
+    let at-scan-from-fused = c .before .before .before .before in
+    let at-if3 = at-scan-from-fused .before .before .before .before .before in
     let at-if2 = at-if3 .before in
     let at-counted = at-if2 .before .before in
     let at-counts = at-counted .before .before in
@@ -39,6 +39,4 @@ returns-5 c =
 pub scan-once-spec : {M : Type 1} → statement M
 scan-once-spec =
     tie.close
-    (tie.spec (λ c. search needs) (λ c κs. search needs) (λ c. search needs) (λ c. search needs) (λ c. search needs) (λ c. search needs)
-    (λ c. search needs) scan-from-fused-requires (λ c. search needs) (λ c. search needs) (λ c. search needs) (λ c. search needs)
-    (λ c. search needs) returns-5)
+    (tie.spec (λ c. search needs) (λ c κs. search needs) (λ c. search needs) (λ c. search needs) (λ c. search needs) (λ c. search needs) (λ c. search needs) scan-from-fused-requires (λ c. search needs) (λ c. search needs) (λ c. search needs) (λ c. search needs) returns-5)

@@ -1,4 +1,4 @@
--- `scan::all_in_range` meets its contract. The first i values lie in their ranges (InRange.Testing). Assumes nothing.
+-- `machine::lists::all_in_range` meets its contract. The first i values lie in their ranges (InRange.Testing). Assumes nothing.
 use mathlib.Core.Bool.{true, false, _&&_}
 use mathlib.Core.Path.{_≡_, refl, sym, _∙_}
 use Prim.Native.Nat.{_-_}
@@ -10,10 +10,10 @@ use lib.ListN.{length}
 use mir.Val.{SFits}
 use mir.Syntax.{w32}
 use mir.Facts.{toZ-ofZ}
-use Rattle.scan.proofs.InRange.{Testing, testing-ends, testing-fails, testing-goes}
+use Rattle.machine.proofs.InRange.{Testing, testing-ends, testing-fails, testing-goes}
 use Rattle.semantics.specs.Formula.{at}
-use Rattle.scan.proofs.all_in_range.Statement.{statement}
-use Rattle.scan.proofs.all_in_range.Tie as tie
+use Rattle.machine.proofs.lists.all_in_range.Statement.{statement}
+use Rattle.machine.proofs.lists.all_in_range.Tie as tie
 
 abbrev Inv-loop : tie.InvT-loop
 Inv-loop low high values i₀ i = Testing low high values i

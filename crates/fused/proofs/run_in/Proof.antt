@@ -1,4 +1,4 @@
--- `fused::run` meets its contract. The loop's invariant is Fusing; the measure is the code that is left. Assumes nothing.
+-- `fused::run_in` meets its contract. The loop's invariant is Fusing; the measure is the code that is left. Assumes nothing.
 use Prim.Native.Nat.{_-_}
 use mathlib.Core.Path.{sym, _∙_}
 use native.Mathlib.Omega.{arith}
@@ -6,8 +6,8 @@ use borrow.Author.Needs.{needs}
 use lib.ListN.{length}
 use Rattle.bytecode.proofs.RoundTrip.{fetch-next}
 use Rattle.fused.proofs.Fusing.{Fusing, moved, moved-refused, fusing-begins, fusing-goes, fusing-stops, fusing-ends}
-use Rattle.fused.proofs.run.Statement.{statement}
-use Rattle.fused.proofs.run.Tie as tie
+use Rattle.fused.proofs.run_in.Statement.{statement}
+use Rattle.fused.proofs.run_in.Tie as tie
 
 abbrev Inv-loop : tie.InvT-loop
 Inv-loop code low high prev cur₀ vals₀ inputs b₀ steps₀ cur vals b steps = Fusing code low high prev inputs cur₀ vals₀ cur vals b steps
@@ -79,8 +79,8 @@ complete-requires c κs = c .before .before .before .loop .inv .ready .small
 returns-3 : tie.Need-returns-3 Inv-loop μ-loop
 returns-3 c = fusing-ends (c .before .before .before .before .before .loop .inv) (c .before .before .before .if1 .left) (sym (c .if2 .taken) ∙ c .before .complete .ensures)
 
-pub run-spec : {M : Type 1} → statement M
-run-spec =
+pub run-in-spec : {M : Type 1} → statement M
+run-in-spec =
     tie.close
     (tie.spec Inv-loop μ-loop
     fresh-requires loop-holds advance-one-requires (λ c. search needs) add-steps loop-less loop-again

@@ -1,5 +1,5 @@
 -- A list written over the front of another, element by element. Assumes nothing.
-use mathlib.Core.Path.{_≡_, _∙_}
+use mathlib.Core.Path.{_≡_, sym, ap, _∙_}
 use mathlib.Core.List.{List, _++_, append-assoc, append-nil}
 use Prim.Native.Nat.{ℕ, suc, _+_, _≤_, _<_}
 use native.Mathlib.Omega.{arith}
@@ -34,3 +34,8 @@ over-all from to e = rw (e, drop-length to) (append-nil from)
 
 pub length-over : (from to : List ℤ) → length from ≤ length to → length (withInputs to from) ≡ length to
 length-over from to h = simp (length-append, length-drop) (omega arith)
+
+-- the copy of a state, with the row over its front
+module _ (found row w₀ w₁ w₂ : List ℤ) (long : length w₀ ≡ length found) (one : w₁ ≡ withInputs w₀ found) (two : w₂ ≡ withInputs w₁ row) where
+  pub copied : w₂ ≡ withInputs found row
+  copied = two ∙ ap (λ w. withInputs w row) (one ∙ over-all found w₀ (sym long))

@@ -1,4 +1,4 @@
--- `scan::fill` meets its contract. The first i elements are copied (Copies.Copying). Assumes nothing.
+-- `machine::lists::fill` meets its contract. The first i elements are copied (Copies.Copying). Assumes nothing.
 use Prim.Native.Nat.{_-_}
 use borrow.Author.Needs.{needs}
 use lib.ListN.{length, getD}
@@ -6,9 +6,9 @@ use lib.IntN.{pos}
 use mir.Val.{SFits}
 use mir.Syntax.{w32}
 use mir.Facts.{toZ-ofZ}
-use Rattle.scan.proofs.Copies.{Copying, copying-goes, copying-ends}
-use Rattle.scan.proofs.fill.Statement.{statement}
-use Rattle.scan.proofs.fill.Tie as tie
+use Rattle.machine.proofs.Copies.{Copying, copying-goes, copying-ends}
+use Rattle.machine.proofs.lists.fill.Statement.{statement}
+use Rattle.machine.proofs.lists.fill.Tie as tie
 
 abbrev Inv-loop : tie.InvT-loop
 Inv-loop to₀ from i₀ to i = Copying to₀ from to i

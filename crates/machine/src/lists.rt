@@ -1,0 +1,45 @@
+// The lists that a scan is lent: copies, and values tested against their ranges.
+use crate::values;
+ghost use mathlib.Core.Path.{_≡_};
+ghost use mathlib.Core.List.{List, _++_};
+ghost use Prim.Native.Nat.{_≤_};
+ghost use lib.ListN.{length, drop};
+ghost use Rattle.semantics.specs.Program.{Range};
+ghost use Rattle.semantics.specs.ReferenceScan.{allWithin, withInputs};
+ghost use Rattle.machine.specs.Memory.{RangesIn};
+
+// `from`, written over the front of `to`.
+pub fn fill(to: &mut [i32], from: &[i32])
+    requires { ⌜ length (now from) ≤ length (now to) ⌝ }
+    ensures { λ _. ⌜ now (to .exit) ≡ now (from .entry) ++ drop (length (now (from .entry))) (now (to .entry)) ⌝ }
+{
+    let mut i = 0;
+    while i < from.len() {
+        to[i] = from[i];
+        i += 1;
+    }
+}
+
+// A copy of the state, with the row over its front.
+pub fn take_row(copy: &mut [i32], state: &[i32], row: &[i32])
+    requires { ⌜ (length (now copy) ≡ length (now state)) × (length (now row) ≤ length (now state)) ⌝ }
+    ensures { λ _. ⌜ now (copy .exit) ≡ withInputs (now (state .entry)) (now (row .entry)) ⌝ }
+{
+    fill(copy, state);
+    fill(copy, row);
+}
+
+// Whether each value lies in the range at its place.
+pub fn all_in_range(low: &[i32], high: &[i32], values: &[i32]) -> bool
+    requires { ⌜ (length (now values) ≤ length (now low)) × (length (now high) ≡ length (now low)) ⌝ }
+    ensures { λ r. ⌜ ((ns : List Range) → RangesIn ns (now (low .entry)) (now (high .entry)) → r ≡ allWithin ns (now (values .entry))) ⌝ }
+{
+    let mut i = 0;
+    while i < values.len() {
+        if !values::in_range(low[i], high[i], values[i]) {
+            return false;
+        }
+        i += 1;
+    }
+    true
+}
