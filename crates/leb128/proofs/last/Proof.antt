@@ -1,0 +1,34 @@
+-- `leb128::last` meets its contract. Assumes nothing.
+use mathlib.Core.Path.{sym}
+use native.Mathlib.Omega.{arith}
+use borrow.Author.Needs.{needs}
+use borrow.Author.Tests.{lt-ltb, le-leb, lt-leb, eq-eqb, ne-eqb}
+use Rattle.leb128.specs.Numbers.{below32}
+use Rattle.leb128.specs.Internal.{joined}
+use Rattle.leb128.proofs.Laws.{low-below, joined-large}
+use Rattle.leb128.proofs.last.Statement.{statement}
+use Rattle.leb128.proofs.last.Tie as tie
+
+mul-v : tie.Need-mul-v
+mul-v c = omega (arith, low-below _ _ _ (c .pre .0) (c .pre .2))
+
+add-v : tie.Need-add-v
+add-v c = omega (arith, low-below _ _ _ (c .pre .0) (c .pre .2))
+
+returns : tie.Need-returns
+returns c = sym (joined-large _ _ _ _ _ (c .if1 .taken))
+
+returns-2 : tie.Need-returns-2
+unfolding joined below32
+returns-2 c = rw (le-leb _ _ (c .if2 .taken), lt-ltb _ _ (c .before .if1 .left))
+
+returns-3 : tie.Need-returns-3
+unfolding joined below32
+returns-3 c = rw (lt-leb _ _ (c .before .if2 .left), eq-eqb _ _ (c .if3 .taken), lt-ltb _ _ (c .before .before .if1 .left))
+
+returns-4 : tie.Need-returns-4
+unfolding joined below32
+returns-4 c = rw (lt-leb _ _ (c .before .if2 .left), ne-eqb _ _ (c .if3 .left))
+
+pub last-spec : {M : Type 1} → statement M
+last-spec = tie.close (tie.spec mul-v add-v returns (λ c. search needs) returns-2 (λ c. search needs) returns-3 returns-4)
