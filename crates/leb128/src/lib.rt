@@ -54,14 +54,14 @@ fn long_at(s: &[u8], at: usize) -> Unsigned
     let mut scale: u64 = 1;
     let mut i = at;
     while i < s.len() {
-        let b = wide(s[i]);
-        if b < 128 {
-            return last(low, scale, b, i);
+        let byte = wide(s[i]);
+        if byte < 128 {
+            return last(low, scale, byte, i);
         }
         if FIFTH <= scale {
             return Unsigned::Malformed;
         }
-        low = low + (b - 128) * scale;
+        low = low + (byte - 128) * scale;
         scale = scale * 128;
         i += 1;
     }

@@ -1,5 +1,6 @@
 -- `leb128::last` meets its contract. Assumes nothing.
 use mathlib.Core.Path.{sym}
+use Prim.Native.Nat.{_+_, _*_, _^_}
 use native.Mathlib.Omega.{arith}
 use borrow.Author.Needs.{needs}
 use borrow.Author.Tests.{lt-ltb, le-leb, lt-leb, eq-eqb, ne-eqb}
@@ -20,15 +21,21 @@ returns c = sym (joined-large _ _ _ _ _ (c .if1 .taken))
 
 returns-2 : tie.Need-returns-2
 unfolding joined below32
-returns-2 c = rw (le-leb _ _ (c .if2 .taken), lt-ltb _ _ (c .before .if1 .left))
+returns-2 c =
+    let a = c .before .before .args in
+    rw (le-leb 1 (a .b) (omega arith), lt-ltb (a .low + a .b * a .scale) (2 ^ 32) (omega arith))
 
 returns-3 : tie.Need-returns-3
 unfolding joined below32
-returns-3 c = rw (lt-leb _ _ (c .before .if2 .left), eq-eqb _ _ (c .if3 .taken), lt-ltb _ _ (c .before .before .if1 .left))
+returns-3 c =
+    let a = c .before .before .before .args in
+    rw (lt-leb 1 (a .b) (omega arith), eq-eqb (a .scale) 1 (omega arith), lt-ltb (a .low + a .b * a .scale) (2 ^ 32) (omega arith))
 
 returns-4 : tie.Need-returns-4
 unfolding joined below32
-returns-4 c = rw (lt-leb _ _ (c .before .if2 .left), ne-eqb _ _ (c .if3 .left))
+returns-4 c =
+    let a = c .before .before .before .args in
+    rw (lt-leb 1 (a .b) (omega arith), ne-eqb (a .scale) 1 (λ e. omega arith))
 
 pub last-spec : {M : Type 1} → statement M
 last-spec = tie.close (tie.spec mul-v add-v returns (λ c. search needs) returns-2 (λ c. search needs) returns-3 returns-4)

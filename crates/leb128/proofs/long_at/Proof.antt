@@ -60,7 +60,7 @@ loop-again : tie.Need-loop-again Inv-loop μ-loop
 loop-again c =
     let l = c .before .before .before .before .before .loop in
     let e = c .before .before .wide .ensures in
-    (stays-below c, omega arith, rw e (l .inv .2 ∙ joined-at _ _ _ _ (c .before .before .before .before .loop-test .taken) (omega arith)))
+    (omega (arith, stays-below c), omega arith, rw e (l .inv .2 ∙ joined-at _ _ _ _ (c .before .before .before .before .loop-test .taken) (omega arith)))
 
 -- cut short
 returns-3 : tie.Need-returns-3 Inv-loop μ-loop
