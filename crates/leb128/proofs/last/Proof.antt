@@ -17,7 +17,9 @@ add-v : tie.Need-add-v
 add-v c = omega (arith, low-below _ _ _ (c .pre .0) (c .pre .2))
 
 returns : tie.Need-returns
-returns c = sym (joined-large _ _ _ _ _ (c .if1 .taken))
+returns c =
+    let a = c .before .args in
+    sym (joined-large (a .low) (a .scale) (a .b) (a .at) 1 (omega arith))
 
 returns-2 : tie.Need-returns-2
 unfolding joined below32
