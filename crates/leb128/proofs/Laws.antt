@@ -1,24 +1,18 @@
 -- Laws of the groups of seven bits. Assumes nothing.
 use mathlib.Core.Path.{_≡_, refl, sym, ap}
-use mathlib.Core.Bool.{Bool, true, false, cond}
+use mathlib.Core.Bool.{Bool, true, false, _||_, cond}
 use mathlib.Core.Logic.{_⊎_, inl, inr, ⊎-elim}
 use mathlib.Core.List.{List, [], _∷_}
 use Prim.Native.Nat.{ℕ, zero, suc, _+_, _*_, _-_, _/_, _%_, _^_, _≤_, _<_}
-use native.Mathlib.Nat.{le-trans, pow-suc, pow-le-pow-right}
+use native.Mathlib.Nat.{suc-mul, mul-comm, add-mul, mul-assoc, mul-le-mul-right, pow-suc}
 use native.Mathlib.Numerals.{add-one}
 use native.Mathlib.Omega.{arith}
-use lib.Dec.{leb, ltb, lit<}
+use lib.Dec.{leb, ltb, eqb}
 use lib.ListN.{length, getD, drop, drop-of-length-le}
 use lib.Seq.{drop-cons, getD-drop}
-use borrow.Author.Tests.{lt-ltb, le-ltb, le-leb, lt-leb, leb-true, leb-false, ltb-true}
-use Rattle.arith.proofs.Laws.{same-bool}
+use borrow.Author.Tests.{lt-ltb, le-ltb, le-leb, ne-eqb, ltb-true}
 use Rattle.leb128.specs.Numbers.{groups, number, Found, found, none, grouped, numberIn, Read, got, nothing, below32, numberAt}
-use Rattle.leb128.specs.Internal.{within}
-
--- ---- two tests that agree
-
-pub leb-same : (a b c d : ℕ) → (a ≤ b → c ≤ d) → (c ≤ d → a ≤ b) → leb a b ≡ leb c d
-leb-same a b c d p q = same-bool (leb a b) (leb c d) (λ e. le-leb c d (p (leb-true a b e))) (λ e. le-leb a b (q (leb-true c d e)))
+use Rattle.leb128.specs.Internal.{joined}
 
 -- ---- the writer
 
@@ -107,67 +101,50 @@ module _ (s : List ℕ) (at : ℕ) where
   unfolding numberAt below32
   one-group h l = rw (at-last h l, lt-ltb (getD s at 0) (2 ^ 32) (omega arith))
 
--- a group joined to the answer behind it
-abbrev pub joined : ℕ → Read ℕ → Read ℕ
-joined low (got zero n) = nothing
-joined low (got (suc v) n) = got (low + suc v * 128) n
-joined low nothing = nothing
+-- ---- the reader's loop: groups of value `low`, of which the next counts `scale`, before what is found behind them
 
-pub joined-nonzero : (low v n : ℕ) → (v ≡ 0 → ⊥) → joined low (got v n) ≡ got (low + v * 128) n
-joined-nonzero low zero n h = absurd (h refl)
-joined-nonzero low (suc v) n h = refl
+-- what a group adds stays below what a 1 of the next counts
+pub low-below : (low scale g : ℕ) → low < scale → g < 128 → low + g * scale < scale * 128
+low-below low scale g l h = let m : g * scale ≤ 127 * scale = mul-le-mul-right scale (omega arith) in omega arith
 
-joined-wrong : (t : Bool) (low n : ℕ) → nothing ≡ joined low (cond t (got zero n) nothing)
-joined-wrong true low n = refl
-joined-wrong false low n = refl
+-- before the first group
+pub joined-first : (f : Found) → joined 0 1 f ≡ f
+unfolding joined
+joined-first none = refl
+joined-first (found zero k) = refl
+joined-first (found (suc v) k) = let n : 0 + suc v * 1 ≡ suc v = omega arith in rw (le-leb 1 (suc v) (omega arith), n)
 
-joined-cond : (t : Bool) (low v n : ℕ) → cond t (got (low + suc v * 128) n) nothing ≡ joined low (cond t (got (suc v) n) nothing)
-joined-cond true low v n = refl
-joined-cond false low v n = refl
-
-pub within-after : (left at low : ℕ) (f : Found) → 1 ≤ left → within left at (grouped low f) ≡ joined low (within (left - 1) (at + 1) f)
-unfolding within grouped
-within-after left at low none h = refl
-within-after left at low (found zero k) h = joined-wrong (leb k (left - 1)) low _
-within-after left at low (found (suc v) k) h =
-    let e : leb (k + 1) left ≡ leb k (left - 1) = leb-same (k + 1) left k (left - 1) (λ p. omega arith) (λ p. omega arith) in
+-- one group further
+joined-more : (low scale g at : ℕ) (f : Found) → below32 at (joined low scale (grouped g f)) ≡ below32 (at + 1) (joined (low + g * scale) (scale * 128) f)
+unfolding joined grouped below32
+joined-more low scale g at none = refl
+joined-more low scale g at (found zero k) = rw (ne-eqb (scale * 128) 1 (λ e. omega arith))
+joined-more low scale g at (found (suc v) k) =
+    let n : low + (g + suc v * 128) * scale ≡ low + g * scale + suc v * (scale * 128) =
+    rw (add-mul g (suc v * 128) scale, mul-assoc (suc v) 128 scale, mul-comm 128 scale) (omega arith) in
     let p : at + (k + 1) ≡ at + 1 + k = omega arith in
-    rw (e, p) (joined-cond (leb k (left - 1)) low v _)
+    rw (le-leb 1 (g + suc v * 128) (omega arith), le-leb 1 (suc v) (omega arith), n, p)
 
-pub within-none : (at : ℕ) (f : Found) → Sized f → within 0 at f ≡ nothing
-unfolding within
-within-none at none s = refl
-within-none at (found v k) s = rw (lt-leb k 0 (s .0))
+pub joined-at : (s : List ℕ) (at low scale : ℕ) → at < length s → 128 ≤ getD s at 0
+    → below32 at (joined low scale (numberIn (drop at s))) ≡ below32 (at + 1) (joined (low + (getD s at 0 - 128) * scale) (scale * 128) (numberIn (drop (at + 1) s)))
+joined-at s at low scale h l = rw (at-more s at h l) (joined-more low scale (getD s at 0 - 128) at (numberIn (drop (at + 1) s)))
 
-abbrev pub Small : Read ℕ → Type 0
-Small (got v n) = v < 2 ^ 35
-Small nothing = Unit
+-- a number of 2 ^ 32 or more is none, whatever its last group
+large : (t : Bool) (v at k : ℕ) → 2 ^ 32 ≤ v → below32 at (cond t (found v k) none) ≡ nothing
+unfolding below32
+large true v at k h = rw (le-ltb v (2 ^ 32) h)
+large false v at k h = refl
 
-pub small : (left at : ℕ) (f : Found) → left ≤ 5 → Sized f → Small (within left at f)
-unfolding within
-small left at none h s = tt
-small left at (found v k) h s = small-cond (leb k left) (leb-true k left) where
-  small-cond : (t : Bool) → (t ≡ true → k ≤ left) → Small (cond t (got v (at + k)) nothing)
-  small-cond true y = let p : 128 ^ k ≤ 128 ^ 5 = pow-le-pow-right (lit< tt) (le-trans (y refl) h) in omega (arith, s .1)
-  small-cond false y = tt
+pub joined-large : (low scale v at k : ℕ) → 2 ^ 32 ≤ low + v * scale → below32 at (joined low scale (found v k)) ≡ nothing
+unfolding joined
+joined-large low scale v at k h = large (leb 1 v || eqb scale 1) (low + v * scale) at k h
 
-abbrev pub trimmed : Read ℕ → Read ℕ
-trimmed (got v n) = cond (ltb v (2 ^ 32)) (got v n) nothing
-trimmed nothing = nothing
-
-pub five-enough : (at : ℕ) (f : Found) → Sized f → trimmed (within 5 at f) ≡ below32 at f
-unfolding within below32
-five-enough at none s = refl
-five-enough at (found v k) s = by (leb k 5) (leb-false k 5) where
-  -- a number of six groups or more
-  large : 5 < k → 2 ^ 32 ≤ v
-  large h =
-      let p : 128 ^ 6 ≤ 128 ^ k = pow-le-pow-right (lit< tt) h in
-      ⊎-elim (λ (q : k < 2). absurd (omega arith)) (λ (q : 128 ^ k ≤ v * 128). omega arith) (s .2)
-
-  by : (t : Bool) → (t ≡ false → 5 < k) → trimmed (cond t (got v (at + k)) nothing) ≡ below32 at (found v k)
-  by true n = refl
-  by false n = rw (le-ltb v (2 ^ 32) (large (n refl)))
+-- where a 1 counts 2 ^ 32 or more, there is no number below that
+pub joined-over : (low scale at : ℕ) (f : Found) → 2 ^ 32 ≤ scale → below32 at (joined low scale f) ≡ nothing
+unfolding joined below32
+joined-over low scale at none h = refl
+joined-over low scale at (found zero k) h = rw (ne-eqb scale 1 (λ e. omega arith))
+joined-over low scale at (found (suc v) k) h = joined-large low scale (suc v) at k (omega (arith, suc-mul v scale))
 
 -- a number that is read is below 2 ^ 32
 abbrev pub Below32 : Read ℕ → Type 0

@@ -1,10 +1,11 @@
--- The reader's inside: a number of at most so many groups. Auxiliary definitions for proofs. Assumes nothing.
-use Prim.Native.Nat.{ℕ, _+_}
-use mathlib.Core.Bool.{cond}
-use lib.Dec.{leb}
-use Rattle.leb128.specs.Numbers.{Found, found, none, Read, got, nothing}
+-- The reader's inside: the groups read so far, before what follows them. Auxiliary definitions for proofs. Assumes nothing.
+use Prim.Native.Nat.{ℕ, _+_, _*_}
+use mathlib.Core.Bool.{_||_, cond}
+use lib.Dec.{leb, eqb}
+use Rattle.leb128.specs.Numbers.{Found, found, none}
 
--- a number of at most `left` bytes, with the place behind it
-unfoldable pub within : ℕ → ℕ → Found → Read ℕ
-within left at none = nothing
-within left at (found v k) = cond (leb k left) (got v (at + k)) nothing
+-- groups of value `low`, joined to what is found behind them, where a 1 counts `scale`; shortest form only: 0 there is none, but for
+-- the first group, whose scale is 1
+unfoldable pub joined : ℕ → ℕ → Found → Found
+joined low scale none = none
+joined low scale (found v k) = cond (leb 1 v || eqb scale 1) (found (low + v * scale) k) none

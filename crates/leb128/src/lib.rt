@@ -1,11 +1,11 @@
 // Numbers in groups of seven bits (unsigned LEB128, shortest form only), zigzag for signed ones.
 ghost use mathlib.Core.Path.{_≡_};
-ghost use Prim.Native.Nat.{_+_, _≤_, _<_, _^_};
-ghost use lib.ListN.{length, drop, set};
+ghost use Prim.Native.Nat.{_+_, _<_, _^_};
+ghost use lib.ListN.{length, set};
 ghost use lib.Seq.{sets};
-ghost use Rattle.leb128.specs.Numbers.{number, numberIn, numberAt, signedAt, zigzag as zigzagOf, unzigzag as unzigzagOf};
+ghost use Rattle.leb128.specs.Numbers.{number, found, below32, numberAt, signedAt, zigzag as zigzagOf, unzigzag as unzigzagOf};
 ghost use Rattle.leb128.specs.Results.{unsignedRead, signedRead};
-ghost use Rattle.leb128.specs.Internal.{within};
+ghost use Rattle.leb128.specs.Internal.{joined};
 
 // A number and the place behind it, or no number below 2 ^ 32 in shortest form.
 pub enum Unsigned {
@@ -25,39 +25,45 @@ fn wide(x: u8) -> u64
     x as u64
 }
 
-// Reads a number of at most `left` groups; calls itself once a group.
-fn group(s: &[u8], at: usize, left: usize) -> Unsigned
-    requires { ⌜ left ≤ 5 ⌝ }
-    ensures { λ r. ⌜ unsignedRead r ≡ within left at (numberIn (drop at (now (s .entry)))) ⌝ }
+// What a 1 of the fifth group counts: 128 ^ 4.
+const FIFTH: u64 = 268435456;
+
+// The number whose last group, at `at`, is b, behind groups of value `low`: shortest form only, and below 2 ^ 32.
+fn last(low: u64, scale: u64, b: u64, at: usize) -> Unsigned
+    requires { ⌜ (low < scale) × (scale < 2 ^ 35) × (b < 128) × (at + 1 < 2 ^ 64) ⌝ }
+    ensures { λ r. ⌜ unsignedRead r ≡ below32 at (joined low scale (found b 1)) ⌝ }
 {
-    if left == 0 {
+    let v = low + b * scale;
+    if 4294967296 <= v {
         return Unsigned::Malformed;
     }
-    if s.len() <= at {
-        return Unsigned::Malformed;
+    if 1 <= b {
+        return Unsigned::Number(v, at + 1);
     }
-    let b = wide(s[at]);
-    if b < 128 {
-        return Unsigned::Number(b, at + 1);
+    if scale == 1 {
+        return Unsigned::Number(v, at + 1);
     }
-    let Unsigned::Number(v, next) = group(s, at + 1, left - 1) else {
-        return Unsigned::Malformed;
-    };
-    if v == 0 {
-        return Unsigned::Malformed;
-    }
-    Unsigned::Number(b - 128 + v * 128, next)
+    Unsigned::Malformed
 }
 
-// A number of any length: at most five groups.
+// A number of any length, group by group, the lowest first, at most five; `scale` is what a 1 of the group at `i` counts.
 fn long_at(s: &[u8], at: usize) -> Unsigned
     ensures { λ r. ⌜ unsignedRead r ≡ numberAt (now (s .entry)) at ⌝ }
 {
-    let Unsigned::Number(v, next) = group(s, at, 5) else {
-        return Unsigned::Malformed;
-    };
-    if v < 4294967296 {
-        return Unsigned::Number(v, next);
+    let mut low: u64 = 0;
+    let mut scale: u64 = 1;
+    let mut i = at;
+    while i < s.len() {
+        let byte = wide(s[i]);
+        if byte < 128 {
+            return last(low, scale, byte, i);
+        }
+        if FIFTH <= scale {
+            return Unsigned::Malformed;
+        }
+        low = low + (byte - 128) * scale;
+        scale = scale * 128;
+        i += 1;
     }
     Unsigned::Malformed
 }

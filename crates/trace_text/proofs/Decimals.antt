@@ -6,10 +6,10 @@ use mathlib.Core.Option.{none, some}
 use Prim.Native.Nat.{ℕ, zero, suc, _+_, _*_, _%_, _≤_, _<_}
 use native.Mathlib.Omega.{arith}
 use lib.Dec.{leb, ltb}
-use borrow.Author.Tests.{lt-leb, ne-eqb, leb-true, ltb-true}
+use borrow.Author.Tests.{le-leb, lt-leb, ne-eqb, leb-true, ltb-true}
 use Rattle.arith.specs.Values.{isInt32}
 use Rattle.arith.proofs.Basics.{and-both}
-use Rattle.leb128.proofs.Laws.{leb-same}
+use Rattle.arith.proofs.Laws.{same-bool}
 use Rattle.lexer.specs.Lexer.{isDigit, valueOf, valueOn}
 use Rattle.lexer.proofs.Values.{value-grows}
 use Rattle.trace_text.specs.Row.{allDigits, within32, numberOf}
@@ -84,6 +84,10 @@ unfolding numberOf
 none-lone = refl
 
 -- ---- the range
+
+-- two tests that agree
+leb-same : (a b c d : ℕ) → (a ≤ b → c ≤ d) → (c ≤ d → a ≤ b) → leb a b ≡ leb c d
+leb-same a b c d p q = same-bool (leb a b) (leb c d) (λ e. le-leb c d (p (leb-true a b e))) (λ e. le-leb a b (q (leb-true c d e)))
 
 pub range-is : (negative : Bool) (v : ℕ) → inRange negative v ≡ isInt32 (signed negative v)
 range-is false v = refl

@@ -1,27 +1,88 @@
--- `leb128::long_at` meets its contract: five groups are enough for a number below 2 ^ 32. Assumes nothing.
-use mathlib.Core.Path.{_≡_, sym}
+-- `leb128::long_at` meets its contract. The loop's invariant: the groups so far, joined to what is found at `i`, make the number at `at`.
+-- Assumes nothing.
+use mathlib.Core.Path.{_≡_, sym, _∙_}
+use Prim.Native.Nat.{_+_, _-_, _*_, _<_, _^_}
 use native.Mathlib.Omega.{arith}
+use lib.ListN.{length, drop}
 use borrow.Author.Needs.{needs}
-use borrow.Author.Tests.{lt-ltb, le-ltb}
-use Rattle.leb128.specs.Numbers.{numberAt}
-use Rattle.leb128.specs.Results.{unsignedRead}
-use Rattle.leb128.proofs.Laws.{sized-at, five-enough, trimmed}
+use Rattle.leb128.specs.Numbers.{numberIn, below32, numberAt}
+use Rattle.leb128.specs.Internal.{joined}
+use Rattle.leb128.proofs.Laws.{at-end, at-last, low-below, joined-first, joined-at, joined-over}
 use Rattle.leb128.proofs.long_at.Statement.{statement}
 use Rattle.leb128.proofs.long_at.Tie as tie
 
--- the definition is the answer of five groups, where it is below 2 ^ 32
-is-trimmed : (c : tie.After-group) → numberAt (c .before .before .args .s .now) (c .before .before .args .at) ≡ trimmed (unsignedRead (c .group .result))
+abbrev Inv-loop : tie.InvT-loop
+Inv-loop s at low₀ scale₀ i₀ low scale i =
+    (low < scale) × (scale < 2 ^ 35) × (numberAt s at ≡ below32 i (joined low scale (numberIn (drop i s))))
+
+abbrev μ-loop : tie.MeasureT-loop
+μ-loop s at low₀ scale₀ i₀ low scale i = length s - i
+
+loop-holds : tie.Need-loop-holds Inv-loop μ-loop
 unfolding numberAt
-is-trimmed c = rw (c .group .ensures) (sym (five-enough _ _ (sized-at (c .before .before .args .s .now) (c .before .before .args .at) (λ i. omega (arith, c .before .shared-slice-known .given i)))))
+loop-holds c = (search needs, search needs, rw joined-first)
 
-returns : tie.Need-returns
-returns c = rw (is-trimmed (c .before .before), c .enum-told .given .1)
+last-requires : tie.Need-last-requires Inv-loop μ-loop
+last-requires c κs =
+    let l = c .before .before .before .before .loop in
+    (l .inv .0, l .inv .1, omega arith, omega arith)
 
-returns-2 : tie.Need-returns-2
-returns-2 c = rw (is-trimmed (c .before .before .before .before), c .before .before .v .given .1, lt-ltb _ _ (c .if1 .taken))
+returns : tie.Need-returns Inv-loop μ-loop
+returns c =
+    let l = c .before .before .before .before .before .loop in
+    let s = c .before .before .before .before .before .before .before .args .s .now in
+    let e = c .before .before .wide .ensures in
+    c .last .ensures ∙ rw (l .inv .2, at-last s (l .i) (omega arith) (omega arith), e)
 
-returns-3 : tie.Need-returns-3
-returns-3 c = rw (is-trimmed (c .before .before .before .before), c .before .before .v .given .1, le-ltb _ _ (c .if1 .left))
+-- five groups, and another would follow
+returns-2 : tie.Need-returns-2 Inv-loop μ-loop
+returns-2 c =
+    let l = c .before .before .before .before .before .loop in
+    let e = c .before .before .wide .ensures in
+    sym (l .inv .2 ∙ joined-at _ _ _ _ (c .before .before .before .before .loop-test .taken) (omega arith) ∙ joined-over _ _ _ _ (omega arith))
+
+-- what the groups so far count stays below what a 1 of the next counts
+stays-below : (c : tie.Else2 Inv-loop μ-loop) →
+    let l = c .before .before .before .before .before .loop in
+    l .low + (c .before .before .wide .result - 128) * l .scale < l .scale * 128
+stays-below c =
+    let l = c .before .before .before .before .before .loop in
+    let e = c .before .before .wide .ensures in
+    low-below _ _ _ (l .inv .0) (omega (arith, c .before .before .before .shared-slice-known2 .given (l .i)))
+
+mul-low : tie.Need-mul-low Inv-loop μ-loop
+mul-low c = omega (arith, stays-below c)
+
+add-low : tie.Need-add-low Inv-loop μ-loop
+add-low c = omega (arith, stays-below c)
+
+loop-again : tie.Need-loop-again Inv-loop μ-loop
+loop-again c =
+    let l = c .before .before .before .before .before .loop in
+    let e = c .before .before .wide .ensures in
+    (omega (arith, stays-below c), omega arith, rw e (l .inv .2 ∙ joined-at _ _ _ _ (c .before .before .before .before .loop-test .taken) (omega arith)))
+
+-- cut short
+returns-3 : tie.Need-returns-3 Inv-loop μ-loop
+unfolding joined below32
+returns-3 c = sym (c .before .loop .inv .2 ∙ rw (at-end _ _ (c .loop-test .left)))
 
 pub long-at-spec : {M : Type 1} → statement M
-long-at-spec = tie.close (tie.spec (λ c κs. search needs) (λ c. search needs) (λ c. search needs) returns returns-2 returns-3)
+long-at-spec =
+    tie.close
+    (tie.spec
+    Inv-loop
+    μ-loop
+    loop-holds
+    (λ c. search needs)
+    (λ c κs. search needs)
+    last-requires
+    returns
+    returns-2
+    mul-low
+    add-low
+    (λ c. search needs)
+    (λ c. search needs)
+    (λ c. search needs)
+    loop-again
+    returns-3)
