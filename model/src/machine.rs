@@ -216,7 +216,7 @@ impl Machine<'_> {
     }
 }
 
-/// The result of code 4 to 8, or None for "result outside 32 bits, or zero divisor".
+/// The result of code 4 to 8, or None for "result outside 32 bits, or zero divisor" of `/`.
 /// "a mod b = a - b * (a / b) in whole numbers" and 0 by 0 (A.5): it is never refused.
 fn arithmetic(opcode: u8, left: i32, right: i32) -> Option<i32> {
     match opcode {
