@@ -60,7 +60,7 @@ uint64_t rolvenko_start(const uint8_t *image, size_t image_len, int32_t *state, 
  *   9, 11     as rolvenko_check
  *   12        state_len is not the count of names, or row_len not that of inputs
  *   18, 13    a number of the state, of the row, is outside its declared range
- *   14        a result outside 32 bits, or a zero divisor
+ *   14        a result outside 32 bits, or division by zero (mod by zero gives 0)
  *   15        a second condition of a rule holds
  *   16        a case's value equals the previous value
  *   17        a new value is outside its declared range

@@ -143,15 +143,15 @@ impl Writer {
         let mut left = self.factor(&term.first);
         for (product, factor) in &term.rest {
             let right = self.factor(factor);
-            let sign = match product {
-                Product::Multiply => "*",
-                Product::Divide => "/",
-                Product::Modulo => "%",
+            let result = match product {
+                Product::Multiply => format!("{left} * {right}"),
+                Product::Divide => {
+                    self.line(&format!("if ({right} == 0) return 14;"));
+                    format!("{left} / {right}")
+                }
+                Product::Modulo => format!("{right} == 0 ? 0 : {left} % {right}"),
             };
-            if *product != Product::Multiply {
-                self.line(&format!("if ({right} == 0) return 14;"));
-            }
-            left = self.fitting(&format!("{left} {sign} {right}"));
+            left = self.fitting(&result);
         }
         left
     }

@@ -123,7 +123,7 @@ impl Place<'_> {
             match op {
                 Product::Multiply => in_32_bits(left * right),
                 Product::Divide => in_32_bits(quotient(left, right)?),
-                Product::Modulo => in_32_bits(left - right * quotient(left, right)?),
+                Product::Modulo => in_32_bits(remainder(left, right)),
             }
         })
     }
@@ -147,6 +147,11 @@ fn quotient(left: i128, right: i128) -> Option<i128> {
     let size = left.abs().checked_div(right.abs())?;
     let negative = (left < 0) != (right < 0);
     Some(if negative { -size } else { size })
+}
+
+/// "a mod b = a - b * (a / b) in whole numbers"; 0 where there is no quotient (A.5).
+fn remainder(left: i128, right: i128) -> i128 {
+    quotient(left, right).map_or(0, |cut| left - right * cut)
 }
 
 fn in_32_bits(value: i128) -> Option<i128> {

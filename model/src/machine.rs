@@ -216,15 +216,15 @@ impl Machine<'_> {
     }
 }
 
-/// The result of code 4 to 8, or None for "result outside 32 bits, or zero divisor".
-/// "a mod b = a - b * (a / b) in whole numbers", so only its divisor can refuse.
+/// The result of code 4 to 8, or None for "result outside 32 bits, or zero divisor" of `/`.
+/// "a mod b = a - b * (a / b) in whole numbers" and 0 by 0 (A.5): it is never refused.
 fn arithmetic(opcode: u8, left: i32, right: i32) -> Option<i32> {
     match opcode {
         code::ADD => left.checked_add(right),
         code::SUBTRACT => left.checked_sub(right),
         code::MULTIPLY => left.checked_mul(right),
         code::DIVIDE => left.checked_div(right),
-        _ if right == 0 => None,
+        _ if right == 0 => Some(0),
         _ => Some(left.wrapping_rem(right)),
     }
 }

@@ -147,13 +147,14 @@ impl Values<'_> {
     }
 }
 
-/// "Division cuts toward zero; a mod b = a - b * (a / b) in whole numbers"; "A zero
-/// divisor of either is refusal 14."
+/// "Division cuts toward zero; a mod b = a - b * (a / b) in whole numbers"; A.5: MOD gives
+/// "0 when the divisor is 0"; "division by zero is still 14".
 fn product(operator: Product, a: i64, b: i64) -> Result<i32, u8> {
     match operator {
         Product::Multiply => result(a * b),
-        _ if b == 0 => Err(14),
+        Product::Divide if b == 0 => Err(14),
         Product::Divide => result(a / b),
+        Product::Modulo if b == 0 => Ok(0),
         Product::Modulo => result(a - b * (a / b)),
     }
 }

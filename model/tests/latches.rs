@@ -4,8 +4,8 @@ mod common;
 
 use common::{answer, evaluate, hex, image};
 use rolvenko_model::generate::{expected, nested_condition, nested_expression};
-use rolvenko_model::{check, instructions, number, plain_scan, read_text, scan, start, trace};
-use rolvenko_model::{Refusal, ScanRefusal};
+use rolvenko_model::{check, instructions, number, plain_scan, read_text, satisfies, scan, start};
+use rolvenko_model::{trace, Refusal, ScanRefusal};
 
 const L2: &str =
     "var v 0..1; v: GX(~(v = _v) -> [_v = 0] & v = (1)); v: GX(v = _v -> ~([_v = 0]));";
@@ -139,8 +139,7 @@ fn whole_numbers() {
     assert_eq!(evaluate("-a", min, 0), Err(14));
     assert_eq!(evaluate("-a", max, 0), Ok(-max));
     assert_eq!(evaluate("a / b", 1, 0), Err(14));
-    assert_eq!(evaluate("a mod b", 1, 0), Err(14));
-    assert_eq!(evaluate("a mod b", 0, 0), Err(14));
+    assert_eq!(evaluate("a / b", 0, 0), Err(14));
     assert_eq!(evaluate("a + 1 - 1", max, 0), Err(14));
     assert_eq!(evaluate("a - 1 + 1", max, 0), Ok(max));
     assert_eq!(evaluate("2 - 3 - 4", 0, 0), Ok(-5));
@@ -152,7 +151,8 @@ fn whole_numbers() {
     assert_eq!(evaluate("-(a + b)", 3, 4), Ok(-7));
 }
 
-/// "a mod b = a - b * (a / b) in whole numbers", for all pairs of chosen numbers.
+/// "a mod b = a - b * (a / b) in whole numbers", and A.5's result by zero, for all pairs of
+/// chosen numbers.
 #[test]
 fn division_and_mod() {
     let (min, max) = (i32::MIN, i32::MAX);
@@ -175,7 +175,7 @@ fn division_and_mod() {
         for b in numbers {
             let (divided, rest) = (evaluate("a / b", a, b), evaluate("a mod b", a, b));
             if b == 0 {
-                assert_eq!((divided, rest), (Err(14), Err(14)));
+                assert_eq!((divided, rest), (Err(14), Ok(0)));
                 continue;
             }
             let (wide_a, wide_b) = (i64::from(a), i64::from(b));
@@ -186,6 +186,25 @@ fn division_and_mod() {
             assert_eq!(rest.map(i64::from), Ok(wide_a - wide_b * quotient));
         }
     }
+}
+
+/// A.5: "a rotation rule over an empty host list depends on it".
+#[test]
+fn a5_rotation() {
+    let text = "input hosts 0..9; var turn 0..9; turn: GX(turn = ((_turn + 1) mod hosts));";
+    let image = image(text);
+    let program = read_text(text.as_bytes()).unwrap();
+    let (mut state, mut plain) = ([0; 2], [0; 2]);
+    for (hosts, turn) in [(3, 1), (3, 2), (0, 0), (3, 1)] {
+        assert_eq!(scan(&image, &mut state, &[hosts]), Ok(6));
+        assert_eq!(plain_scan(&program, &mut plain, &[hosts]), Ok(()));
+        assert_eq!((state, plain), ([hosts, turn], [hosts, turn]));
+    }
+    for turn in [0, 1, 5] {
+        let trace = [vec![0, 0], vec![0, turn]];
+        assert_eq!(satisfies(&program, &trace), turn == 0);
+    }
+    assert_eq!(evaluate("a mod b / b", 7, 0), Err(14));
 }
 
 const EXAMPLE: &str = "input go 0..1; var run 0..1;

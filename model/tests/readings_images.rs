@@ -346,7 +346,8 @@ fn formulas_with_large_numbers() {
     assert!(step("i / 512", -large, -(1 << 31)));
     assert!(!step("2147483647 + i", 1, 1 << 31));
     assert!(step("2147483647 + i", -1, (1 << 31) - 2));
-    assert!(!step("i mod 0", large, 0));
+    assert!(step("i mod 0", large, 0));
+    assert!(!step("i mod 0", large, large));
     assert!(!step("i / 0 * 0", 0, 0));
 }
 

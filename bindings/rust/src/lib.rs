@@ -63,7 +63,7 @@ pub fn meaning(number: u8) -> &'static str {
         11 => "the image is not sound",
         12 => "the state or row has the wrong length",
         13 => "an input of the row is outside its range",
-        14 => "a result outside 32 bits, or a zero divisor",
+        14 => "a result outside 32 bits, or division by zero",
         15 => "two conditions of one rule hold",
         16 => "a case gives the previous value again",
         17 => "a new value is outside its range",

@@ -8,7 +8,8 @@ use lib.Dec.{T, leb, ltb, eqb}
 use lib.IntN.{ℤ, pos, negsuc, negℤ, natAbs, _+ℤ_, _-ℤ_, _*ℤ_, negℤ-+ℤ}
 use lib.Signed.{mag, leZ, quotZ, remZ, natAbs-le, mag-rem}
 use borrow.Author.Tests.{leb-true, le-leb, le-ltb, ne-eqb, eq-eqb, eqb-true}
-use Rattle.arith.specs.Values.{Outcome, _>>=_, eqZ, nonZero, isInt32}
+use Rattle.limits.specs.Limits.{overflow}
+use Rattle.arith.specs.Values.{Outcome, ok, refusal, _>>=_, eqZ, isInt32, nonZero, remainder, divide, modulo, arithmetic}
 use Rattle.arith.proofs.Basics.{T-true, true-T, and-left, and-T}
 use mir.Syntax.{w32, w64}
 use mir.Val.{SFits, toZ, ofZ}
@@ -121,12 +122,24 @@ zero-bits f e = sym (widened f) ∙ ap (toZ w64) e
 pub nonzero-bits : {b : ℤ} → SFits w32 b → (ofZ w64 (toZ w32 (ofZ w32 b)) ≡ 0 → ⊥) → b ≡ pos 0 → ⊥
 nonzero-bits f h e = h (rw e)
 
-pub by-nonzero : {A : Type 0} (b : ℤ) (f : ℤ → Outcome A) → (b ≡ pos 0 → ⊥) → (nonZero b >>= f) ≡ f b
-by-nonzero (pos zero) f h = absurd (h refl)
-by-nonzero (pos (suc n)) f h = rw (ne-eqb (suc n) 0 (λ e. omega arith))
-by-nonzero (negsuc n) f h = refl
+not-zero : (b : ℤ) → (b ≡ pos 0 → ⊥) → eqZ b (pos 0) ≡ false
+not-zero (pos zero) h = absurd (h refl)
+not-zero (pos (suc n)) h = ne-eqb (suc n) 0 (λ e. omega arith)
+not-zero (negsuc n) h = refl
 
--- ---- the remainder: a - b × (a / b)
+pub by-nonzero : {A : Type 0} (b : ℤ) (f : ℤ → Outcome A) → (b ≡ pos 0 → ⊥) → (nonZero b >>= f) ≡ f b
+by-nonzero b f h = rw (not-zero b h)
+
+-- ---- a zero divisor: division is refused, the remainder is 0
+pub quotient-by-zero : (a : ℤ) → arithmetic divide a (pos 0) ≡ refusal overflow
+unfolding arithmetic
+quotient-by-zero a = refl
+
+pub remainder-by-zero : (a : ℤ) → arithmetic modulo a (pos 0) ≡ ok (pos 0)
+unfolding arithmetic
+remainder-by-zero a = refl
+
+-- ---- the remainder by any other divisor: a - b × (a / b)
 take-away : (m n : ℕ) → n ≤ m → pos m -ℤ pos n ≡ pos (m - n)
 take-away m zero h = ap pos (omega arith)
 take-away m (suc n) h = rw (le-ltb m (suc n) h)
@@ -146,11 +159,14 @@ neg-times b (suc q) = refl
 left : (n d : ℕ) → (d * (n / d) ≤ n) × (n - d * (n / d) ≡ n % d)
 left n d = let e : d * (n / d) + n % d ≡ n = div-add-mod n d in (omega arith, omega arith)
 
-pub remainder-is : (a b : ℤ) → remZ a b ≡ a -ℤ b *ℤ quotZ a b
-remainder-is (pos a) (pos b) = rw (take-away a (b * (a / b)) (left a b .0), left a b .1)
-remainder-is (pos a) (negsuc b) = rw (times-neg b (a / suc b), take-away a (suc b * (a / suc b)) (left a (suc b) .0), left a (suc b) .1)
-remainder-is (negsuc a) (pos b) = rw (neg-times b (suc a / b), take-back a (b * (suc a / b)) (left (suc a) b .0), left (suc a) b .1)
-remainder-is (negsuc a) (negsuc b) = rw (take-back a (suc b * (suc a / suc b)) (left (suc a) (suc b) .0), left (suc a) (suc b) .1)
+what-is-left : (a b : ℤ) → remZ a b ≡ a -ℤ b *ℤ quotZ a b
+what-is-left (pos a) (pos b) = rw (take-away a (b * (a / b)) (left a b .0), left a b .1)
+what-is-left (pos a) (negsuc b) = rw (times-neg b (a / suc b), take-away a (suc b * (a / suc b)) (left a (suc b) .0), left a (suc b) .1)
+what-is-left (negsuc a) (pos b) = rw (neg-times b (suc a / b), take-back a (b * (suc a / b)) (left (suc a) b .0), left (suc a) b .1)
+what-is-left (negsuc a) (negsuc b) = rw (take-back a (suc b * (suc a / suc b)) (left (suc a) (suc b) .0), left (suc a) (suc b) .1)
+
+pub remainder-is : (a b : ℤ) → (b ≡ pos 0 → ⊥) → remZ a b ≡ remainder a b
+remainder-is a b h = rw (not-zero b h) (what-is-left a b)
 
 -- ---- equality of bits is equality of numbers
 pub same-bool : (s t : Bool) → (s ≡ true → t ≡ true) → (t ≡ true → s ≡ true) → s ≡ t

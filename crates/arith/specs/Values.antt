@@ -1,7 +1,7 @@
 -- Values: whole numbers, results that may be a refusal, and the operations of expressions and conditions.
--- Document 01, "Values and formulas". Assumes nothing.
+-- Document 01, "Values and formulas"; document 02, A.5. Assumes nothing.
 use Prim.Native.Nat.{ℕ}
-use mathlib.Core.Bool.{Bool, true, false, not, _&&_}
+use mathlib.Core.Bool.{Bool, true, false, not, _&&_, cond}
 use lib.Dec.{eqb}
 use lib.IntN.{ℤ, pos, negsuc, negℤ, _+ℤ_, _-ℤ_, _*ℤ_}
 use lib.Signed.{ltZ, leZ, quotZ}
@@ -49,7 +49,11 @@ isInt32 z = leZ lowest z && leZ z highest
 abbrev pub int32 : ℤ → Outcome ℤ
 int32 z = require (isInt32 z) overflow z
 
--- A zero divisor of either is refusal 14.
+-- Division cuts toward zero; a mod b = a − b × (a / b) in whole numbers. A.5: IEC 61131-3 lets MOD give 0 when the divisor is 0.
+abbrev pub remainder : ℤ → ℤ → ℤ
+remainder a b = cond (eqZ b (pos 0)) (pos 0) (a -ℤ b *ℤ quotZ a b)
+
+-- A zero divisor of either is refusal 14. A.5: of division only, which is still 14.
 abbrev pub nonZero : ℤ → Outcome ℤ
 nonZero b = require (not (eqZ b (pos 0))) overflow b
 
@@ -57,13 +61,13 @@ nonZero b = require (not (eqZ b (pos 0))) overflow b
 pub data Operation : Type 0 where
   add subtract multiply divide modulo : Operation
 
--- Division cuts toward zero; a mod b = a − b × (a / b) in whole numbers.
+-- each gives its result where that is in the range; only `/` tests its divisor
 unfoldable pub arithmetic : Operation → ℤ → ℤ → Outcome ℤ
 arithmetic add a b = int32 (a +ℤ b)
 arithmetic subtract a b = int32 (a -ℤ b)
 arithmetic multiply a b = int32 (a *ℤ b)
 arithmetic divide a b = nonZero b >>= λ d. int32 (quotZ a d)
-arithmetic modulo a b = nonZero b >>= λ d. int32 (a -ℤ d *ℤ quotZ a d)
+arithmetic modulo a b = int32 (remainder a b)
 
 -- `-` before a factor
 unfoldable pub negation : ℤ → Outcome ℤ

@@ -1,4 +1,4 @@
--- The worked examples as one table under one statement. Document 01, "Latches to try". Assumes nothing.
+-- The worked examples as one table under one statement. Document 01, "Latches to try"; document 02, A.5. Assumes nothing.
 use Prim.Native.Nat.{ℕ}
 use mathlib.Core.Path.{_≡_}
 use mathlib.Core.List.{List, [], _∷_, map}
@@ -182,5 +182,25 @@ launch = sound
     ((pos 1 ∷ []) ∷ (pos 1 ∷ []) ∷ (pos 2 ∷ []) ∷ (pos 0 ∷ []) ∷ [])
     (done 21 (pos 1 ∷ pos 1 ∷ []) ∷ done 21 (pos 1 ∷ pos 1 ∷ []) ∷ stopped 13 0 (pos 1 ∷ pos 1 ∷ []) ∷ done 21 (pos 0 ∷ pos 0 ∷ []) ∷ [])
 
+-- A.5 a rotation rule over an empty host list: the remainder by zero is 0
+abbrev pub rotation : Example
+rotation = sound
+    (bytes "input hosts 0..9; var turn 0..9; turn: GX(turn = ((_turn + 1) mod hosts));")
+    (0x01 ∷ 0x01 ∷ 0x00 ∷ 0x12 ∷ 0x00 ∷ 0x00 ∷ 0x12 ∷ 0x00
+    ∷ 0x03 ∷ 0x01 ∷ 0x01 ∷ 0x02 ∷ 0x04 ∷ 0x02 ∷ 0x00 ∷ 0x08 ∷ 0x15 ∷ 0x01 ∷ [])
+    (pos 0 ∷ pos 0 ∷ [])
+    ((pos 3 ∷ []) ∷ (pos 3 ∷ []) ∷ (pos 0 ∷ []) ∷ (pos 3 ∷ []) ∷ [])
+    (done 6 (pos 3 ∷ pos 1 ∷ []) ∷ done 6 (pos 3 ∷ pos 2 ∷ []) ∷ done 6 (pos 0 ∷ pos 0 ∷ []) ∷ done 6 (pos 3 ∷ pos 1 ∷ []) ∷ [])
+
+-- division by zero is still 14
+abbrev pub share : Example
+share = sound
+    (bytes "input hosts 0..9; var each 0..9; each: GX(each = (9 / hosts));")
+    (0x01 ∷ 0x01 ∷ 0x00 ∷ 0x12 ∷ 0x00 ∷ 0x00 ∷ 0x12 ∷ 0x00
+    ∷ 0x01 ∷ 0x12 ∷ 0x02 ∷ 0x00 ∷ 0x07 ∷ 0x15 ∷ 0x01 ∷ [])
+    (pos 0 ∷ pos 0 ∷ [])
+    ((pos 3 ∷ []) ∷ (pos 0 ∷ []) ∷ [])
+    (done 4 (pos 3 ∷ pos 3 ∷ []) ∷ stopped 14 3 (pos 3 ∷ pos 3 ∷ []) ∷ [])
+
 abbrev pub examples : List Example
-examples = L1 ∷ L2 ∷ L3 ∷ L4 ∷ L5 ∷ L5-deeper ∷ L6 ∷ L7 ∷ L8 ∷ L8-unsound ∷ launch ∷ []
+examples = L1 ∷ L2 ∷ L3 ∷ L4 ∷ L5 ∷ L5-deeper ∷ L6 ∷ L7 ∷ L8 ∷ L8-unsound ∷ launch ∷ rotation ∷ share ∷ []

@@ -12,7 +12,7 @@ use lib.ListN.{length, getD, set}
 use lib.Signed.{quotZ}
 use borrow.Author.Tests.{lt-ltb, ltb-true}
 use Rattle.limits.specs.Answer.{accepted}
-use Rattle.arith.specs.Values.{Outcome, ok, refusal, _>>=_, require, eqZ, isInt32, int32, nonZero, Operation, add, subtract, multiply, divide, modulo, arithmetic, negation, compares}
+use Rattle.arith.specs.Values.{Outcome, ok, refusal, _>>=_, require, eqZ, isInt32, int32, nonZero, remainder, Operation, add, subtract, multiply, divide, modulo, arithmetic, negation, compares}
 use Rattle.semantics.specs.Program.{Range, within}
 use Rattle.semantics.specs.Formula.{State, at}
 use Rattle.semantics.specs.ReferenceScan.{rangeAt, ranged, picked}
@@ -70,7 +70,7 @@ arithmetic-rules add a b k e = int32-rules (a +ℤ b) k e
 arithmetic-rules subtract a b k e = int32-rules (a -ℤ b) k e
 arithmetic-rules multiply a b k e = int32-rules (a *ℤ b) k e
 arithmetic-rules divide a b k e = bind-number (nonZero b) _ k e (λ j h. nonZero-rules b j h) (λ d h. int32-rules (quotZ a d) k h)
-arithmetic-rules modulo a b k e = bind-number (nonZero b) _ k e (λ j h. nonZero-rules b j h) (λ d h. int32-rules (a -ℤ d *ℤ quotZ a d) k h)
+arithmetic-rules modulo a b k e = int32-rules (remainder a b) k e
 
 negation-rules : (a : ℤ) (k : ℕ) → negation a ≡ refusal k → ByRules k
 unfolding negation

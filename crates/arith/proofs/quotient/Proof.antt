@@ -4,7 +4,7 @@ use native.Mathlib.Omega.{arith}
 use borrow.Author.Needs.{needs}
 use lib.Signed.{quotZ}
 use Rattle.arith.specs.Values.{int32, arithmetic}
-use Rattle.arith.proofs.Laws.{widens, quot-fits, op-fits, op-is, zero-bits, nonzero-bits, by-nonzero}
+use Rattle.arith.proofs.Laws.{widens, quot-fits, op-fits, op-is, zero-bits, nonzero-bits, by-nonzero, quotient-by-zero}
 use Rattle.arith.proofs.quotient.Statement.{statement}
 use Rattle.arith.proofs.quotient.Tie as tie
 
@@ -15,8 +15,7 @@ cast-y : tie.Need-cast-y
 cast-y c = widens (c .fits .b)
 
 returns : tie.Need-returns
-unfolding arithmetic
-returns c = rw (zero-bits (c .before .fits .b) (c .if1 .taken))
+returns c = rw (zero-bits (c .before .fits .b) (c .if1 .taken)) (sym (quotient-by-zero (c .before .args .a)))
 
 div-narrow : tie.Need-div-narrow
 div-narrow c =

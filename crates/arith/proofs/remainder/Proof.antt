@@ -2,10 +2,9 @@
 use mathlib.Core.Path.{ap, sym, _∙_}
 use native.Mathlib.Omega.{arith}
 use borrow.Author.Needs.{needs}
-use lib.IntN.{_-ℤ_, _*ℤ_}
 use lib.Signed.{quotZ, remZ}
 use Rattle.arith.specs.Values.{int32, arithmetic}
-use Rattle.arith.proofs.Laws.{widens, quot-fits, rem-fits, op-fits, op-is, zero-bits, nonzero-bits, by-nonzero, remainder-is}
+use Rattle.arith.proofs.Laws.{widens, quot-fits, rem-fits, op-fits, op-is, zero-bits, nonzero-bits, remainder-by-zero, remainder-is}
 use Rattle.arith.proofs.remainder.Statement.{statement}
 use Rattle.arith.proofs.remainder.Tie as tie
 
@@ -16,8 +15,7 @@ cast-y : tie.Need-cast-y
 cast-y c = widens (c .fits .b)
 
 returns : tie.Need-returns
-unfolding arithmetic
-returns c = rw (zero-bits (c .before .fits .b) (c .if1 .taken))
+returns c = rw (zero-bits (c .before .fits .b) (c .if1 .taken)) (sym (remainder-by-zero (c .before .args .a)))
 
 rem-narrow : tie.Need-rem-narrow
 rem-narrow c =
@@ -30,9 +28,8 @@ unfolding arithmetic
 returns-2 c =
     let s = c .before .before in
     let f = s .fits in
-    c .narrow .ensures
-    ∙ ap int32 (op-is remZ (f .a) (f .b) (rem-fits (f .a) (f .b)) ∙ remainder-is (s .args .a) (s .args .b))
-    ∙ sym (by-nonzero (s .args .b) (λ d. int32 (s .args .a -ℤ d *ℤ quotZ (s .args .a) d)) (nonzero-bits (f .b) (c .before .if1 .left)))
+    let n = nonzero-bits (f .b) (c .before .if1 .left) in
+    c .narrow .ensures ∙ ap int32 (op-is remZ (f .a) (f .b) (rem-fits (f .a) (f .b)) ∙ remainder-is (s .args .a) (s .args .b) n)
 
 pub remainder-spec : {M : Type 1} → statement M
 remainder-spec = tie.close (tie.spec cast-x cast-y returns rem-narrow (λ c κs. search needs) returns-2)
