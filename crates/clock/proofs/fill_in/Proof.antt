@@ -29,7 +29,7 @@ returns-4 : tie.Need-returns-4
 returns-4 c =
     let d = read-text _ _ _ _ (c .before .before .before .before .before .before .before .before .before .before .before .before .analyse .ensures) _ _ _ (c .before .before .before .before .before .before .analysis .given .1) in
     let m : isMinute (c .before .before .before .before .before .before .before .before .before .before .before .before .before .before .before .before .before .before .args .utc) ≡ true = sym (rw (same64 (c .before .before .before .before .before .before .before .before .before .before .before .before .before .before .before .before .before .before .fits .utc)) at (c .before .before .is-minute .ensures)) ∙ not-false _ (c .before .if2 .left) in
-    (length-refused _ _ _ _ d (sym (c .before .before .before .before .is-table .ensures) ∙ not-false _ (c .before .before .before .if1 .left)) m (c .if3 .taken), omega arith)
+    (length-refused _ _ _ _ d (sym (c .before .before .before .before .is-table .ensures) ∙ not-false _ (c .before .before .before .if1 .left)) m (λ e. omega (arith, c .if3 .taken)), omega arith)
 
 fill-row-requires : tie.Need-fill-row-requires
 fill-row-requires c κs =
