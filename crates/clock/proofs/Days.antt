@@ -1,10 +1,10 @@
 -- Laws of days and minutes: a division by 1440 that rounds down, and what it leaves. Assumes nothing.
-use mathlib.Core.Path.{_≡_, refl, sym, ap, subst, _∙_}
-use Prim.Native.Nat.{ℕ, suc, _+_, _*_, _-_, _/_, _%_, _<_, _≤_}
+use mathlib.Core.Path.{_≡_, refl, sym, ap, _∙_}
+use Prim.Native.Nat.{ℕ, suc, _+_, _*_, _-_, _/_, _%_, _<_}
 use native.Mathlib.Nat.{div-add-mod}
 use native.Mathlib.Omega.{arith}
 use lib.IntN.{ℤ, pos, negsuc, negℤ, _+ℤ_, _-ℤ_, _*ℤ_, +ℤ-comm, +ℤ-negℤ-cancel, -ℤ-+ℤ-cancel}
-use lib.Dec.{T, leb, le→leb}
+use lib.Dec.{le→leb}
 use lib.Signed.{_≤ℤ_}
 use borrow.Author.Tests.{lt-ltb, le-ltb}
 use Rattle.arith.proofs.Laws.{remainder-is}
@@ -20,12 +20,16 @@ pub minute-pos : (n : ℕ) → minuteOf (pos n) ≡ pos (n % 1440)
 unfolding minuteOf dayOf
 minute-pos n = sym (remainder-is (pos n) (pos 1440))
 
+day-neg : (n : ℕ) → dayOf (negsuc n) ≡ negsuc (n / 1440)
+unfolding dayOf
+day-neg n = refl
+
 pub minute-neg : (n : ℕ) → minuteOf (negsuc n) ≡ pos (1439 - n % 1440)
-unfolding minuteOf dayOf
+unfolding minuteOf
 minute-neg n =
     let e : 1440 * (n / 1440) + n % 1440 ≡ n = div-add-mod n 1440 in
     let k : suc (1440 * (n / 1440) + 1439) - suc n ≡ 1439 - n % 1440 = omega arith in
-    rw (below (n / 1440), le-ltb (suc (1440 * (n / 1440) + 1439)) (suc n) (omega arith)) (ap pos k)
+    rw (day-neg n, below (n / 1440), le-ltb (suc (1440 * (n / 1440) + 1439)) (suc n) (omega arith)) (ap pos k)
 
 -- ---- 1440 times day plus minute is the local time, exactly
 

@@ -1,19 +1,18 @@
 -- Laws of the table as the loops walk it: two numbers an entry. Assumes nothing.
-use mathlib.Core.Path.{_≡_, refl, sym, ap, _∙_}
+use mathlib.Core.Path.{_≡_, refl}
 use mathlib.Core.Bool.{Bool, true, false, _&&_, cond}
 use mathlib.Core.List.{List, [], _∷_}
-use Prim.Native.Nat.{ℕ, zero, suc, _+_, _*_, _-_, _/_, _%_, _≤_, _<_}
+use Prim.Native.Nat.{ℕ, suc, _+_, _/_, _%_, _≤_, _<_}
 use native.Mathlib.Numerals.{add-one}
 use native.Mathlib.Omega.{arith}
 use borrow.Author.Tests.{eq-eqb, ne-eqb, le-leb, lt-leb, leb-true}
 use lib.Dec.{leb, eqb}
-use lib.IntN.{ℤ, pos, negsuc}
+use lib.IntN.{ℤ, pos, negsuc, _+ℤ_}
 use lib.ListN.{length, getD, drop, length-drop}
 use lib.Seq.{drop-cons}
 use lib.Signed.{mag, leZ, ltZ}
-use Rattle.limits.specs.Limits.{lowestOffset, highestOffset}
 use Rattle.arith.proofs.Basics.{and-both}
-use Rattle.clock.specs.Clock.{Entry, entriesOf, isMinute, isOffset, entryFits, entriesFit, isTable, firstOffset, offsetFrom, offsetAt, repeats, repeatsIn, isAgain}
+use Rattle.clock.specs.Clock.{Entry, entriesOf, isMinute, isOffset, entryFits, entriesFit, isTable, offsetFrom, offsetAt, localAt, repeats, repeatsIn, isAgain}
 use Rattle.clock.specs.Internal.{Small}
 
 short : (l : List ℤ) → length l ≤ 1 → entriesOf l ≡ []
@@ -93,7 +92,7 @@ module _ (l : List ℤ) (i : ℕ) where
   pub small-step : i + 1 < length l → Small from → (mag offset ≤ 840) × Small next
   small-step h s = rw (entries-step h) at s
 
--- ---- the loops' beginnings
+-- ---- the loops' beginnings, and the definitions opened once
 pub offset-start : (l : List ℤ) (u : ℤ) → 1 < length l → offsetFrom (getD l 1 (pos 0)) (entriesOf l) u ≡ offsetAt (entriesOf l) u
 unfolding offsetAt
 offset-start l u h = rw (entries-step l 0 h)
@@ -101,6 +100,10 @@ offset-start l u h = rw (entries-step l 0 h)
 pub offset-none : (l : List ℤ) (u : ℤ) → length l < 2 → offsetAt (entriesOf l) u ≡ pos 0
 unfolding offsetAt offsetFrom
 offset-none l u h = rw (short l (omega arith))
+
+pub local-is : (t : List Entry) (u : ℤ) → localAt t u ≡ u +ℤ offsetAt t u
+unfolding localAt
+local-is t u = refl
 
 pub again-start : (t : List Entry) (u : ℤ) → repeatsIn t u t ≡ isAgain t u
 unfolding isAgain

@@ -1,6 +1,6 @@
 -- Worked examples as one table, by one computed test: the autumn hour, a change of fourteen hours and more, an offset that is not the
 -- entry's directly before, the ends of the limits. Assumes nothing.
-use mathlib.Core.Path.{_≡_, refl}
+use mathlib.Core.Path.{_≡_}
 use mathlib.Core.Bool.{Bool, true, _&&_}
 use mathlib.Core.List.{List, [], _∷_}
 use lib.Dec.{T}

@@ -1,22 +1,22 @@
 -- What 64-bit locals hold where the code divides, compares and sums: the numbers themselves, since all of them fit. Assumes nothing.
 use mathlib.Core.Path.{_≡_, refl, sym, ap, _∙_}
-use mathlib.Core.Bool.{Bool, true, false}
+use mathlib.Core.Bool.{true, false}
 use mathlib.Core.List.{List}
-use Prim.Native.Nat.{ℕ, zero, suc, _+_, _*_, _-_, _/_, _%_, _^_, _≤_, _<_}
+use Prim.Native.Nat.{ℕ, zero, suc, _+_, _*_, _-_, _/_, _^_, _≤_, _<_}
 use native.Mathlib.Omega.{arith}
-use lib.Dec.{leb, eqb}
+use lib.Dec.{eqb}
 use lib.IntN.{ℤ, pos, negsuc, negℤ, natAbs, _+ℤ_, _-ℤ_, _*ℤ_}
-use lib.Signed.{mag, leZ, ltZ, quotZ, natAbs-le}
-use borrow.Author.Tests.{ltb-true, leb-true, le-ltb, eq-eqb, ne-eqb, eqb-true}
+use lib.Signed.{mag, ltZ, quotZ, natAbs-le}
+use borrow.Author.Tests.{ltb-true, le-ltb, eq-eqb, eqb-true}
 use mir.Syntax.{w32, w64}
 use mir.Val.{SFits, toZ, ofZ}
 use mir.Facts.{toZ-ofZ}
 use Rattle.arith.specs.Values.{eqZ}
 use Rattle.arith.proofs.Basics.{eqZ-true, eqZ-self}
-use Rattle.arith.proofs.Laws.{same-bool, mag-add, mag-neg, mag-mul, mag-quot, cast64, widens, widened}
+use Rattle.arith.proofs.Laws.{same-bool, mag-add, mag-neg, mag-mul, cast64, widened}
 use Rattle.clock.specs.Clock.{Entry, offsetAt, localAt, dayOf, minuteOf}
 use Rattle.clock.specs.Internal.{Small}
-use Rattle.clock.proofs.Entries.{at-small}
+use Rattle.clock.proofs.Entries.{local-is, at-small}
 use Rattle.clock.proofs.Days.{minute-pos, minute-neg}
 
 pub same64 : {z : ℤ} → SFits w64 z → toZ w64 (ofZ w64 z) ≡ z
@@ -87,14 +87,9 @@ from-zero (pos n) h t =
 from-zero (negsuc n) h t = let z : _≡_ {A = ℕ} 0 1 = cc in absurd (omega arith)
 
 -- ---- sizes
-pub minute-small : (z : ℤ) → mag (minuteOf z) ≤ 1439
+minute-small : (z : ℤ) → mag (minuteOf z) ≤ 1439
 minute-small (pos n) = rw (minute-pos n) (omega arith)
 minute-small (negsuc n) = rw (minute-neg n) (omega arith)
-
-pub day-small : (z : ℤ) → mag (dayOf z) ≤ mag z
-unfolding dayOf
-day-small (pos n) = omega arith
-day-small (negsuc n) = omega arith
 
 -- ---- the minute: what the days leave, with the day d held in 32 bits
 pub record Left (z d : ℤ) : Type 0 where
@@ -130,7 +125,7 @@ left-of z d h f e =
 pub difference-fits : (a b : ℤ) → mag a < 2 ^ 41 → mag b ≤ 840 → SFits w64 (a -ℤ b)
 difference-fits a b h k = record { sfits = omega (arith, mag-add a (negℤ b), mag-neg b) }
 
-pub sum-small : (a b : ℤ) → mag a < 2 ^ 31 → mag b ≤ 840 → mag (a +ℤ b) < 2 ^ 41
+sum-small : (a b : ℤ) → mag a < 2 ^ 31 → mag b ≤ 840 → mag (a +ℤ b) < 2 ^ 41
 sum-small a b h k = omega (arith, mag-add a b)
 
 -- ---- the local time: a minute and the offset o there
@@ -138,10 +133,6 @@ pub record Timed (t : List Entry) (u o : ℤ) : Type 0 where
   pub sum : SFits w64 (held u +ℤ held o)
   pub small : mag (held (held u +ℤ held o)) < 2 ^ 41
   pub time : held (held u +ℤ held o) ≡ localAt t u
-
-local-is : (t : List Entry) (u : ℤ) → u +ℤ offsetAt t u ≡ localAt t u
-unfolding localAt
-local-is t u = refl
 
 pub timed : (t : List Entry) (u o : ℤ) → Small t → mag u < 2 ^ 31 → SFits w64 o → o ≡ offsetAt t (held u) → Timed t u o
 timed t u o s h f e =
@@ -154,5 +145,5 @@ timed t u o s h f e =
     record {
       sum = rw (a, b) g;
       small = rw (a, b, same64 g) m;
-      time = rw (a, b, same64 g) (ap (λ (x : ℤ). u +ℤ x) q ∙ local-is t u);
+      time = rw (a, b, same64 g) (ap (λ (x : ℤ). u +ℤ x) q ∙ sym (local-is t u));
     }

@@ -1,23 +1,19 @@
 -- The test for `again` over the entries finds an earlier minute of the same day and minute exactly if there is one among all whole
 -- minutes; the three values are those that document 02's sentences ask for, and no others are. Assumes nothing.
-use mathlib.Core.Path.{_≡_, refl, sym, ap, ap₂, subst, _∙_}
+use mathlib.Core.Path.{_≡_, refl, sym, ap, ap₂, _∙_}
 use mathlib.Core.Logic.{_⊎_, inl, inr, ⊎-elim, _↔_}
-use mathlib.Core.Bool.{Bool, true, false, _&&_, cond, true≢false, false≢true}
+use mathlib.Core.Bool.{Bool, true, false, cond, true≢false, false≢true}
 use mathlib.Core.List.{List, [], _∷_}
-use Prim.Native.Nat.{ℕ, suc, _+_, _≤_, _<_}
+use Prim.Native.Nat.{_<_}
 use native.Mathlib.Omega.{arith}
-use lib.Dec.{T, leb→le}
+use lib.Dec.{leb→le}
 use lib.IntN.{ℤ, pos, negsuc, _+ℤ_, _-ℤ_, _*ℤ_, +ℤ-comm, +ℤ-idr, +ℤ-negℤ-cancel, -ℤ-+ℤ-cancel}
-use lib.Signed.{leZ, ltZ, _≤ℤ_, _<ℤ_, <ℤ-irrefl}
+use lib.Signed.{leZ, ltZ, _≤ℤ_, <ℤ-irrefl}
 use Rattle.arith.specs.Values.{eqZ}
 use Rattle.arith.proofs.Basics.{T-true, true-T, and-both, eqZ-true, eqZ-self}
-use Rattle.clock.specs.Clock.{Entry, firstOffset, offsetFrom, offsetAt, localAt, dayOf, minuteOf, Again, repeats, repeatsIn, isAgain, againOf, Shows}
-use Rattle.clock.proofs.Entries.{again-start}
+use Rattle.clock.specs.Clock.{Entry, offsetFrom, offsetAt, localAt, dayOf, minuteOf, Again, repeats, repeatsIn, isAgain, againOf, Shows}
+use Rattle.clock.proofs.Entries.{local-is, again-start}
 use Rattle.clock.proofs.Days.{exact, minute-least, minute-most, day-only, minute-only}
-
-local-is : (t : List Entry) (v : ℤ) → localAt t v ≡ v +ℤ offsetAt t v
-unfolding localAt
-local-is t v = refl
 
 -- a local time is told by its day and minute
 same-local : (a b : ℤ) → dayOf a ≡ dayOf b → minuteOf a ≡ minuteOf b → a ≡ b

@@ -3,10 +3,10 @@ use mathlib.Core.Path.{_≡_, refl, sym, ap, subst, _∙_}
 use mathlib.Core.Bool.{true, false}
 use mathlib.Core.List.{List, [], _∷_}
 use mathlib.Core.Option.{Option, none, some}
-use Prim.Native.Nat.{ℕ, zero, suc, _+_, _^_, _≤_, _<_}
+use Prim.Native.Nat.{ℕ, zero, suc, _^_, _≤_, _<_}
 use native.Mathlib.Omega.{arith}
 use lib.IntN.{ℤ, pos, negsuc}
-use lib.ListN.{length, take, set, length-set, length-map}
+use lib.ListN.{length, take, length-set, length-map}
 use lib.Seq.{take-nil}
 use lib.Signed.{mag, leZ}
 use borrow.Author.Tests.{eq-eqb, ne-eqb, leb-true}
@@ -14,7 +14,7 @@ use Rattle.limits.specs.Limits.{textLimit, nameLimit, lastMinute}
 use Rattle.limits.specs.Answer as A
 use Rattle.arith.proofs.Basics.{and-both}
 use Rattle.lexer.specs.Bytes.{bytes, part}
-use Rattle.lexer.specs.Names.{namesOf, idOf, Table}
+use Rattle.lexer.specs.Names.{namesOf, idOf}
 use Rattle.semantics.specs.Program.{Program}
 use Rattle.grammar.specs.Parsed.{Parsed, accepted, refused}
 use Rattle.grammar.specs.Parse.{parse, programOf}
@@ -78,7 +78,7 @@ module _ (text starts ends : List ℕ) (r : Analysis) (a : Analyses text (parse 
 
 length-filled : (o : Option ℕ) (z : ℤ) (row : List ℤ) → length (filledAt o z row) ≡ length row
 length-filled none z row = refl
-length-filled (some i) z row = length-set row i z
+length-filled (some i) z row = simp length-set
 
 module _ (text starts ends : List ℕ) (t : List Entry) (u : ℤ) (row one two three : List ℤ) (d m a : ℤ) where
   abbrev named : List ℤ → List (List ℕ)

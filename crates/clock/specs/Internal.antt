@@ -1,5 +1,5 @@
 -- Sizes that keep the sums of inner functions within 64 bits, and a refusal passed on: auxiliary definitions for inner contracts. Assumes nothing.
-use Prim.Native.Nat.{ℕ, _≤_}
+use Prim.Native.Nat.{_≤_}
 use mathlib.Core.List.{List, [], _∷_}
 use lib.Signed.{mag}
 use Rattle.translate.specs.declared.Analysis.{Analysis}

@@ -1,5 +1,5 @@
 -- What the answer of the clock service stands for: the documents' number and place. Assumes nothing.
-use Prim.Native.Nat.{ℕ, _≤_}
+use Prim.Native.Nat.{_≤_}
 use mathlib.Core.List.{List}
 use lib.IntN.{ℤ}
 use Rattle.limits.specs.Limits.{textLimit}

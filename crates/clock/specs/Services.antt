@@ -1,7 +1,7 @@
 -- The clock service: what it answers and leaves in the row lent to it, for every text, table, minute and row. Document 02, A.1. Assumes
 -- nothing.
 use Prim.Native.Nat.{ℕ}
-use mathlib.Core.Bool.{Bool, true, false, cond}
+use mathlib.Core.Bool.{Bool, true, false}
 use mathlib.Core.List.{List}
 use mathlib.Core.Option.{Option, none, some}
 use Prim.Native.String.{String}

@@ -1,9 +1,9 @@
 -- `clock::fill_named` meets its contract. The loop's invariant: the row is as found, and the names from `i` on hold the id. Assumes nothing.
 use borrow.Author.Needs.{needs}
-use mathlib.Core.Path.{_≡_, refl, sym, ap, ap₂, _∙_}
+use mathlib.Core.Path.{_≡_, refl, sym, ap, _∙_}
 use mathlib.Core.List.{List}
-use mathlib.Core.Option.{Option, some, none}
-use Prim.Native.Nat.{ℕ, _-_, _≤_, _<_}
+use mathlib.Core.Option.{some, none}
+use Prim.Native.Nat.{_-_, _≤_, _<_}
 use native.Mathlib.Omega.{arith}
 use lib.IntN.{ℤ}
 use lib.ListN.{length, getD, drop, set, length-set}
@@ -14,7 +14,6 @@ use Rattle.lexer.specs.Lexer.{sameName}
 use Rattle.lexer.specs.Names.{namesOf, idFrom, idOf}
 use Rattle.lexer.proofs.Table.{id-start, id-here, id-next, id-none}
 use Rattle.arith.proofs.Laws.{same32}
-use Rattle.clock.specs.Services.{filledAt}
 use Rattle.clock.proofs.fill_named.Statement.{statement}
 use Rattle.clock.proofs.fill_named.Tie as tie
 

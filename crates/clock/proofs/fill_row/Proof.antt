@@ -1,10 +1,10 @@
 -- `clock::fill_row` meets its contract: the local time, then the three names. Assumes nothing.
-use mathlib.Core.Path.{_≡_, refl, sym, ap, _∙_}
+use mathlib.Core.Path.{sym, ap, _∙_}
 use borrow.Author.Needs.{needs}
-use mir.Syntax.{w32, w64}
+use mir.Syntax.{w32}
 use mir.Val.{SFits}
 use Rattle.arith.proofs.Laws.{same32}
-use Rattle.clock.specs.Clock.{entriesOf, localAt, dayOf, minuteOf, againOf}
+use Rattle.clock.specs.Clock.{entriesOf, dayOf, minuteOf}
 use Rattle.clock.proofs.Held.{same64, Timed, timed}
 use Rattle.clock.proofs.Service.{row-filled}
 use Rattle.clock.proofs.fill_row.Statement.{statement}

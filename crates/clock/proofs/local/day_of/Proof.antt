@@ -1,9 +1,5 @@
 -- `clock::local::day_of` meets its contract. Assumes nothing.
-use mathlib.Core.Path.{_≡_}
-use mathlib.Core.Bool.{true, false}
 use native.Mathlib.Omega.{arith}
-use lib.IntN.{pos}
-use lib.Signed.{ltZ}
 use Rattle.clock.proofs.Held.{same64, Below, below-zero, Above, from-zero}
 use Rattle.clock.proofs.local.day_of.Statement.{statement}
 use Rattle.clock.proofs.local.day_of.Tie as tie

@@ -1,11 +1,10 @@
 -- `clock::local::is_again` meets its contract. The loop's invariant: the entries from `i` on decide, and their offsets are small.
 -- Assumes nothing.
-use mathlib.Core.Path.{_≡_, refl, sym, _∙_}
+use mathlib.Core.Path.{_≡_, sym, _∙_}
 use Prim.Native.Nat.{_+_, _-_, _≤_}
 use native.Mathlib.Omega.{arith}
 use lib.IntN.{pos}
 use lib.ListN.{length, getD, drop}
-use borrow.Author.Needs.{needs}
 use mir.Syntax.{w64}
 use mir.Val.{SFits, toZ}
 use Rattle.clock.specs.Clock.{entriesOf, repeats as repeats-of, repeatsIn, isAgain}
