@@ -1,17 +1,17 @@
-/* Rolvenko: launch rules translated, checked, started and scanned, as four C functions.
+/* Rolvenko: launch rules translated, checked, started and scanned, and rows filled with the local time, as five C functions.
  *
  * Link target/staticlib/libffi.a, which `rt staticlib ffi` writes (x86-64 Linux; it needs memcpy and memset, allocates nothing and keeps
  * nothing between calls, so calls from several threads on memory of their own do not meet).
  *
  * The answer. Each function answers one 64-bit number, number * 2^56 + place * 2^24 + count:
  *
- *     number   0 for a success, else the refusal, 1 to 18
- *     place    the byte place of a refusal in the text or image; 0 for a success and for the refusals 9 and 12 to 18
+ *     number   0 for a success, else the refusal, 1 to 20
+ *     place    the byte place of a refusal in the text or image; 0 for a success and for the refusals 9 and 12 to 20
  *     count    of a success of rolvenko_translate the image's length, of rolvenko_scan (refused or not) the steps; else 0
  *
  * Memory. What is lent as const is only read. A refusal leaves all lent memory as it was; what a success writes stands at each function.
  * Nothing outside the lengths given is touched. The caller owes what C cannot say: each pointer has its length's elements behind it,
- * int32_t ones are aligned, and what is written overlaps nothing else that is lent to the same call. With a length of 0 nothing is read
+ * int32_t and int64_t ones are aligned, and what is written overlaps nothing else that is lent to the same call. With a length of 0 nothing is read
  * or written: pass any pointer that is not NULL. (NULL with 0 works in the archive as compiled, and the tests try it, but the proofs
  * are about slices and do not speak of it.) Every length and every content is allowed; nothing else is asked of the caller.
  */
@@ -29,6 +29,7 @@ extern "C" {
 #define ROLVENKO_IMAGE_LIMIT 65536 /* bytes of an image */
 #define ROLVENKO_IMAGE_ROOM 49154  /* bytes that the image of any accepted text fits in */
 #define ROLVENKO_NAMES 64          /* inputs and variables together */
+#define ROLVENKO_ENTRIES 32        /* entries of a farm table */
 
 /* The parts of an answer. */
 static inline unsigned rolvenko_number(uint64_t answer) { return (unsigned)(answer >> 56); }
@@ -66,6 +67,21 @@ uint64_t rolvenko_start(const uint8_t *image, size_t image_len, int32_t *state, 
  *   17        a new value is outside its declared range
  */
 uint64_t rolvenko_scan(const uint8_t *image, size_t image_len, int32_t *state, size_t state_len, const int32_t *row, size_t row_len);
+
+/* Fills the inputs named `day`, `minute` and `again` of `row`, those of them that the text declares, with the local time of a farm at
+ * the UTC minute `utc`, counted from 1 January 1970. The other numbers of the row stay. `row` has one number for each input, in declared
+ * order; a variable of such a name is not filled, and no declared range is looked at. 0 as a whole, or a refusal.
+ * `table` has two numbers for each of 1 to 32 entries, a UTC minute and the offset in minutes that holds from there on; table_len counts
+ * the numbers. The first offset also holds for all earlier minutes.
+ * 1440 * day + minute is utc plus the offset at utc, minute is 0 to 1439, and again is 1 if some earlier UTC minute (one below 0 too) has
+ * the same day and minute, else 0. Refusals, in this order:
+ *   9, 1 to 8 of the text, as rolvenko_translate
+ *   19        the table: table_len is odd, 0 or over 64, a minute is outside 0 to 2,147,483,647 or not above the one before it, or an
+ *             offset is outside -720 to 840
+ *   20        utc is outside 0 to 2,147,483,647 (also where none of the three inputs is declared)
+ *   12        row_len is not the count of inputs
+ */
+uint64_t rolvenko_clock(const uint8_t *text, size_t text_len, const int64_t *table, size_t table_len, int64_t utc, int32_t *row, size_t row_len);
 
 #ifdef __cplusplus
 }

@@ -3,6 +3,7 @@ ghost use mathlib.Core.Path.{_≡_};
 ghost use Prim.Native.Nat.{_<_, _^_};
 ghost use Rattle.bytecode.specs.Check.{checkOf};
 ghost use Rattle.scan.specs.Services.{startOf, scanOf};
+ghost use Rattle.clock.specs.Services.{fillOf};
 ghost use Rattle.ffi.specs.Packed.{packed, packedTranslation, packedCheck, packedScan};
 ghost use Rattle.translate.specs.Services.{translationOf};
 
@@ -53,5 +54,16 @@ pub extern "C" fn rolvenko_scan(image: &[u8], state: &mut [i32], row: &[i32]) ->
     match scan::scan(image, state, row) {
         scan::Scanned::Done(steps) => pack(0, 0, steps as u64),
         scan::Scanned::Refused(number, place, steps) => pack(number, place, steps as u64),
+    }
+}
+
+#[no_mangle]
+pub extern "C" fn rolvenko_clock(text: &[u8], table: &[i64], utc: i64, row: &mut [i32]) -> u64
+    ensures { λ r. ⌜ r ≡ packedCheck (fillOf (now (text .entry)) (now (table .entry)) utc (now (row .entry)) .answer) ⌝ }
+    ensures { λ r. ⌜ now (row .exit) ≡ fillOf (now (text .entry)) (now (table .entry)) utc (now (row .entry)) .row ⌝ }
+{
+    match clock::fill(text, table, utc, row) {
+        clock::Filled::Done => 0,
+        clock::Filled::Refused(number, place) => pack(number, place, 0),
     }
 }

@@ -1,0 +1,6 @@
+pub mod Days
+pub mod Entries
+pub mod Repeated
+pub mod Held
+pub mod Service
+pub mod Examples

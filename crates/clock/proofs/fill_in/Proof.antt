@@ -1,0 +1,55 @@
+-- `clock::fill_in` meets its contract: the text's analysis, then the tests in their order. Assumes nothing.
+use mathlib.Core.Path.{_≡_, sym, _∙_}
+use mathlib.Core.Bool.{true, false}
+use native.Mathlib.Omega.{arith}
+use borrow.Author.Tests.{not-true, not-false}
+use borrow.Author.Needs.{needs}
+use Rattle.clock.specs.Clock.{isMinute}
+use Rattle.clock.proofs.Entries.{table-small}
+use Rattle.clock.proofs.Held.{same64}
+use Rattle.clock.proofs.Service.{read-text, refused-text, minute-fits, text-refused, table-refused, minute-refused, length-refused, all-filled}
+use Rattle.clock.proofs.fill_in.Statement.{statement}
+use Rattle.clock.proofs.fill_in.Tie as tie
+
+returns : tie.Need-returns
+returns c = rw (c .unread .ensures, c .before .enum-told .given .1) (text-refused _ _ _ _ _ _ (refused-text _ _ _ _ (c .before .before .before .before .before .before .before .analyse .ensures) _ _ (c .before .enum-told .given .1)))
+
+returns-2 : tie.Need-returns-2
+returns-2 c =
+    let d = read-text _ _ _ _ (c .before .before .before .before .before .before .before .before .before .analyse .ensures) _ _ _ (c .before .before .before .analysis .given .1) in
+    (table-refused _ _ _ _ d (sym (c .before .is-table .ensures) ∙ not-true _ (c .if1 .taken)), omega arith)
+
+returns-3 : tie.Need-returns-3
+returns-3 c =
+    let d = read-text _ _ _ _ (c .before .before .before .before .before .before .before .before .before .before .before .analyse .ensures) _ _ _ (c .before .before .before .before .before .analysis .given .1) in
+    let m : isMinute (c .before .before .before .before .before .before .before .before .before .before .before .before .before .before .before .before .before .args .utc) ≡ false = sym (rw (same64 (c .before .before .before .before .before .before .before .before .before .before .before .before .before .before .before .before .before .fits .utc)) at (c .before .is-minute .ensures)) ∙ not-true _ (c .if2 .taken) in
+    (minute-refused _ _ _ _ d (sym (c .before .before .before .is-table .ensures) ∙ not-false _ (c .before .before .if1 .left)) m, omega arith)
+
+returns-4 : tie.Need-returns-4
+returns-4 c =
+    let d = read-text _ _ _ _ (c .before .before .before .before .before .before .before .before .before .before .before .before .analyse .ensures) _ _ _ (c .before .before .before .before .before .before .analysis .given .1) in
+    let m : isMinute (c .before .before .before .before .before .before .before .before .before .before .before .before .before .before .before .before .before .before .args .utc) ≡ true = sym (rw (same64 (c .before .before .before .before .before .before .before .before .before .before .before .before .before .before .before .before .before .before .fits .utc)) at (c .before .before .is-minute .ensures)) ∙ not-false _ (c .before .if2 .left) in
+    (length-refused _ _ _ _ d (sym (c .before .before .before .before .is-table .ensures) ∙ not-false _ (c .before .before .before .if1 .left)) m (λ e. omega (arith, c .if3 .taken)), omega arith)
+
+fill-row-requires : tie.Need-fill-row-requires
+fill-row-requires c κs =
+    let d = read-text _ _ _ _ (c .before .before .before .before .before .before .before .before .before .before .before .before .before .before .before .analyse .ensures) _ _ _ (c .before .before .before .before .before .before .before .before .before .analysis .given .1) in
+    let m : isMinute (c .before .before .before .before .before .before .before .before .before .before .before .before .before .before .before .before .before .before .before .before .before .args .utc) ≡ true = sym (rw (same64 (c .before .before .before .before .before .before .before .before .before .before .before .before .before .before .before .before .before .before .before .before .before .fits .utc)) at (c .before .before .before .before .before .is-minute .ensures)) ∙ not-false _ (c .before .before .before .before .if2 .left) in (
+      record { in-starts = omega (arith, d .few, c .before .before .before .if3 .left, c .before .before .before .before .before .before .before .before .before .before .before .before .before .before .before .before .before .before .before .before .before .pre .in-starts, c .before .before .before .before .before .before .before .before .before .before .before .before .before .before .before .analyse .kept .1 .0); in-ends = omega (arith, d .few, c .before .before .before .if3 .left, c .before .before .before .before .before .before .before .before .before .before .before .before .before .before .before .before .before .before .before .before .before .pre .in-ends, c .before .before .before .before .before .before .before .before .before .before .before .before .before .before .before .analyse .kept .1 .1 .0) },
+      table-small _ (sym (c .before .before .before .before .before .before .before .is-table .ensures) ∙ not-false _ (c .before .before .before .before .before .before .if1 .left)),
+      rw (same64 (c .before .before .before .before .before .before .before .before .before .before .before .before .before .before .before .before .before .before .before .before .before .fits .utc)) (minute-fits (c .before .before .before .before .before .before .before .before .before .before .before .before .before .before .before .before .before .before .before .before .before .args .utc) m),
+    )
+
+returns-5 : tie.Need-returns-5
+returns-5 c =
+    let d = read-text _ _ _ _ (c .before .before .before .before .before .before .before .before .before .before .before .before .before .before .before .before .before .analyse .ensures) _ _ _ (c .before .before .before .before .before .before .before .before .before .before .before .analysis .given .1) in
+    let m : isMinute (c .before .before .before .before .before .before .before .before .before .before .before .before .before .before .before .before .before .before .before .before .before .before .before .args .utc) ≡ true = sym (rw (same64 (c .before .before .before .before .before .before .before .before .before .before .before .before .before .before .before .before .before .before .before .before .before .before .before .fits .utc)) at (c .before .before .before .before .before .before .before .is-minute .ensures)) ∙ not-false _ (c .before .before .before .before .before .before .if2 .left) in
+    (all-filled _ _ _ _ d (sym (c .before .before .before .before .before .before .before .before .before .is-table .ensures) ∙ not-false _ (c .before .before .before .before .before .before .before .before .if1 .left)) m _ (c .before .before .before .before .before .if3 .left) (rw (same64 (c .before .before .before .before .before .before .before .before .before .before .before .before .before .before .before .before .before .before .before .before .before .before .before .fits .utc)) at (c .before .fill-row .ensures)), tt)
+
+pub fill-in-spec : {M : Type 1} → statement M
+fill-in-spec =
+    tie.close
+    (tie.spec (λ c κs. search needs) (λ c. search needs) (λ c. search needs) (λ c κs. search needs) (λ c. search needs) (λ c. search needs)
+    returns (λ c κs. search needs) (λ c. search needs) (λ c. search needs) returns-2 (λ c κs. search needs) (λ c. search needs)
+    (λ c. search needs) returns-3 (λ c. search needs) (λ c. search needs) returns-4 fill-row-requires (λ c. search needs)
+    (λ c. search needs) (λ c. search needs) returns-5)

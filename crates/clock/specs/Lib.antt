@@ -1,0 +1,4 @@
+pub mod Clock
+pub mod Services
+pub mod Results
+pub mod Internal

@@ -1,0 +1,111 @@
+// The clock service: the inputs `day`, `minute` and `again` of a row, filled from a farm table and a UTC minute.
+use translate::Analysis;
+ghost use mathlib.Core.Path.{_≡_};
+ghost use Prim.Native.Nat.{_<_, _^_};
+ghost use lib.ListN.{length};
+ghost use lib.Signed.{mag};
+ghost use Rattle.lexer.specs.Names.{namesOf, idOf, Table};
+ghost use Rattle.declarations.specs.Post.{Room};
+ghost use Rattle.clock.specs.Clock.{entriesOf};
+ghost use Rattle.clock.specs.Services.{filledAt, rowFilled, fillOf};
+ghost use Rattle.clock.specs.Results.{afterFill, FilledWithin};
+ghost use Rattle.clock.specs.Internal.{Small, unreadOf};
+
+mod local;
+
+// Filled, or the number of a refusal and its place.
+pub enum Filled {
+    Done,
+    Refused(u8, usize),
+}
+
+// A refusal passed on.
+fn unread(a: Analysis) -> Filled
+    ensures { λ r. ⌜ r ≡ unreadOf a ⌝ }
+{
+    match a {
+        Analysis::Accepted(_, _, _) => Filled::Refused(0, 0),
+        Analysis::Refused(k, p) => Filled::Refused(k, p),
+    }
+}
+
+// The value of the input of a name, where it is declared.
+fn fill_named(
+    text: &[u8],
+    starts: &[usize],
+    ends: &[usize],
+    name: &[u8],
+    row: &mut [i32],
+    value: i32,
+)
+    requires { ⌜ Table (now starts) (now ends) (length (now row)) ⌝ }
+    ensures { λ _. ⌜ now (row .exit) ≡ filledAt (idOf (namesOf (now (text .entry)) (now (starts .entry)) (now (ends .entry)) (length (now (row .entry)))) (now (name .entry))) value (now (row .entry)) ⌝ }
+{
+    let mut i = 0;
+    while i < row.len() {
+        let s = starts[i];
+        let e = ends[i];
+        if lexer::same_name(name, lexer::name(text, s, e)) {
+            row[i] = value;
+            return;
+        }
+        i += 1;
+    }
+}
+
+// The three values into a row whose inputs the table of names holds first.
+fn fill_row(text: &[u8], starts: &[usize], ends: &[usize], table: &[i64], utc: i64, row: &mut [i32])
+    requires { ⌜ Table (now starts) (now ends) (length (now row)) × Small (entriesOf (now table)) × (mag utc < 2 ^ 31) ⌝ }
+    ensures { λ _. ⌜ now (row .exit) ≡ rowFilled (namesOf (now (text .entry)) (now (starts .entry)) (now (ends .entry)) (length (now (row .entry)))) (entriesOf (now (table .entry))) utc (now (row .entry)) ⌝ }
+{
+    let time = utc + local::offset_at(table, utc);
+    fill_named(text, starts, ends, b"day", row, local::day_of(time));
+    fill_named(text, starts, ends, b"minute", row, local::minute_of(time));
+    fill_named(
+        text,
+        starts,
+        ends,
+        b"again",
+        row,
+        local::again_of(table, utc, time),
+    );
+}
+
+// With lent memory for the names.
+fn fill_in(
+    text: &[u8],
+    table: &[i64],
+    utc: i64,
+    row: &mut [i32],
+    starts: &mut [usize],
+    ends: &mut [usize],
+) -> Filled
+    requires { ⌜ Room (now starts) (now ends) 0 ⌝ }
+    ensures { λ r. ⌜ afterFill r (now (row .exit)) ≡ fillOf (now (text .entry)) (now (table .entry)) utc (now (row .entry)) ⌝ }
+    ensures { λ r. ⌜ FilledWithin r ⌝ }
+{
+    let analysis = translate::analyse(text, starts, ends);
+    let Analysis::Accepted(_, inputs, _) = analysis else {
+        return unread(analysis);
+    };
+    if !local::is_table(table) {
+        return Filled::Refused(limits::BROKEN_TABLE, 0);
+    }
+    if !local::is_minute(utc) {
+        return Filled::Refused(limits::MINUTE_OUT_OF_LIMIT, 0);
+    }
+    if row.len() != inputs {
+        return Filled::Refused(limits::WRONG_LENGTH, 0);
+    }
+    fill_row(text, starts, ends, table, utc, row);
+    Filled::Done
+}
+
+pub fn fill(text: &[u8], table: &[i64], utc: i64, row: &mut [i32]) -> Filled
+    ensures { λ r. ⌜ afterFill r (now (row .exit)) ≡ fillOf (now (text .entry)) (now (table .entry)) utc (now (row .entry)) ⌝ }
+    ensures { λ r. ⌜ FilledWithin r ⌝ }
+{
+    let mut starts = [0usize; limits::NAME_LIMIT];
+    let mut ends = [0usize; limits::NAME_LIMIT];
+    fill_in(text, table, utc, row, &mut starts, &mut ends)
+}
