@@ -55,14 +55,19 @@ fn clock_tokens(rng: &mut Rng) -> Vec<Vec<u8>> {
     tokens
 }
 
-/// Gives a declared name this spelling wherever it stands, unless another has it.
+/// Gives a declared name, one that is not filled yet, this spelling wherever it stands,
+/// unless another has it.
 fn rename(rng: &mut Rng, tokens: &mut [Vec<u8>], spelling: &[u8]) {
-    let declared: Vec<Vec<u8>> = tokens
+    let mut declared: Vec<Vec<u8>> = tokens
         .windows(2)
         .filter(|pair| pair[0] == b"input" || pair[0] == b"var")
         .map(|pair| pair[1].clone())
         .collect();
-    if declared.is_empty() || declared.iter().any(|name| name == spelling) {
+    if declared.iter().any(|name| name == spelling) {
+        return;
+    }
+    declared.retain(|name| !NAMES.iter().any(|filled| filled.as_bytes() == name));
+    if declared.is_empty() {
         return;
     }
     let name = rng.choose(&declared);
