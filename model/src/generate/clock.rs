@@ -43,8 +43,9 @@ fn clock_tokens(rng: &mut Rng) -> Vec<Vec<u8>> {
         _ => INPUTS,
     };
     let mut tokens = text_tokens(rng, shape);
-    for name in NAMES {
-        if rng.chance(75) {
+    let first = rng.below(NAMES.len());
+    for name in NAMES.iter().cycle().skip(first).take(NAMES.len()) {
+        if rng.chance(85) {
             rename(rng, &mut tokens, name.as_bytes());
         }
     }
