@@ -18,7 +18,7 @@ below d = let e : 1440 * suc d ≡ suc (1440 * d + 1439) = omega arith in ap (λ
 
 pub minute-pos : (n : ℕ) → minuteOf (pos n) ≡ pos (n % 1440)
 unfolding minuteOf dayOf
-minute-pos n = sym (remainder-is (pos n) (pos 1440))
+minute-pos n = sym (remainder-is (pos n) (pos 1440) (λ e. let z : _≡_ {A = ℕ} 1440 0 = cc in omega arith))
 
 day-neg : (n : ℕ) → dayOf (negsuc n) ≡ negsuc (n / 1440)
 unfolding dayOf
