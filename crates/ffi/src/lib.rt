@@ -3,7 +3,8 @@ ghost use mathlib.Core.Path.{_≡_};
 ghost use Prim.Native.Nat.{_<_, _^_};
 ghost use Rattle.bytecode.specs.Check.{checkOf};
 ghost use Rattle.scan.specs.Services.{startOf, scanOf};
-ghost use Rattle.ffi.specs.Packed.{packed, packedTranslation, packedCheck, packedScan};
+ghost use Rattle.charge.specs.Charge.{chargeOf};
+ghost use Rattle.ffi.specs.Packed.{packed, packedTranslation, packedCheck, packedScan, packedCharge};
 ghost use Rattle.translate.specs.Services.{translationOf};
 
 fn pack(number: u8, place: usize, count: u64) -> u64
@@ -53,5 +54,23 @@ pub extern "C" fn rolvenko_scan(image: &[u8], state: &mut [i32], row: &[i32]) ->
     match scan::scan(image, state, row) {
         scan::Scanned::Done(steps) => pack(0, 0, steps as u64),
         scan::Scanned::Refused(number, place, steps) => pack(number, place, steps as u64),
+    }
+}
+
+#[no_mangle]
+pub extern "C" fn rolvenko_charge(
+    image: &[u8],
+    id: usize,
+    trace: &[i32],
+    minutes: &[i32],
+    threshold: i32,
+    rate: i32,
+    rate_above: i32,
+) -> u64
+    ensures { λ r. ⌜ r ≡ packedCharge (chargeOf (now (image .entry)) id (now (trace .entry)) (now (minutes .entry)) threshold rate «rate_above») ⌝ }
+{
+    match charge::charge(image, id, trace, minutes, threshold, rate, rate_above) {
+        charge::Charged::Sum(cents, sixtieths) => 60 * cents + sixtieths,
+        charge::Charged::Refused(number, place) => pack(number, place, 0),
     }
 }
