@@ -1,13 +1,16 @@
-/* Rolvenko: launch rules translated, checked, started and scanned, and rows filled with the local time, as five C functions.
+/* Rolvenko: launch rules translated, checked, started and scanned, rows filled with the local time, and the licence charge of a trace, as
+ * six C functions.
  *
  * Link target/staticlib/libffi.a, which `rt staticlib ffi` writes (x86-64 Linux; it needs memcpy and memset, allocates nothing and keeps
  * nothing between calls, so calls from several threads on memory of their own do not meet).
  *
  * The answer. Each function answers one 64-bit number, number * 2^56 + place * 2^24 + count:
  *
- *     number   0 for a success, else the refusal, 1 to 20
- *     place    the byte place of a refusal in the text or image; 0 for a success and for the refusals 9 and 12 to 20
+ *     number   0 for a success, else the refusal, 1 to 20, 28 or 29
+ *     place    the byte place of a refusal in the text or image; 0 for a success and for the refusals 9, 12 to 20, 28 and 29
  *     count    of a success of rolvenko_translate the image's length, of rolvenko_scan (refused or not) the steps; else 0
+ *
+ * But a success of rolvenko_charge is its sum; see there.
  *
  * Memory. What is lent as const is only read. A refusal leaves all lent memory as it was; what a success writes stands at each function.
  * Nothing outside the lengths given is touched. The caller owes what C cannot say: each pointer has its length's elements behind it,
@@ -82,6 +85,25 @@ uint64_t rolvenko_scan(const uint8_t *image, size_t image_len, int32_t *state, s
  *   12        row_len is not the count of inputs
  */
 uint64_t rolvenko_clock(const uint8_t *text, size_t text_len, const int64_t *table, size_t table_len, int64_t utc, int32_t *row, size_t row_len);
+
+/* The licence charge of a trace. The variable `id` (names count from 0 in declared order, inputs first) is the licences held. `trace` has
+ * the states in turn, the start first, one number for each name; `minutes` one number for each state but the start. Each row charges its
+ * minutes of the licences held after it: those up to `threshold` at `rate`, only those above it at `rate_above`, in cents per
+ * licence-hour. A success is the exact sum in sixtieths of a cent, 60 * cents + sixtieths; it is below every refusal, and
+ * rolvenko_is_charge tells the two apart. Of a refusal, number and place are as above.
+ *   9, 11     as rolvenko_check
+ *   12        the trace has no start or its last state is cut (without names, trace_len 0 is the start alone)
+ *   28        id is no variable, its low or one of its values in the trace is negative, threshold is negative, a rate is outside
+ *             0..1,000,000, minutes are outside 0..1440 or not one for each row
+ *   29        the charge is over 9,007,199,254,740,991 cents
+ */
+uint64_t rolvenko_charge(const uint8_t *image, size_t image_len, size_t id, const int32_t *trace, size_t trace_len, const int32_t *minutes,
+                         size_t minutes_len, int32_t threshold, int32_t rate, int32_t rate_above);
+
+/* The parts of a charge: whether there is one, whole cents, and the remainder of 0 to 59 sixtieths. */
+static inline int rolvenko_is_charge(uint64_t answer) { return answer < (uint64_t)9 << 56; }
+static inline uint64_t rolvenko_cents(uint64_t answer) { return answer / 60; }
+static inline unsigned rolvenko_sixtieths(uint64_t answer) { return (unsigned)(answer % 60); }
 
 #ifdef __cplusplus
 }

@@ -1,8 +1,9 @@
 -- The answer of a service as one 64-bit number: the refusal's number · 2 ^ 56 + its place · 2 ^ 24 + a count. A success has number
--- and place 0. Assumes nothing.
+-- and place 0, but that of charge is its sum. Assumes nothing.
 use Prim.Native.Nat.{ℕ, _+_, _*_, _^_}
 use Rattle.limits.specs.Answer.{Answer, accepted, refused}
 use Rattle.scan.specs.Services.{AfterScan}
+use Rattle.charge.specs.Charge.{Charge}
 
 abbrev pub packed : ℕ → ℕ → ℕ → ℕ
 packed number place count = number * 2 ^ 56 + place * 2 ^ 24 + count
@@ -24,3 +25,8 @@ packedSteps (refused number place) steps = packed number place steps
 
 abbrev pub packedScan : AfterScan → ℕ
 packedScan r = packedSteps (r .answer) (r .steps)
+
+-- charge: the exact sum in sixtieths of a cent; a refusal has count 0. The two never meet (proofs: Charges)
+abbrev pub packedCharge : Answer Charge → ℕ
+packedCharge (accepted c) = 60 * c .cents + c .sixtieths
+packedCharge (refused number place) = packed number place 0

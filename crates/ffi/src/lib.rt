@@ -4,7 +4,8 @@ ghost use Prim.Native.Nat.{_<_, _^_};
 ghost use Rattle.bytecode.specs.Check.{checkOf};
 ghost use Rattle.scan.specs.Services.{startOf, scanOf};
 ghost use Rattle.clock.specs.Services.{fillOf};
-ghost use Rattle.ffi.specs.Packed.{packed, packedTranslation, packedCheck, packedScan};
+ghost use Rattle.charge.specs.Charge.{chargeOf};
+ghost use Rattle.ffi.specs.Packed.{packed, packedTranslation, packedCheck, packedScan, packedCharge};
 ghost use Rattle.translate.specs.Services.{translationOf};
 
 fn pack(number: u8, place: usize, count: u64) -> u64
@@ -65,5 +66,23 @@ pub extern "C" fn rolvenko_clock(text: &[u8], table: &[i64], utc: i64, row: &mut
     match clock::fill(text, table, utc, row) {
         clock::Filled::Done => 0,
         clock::Filled::Refused(number, place) => pack(number, place, 0),
+    }
+}
+
+#[no_mangle]
+pub extern "C" fn rolvenko_charge(
+    image: &[u8],
+    id: usize,
+    trace: &[i32],
+    minutes: &[i32],
+    threshold: i32,
+    rate: i32,
+    rate_above: i32,
+) -> u64
+    ensures { λ r. ⌜ r ≡ packedCharge (chargeOf (now (image .entry)) id (now (trace .entry)) (now (minutes .entry)) threshold rate «rate_above») ⌝ }
+{
+    match charge::charge(image, id, trace, minutes, threshold, rate, rate_above) {
+        charge::Charged::Sum(cents, sixtieths) => 60 * cents + sixtieths,
+        charge::Charged::Refused(number, place) => pack(number, place, 0),
     }
 }

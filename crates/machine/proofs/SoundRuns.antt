@@ -10,15 +10,12 @@ use Rattle.semantics.specs.Formula.{State}
 use Rattle.semantics.proofs.Reference.{length-known}
 use Rattle.bytecode.specs.Check.{Header, checkCode, atStart, checkBody, checkOf}
 use Rattle.bytecode.specs.Counting.{headerOf, codeOf}
-use Rattle.bytecode.proofs.Walk.{SoundImage, check-sound}
+use Rattle.bytecode.proofs.Walk.{check-sound}
+use Rattle.bytecode.proofs.SoundHeader.{header-is}
 use Rattle.machine.specs.Step.{machine}
 use Rattle.machine.specs.Runs.{Ran, run}
 use Rattle.machine.proofs.Refusals.{RefusedByRules, run-by-rules}
 use Rattle.machine.proofs.Ranges.{Within, AllWithin, run-within}
-
-pub header-is : (image : List ℕ) (y : SoundImage image) → headerOf image ≡ y .header
-unfolding headerOf
-header-is image y = rw (y .read)
 
 body-code : (image : List ℕ) (h : Header) → headerOf image ≡ h → checkBody image h ≡ accepted tt → checkCode (h .place) (codeOf image) (length (codeOf image)) 0 (atStart h) ≡ accepted tt
 unfolding checkBody codeOf

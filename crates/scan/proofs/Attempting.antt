@@ -21,7 +21,8 @@ use Rattle.attempt.specs.Attempts.{TriedCode, SoundCodeBy, AttemptWithin}
 use Rattle.scan.specs.Services.{scanOf}
 use Rattle.scan.specs.Internal.{scannedIn, scannedFrom}
 use Rattle.scan.specs.Attempts.{Tried, SoundRest, SoundFromBy}
-use Rattle.scan.proofs.Images.{sound-counts, scan-from}
+use Rattle.bytecode.proofs.SoundHeader.{sound-counts}
+use Rattle.scan.proofs.Images.{scan-from}
 
 -- ---- the code
 

@@ -21,7 +21,8 @@ use Rattle.machine.specs.Step.{Machine, machine}
 use Rattle.machine.specs.Names.{stateLength, rowLength, stateInRange, rowInRange}
 use Rattle.machine.proofs.Refusals.{RefusedByRules}
 use Rattle.machine.proofs.Ranges.{Within, AllWithin}
-use Rattle.machine.proofs.SoundRuns.{header-is, sound-by-rules, sound-within}
+use Rattle.bytecode.proofs.SoundHeader.{header-is}
+use Rattle.machine.proofs.SoundRuns.{sound-by-rules, sound-within}
 use Rattle.scan.specs.Services.{AfterScan, finished, runOf, scanCode, testedScan, scanOf}
 
 -- ---- refusals

@@ -6,7 +6,8 @@ use lib.ListN.{length}
 use Rattle.scan.proofs.Scanning.{within-more}
 use Rattle.bytecode.proofs.Walk.{check-sound}
 use Rattle.checker.specs.Results.{CheckedWithin, checkedAnswer}
-use Rattle.scan.proofs.Images.{counts-not-broken, SoundCounts, sound-counts, scan-refused, scan-wrong-state, scan-wrong-row, announced, scan-from}
+use Rattle.bytecode.proofs.SoundHeader.{counts-not-broken, SoundCounts, sound-counts}
+use Rattle.scan.proofs.Images.{scan-refused, scan-wrong-state, scan-wrong-row, announced, scan-from}
 use Rattle.bytecode.specs.Results.{countedAnswer, CountedWithin}
 use Rattle.bytecode.specs.Check.{checkOf}
 use Rattle.limits.specs.Answer.{accepted}

@@ -4,7 +4,8 @@ use native.Mathlib.Omega.{arith}
 use borrow.Author.Needs.{needs}
 use lib.ListN.{length}
 use Rattle.checker.specs.Results.{CheckedWithin, checkedAnswer}
-use Rattle.scan.proofs.Images.{counts-not-broken, SoundCounts, sound-counts, start-refused, start-wrong-length, start-done}
+use Rattle.bytecode.proofs.SoundHeader.{counts-not-broken, SoundCounts, sound-counts}
+use Rattle.scan.proofs.Images.{start-refused, start-wrong-length, start-done}
 use Rattle.bytecode.specs.Results.{countedAnswer, CountedWithin}
 use Rattle.bytecode.specs.Check.{checkOf}
 use Rattle.limits.specs.Answer.{accepted}
