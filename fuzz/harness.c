@@ -1,6 +1,7 @@
 /* libFuzzer's entry. The first byte of an input says what the rest is:
  *   T  an input of the trace program: a text, a line `#`, rows of decimals
  *   M  the same, but what follows `#` are changes of the image: triples of bytes, a place (two) and a value
+ *   C  a text, a line `#`, a line of a farm table's numbers, one of a UTC minute, one of a row
  *   I  a count k, k bytes that stand for numbers of states and rows, then an image
  * A byte of lower case does the same with lent memory at the start of its pages and not at their end. */
 #include "blocks.h"
@@ -42,23 +43,32 @@ static size_t before_mark(const uint8_t *data, size_t size, size_t *after) {
     return size;
 }
 
-/* The next row of decimals; numbers wrap, other bytes separate. */
-static size_t next_row(const uint8_t **at, const uint8_t *end, int32_t *row) {
-    size_t inputs = 0;
-    while (*at < end && **at != '\n' && inputs < CELLS_MOST - 1) {
+/* The next line of decimals; numbers wrap, other bytes separate. */
+static size_t next_line(const uint8_t **at, const uint8_t *end, int64_t *numbers) {
+    size_t count = 0;
+    while (*at < end && **at != '\n' && count < CELLS_MOST - 1) {
         int negative = **at == '-';
         *at += negative;
-        uint32_t value = 0;
+        uint64_t value = 0;
         const uint8_t *first = *at;
         while (*at < end && isdigit(**at))
-            value = value * 10 + (uint32_t)(*(*at)++ - '0');
+            value = value * 10 + (uint64_t)(*(*at)++ - '0');
         if (*at > first)
-            row[inputs++] = (int32_t)(negative ? 0 - value : value);
+            numbers[count++] = (int64_t)(negative ? 0 - value : value);
         else if (*at < end && **at != '\n')
             ++*at;
     }
     if (*at < end)
         ++*at;
+    return count;
+}
+
+/* The same as a row. */
+static size_t next_row(const uint8_t **at, const uint8_t *end, int32_t *row) {
+    int64_t numbers[CELLS_MOST];
+    size_t inputs = next_line(at, end, numbers);
+    for (size_t i = 0; i < inputs; i++)
+        row[i] = (int32_t)(uint32_t)numbers[i];
     return inputs;
 }
 
@@ -144,6 +154,21 @@ static void any_image(const uint8_t *data, size_t size) {
             promise(scan_twice(length, state, cells, row + rows, inputs).number != 18);
 }
 
+/* A row filled, as long as it stands there and as the text wants it; filled again it stays. */
+static void filled_rows(const uint8_t *text, size_t length, const uint8_t *at, const uint8_t *end) {
+    int64_t table[CELLS_MOST], utc[CELLS_MOST] = {0};
+    int32_t row[CELLS_MOST] = {0}, before[CELLS_MOST];
+    size_t numbers = next_line(&at, end, table);
+    next_line(&at, end, utc);
+    size_t cells = next_row(&at, end, row);
+    local_hour(text, length, table, numbers, utc[0], row, cells);
+    if (translated(text, length) > 0)
+        local_hour(text, length, table, numbers, utc[0], row, image[0]);
+    memcpy(before, row, sizeof row);
+    local_hour(text, length, table, numbers, utc[0], row, cells);
+    promise(memcmp(before, row, sizeof row) == 0);
+}
+
 int LLVMFuzzerTestOneInput(const uint8_t *data, size_t size) {
     if (size == 0 || size > TEXT_MOST)
         return 0;
@@ -157,6 +182,10 @@ int LLVMFuzzerTestOneInput(const uint8_t *data, size_t size) {
             scan_rows(length, data + 1 + after, data + size);
         else if (length > 0)
             changed_image(length, data + 1 + after, data + size);
+        return 0;
+    case 'C':
+        length = before_mark(data + 1, size - 1, &after);
+        filled_rows(data + 1, length, data + 1 + after, data + size);
         return 0;
     case 'I':
         any_image(data + 1, size - 1);

@@ -11,7 +11,7 @@
             abort();       \
     } while (0)
 
-static struct region text_pages, image_pages, room_pages, state_pages, row_pages;
+static struct region text_pages, image_pages, room_pages, state_pages, row_pages, table_pages;
 static enum side side;
 
 enum { FEATURES = 65536 };
@@ -23,6 +23,7 @@ void services_begin(void) {
     room_pages = region(IMAGE_MOST, WRITABLE);
     state_pages = region(CELLS_MOST * sizeof(int32_t), WRITABLE);
     row_pages = region(CELLS_MOST * sizeof(int32_t), READ_ONLY);
+    table_pages = region(CELLS_MOST * sizeof(int64_t), READ_ONLY);
 }
 
 void services_side(int at_end) { side = at_end ? AT_END : AT_START; }
@@ -156,5 +157,59 @@ struct parts scan(const uint8_t *image, size_t length, int32_t *state, size_t ce
     if (p.number == 0)
         PROMISE(equal(state, row, inputs * sizeof *row)); /* the row's inputs are the state's */
     feature(3, p, image, length);
+    return p;
+}
+
+static int table_within(const int64_t *table, size_t numbers) {
+    if (numbers % 2 != 0 || numbers < 2 || numbers > 64)
+        return 0;
+    for (size_t i = 0; i < numbers; i += 2)
+        if (table[i] < (i > 0 ? table[i - 2] + 1 : 0) || table[i] > INT32_MAX || table[i + 1] < -720 || table[i + 1] > 840)
+            return 0;
+    return 1;
+}
+
+/* A text that translate refuses is refused the same, with its answer t; else the table, the UTC minute and the length are tested. */
+static void clock_promises(struct parts t, struct parts p, int within, int64_t utc, int length) {
+    if (t.number == 0)
+        t.number = !within ? 19 : utc < 0 || utc > INT32_MAX ? 20 : !length ? 12 : 0;
+    PROMISE(p.number == t.number && p.place == t.place && p.count == 0);
+}
+
+/* At most three values have changed, each to the day, the minute, 0 or 1. */
+static void hour_promises(const int64_t *table, size_t numbers, int64_t utc, const int32_t *found, const int32_t *left, size_t cells) {
+    int64_t offset = table[1];
+    for (size_t i = 0; i < numbers && table[i] <= utc; i += 2)
+        offset = table[i + 1];
+    int64_t minute = (utc + offset + 1440) % 1440, day = (utc + offset - minute) / 1440;
+    int changed = 0;
+    for (size_t i = 0; i < cells; i++)
+        if (left[i] != found[i]) {
+            PROMISE(left[i] == day || left[i] == minute || left[i] == 0 || left[i] == 1);
+            changed++;
+        }
+    PROMISE(changed <= 3);
+}
+
+struct parts local_hour(const uint8_t *text, size_t length, const int64_t *table, size_t numbers, int64_t utc, int32_t *row, size_t cells) {
+    static uint8_t image[IMAGE_MOST];
+    struct parts t = translate(text, length, ROLVENKO_IMAGE_ROOM, image);
+    struct part lent = lend(text_pages, text, length);
+    struct part farm = lend(table_pages, table, numbers * sizeof *table);
+    struct part line = lend(state_pages, row, cells * sizeof *row);
+    struct parts p =
+        parts(rolvenko_clock(lent.lent, length, (const int64_t *)farm.lent, numbers, utc, (int32_t *)line.lent, cells));
+    part_intact(lent);
+    part_intact(farm);
+    part_intact(line);
+    PROMISE(equal(lent.own, text, length) && equal(farm.own, table, numbers * sizeof *table));
+    clock_promises(t, p, table_within(table, numbers), utc, t.number != 0 || cells == image[0]);
+    if (p.number != 0)
+        PROMISE(equal(line.own, row, cells * sizeof *row));
+    else
+        hour_promises(table, numbers, utc, row, (const int32_t *)line.own, cells);
+    if (cells > 0)
+        memcpy(row, line.own, cells * sizeof *row);
+    feature(4, p, text, length);
     return p;
 }

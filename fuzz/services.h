@@ -1,4 +1,4 @@
-/* The four services with what their contracts promise tested at each call; a broken promise aborts. */
+/* The services with what their contracts promise tested at each call; a broken promise aborts. */
 #ifndef SERVICES_H
 #define SERVICES_H
 
@@ -24,6 +24,8 @@ struct parts translate(const uint8_t *text, size_t length, size_t room, uint8_t 
 struct parts check(const uint8_t *image, size_t length);
 struct parts start(const uint8_t *image, size_t length, int32_t *state, size_t cells);
 struct parts scan(const uint8_t *image, size_t length, int32_t *state, size_t cells, const int32_t *row, size_t inputs);
+/* The farm clock; a farm table has at most CELLS_MOST numbers. */
+struct parts local_hour(const uint8_t *text, size_t length, const int64_t *table, size_t numbers, int64_t utc, int32_t *row, size_t cells);
 
 /* Tells libFuzzer which answer was met: number, the byte at its place, and the size of its count. */
 void feature(unsigned service, struct parts answer, const uint8_t *bytes, size_t length);

@@ -1,9 +1,11 @@
-//! Reference model of document 01, "Launch rules as formulas, images and traces".
+//! Reference model of document 01, "Launch rules as formulas, images and traces", and of
+//! request A.1 of document 02.
 //!
-//! Written from the document and its readings alone, in safe Rust with the
-//! standard library only. Comments in quotation marks are sentences of the document.
+//! Written from the documents and their readings alone, in safe Rust with the
+//! standard library only. Comments in quotation marks are sentences of the documents.
 
 pub mod check;
+pub mod clock;
 pub mod formula;
 pub mod generate;
 pub mod image;
@@ -16,6 +18,7 @@ pub mod token;
 pub mod trace;
 
 pub use check::{check, check_detail, Breach, Fault, Header, Range};
+pub use clock::clock;
 pub use formula::satisfies;
 pub use image::{instructions, write_image};
 pub use machine::{scan, start, ScanRefusal};
@@ -39,7 +42,8 @@ pub const BRACKETS: usize = 16;
 /// "never over 40 values held".
 pub const HELD: usize = 40;
 
-/// A refusal: its number in "Who can cause which refusal" and its byte place.
+/// A refusal: its number in "Who can cause which refusal", or in a request, and its byte
+/// place.
 #[derive(Clone, Copy, Debug, PartialEq, Eq)]
 pub struct Refusal {
     pub number: u8,

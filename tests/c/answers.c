@@ -74,6 +74,29 @@ static void starts_and_scans(void) {
     same("a refused scan", state, after, sizeof state);
 }
 
+static uint64_t clock_of(const char *text, const int64_t *table, size_t table_len, int64_t utc, int32_t *row, size_t row_len) {
+    return rolvenko_clock((const uint8_t *)text, strlen(text), table, table_len, utc, row, row_len);
+}
+
+/* The hour that comes again when the clocks go back from two hours to one; then every refusal. */
+static void clocks(void) {
+    static const char text[] = "input day 0..9; input go 0..1; input minute 0..1439; input again 0..1;";
+    static const int64_t table[4] = {0, 120, 1000, 60}, found[4] = {0, 120, 1000, 60};
+    int32_t row[5] = {7, 7, 7, 7, 7};
+    const int32_t first[5] = {0, 7, 1060, 0, 7}, second[5] = {0, 7, 1060, 1, 7};
+    expect("first pass", clock_of(text, table, 4, 940, row, 4), 0, 0, 0);
+    same("the first pass", row, first, sizeof row);
+    expect("second pass", clock_of(text, table, 4, 1000, row, 4), 0, 0, 0);
+    same("the second pass", row, second, sizeof row);
+    expect("clock of a faulty text", clock_of("var $", table, 0, -1, row, 5), 1, 4, 0);
+    expect("half an entry", clock_of(text, table, 3, -1, row, 5), 19, 0, 0);
+    expect("minute below 0", clock_of(text, table, 4, -1, row, 5), 20, 0, 0);
+    expect("minute over the limit", clock_of(text, table, 4, INT64_C(2147483648), row, 5), 20, 0, 0);
+    expect("clock row of a wrong length", clock_of(text, table, 4, 0, row, 5), 12, 0, 0);
+    same("a refused clock", row, second, sizeof row);
+    same("the farm table", table, found, sizeof table);
+}
+
 /* Lengths of 0, with a pointer to nothing and with none. */
 static void empty(void) {
     static const uint8_t none[] = {0, 0};
@@ -87,6 +110,11 @@ static void empty(void) {
     expect("no names, NULL", rolvenko_start(none, 2, NULL, 0), 0, 0, 0);
     expect("no inputs", rolvenko_scan(none, 2, &number, 0, &number, 0), 0, 0, 0);
     expect("no inputs, NULL", rolvenko_scan(none, 2, NULL, 0, NULL, 0), 0, 0, 0);
+    static const int64_t table[2] = {0, 60};
+    expect("no table", rolvenko_clock(&byte, 0, table, 0, 0, &number, 0), 19, 0, 0);
+    expect("no table, NULL", rolvenko_clock(NULL, 0, NULL, 0, 0, NULL, 0), 19, 0, 0);
+    expect("nothing to fill", rolvenko_clock(&byte, 0, table, 2, 0, &number, 0), 0, 0, 0);
+    expect("nothing to fill, NULL", rolvenko_clock(NULL, 0, table, 2, 0, NULL, 0), 0, 0, 0);
     if (byte != 9 || number != 9) {
         puts("an empty slice was written");
         failures++;
@@ -97,6 +125,7 @@ int main(void) {
     translations();
     checks();
     starts_and_scans();
+    clocks();
     empty();
     printf("%d failures\n", failures);
     return failures != 0;

@@ -12,6 +12,7 @@ enum { STACK = 1 << 18, FILL = 0xA5, BOUND = 98304 };
 static uint8_t text[16384], image[ROLVENKO_IMAGE_ROOM];
 static size_t text_len, image_len;
 static int32_t state[2], row[1];
+static int64_t table[64]; /* 32 entries, an hour more or less in turn */
 static uint64_t answer;
 
 static void *nothing(void *p) { return p; }
@@ -33,6 +34,11 @@ static void *start(void *p) {
 
 static void *scan(void *p) {
     answer = rolvenko_scan(image, image_len, state, 2, row, 1);
+    return p;
+}
+
+static void *local_hour(void *p) {
+    answer = rolvenko_clock(text, text_len, table, 64, 32000, row, 1);
     return p;
 }
 
@@ -85,21 +91,28 @@ static void measure(const char *name, void *(*call)(void *), size_t idle, size_t
 }
 
 int main(void) {
-    size_t idle = used(nothing), most[4] = {0};
+    size_t idle = used(nothing), most[5] = {0};
+    for (int i = 0; i < 32; i++) {
+        table[2 * i] = 1000 * i;
+        table[2 * i + 1] = i % 2 ? 60 : 120;
+    }
     for (int square = 0; square <= 16; square++) {
         nested(square);
         measure("translate", translate, idle, &most[0]);
         image_len = rolvenko_count(answer);
+        measure("clock", local_hour, idle, &most[4]);
         lengthen(2048);
         measure("translate", translate, idle, &most[0]);
+        measure("clock", local_hour, idle, &most[4]);
         lengthen(8193);
         measure("translate", translate, idle, &most[0]);
+        measure("clock", local_hour, idle, &most[4]);
         measure("check", check, idle, &most[1]);
         measure("start", start, idle, &most[2]);
         measure("scan", scan, idle, &most[3]);
     }
-    printf("stack, bytes at most: translate %zu, check %zu, start %zu, scan %zu\n", most[0], most[1], most[2], most[3]);
-    for (int i = 0; i < 4; i++)
+    printf("stack, bytes at most: translate %zu, check %zu, start %zu, scan %zu, clock %zu\n", most[0], most[1], most[2], most[3], most[4]);
+    for (int i = 0; i < 5; i++)
         if (most[i] > BOUND)
             return 1;
     return 0;

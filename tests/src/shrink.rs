@@ -36,17 +36,24 @@ pub fn smaller_bytes(bytes: &[u8]) -> Vec<Vec<u8>> {
 }
 
 /// A list of numbers with one left out, or made 0.
-pub fn smaller_numbers(numbers: &[i32]) -> Vec<Vec<i32>> {
+pub fn smaller_numbers<T: Copy + Default + PartialEq>(numbers: &[T]) -> Vec<Vec<T>> {
     let mut list = Vec::new();
     for at in 0..numbers.len() {
         list.push([&numbers[..at], &numbers[at + 1..]].concat());
-        if numbers[at] != 0 {
+        if numbers[at] != T::default() {
             let mut next = numbers.to_vec();
-            next[at] = 0;
+            next[at] = T::default();
             list.push(next);
         }
     }
     list
+}
+
+/// 0, then numbers nearer to 0 by a power of 2, the greatest step first.
+pub fn nearer_zero(number: i64) -> Vec<i64> {
+    let steps = (0..63).rev().map(|k| 1i64 << k).filter(|step| step.unsigned_abs() < number.unsigned_abs());
+    let nearer = steps.map(|step| number - step * number.signum());
+    [0].into_iter().filter(|&zero| zero != number).chain(nearer).collect()
 }
 
 /// An accepted text without one of its variables (declaration and formulas), or with a case less in both formulas of a rule.

@@ -13,7 +13,7 @@ pub const IMAGE_ROOM: usize = 49_154;
 /// Inputs and variables together.
 pub const NAMES: usize = 64;
 
-/// A refusal: its number in document 01 and its byte place (0 for 9 and 12).
+/// A refusal: its number in documents 01 and 02 and its byte place (0 for 9, 12, 19 and 20).
 #[derive(Clone, Copy, Debug, PartialEq, Eq)]
 pub struct Refusal {
     pub number: u8,
@@ -68,7 +68,9 @@ pub fn meaning(number: u8) -> &'static str {
         16 => "a case gives the previous value again",
         17 => "a new value is outside its range",
         18 => "a value of the state is outside its range",
-        _ => "no refusal of document 01",
+        19 => "the farm table breaks its limits",
+        20 => "the UTC minute is below 0 or over 2,147,483,647",
+        _ => "no refusal of these services",
     }
 }
 
@@ -88,6 +90,15 @@ mod archive {
             state: *mut i32,
             state_len: usize,
             row: *const i32,
+            row_len: usize,
+        ) -> u64;
+        pub fn rolvenko_clock(
+            text: *const u8,
+            text_len: usize,
+            table: *const i64,
+            table_len: usize,
+            utc: i64,
+            row: *mut i32,
             row_len: usize,
         ) -> u64;
     }
@@ -162,4 +173,29 @@ pub fn scan(image: &[u8], state: &mut [i32], row: &[i32]) -> Result<u32, ScanRef
             steps: count,
         })
     }
+}
+
+/// Fills a row with a farm's local time: the values of a text's inputs named `day`, `minute` and `again`; all others stay. `table` has
+/// 1 to 32 entries, the UTC minute (rising) and then the offset in minutes of each; `utc` counts minutes from 1 January 1970. A refusal
+/// (1 to 9, 19, 20, 12) leaves `row` as it was.
+///
+/// In the hour after the clocks go back from two hours to one, each local minute comes again:
+///
+/// ```
+/// let text = b"input go 0..1; input day 0..99999; input minute 0..1439; input again 0..1;";
+/// let autumn = [0, 120, 1000, 60];
+/// let mut row = [1, 0, 0, 0];
+/// rolvenko::clock(text, &autumn, 940, &mut row)?;
+/// assert_eq!(row, [1, 0, 1060, 0]);
+/// rolvenko::clock(text, &autumn, 1000, &mut row)?;
+/// assert_eq!(row, [1, 0, 1060, 1]);
+/// assert_eq!(rolvenko::clock(text, &[], 1000, &mut row).unwrap_err().number, 19);
+/// # Ok::<(), rolvenko::Refusal>(())
+/// ```
+pub fn clock(text: &[u8], table: &[i64], utc: i64, row: &mut [i32]) -> Result<(), Refusal> {
+    // The function reads `text_len` bytes at `text` and `table_len` numbers at `table`, and reads and writes `row_len` numbers at `row`.
+    let answer = unsafe {
+        archive::rolvenko_clock(text.as_ptr(), text.len(), table.as_ptr(), table.len(), utc, row.as_mut_ptr(), row.len())
+    };
+    counted(answer).map(|_| ())
 }

@@ -1,7 +1,8 @@
-//! Seeded generators of test inputs: texts, images, states and rows.
+//! Seeded generators of test inputs: texts, images, states, rows and farm tables.
 //!
 //! The same seed gives the same input on every machine.
 
+mod clock;
 mod images;
 mod limits;
 mod mutate;
@@ -9,6 +10,7 @@ mod states;
 mod text;
 mod values;
 
+pub use clock::{broken_table, clock_text, farm_table, mutated_clock_text, utc_minute};
 pub use images::{damaged_image, random_image, unsound_images, Unsound};
 pub use limits::{limit_texts, nested_condition, nested_expression, LimitText};
 pub use mutate::{mutate_bytes, mutate_tokens, mutated_text, random_bytes, token_soup};

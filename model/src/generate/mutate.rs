@@ -55,7 +55,12 @@ const TOKENS: [&str; 46] = [
 
 /// An accepted text after one to three edits of tokens, of bytes or of both.
 pub fn mutated_text(rng: &mut Rng, shape: Shape) -> Vec<u8> {
-    let mut tokens = text_tokens(rng, shape);
+    let tokens = text_tokens(rng, shape);
+    edited(rng, tokens)
+}
+
+/// The text of a list of tokens after such edits.
+pub(super) fn edited(rng: &mut Rng, mut tokens: Vec<Vec<u8>>) -> Vec<u8> {
     let kind = rng.below(3);
     let edits = 1 + rng.below(3);
     if kind != 1 {
