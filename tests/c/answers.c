@@ -144,6 +144,7 @@ static void charges(void) {
     owes("greatest charge", most, UINT64_C(9007199254740991), 59);
     most.trace[10]++;
     expect("a sixtieth more", charge_of(most, sizeof LICENCES), 29, 0, 0);
+    most.trace[4] = INT32_MAX;
     most.minutes[2] = 1441;
     expect("minutes before the sum", charge_of(most, sizeof LICENCES), 28, 0, 0);
 }
