@@ -2,6 +2,7 @@
  *   T  an input of the trace program: a text, a line `#`, rows of decimals
  *   M  the same, but what follows `#` are changes of the image: triples of bytes, a place (two) and a value
  *   C  a text, a line `#`, a line of a farm table's numbers, one of a UTC minute, one of a row
+ *   L  a text, a line `#`, a line of a variable's id, the threshold and the two rates, one of minutes, one of a trace's numbers
  *   I  a count k, k bytes that stand for numbers of states and rows, then an image
  * A byte of lower case does the same with lent memory at the start of its pages and not at their end. */
 #include "blocks.h"
@@ -169,6 +170,27 @@ static void filled_rows(const uint8_t *text, size_t length, const uint8_t *at, c
     promise(memcmp(before, row, sizeof row) == 0);
 }
 
+/* A charge of what stands there, and of its whole states with minutes for each row; the same again gives the same. */
+static void charged(const uint8_t *text, size_t length, const uint8_t *at, const uint8_t *end) {
+    int64_t prices[CELLS_MOST] = {0};
+    int32_t minutes[CELLS_MOST] = {0}, trace[CELLS_MOST] = {0};
+    size_t image_len = translated(text, length);
+    if (image_len == 0)
+        return;
+    next_line(&at, end, prices);
+    struct bill bill = {(size_t)prices[0], trace, 0, minutes, 0, (int32_t)prices[1], (int32_t)prices[2], (int32_t)prices[3]};
+    bill.minutes_len = next_row(&at, end, minutes);
+    bill.trace_len = next_row(&at, end, trace);
+    uint64_t answer = charge(image, image_len, bill);
+    promise(charge(image, image_len, bill) == answer);
+    size_t names = (size_t)image[0] + image[1], states = names > 0 ? bill.trace_len / names : 0;
+    if (states == 0)
+        return;
+    bill.trace_len = states * names;
+    bill.minutes_len = states - 1;
+    charge(image, image_len, bill);
+}
+
 int LLVMFuzzerTestOneInput(const uint8_t *data, size_t size) {
     if (size == 0 || size > TEXT_MOST)
         return 0;
@@ -186,6 +208,10 @@ int LLVMFuzzerTestOneInput(const uint8_t *data, size_t size) {
     case 'C':
         length = before_mark(data + 1, size - 1, &after);
         filled_rows(data + 1, length, data + 1 + after, data + size);
+        return 0;
+    case 'L':
+        length = before_mark(data + 1, size - 1, &after);
+        charged(data + 1, length, data + 1 + after, data + size);
         return 0;
     case 'I':
         any_image(data + 1, size - 1);

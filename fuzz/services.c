@@ -11,7 +11,7 @@
             abort();       \
     } while (0)
 
-static struct region text_pages, image_pages, room_pages, state_pages, row_pages, table_pages;
+static struct region text_pages, image_pages, room_pages, state_pages, row_pages, table_pages, trace_pages;
 static enum side side;
 
 enum { FEATURES = 65536 };
@@ -24,6 +24,7 @@ void services_begin(void) {
     state_pages = region(CELLS_MOST * sizeof(int32_t), WRITABLE);
     row_pages = region(CELLS_MOST * sizeof(int32_t), READ_ONLY);
     table_pages = region(CELLS_MOST * sizeof(int64_t), READ_ONLY);
+    trace_pages = region(CELLS_MOST * sizeof(int32_t), READ_ONLY);
 }
 
 void services_side(int at_end) { side = at_end ? AT_END : AT_START; }
@@ -212,4 +213,58 @@ struct parts local_hour(const uint8_t *text, size_t length, const int64_t *table
         memcpy(row, line.own, cells * sizeof *row);
     feature(4, p, text, length);
     return p;
+}
+
+/* Whether a name's low is negative: then its written number is odd. A number of the header ends at a byte below 128. */
+static int low_negative(const uint8_t *image, size_t id) {
+    size_t at = 2;
+    for (size_t numbers = 3 * id; numbers > 0; at++)
+        numbers -= image[at] < 128;
+    return image[at] % 2 == 1;
+}
+
+static int outside(int32_t number, int32_t most) { return number < 0 || number > most; }
+
+/* 28 but for rows and start: the variable and what does not stand in the trace. */
+static int price_refused(const uint8_t *image, struct bill b) {
+    return b.id < image[0] || b.id >= (size_t)image[0] + image[1] || low_negative(image, b.id) || b.threshold < 0 ||
+           outside(b.rate, 1000000) || outside(b.rate_above, 1000000);
+}
+
+/* The answer to a bill for a sound image. */
+static uint64_t charge_wanted(const uint8_t *image, struct bill b) {
+    const uint64_t refused = UINT64_C(28) << 56;
+    size_t names = (size_t)image[0] + image[1];
+    if (names == 0 ? b.trace_len > 0 : b.trace_len < names || b.trace_len % names > 0)
+        return UINT64_C(12) << 56;
+    if (price_refused(image, b) || b.minutes_len != b.trace_len / names - 1 || b.trace[b.id] < 0)
+        return refused;
+    unsigned __int128 sum = 0;
+    for (size_t row = 0; row < b.minutes_len; row++) {
+        int64_t held = b.trace[(row + 1) * names + b.id], up_to = held < b.threshold ? held : b.threshold;
+        if (held < 0 || outside(b.minutes[row], 1440))
+            return refused;
+        sum += (unsigned __int128)b.minutes[row] * (uint64_t)(up_to * b.rate + (held - up_to) * b.rate_above);
+    }
+    return sum / 60 > UINT64_C(9007199254740991) ? UINT64_C(29) << 56 : (uint64_t)sum;
+}
+
+uint64_t charge(const uint8_t *image, size_t length, struct bill b) {
+    struct parts c = check(image, length);
+    struct part lent = lend(image_pages, image, length);
+    struct part states = lend(trace_pages, b.trace, b.trace_len * sizeof *b.trace);
+    struct part lasts = lend(row_pages, b.minutes, b.minutes_len * sizeof *b.minutes);
+    uint64_t answer = rolvenko_charge(lent.lent, length, b.id, (const int32_t *)states.lent, b.trace_len, (const int32_t *)lasts.lent,
+                                      b.minutes_len, b.threshold, b.rate, b.rate_above);
+    part_intact(lent);
+    part_intact(states);
+    part_intact(lasts);
+    PROMISE(equal(lent.own, image, length) && equal(states.own, b.trace, b.trace_len * sizeof *b.trace));
+    PROMISE(equal(lasts.own, b.minutes, b.minutes_len * sizeof *b.minutes));
+    if (c.number != 0)
+        PROMISE(answer == ((uint64_t)c.number << 56 | (uint64_t)c.place << 24));
+    else
+        PROMISE(answer == charge_wanted(image, b));
+    feature(5, parts(answer), image, length);
+    return answer;
 }

@@ -27,6 +27,18 @@ struct parts scan(const uint8_t *image, size_t length, int32_t *state, size_t ce
 /* The farm clock; a farm table has at most CELLS_MOST numbers. */
 struct parts local_hour(const uint8_t *text, size_t length, const int64_t *table, size_t numbers, int64_t utc, int32_t *row, size_t cells);
 
+/* What is lent for a licence charge beside the image; trace and minutes have at most CELLS_MOST numbers each. */
+struct bill {
+    size_t id;
+    const int32_t *trace;
+    size_t trace_len;
+    const int32_t *minutes;
+    size_t minutes_len;
+    int32_t threshold, rate, rate_above;
+};
+/* The licence charge; its answer as a whole. */
+uint64_t charge(const uint8_t *image, size_t length, struct bill bill);
+
 /* Tells libFuzzer which answer was met: number, the byte at its place, and the size of its count. */
 void feature(unsigned service, struct parts answer, const uint8_t *bytes, size_t length);
 

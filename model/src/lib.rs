@@ -1,9 +1,10 @@
 //! Reference model of document 01, "Launch rules as formulas, images and traces", and of
-//! request A.1 of document 02.
+//! requests A.1 and A.12 of document 02.
 //!
 //! Written from the documents and their readings alone, in safe Rust with the
 //! standard library only. Comments in quotation marks are sentences of the documents.
 
+pub mod charge;
 pub mod check;
 pub mod clock;
 pub mod formula;
@@ -17,6 +18,7 @@ pub mod program;
 pub mod token;
 pub mod trace;
 
+pub use charge::{charge, Charge};
 pub use check::{check, check_detail, Breach, Fault, Header, Range};
 pub use clock::clock;
 pub use formula::satisfies;

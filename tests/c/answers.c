@@ -97,6 +97,98 @@ static void clocks(void) {
     same("the farm table", table, found, sizeof table);
 }
 
+/* What is lent for a licence charge beside the image. */
+struct bill {
+    size_t id;
+    int32_t trace[12];
+    size_t trace_len;
+    int32_t minutes[3];
+    size_t minutes_len;
+    int32_t threshold, rate, rate_above;
+};
+
+/* input i 0..9; var n 0..9 init 3; var z -1..1; n = i, z = 0 */
+static const uint8_t LICENCES[] = {1, 2, 0, 18, 0, 0, 18, 6, 1, 2, 0, 2, 0, 21, 1, 1, 0, 21, 2};
+
+/* A charge of `image_len` bytes of LICENCES; what is lent stays. */
+static uint64_t charge_of(struct bill bill, size_t image_len) {
+    struct bill lent = bill;
+    uint64_t answer = rolvenko_charge(LICENCES, image_len, lent.id, lent.trace, lent.trace_len, lent.minutes, lent.minutes_len,
+                                      lent.threshold, lent.rate, lent.rate_above);
+    same("a charge's trace", lent.trace, bill.trace, sizeof bill.trace);
+    same("a charge's minutes", lent.minutes, bill.minutes, sizeof bill.minutes);
+    return answer;
+}
+
+static void owes(const char *what, struct bill bill, uint64_t cents, unsigned sixtieths) {
+    uint64_t answer = charge_of(bill, sizeof LICENCES);
+    if (answer == 60 * cents + sixtieths)
+        return;
+    printf("%s: %llu\n", what, (unsigned long long)answer);
+    failures++;
+}
+
+/* Licences up to, at and above the threshold, the greatest charge, no row. */
+static void charges(void) {
+    struct bill bill = {1, {0, 3, 0, 5, 5, 0, 7, 7, 0}, 9, {60, 90}, 2, 6, 100, 250};
+    owes("one above the threshold", bill, 500 + 900 + 375, 0);
+    bill.threshold = 7;
+    owes("all up to the threshold", bill, 500 + 1050, 0);
+    bill.threshold = 0;
+    bill.minutes[1] = 1;
+    owes("all above the threshold", bill, 1250 + 29, 10);
+    bill.trace_len = 3;
+    bill.minutes_len = 0;
+    owes("the start alone", bill, 0, 0);
+    struct bill most = {1, {0, 0, 0, 0, 376299967, 0, 0, 1001363, 0, 0, 459519, 0}, 12, {1440, 1, 1}, 3, 1000000, 1, 1000000};
+    owes("greatest charge", most, UINT64_C(9007199254740991), 59);
+    most.trace[10]++;
+    expect("a sixtieth more", charge_of(most, sizeof LICENCES), 29, 0, 0);
+    most.trace[4] = INT32_MAX;
+    most.minutes[2] = 1441;
+    expect("minutes before the sum", charge_of(most, sizeof LICENCES), 28, 0, 0);
+}
+
+/* Every refusal of a charge; each bill has a fault that comes later too. */
+static void refused_charges(void) {
+    static uint8_t zeros[ROLVENKO_IMAGE_LIMIT + 1];
+    const struct bill good = {1, {0, 3, 0, 5, 5, 0, 7, 7, 0}, 9, {60, 90}, 2, 6, 100, 250};
+    struct bill bill = good;
+    expect("charge over the limit", rolvenko_charge(zeros, sizeof zeros, 1, good.trace, 8, good.minutes, 2, 6, 100, 250), 9, 0, 0);
+    bill.trace_len = 8;
+    expect("charge of an unsound image", charge_of(bill, sizeof LICENCES - 1), 11, sizeof LICENCES - 2, 0);
+    bill.threshold = -1;
+    expect("cut state", charge_of(bill, sizeof LICENCES), 12, 0, 0);
+    bill.trace_len = 0;
+    expect("no start", charge_of(bill, sizeof LICENCES), 12, 0, 0);
+    bill.trace_len = 9;
+    expect("threshold below 0", charge_of(bill, sizeof LICENCES), 28, 0, 0);
+    static const size_t ids[] = {0, 2, 3, SIZE_MAX};
+    for (size_t i = 0; i < sizeof ids / sizeof *ids; i++) {
+        bill = good;
+        bill.id = ids[i];
+        expect("no such variable", charge_of(bill, sizeof LICENCES), 28, 0, 0);
+    }
+    for (size_t at = 1; at < 9; at += 3) {
+        bill = good;
+        bill.trace[at] = -1;
+        expect("value below 0", charge_of(bill, sizeof LICENCES), 28, 0, 0);
+    }
+    static const int32_t out[][3] = {{-1, 0, 0}, {1000001, 0, 0}, {0, -1, 0}, {0, 1000001, 0}, {0, 0, -1}, {0, 0, 1441}};
+    for (size_t i = 0; i < sizeof out / sizeof *out; i++) {
+        bill = good;
+        bill.rate = out[i][0];
+        bill.rate_above = out[i][1];
+        bill.minutes[1] = out[i][2];
+        expect("rate or minutes out of limit", charge_of(bill, sizeof LICENCES), 28, 0, 0);
+    }
+    for (size_t count = 1; count <= 3; count += 2) {
+        bill = good;
+        bill.minutes_len = count;
+        expect("minutes not one a row", charge_of(bill, sizeof LICENCES), 28, 0, 0);
+    }
+}
+
 /* Lengths of 0, with a pointer to nothing and with none. */
 static void empty(void) {
     static const uint8_t none[] = {0, 0};
@@ -115,6 +207,9 @@ static void empty(void) {
     expect("no table, NULL", rolvenko_clock(NULL, 0, NULL, 0, 0, NULL, 0), 19, 0, 0);
     expect("nothing to fill", rolvenko_clock(&byte, 0, table, 2, 0, &number, 0), 0, 0, 0);
     expect("nothing to fill, NULL", rolvenko_clock(NULL, 0, table, 2, 0, NULL, 0), 0, 0, 0);
+    expect("charge without names", rolvenko_charge(none, 2, 0, &number, 0, &number, 0, 0, 0, 0), 28, 0, 0);
+    expect("charge without names, NULL", rolvenko_charge(none, 2, 0, NULL, 0, NULL, 0, 0, 0, 0), 28, 0, 0);
+    expect("a trace without names", rolvenko_charge(none, 2, 0, &number, 1, &number, 0, 0, 0, 0), 12, 0, 0);
     if (byte != 9 || number != 9) {
         puts("an empty slice was written");
         failures++;
@@ -126,6 +221,8 @@ int main(void) {
     checks();
     starts_and_scans();
     clocks();
+    charges();
+    refused_charges();
     empty();
     printf("%d failures\n", failures);
     return failures != 0;

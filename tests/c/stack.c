@@ -13,6 +13,7 @@ static uint8_t text[16384], image[ROLVENKO_IMAGE_ROOM];
 static size_t text_len, image_len;
 static int32_t state[2], row[1];
 static int64_t table[64]; /* 32 entries, an hour more or less in turn */
+static const int32_t trace[66], minutes[32]; /* a start and 32 rows */
 static uint64_t answer;
 
 static void *nothing(void *p) { return p; }
@@ -39,6 +40,11 @@ static void *scan(void *p) {
 
 static void *local_hour(void *p) {
     answer = rolvenko_clock(text, text_len, table, 64, 32000, row, 1);
+    return p;
+}
+
+static void *charge(void *p) {
+    answer = rolvenko_charge(image, image_len, 1, trace, 66, minutes, 32, 0, 1, 1);
     return p;
 }
 
@@ -91,7 +97,7 @@ static void measure(const char *name, void *(*call)(void *), size_t idle, size_t
 }
 
 int main(void) {
-    size_t idle = used(nothing), most[5] = {0};
+    size_t idle = used(nothing), most[6] = {0};
     for (int i = 0; i < 32; i++) {
         table[2 * i] = 1000 * i;
         table[2 * i + 1] = i % 2 ? 60 : 120;
@@ -110,9 +116,11 @@ int main(void) {
         measure("check", check, idle, &most[1]);
         measure("start", start, idle, &most[2]);
         measure("scan", scan, idle, &most[3]);
+        measure("charge", charge, idle, &most[5]);
     }
-    printf("stack, bytes at most: translate %zu, check %zu, start %zu, scan %zu, clock %zu\n", most[0], most[1], most[2], most[3], most[4]);
-    for (int i = 0; i < 5; i++)
+    printf("stack, bytes at most: translate %zu, check %zu, start %zu, scan %zu, clock %zu, charge %zu\n", most[0], most[1], most[2],
+           most[3], most[4], most[5]);
+    for (int i = 0; i < 6; i++)
         if (most[i] > BOUND)
             return 1;
     return 0;

@@ -6,7 +6,7 @@ use std::path::PathBuf;
 use std::time::{Duration, Instant};
 
 /// What can be compared, in this order.
-pub const SERVICES: [&str; 6] = ["translate", "check", "scan", "trace", "clock", "program"];
+pub const SERVICES: [&str; 7] = ["translate", "check", "scan", "trace", "clock", "charge", "program"];
 
 /// What the command line asks for.
 pub struct Options {

@@ -13,7 +13,7 @@ pub const IMAGE_ROOM: usize = 49_154;
 /// Inputs and variables together.
 pub const NAMES: usize = 64;
 
-/// A refusal: its number in documents 01 and 02 and its byte place (0 for 9, 12, 19 and 20).
+/// A refusal: its number in documents 01 and 02 and its byte place (0 for 9, 12, 19, 20, 28 and 29).
 #[derive(Clone, Copy, Debug, PartialEq, Eq)]
 pub struct Refusal {
     pub number: u8,
@@ -26,6 +26,13 @@ pub struct ScanRefusal {
     pub number: u8,
     pub place: usize,
     pub steps: u32,
+}
+
+/// A licence charge: whole cents, and 0 to 59 sixtieths of a cent.
+#[derive(Clone, Copy, Debug, PartialEq, Eq)]
+pub struct Charge {
+    pub cents: u64,
+    pub sixtieths: u8,
 }
 
 impl Display for Refusal {
@@ -61,7 +68,7 @@ pub fn meaning(number: u8) -> &'static str {
         9 => "the text or image is over its limit",
         10 => "the image buffer is too short",
         11 => "the image is not sound",
-        12 => "the state or row has the wrong length",
+        12 => "the state, row or trace has the wrong length",
         13 => "an input of the row is outside its range",
         14 => "a result outside 32 bits, or division by zero",
         15 => "two conditions of one rule hold",
@@ -70,6 +77,8 @@ pub fn meaning(number: u8) -> &'static str {
         18 => "a value of the state is outside its range",
         19 => "the farm table breaks its limits",
         20 => "the UTC minute is below 0 or over 2,147,483,647",
+        28 => "no variable that counts licences, or minutes, threshold or a rate out of limit",
+        29 => "the charge is over 9,007,199,254,740,991 cents",
         _ => "no refusal of these services",
     }
 }
@@ -100,6 +109,18 @@ mod archive {
             utc: i64,
             row: *mut i32,
             row_len: usize,
+        ) -> u64;
+        pub fn rolvenko_charge(
+            image: *const u8,
+            image_len: usize,
+            id: usize,
+            trace: *const i32,
+            trace_len: usize,
+            minutes: *const i32,
+            minutes_len: usize,
+            threshold: i32,
+            rate: i32,
+            rate_above: i32,
         ) -> u64;
     }
 }
@@ -198,4 +219,56 @@ pub fn clock(text: &[u8], table: &[i64], utc: i64, row: &mut [i32]) -> Result<()
         archive::rolvenko_clock(text.as_ptr(), text.len(), table.as_ptr(), table.len(), utc, row.as_mut_ptr(), row.len())
     };
     counted(answer).map(|_| ())
+}
+
+/// What a project owes for the licences that a trace shows. The variable `id` of an image counts the licences held; `trace` has the states
+/// in turn, one number for each name, first the start; `minutes` has one number for each row, 0 to 1440. Of the licences held after a
+/// row, those up to the threshold go at `rate`, those above it at `rate_above`, in cents per licence-hour, 0 to 1,000,000. Refusals:
+/// 9, 11, 12, 28, 29.
+///
+/// One minute of two licences, then two hours of five, of which two are above the threshold:
+///
+/// ```
+/// let text = b"input want 0..9; var held 0..9; held: GX(held = (want));";
+/// let mut image = [0; 64];
+/// let length = rolvenko::translate(text, &mut image)?;
+/// let image = &image[..length];
+/// let trace = [0, 0, 2, 2, 5, 5];
+/// let charge = rolvenko::charge(image, 1, &trace, &[1, 120], 3, 100, 250)?;
+/// assert_eq!(charge, rolvenko::Charge { cents: 1603, sixtieths: 20 });
+/// assert_eq!(rolvenko::charge(image, 0, &trace, &[1, 120], 3, 100, 250).unwrap_err().number, 28);
+/// # Ok::<(), rolvenko::Refusal>(())
+/// ```
+pub fn charge(
+    image: &[u8],
+    id: usize,
+    trace: &[i32],
+    minutes: &[i32],
+    threshold: i32,
+    rate: i32,
+    rate_above: i32,
+) -> Result<Charge, Refusal> {
+    // The function reads `image_len` bytes at `image`, `trace_len` numbers at `trace` and `minutes_len` at `minutes`, and writes nothing.
+    let answer = unsafe {
+        archive::rolvenko_charge(
+            image.as_ptr(),
+            image.len(),
+            id,
+            trace.as_ptr(),
+            trace.len(),
+            minutes.as_ptr(),
+            minutes.len(),
+            threshold,
+            rate,
+            rate_above,
+        )
+    };
+    // A success is the sum in sixtieths, below 9 · 2^56.
+    match parts(answer) {
+        Parts { number: 0..=8, .. } => Ok(Charge {
+            cents: answer / 60,
+            sixtieths: (answer % 60) as u8,
+        }),
+        Parts { number, place, .. } => Err(Refusal { number, place }),
+    }
 }

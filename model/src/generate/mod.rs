@@ -1,7 +1,8 @@
-//! Seeded generators of test inputs: texts, images, states, rows and farm tables.
+//! Seeded generators of test inputs: texts, images, states, rows, farm tables and bills.
 //!
 //! The same seed gives the same input on every machine.
 
+mod charge;
 mod clock;
 mod images;
 mod limits;
@@ -10,6 +11,9 @@ mod states;
 mod text;
 mod values;
 
+pub use charge::{
+    bill, bill_of, counters, found_trace, licence_image, limit_sum, mutate_bill, Bill, REFUSED_SUM,
+};
 pub use clock::{broken_table, clock_text, farm_table, mutated_clock_text, utc_minute};
 pub use images::{damaged_image, random_image, unsound_images, Unsound};
 pub use limits::{limit_texts, nested_condition, nested_expression, LimitText};
