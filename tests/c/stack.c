@@ -1,5 +1,5 @@
-/* Stack that each function takes at most, on texts with the deepest brackets and on their images: each call runs in a thread on a stack
- * of known contents. The proofs speak of a machine without a stack, so this is measured. */
+/* Stack that each function takes at most, on texts with the deepest brackets, of 2 names and of 64, and on their images: each call
+ * runs in a thread on a stack of known contents. The proofs speak of a machine without a stack, so this is measured. */
 #include "rolvenko.h"
 
 #include <pthread.h>
@@ -10,10 +10,10 @@
 enum { STACK = 1 << 18, FILL = 0xA5, BOUND = 98304 };
 
 static uint8_t text[16384], image[ROLVENKO_IMAGE_ROOM];
-static size_t text_len, image_len;
-static int32_t state[2], row[1];
+static size_t text_len, image_len, names;
+static int32_t state[64], row[63];
 static int64_t table[64]; /* 32 entries, an hour more or less in turn */
-static const int32_t trace[66], minutes[32]; /* a start and 32 rows */
+static const int32_t trace[33 * 64], minutes[32]; /* a start and 32 rows */
 static uint64_t answer;
 
 static void *nothing(void *p) { return p; }
@@ -29,22 +29,22 @@ static void *check(void *p) {
 }
 
 static void *start(void *p) {
-    answer = rolvenko_start(image, image_len, state, 2);
+    answer = rolvenko_start(image, image_len, state, names);
     return p;
 }
 
 static void *scan(void *p) {
-    answer = rolvenko_scan(image, image_len, state, 2, row, 1);
+    answer = rolvenko_scan(image, image_len, state, names, row, names - 1);
     return p;
 }
 
 static void *local_hour(void *p) {
-    answer = rolvenko_clock(text, text_len, table, 64, 32000, row, 1);
+    answer = rolvenko_clock(text, text_len, table, 64, 32000, row, names - 1);
     return p;
 }
 
 static void *charge(void *p) {
-    answer = rolvenko_charge(image, image_len, 1, trace, 66, minutes, 32, 0, 1, 1);
+    answer = rolvenko_charge(image, image_len, names - 1, trace, 33 * names, minutes, 32, 0, 1, 1);
     return p;
 }
 
@@ -64,9 +64,13 @@ static size_t used(void *(*call)(void *)) {
     return STACK - untouched;
 }
 
-/* A change rule with 16 brackets open at once, `square` of them of conditions, each with its `~` or `-` before it. */
-static void nested(int square) {
+/* A change rule with 16 brackets open at once, `square` of them of conditions, each with its `~` or `-` before it; so many names declared. */
+static void nested(int square, size_t declared) {
     char condition[160] = "";
+    names = declared;
+    text_len = 0;
+    for (size_t i = 1; i < declared; i++)
+        text_len += (size_t)snprintf((char *)text + text_len, sizeof text - text_len, "input i%zu 0..1;", i);
     for (int i = 0; i < 16; i++)
         strcat(condition, i < square ? "~[" : "-(");
     strcat(condition, "1");
@@ -75,13 +79,15 @@ static void nested(int square) {
     strcat(condition, "=_v");
     for (int i = square; i > 0; i--)
         strcat(condition, "]");
-    text_len = (size_t)snprintf((char *)text, sizeof text,
-                                "input i 0..1;var v 0..1;v:GX(~(v=_v)->[%s&_v=2]&v=(1-_v)|[_v=0]&v=(1));v:GX(v=_v->~([%s&_v=2]|[_v=0]));",
-                                condition, condition);
+    text_len += (size_t)snprintf((char *)text + text_len, sizeof text - text_len,
+                                 "var v 0..1;v:GX(~(v=_v)->[%s&_v=2]&v=(1-_v)|[_v=0]&v=(1));v:GX(v=_v->~([%s&_v=2]|[_v=0]));",
+                                 condition, condition);
 }
 
 /* The same rule in a longer text: over 1,024 bytes, and again over 8,192, translate takes larger scratch memory. */
 static void lengthen(size_t length) {
+    if (length <= text_len)
+        return;
     memset(text + text_len, ' ', length - text_len);
     text_len = length;
 }
@@ -102,22 +108,23 @@ int main(void) {
         table[2 * i] = 1000 * i;
         table[2 * i + 1] = i % 2 ? 60 : 120;
     }
-    for (int square = 0; square <= 16; square++) {
-        nested(square);
-        measure("translate", translate, idle, &most[0]);
-        image_len = rolvenko_count(answer);
-        measure("clock", local_hour, idle, &most[4]);
-        lengthen(2048);
-        measure("translate", translate, idle, &most[0]);
-        measure("clock", local_hour, idle, &most[4]);
-        lengthen(8193);
-        measure("translate", translate, idle, &most[0]);
-        measure("clock", local_hour, idle, &most[4]);
-        measure("check", check, idle, &most[1]);
-        measure("start", start, idle, &most[2]);
-        measure("scan", scan, idle, &most[3]);
-        measure("charge", charge, idle, &most[5]);
-    }
+    for (int square = 0; square <= 16; square++)
+        for (size_t declared = 2; declared <= 64; declared += 62) {
+            nested(square, declared);
+            measure("translate", translate, idle, &most[0]);
+            image_len = rolvenko_count(answer);
+            measure("clock", local_hour, idle, &most[4]);
+            lengthen(2048);
+            measure("translate", translate, idle, &most[0]);
+            measure("clock", local_hour, idle, &most[4]);
+            lengthen(8193);
+            measure("translate", translate, idle, &most[0]);
+            measure("clock", local_hour, idle, &most[4]);
+            measure("check", check, idle, &most[1]);
+            measure("start", start, idle, &most[2]);
+            measure("scan", scan, idle, &most[3]);
+            measure("charge", charge, idle, &most[5]);
+        }
     printf("stack, bytes at most: translate %zu, check %zu, start %zu, scan %zu, clock %zu, charge %zu\n", most[0], most[1], most[2],
            most[3], most[4], most[5]);
     for (int i = 0; i < 6; i++)
