@@ -77,7 +77,7 @@ pub fn meaning(number: u8) -> &'static str {
         18 => "a value of the state is outside its range",
         19 => "the farm table breaks its limits",
         20 => "the UTC minute is below 0 or over 2,147,483,647",
-        28 => "no variable that counts licences, or minutes, threshold or a rate out of limit",
+        28 => "no variable whose low and traced values are 0 or above, or a threshold, rate or minutes out of limit or not one a row",
         29 => "the charge is over 9,007,199,254,740,991 cents",
         _ => "no refusal of these services",
     }

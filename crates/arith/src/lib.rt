@@ -59,7 +59,7 @@ pub fn quotient(a: i32, b: i32) -> Value
     narrow(x / y)
 }
 
-// With the dividend's sign, and 0 by 0. -2147483648 mod -1 is 0: the quotient is not range-tested.
+// With the dividend's sign, and 0 for a zero divisor (A.5). -2147483648 mod -1 is 0: the quotient is not range-tested.
 pub fn remainder(a: i32, b: i32) -> Value
     ensures { λ r. ⌜ outcomeOf r ≡ arithmetic modulo a b ⌝ }
 {

@@ -51,7 +51,7 @@ abbrev pub firstOffset : List Entry → ℤ
 firstOffset [] = pos 0
 firstOffset (e ∷ t) = e .offset
 
--- the offset of the last entry whose minute is at most u; `held` where there is none
+-- the offset of the last entry whose minute is at most u (an entry holds from its own minute on); `held` where there is none
 unfoldable pub offsetFrom : ℤ → List Entry → ℤ → ℤ
 offsetFrom held [] u = held
 offsetFrom held (e ∷ t) u = offsetFrom (cond (leZ (e .minute) u) (e .offset) held) t u
