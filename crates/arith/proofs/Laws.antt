@@ -10,8 +10,8 @@ use lib.Signed.{mag, leZ, quotZ, remZ, natAbs-le, mag-rem}
 use borrow.Author.Tests.{leb-true, le-leb, le-ltb, ne-eqb, eq-eqb, eqb-true}
 use Rattle.limits.specs.Limits.{overflow}
 use Rattle.arith.specs.Values.{Outcome, ok, refusal, _>>=_, eqZ, isInt32, nonZero, remainder, divide, modulo, arithmetic}
-use Rattle.arith.proofs.Basics.{T-true, true-T, and-left, and-T}
-use mir.Syntax.{w32, w64}
+use Rattle.arith.proofs.Basics.{T-true, true-T, and-left, and-T, eqZ-true, eqZ-self}
+use mir.Syntax.{Width, w32, w64}
 use mir.Val.{SFits, toZ, ofZ}
 use mir.Facts.{toZ-ofZ, sfits-widen}
 
@@ -168,26 +168,16 @@ what-is-left (negsuc a) (negsuc b) = rw (take-back a (suc b * (suc a / suc b)) (
 pub remainder-is : (a b : ℤ) → (b ≡ pos 0 → ⊥) → remZ a b ≡ remainder a b
 remainder-is a b h = rw (not-zero b h) (what-is-left a b)
 
--- ---- equality of bits is equality of numbers
+-- ---- equality of bits is equality of numbers, at every width
 pub same-bool : (s t : Bool) → (s ≡ true → t ≡ true) → (t ≡ true → s ≡ true) → s ≡ t
 same-bool true t p q = sym (p refl)
 same-bool false true p q = q refl
 same-bool false false p q = refl
 
--- -(b + 1) has bits of its own
-apart : (a b : ℕ) → a < 2 ^ 31 → b < 2 ^ 31 → a ≡ 2 ^ 32 - suc b → ⊥
-apart a b f g e = omega arith
-
-one : (a b : ℕ) → a < 2 ^ 31 → b < 2 ^ 31 → 2 ^ 32 - suc a ≡ 2 ^ 32 - suc b → a ≡ b
-one a b f g e = omega arith
-
-pub eq-bits : (a b : ℤ) → SFits w32 a → SFits w32 b → eqb (ofZ w32 a) (ofZ w32 b) ≡ eqZ a b
-eq-bits (pos a) (pos b) f g = refl
-eq-bits (pos a) (negsuc b) f g = ne-eqb _ _ (apart a b (f .sfits) (g .sfits))
-eq-bits (negsuc a) (pos b) f g = ne-eqb _ _ (λ e. apart b a (g .sfits) (f .sfits) (sym e))
-eq-bits (negsuc a) (negsuc b) f g =
-    same-bool _ _ (λ e. eq-eqb a b (one a b (f .sfits) (g .sfits) (eqb-true _ _ e)))
-    (λ e. eq-eqb _ _ (ap (λ (n : ℕ). 2 ^ 32 - suc n) (eqb-true a b e)))
+pub eq-bits : {w : Width} (a b : ℤ) → SFits w a → SFits w b → eqb (ofZ w a) (ofZ w b) ≡ eqZ a b
+eq-bits {w} a b f g =
+    same-bool _ _ (λ e. ap (eqZ a) (sym (sym (toZ-ofZ f) ∙ (ap (toZ w) (eqb-true (ofZ w a) (ofZ w b) e) ∙ toZ-ofZ g))) ∙ eqZ-self a)
+    (λ e. eq-eqb _ _ (ap (ofZ w) (eqZ-true a b e)))
 
 -- what a comparison reads, and what a callee is handed: the number itself
 pub same32 : {a : ℤ} → SFits w32 a → toZ w32 (ofZ w32 a) ≡ a

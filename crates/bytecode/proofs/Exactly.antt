@@ -20,13 +20,10 @@ use Rattle.bytecode.specs.Check.{Sort, number, truth, Known, known, one,
 use Rattle.bytecode.specs.Counting.{headerOf, codeOf, counted, countFrom, instructionsIn}
 use Rattle.bytecode.specs.Internal.{leftBy, leftByAll, Allowed, Finished, RangesAt, Spells, SoundByPlace}
 use Rattle.bytecode.proofs.RoundTrip.{fetch-next}
-use Rattle.bytecode.proofs.Soundness.{none≢some, guard-some}
+use Rattle.bytecode.proofs.Soundness.{some-inj, none≢some, guard-some}
 use Rattle.bytecode.proofs.Walk.{check-sound, Stepped, check-stepped, check-ended}
 
 -- ---- one instruction
-
-pub some-inj : {A : Type 0} {a b : A} → some a ≡ some b → a ≡ b
-some-inj e = cc
 
 one-shape : (x : Sort) (vs : List Sort) (k : List Sort → Option Known) (d : Known) → one x vs k ≡ some d → (rest : List Sort) × (vs ≡ x ∷ rest) × (k rest ≡ some d)
 one-shape number [] k d e = none≢some d e

@@ -114,6 +114,9 @@ adv-rules (r ∷ rs) ids o d =
 
 -- ---- operands are small
 
+pub some-inj : {A : Type 0} {a b : A} → some a ≡ some b → a ≡ b
+some-inj e = cc
+
 pub none≢some : {A X : Type 0} (a : A) → none ≡ some a → X
 none≢some a e = let z : _≡_ {A = ℕ} 0 1 = cc in let f : ⊥ = omega arith in absurd f
 
@@ -157,9 +160,6 @@ module _ (ids : List Bool) (few : length ids ≤ 64) where
 
   set-ids : (i : Instruction) (vs : List Sort) (g : Bool) (o : Option ℕ) (v : ℕ) (d : Known) → Small i → known vs g o (set ids v true) ≡ d → Advanced i ids d
   set-ids i vs g o v d s e = record { small = s; same = ap (λ c. length (idsOf c)) (sym e) ∙ length-set ids v true }
-
-  some-inj : {a b : Known} → some a ≡ some b → a ≡ b
-  some-inj e = cc
 
   advanced : (i : Instruction) (vs : List Sort) (g : Bool) (o : Option ℕ) (d : Known) → advance i (known vs g o ids) ≡ some d → Advanced i ids d
   advanced (constant z) vs g o d e =

@@ -1,12 +1,12 @@
 -- The list of a change formula that was read, and a no-change list that agrees with it. Assumes nothing.
 use mathlib.Core.Path.{_≡_, refl, ap, sym, _∙_, subst}
 use mathlib.Core.List.{List, [], _∷_}
-use mathlib.Core.Option.{Option, none, some}
-use Prim.Native.Nat.{ℕ, zero, suc, _+_, _≤_, _<_}
+use mathlib.Core.Option.{some}
+use Prim.Native.Nat.{ℕ, zero, suc, _≤_, _<_}
 use native.Mathlib.Omega.{arith}
 use lib.ListN.{length, getD, getElem?}
-use Rattle.grammar.specs.Parsed.{Parsed, accepted}
-use Rattle.grammar.specs.Expressions.{Scope}
+use Rattle.bytecode.proofs.Soundness.{some-inj, none≢some}
+use Rattle.grammar.specs.Parsed.{accepted}
 use Rattle.grammar.specs.Rules.{Span, Spanned, Compared, agrees, casesOf, plainList, partsFrom, settled, agreeingList}
 use Rattle.grammar.specs.Internal.{Named, TokensIn}
 use Rattle.grammar.proofs.Shape.{conditionsOf}
@@ -19,12 +19,6 @@ use Rattle.agreement.specs.Spans.{spansIn, spansOf, Spans, SpansRead}
 use Rattle.cases.specs.Results.{placeOnly}
 use Rattle.cases.specs.Post.{ListKept}
 
-some-same : {A : Type 0} {a b : A} → some a ≡ some b → a ≡ b
-some-same e = cc
-
-none-some : {A : Type 0} {b : A} → none ≡ some b → ⊥
-none-some e = let z : _≡_ {A = ℕ} 0 1 = cc in omega arith
-
 -- the spans held, one by one
 span-held : (from upto : List ℕ) (n i : ℕ) → i < n → n ≤ length from → n ≤ length upto → getElem? (spansIn from upto n) i ≡ some (record { from = getD from i 0; to = getD upto i 0 })
 unfolding spansIn
@@ -36,9 +30,9 @@ span-held (f ∷ from) (u ∷ upto) (suc n) (suc i) h hf hu = span-held from upt
 
 -- each span of cases that were read holds just tokens
 span-read : (text : List ℕ) (cs : List Spanned) (ls : List (List ℕ)) → Listed text cs ls → (i : ℕ) (s : Span) → getElem? (spansOf cs) i ≡ some s → TokensIn text (s .from) (s .to)
-span-read text cs ls (last c ts h sp) zero s e = subst (λ (x : Span). TokensIn text (x .from) (x .to)) (some-same e) (record { tokens = ts; within = h; spells = sp })
-span-read text cs ls (last c ts h sp) (suc i) s e = absurd (none-some e)
-span-read text cs ls (next c ds ts us h sp r) zero s e = subst (λ (x : Span). TokensIn text (x .from) (x .to)) (some-same e) (record { tokens = ts; within = h; spells = sp })
+span-read text cs ls (last c ts h sp) zero s e = subst (λ (x : Span). TokensIn text (x .from) (x .to)) (some-inj e) (record { tokens = ts; within = h; spells = sp })
+span-read text cs ls (last c ts h sp) (suc i) s e = none≢some _ e
+span-read text cs ls (next c ds ts us h sp r) zero s e = subst (λ (x : Span). TokensIn text (x .from) (x .to)) (some-inj e) (record { tokens = ts; within = h; spells = sp })
 span-read text cs ls (next c ds ts us h sp r) (suc i) s e = span-read text ds us r i s e
 
 module _ (text starts ends : List ℕ) (names : Names) (d : Declared starts ends names) (good : Named (scopeOf text starts ends names .names)) (from upto : List ℕ) (count : ℕ) (sp : Spans text from upto count) (k : ListKept (scopeOf text starts ends names) from upto count) where

@@ -4,16 +4,13 @@ use mathlib.Core.Bool.{true, false}
 use mathlib.Core.List.{List}
 use Prim.Native.Nat.{ℕ, zero, suc, _+_, _*_, _-_, _/_, _^_, _≤_, _<_}
 use native.Mathlib.Omega.{arith}
-use lib.Dec.{eqb}
 use lib.IntN.{ℤ, pos, negsuc, negℤ, natAbs, _+ℤ_, _-ℤ_, _*ℤ_}
 use lib.Signed.{mag, ltZ, quotZ, natAbs-le}
-use borrow.Author.Tests.{ltb-true, le-ltb, eq-eqb, eqb-true}
+use borrow.Author.Tests.{ltb-true, le-ltb}
 use mir.Syntax.{w32, w64}
 use mir.Val.{SFits, toZ, ofZ}
 use mir.Facts.{toZ-ofZ}
-use Rattle.arith.specs.Values.{eqZ}
-use Rattle.arith.proofs.Basics.{eqZ-true, eqZ-self}
-use Rattle.arith.proofs.Laws.{same-bool, mag-add, mag-neg, mag-mul, cast64, widened}
+use Rattle.arith.proofs.Laws.{mag-add, mag-neg, mag-mul, cast64, widened}
 use Rattle.clock.specs.Clock.{Entry, offsetAt, localAt, dayOf, minuteOf}
 use Rattle.clock.specs.Internal.{Small}
 use Rattle.clock.proofs.Entries.{local-is, at-small}
@@ -24,12 +21,6 @@ same64 f = toZ-ofZ {w = w64} f
 
 abbrev held : ℤ → ℤ
 held z = toZ w64 (ofZ w64 z)
-
--- equality of bits is equality of numbers
-pub eq-bits64 : {a b : ℤ} → SFits w64 a → SFits w64 b → eqb (ofZ w64 a) (ofZ w64 b) ≡ eqZ a b
-eq-bits64 {a} {b} f g =
-    same-bool _ _ (λ e. ap (eqZ a) (sym (sym (same64 f) ∙ (ap (toZ w64) (eqb-true (ofZ w64 a) (ofZ w64 b) e) ∙ same64 g))) ∙ eqZ-self a)
-    (λ e. eq-eqb _ _ (ap (ofZ w64) (eqZ-true a b e)))
 
 fits64 : {z : ℤ} → mag z < 2 ^ 63 → SFits w64 z
 fits64 h = record { sfits = h }

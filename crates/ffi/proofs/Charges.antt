@@ -5,7 +5,7 @@ use Prim.Native.Nat.{ℕ, _*_, _^_, _≤_, _<_}
 use native.Mathlib.Omega.{arith}
 use lib.IntN.{ℤ}
 use Rattle.limits.specs.Answer.{accepted, refused}
-use Rattle.charge.proofs.CheckNumbers.{too-long, broken}
+use Rattle.bytecode.proofs.CheckNumbers.{too-long, broken}
 use Rattle.charge.specs.Charge.{Charge, chargeOf}
 use Rattle.charge.proofs.Laws.{charge-exact}
 use Rattle.charge.proofs.Refusals.{ChargeRefusal, of-check, wrong-trace, not-chargeable, too-large, charge-numbers}

@@ -22,7 +22,7 @@ use Rattle.bytecode.specs.Check.{Sort, Known, known, held, one, empty, unset, c
 use Rattle.bytecode.proofs.RoundTrip.{fetch-next}
 use Rattle.bytecode.proofs.Soundness.{none≢some, guard-some, one-some, idsOf, known-inside, advance-small, third}
 use Rattle.bytecode.proofs.Walk.{check-stepped}
-use Rattle.bytecode.proofs.Exactly.{some-inj}
+use Rattle.bytecode.proofs.Soundness.{some-inj}
 use Rattle.machine.specs.Step.{Machine, machine, bit, yes, push, pop, gated, settled, isPick, declared, perform, step}
 use Rattle.machine.specs.Runs.{afterStep, run}
 

@@ -7,8 +7,9 @@ use borrow.Author.Needs.{needs}
 use mir.Syntax.{w64}
 use mir.Val.{SFits, toZ, ofZ}
 use Rattle.arith.specs.Values.{eqZ}
+use Rattle.arith.proofs.Laws.{eq-bits}
 use Rattle.clock.specs.Clock.{entriesOf, offsetAt}
-use Rattle.clock.proofs.Held.{same64, eq-bits64, difference-fits}
+use Rattle.clock.proofs.Held.{same64, difference-fits}
 use Rattle.clock.proofs.local.repeats.Statement.{statement}
 use Rattle.clock.proofs.local.repeats.Tie as tie
 
@@ -28,7 +29,7 @@ returns c =
     let a = start .args in
     let h : ltZ (a .local -ℤ a .offset) (a .utc) ≡ true = rw (earlier start, same64 (start .fits .utc)) at (c .before .if1 .taken) in
     let q : c .offset-at .result ≡ offsetAt (entriesOf (a .table .now)) (a .local -ℤ a .offset) = c .offset-at .ensures ∙ ap (offsetAt (entriesOf (a .table .now))) (earlier start) in
-    rw h (eq-bits64 {a = c .offset-at .result} (record { sfits = c .offset-at .ok }) (start .fits .offset) ∙ ap (λ (x : ℤ). eqZ x (a .offset)) q)
+    rw h (eq-bits {w = w64} (c .offset-at .result) _ (record { sfits = c .offset-at .ok }) (start .fits .offset) ∙ ap (λ (x : ℤ). eqZ x (a .offset)) q)
 
 returns-2 : tie.Need-returns-2
 returns-2 c =
