@@ -1,5 +1,5 @@
 //! Reference model of document 01, "Launch rules as formulas, images and traces", and of
-//! requests A.1, A.5 and A.12 of document 02.
+//! requests A.1, A.5, A.10 and A.12 of document 02.
 //!
 //! Written from the documents and their readings alone, in safe Rust with the
 //! standard library only. Comments in quotation marks are sentences of the documents.
@@ -7,6 +7,7 @@
 pub mod charge;
 pub mod check;
 pub mod clock;
+pub mod closed;
 pub mod formula;
 pub mod generate;
 pub mod image;
@@ -21,6 +22,7 @@ pub mod trace;
 pub use charge::{charge, Charge};
 pub use check::{check, check_detail, Breach, Fault, Header, Range};
 pub use clock::clock;
+pub use closed::{closed, combination, write_combination, Combination, NotClosed};
 pub use formula::satisfies;
 pub use image::{instructions, write_image};
 pub use machine::{scan, start, ScanRefusal};

@@ -1,9 +1,11 @@
-//! Seeded generators of test inputs: texts, images, states, rows, farm tables and bills.
+//! Seeded generators of test inputs: texts, images, states, rows, farm tables, bills and
+//! small profiles.
 //!
 //! The same seed gives the same input on every machine.
 
 mod charge;
 mod clock;
+mod closed;
 mod images;
 mod limits;
 mod mutate;
@@ -15,6 +17,7 @@ pub use charge::{
     bill, bill_of, counters, found_trace, licence_image, limit_sum, mutate_bill, Bill, REFUSED_SUM,
 };
 pub use clock::{broken_table, clock_text, farm_table, mutated_clock_text, utc_minute};
+pub use closed::{limit_product, one_refused, profile_image, OneRefused};
 pub use images::{damaged_image, random_image, unsound_images, Unsound};
 pub use limits::{limit_texts, nested_condition, nested_expression, LimitText};
 pub use mutate::{mutate_bytes, mutate_tokens, mutated_text, random_bytes, token_soup};
