@@ -1,5 +1,5 @@
 //! Reference model of document 01, "Launch rules as formulas, images and traces", and of
-//! requests A.1, A.5, A.10 and A.12 of document 02.
+//! requests A.1, A.5, A.8, A.10 and A.12 of document 02.
 //!
 //! Written from the documents and their readings alone, in safe Rust with the
 //! standard library only. Comments in quotation marks are sentences of the documents.
@@ -11,6 +11,7 @@ pub mod closed;
 pub mod formula;
 pub mod generate;
 pub mod image;
+pub mod instalments;
 pub mod machine;
 pub mod number;
 pub mod parse;
@@ -25,6 +26,7 @@ pub use clock::clock;
 pub use closed::{closed, combination, write_combination, Combination, NotClosed};
 pub use formula::satisfies;
 pub use image::{instructions, write_image};
+pub use instalments::{Answer, Paused};
 pub use machine::{scan, start, ScanRefusal};
 pub use parse::parse;
 pub use plain::plain_scan;

@@ -15,7 +15,7 @@ pub struct ScanRefusal {
 }
 
 impl ScanRefusal {
-    fn before_code(number: u8) -> ScanRefusal {
+    pub(crate) fn before_code(number: u8) -> ScanRefusal {
         ScanRefusal {
             number,
             place: 0,
@@ -23,7 +23,7 @@ impl ScanRefusal {
         }
     }
 
-    fn unsound(fault: Fault) -> ScanRefusal {
+    pub(crate) fn unsound(fault: Fault) -> ScanRefusal {
         let Refusal { number, place } = fault.refusal();
         ScanRefusal {
             number,

@@ -1,5 +1,5 @@
-//! Seeded generators of test inputs: texts, images, states, rows, farm tables, bills and
-//! small profiles.
+//! Seeded generators of test inputs: texts, images, states, rows, farm tables, bills,
+//! small profiles and lists of calls.
 //!
 //! The same seed gives the same input on every machine.
 
@@ -7,6 +7,7 @@ mod charge;
 mod clock;
 mod closed;
 mod images;
+mod instalments;
 mod limits;
 mod mutate;
 mod states;
@@ -19,6 +20,9 @@ pub use charge::{
 pub use clock::{broken_table, clock_text, farm_table, mutated_clock_text, utc_minute};
 pub use closed::{limit_product, one_refused, profile_image, OneRefused};
 pub use images::{damaged_image, random_image, unsound_images, Unsound};
+pub use instalments::{
+    alphabet, broken, call_list, closure, small_images, Call, Closure, SmallImage,
+};
 pub use limits::{limit_texts, nested_condition, nested_expression, LimitText};
 pub use mutate::{mutate_bytes, mutate_tokens, mutated_text, random_bytes, token_soup};
 pub use states::{any_number, row, row_in_range, state, state_in_range, trace_input};
