@@ -39,6 +39,11 @@ struct Begun {
 }
 
 impl Paused {
+    /// Whether there is a scan that is not over.
+    pub fn in_progress(&self) -> bool {
+        self.scan.is_some()
+    }
+
     /// "At any time a row may be posted: it waits for the next scan, a later one replaces
     /// it, and it has no effect on the scan in progress. Posting is lent the image and
     /// tests 9, 11, then 12 for the row; a refused one replaces nothing."

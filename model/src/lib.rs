@@ -1,5 +1,5 @@
 //! Reference model of document 01, "Launch rules as formulas, images and traces", and of
-//! requests A.1, A.5, A.8, A.10 and A.12 of document 02.
+//! requests A.1, A.5, A.8, A.9, A.10 and A.12 of document 02.
 //!
 //! Written from the documents and their readings alone, in safe Rust with the
 //! standard library only. Comments in quotation marks are sentences of the documents.
@@ -17,6 +17,7 @@ pub mod number;
 pub mod parse;
 pub mod plain;
 pub mod program;
+pub mod rounds;
 pub mod token;
 pub mod trace;
 
@@ -31,6 +32,7 @@ pub use machine::{scan, start, ScanRefusal};
 pub use parse::parse;
 pub use plain::plain_scan;
 pub use program::Program;
+pub use rounds::{round, visit, RuleSet};
 pub use trace::trace;
 
 /// "At most 32,768 bytes" of text.

@@ -1,5 +1,5 @@
 //! Seeded generators of test inputs: texts, images, states, rows, farm tables, bills,
-//! small profiles and lists of calls.
+//! small profiles, lists of calls and rule sets of one controller.
 //!
 //! The same seed gives the same input on every machine.
 
@@ -10,6 +10,7 @@ mod images;
 mod instalments;
 mod limits;
 mod mutate;
+mod rounds;
 mod states;
 mod text;
 mod values;
@@ -25,6 +26,7 @@ pub use instalments::{
 };
 pub use limits::{limit_texts, nested_condition, nested_expression, LimitText};
 pub use mutate::{mutate_bytes, mutate_tokens, mutated_text, random_bytes, token_soup};
+pub use rounds::{event, farm, rule_set, Event, Outcome};
 pub use states::{any_number, row, row_in_range, state, state_in_range, trace_input};
 pub use text::{render, text, text_tokens, Shape};
 
