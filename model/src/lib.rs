@@ -1,5 +1,5 @@
 //! Reference model of document 01, "Launch rules as formulas, images and traces", and of
-//! requests A.1, A.5, A.8, A.9, A.10 and A.12 of document 02.
+//! requests A.1, A.4, A.5, A.8, A.9, A.10 and A.12 of document 02.
 //!
 //! Written from the documents and their readings alone, in safe Rust with the
 //! standard library only. Comments in quotation marks are sentences of the documents.
@@ -18,6 +18,8 @@ pub mod parse;
 pub mod plain;
 pub mod program;
 pub mod rounds;
+pub mod st;
+pub mod structured_text;
 pub mod token;
 pub mod trace;
 
@@ -33,6 +35,7 @@ pub use parse::parse;
 pub use plain::plain_scan;
 pub use program::Program;
 pub use rounds::{round, visit, RuleSet};
+pub use structured_text::{structured_text, write_structured_text};
 pub use trace::trace;
 
 /// "At most 32,768 bytes" of text.

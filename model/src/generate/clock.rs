@@ -58,7 +58,7 @@ fn clock_tokens(rng: &mut Rng) -> Vec<Vec<u8>> {
 
 /// Gives a declared name, one that is not filled yet, this spelling wherever it stands,
 /// unless another has it.
-fn rename(rng: &mut Rng, tokens: &mut [Vec<u8>], spelling: &[u8]) {
+pub(super) fn rename(rng: &mut Rng, tokens: &mut [Vec<u8>], spelling: &[u8]) {
     let mut declared: Vec<Vec<u8>> = tokens
         .windows(2)
         .filter(|pair| pair[0] == b"input" || pair[0] == b"var")

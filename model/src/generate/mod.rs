@@ -12,6 +12,7 @@ mod limits;
 mod mutate;
 mod rounds;
 mod states;
+mod structured_text;
 mod text;
 mod values;
 
@@ -28,6 +29,7 @@ pub use limits::{limit_texts, nested_condition, nested_expression, LimitText};
 pub use mutate::{mutate_bytes, mutate_tokens, mutated_text, random_bytes, token_soup};
 pub use rounds::{event, farm, rule_set, Event, Outcome};
 pub use states::{any_number, row, row_in_range, state, state_in_range, trace_input};
+pub use structured_text::{edited_st_source, st_source, Names};
 pub use text::{render, text, text_tokens, Shape};
 
 use crate::Refusal;
