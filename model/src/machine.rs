@@ -7,7 +7,7 @@ use crate::{Refusal, HELD, NAMES};
 
 /// A refused scan: its number, its place (0 but for 11) and "the steps up to and
 /// including the refusing instruction, 0 before the code".
-#[derive(Clone, Copy, Debug, PartialEq, Eq)]
+#[derive(Clone, Copy, Debug, PartialEq, Eq, Hash)]
 pub struct ScanRefusal {
     pub number: u8,
     pub place: usize,

@@ -95,6 +95,7 @@ fn waiting<'c>(log: &Log<'c>) -> Option<&'c [i32]> {
 }
 
 /// A scan in progress, worked undivided.
+#[derive(Clone, PartialEq, Eq, Hash)]
 struct Undivided {
     found: Vec<i32>,
     left: Vec<i32>,
@@ -143,7 +144,7 @@ fn closures() {
     let mut all = (0, 0, 0);
     for small in small_images() {
         let calls = alphabet(&small);
-        let met = closure(Paused::default(), &calls, one_more);
+        let met = closure(Place::default(), &calls, one_more);
         let met = met.unwrap_or_else(|difference| panic!("{}: {difference:?}", small.label));
         println!("{}: {met:?}", small.label);
         all = (all.0 + met.places, all.1 + met.calls, met.depth.max(all.2));
@@ -152,17 +153,32 @@ fn closures() {
     assert_eq!(all, (662, 12_382, 8));
 }
 
+/// What the model has after a list of calls, and what the list itself says: all that
+/// answers to later calls rest on, of both.
+#[derive(Clone, Default, PartialEq, Eq, Hash)]
+struct Place {
+    paused: Paused,
+    waiting: Option<Vec<i32>>,
+    scan: Option<Undivided>,
+}
+
 /// Makes the last call of a list at the place that the others lead to.
-fn one_more(place: &Paused, list: &[&Call]) -> Result<Paused, String> {
+fn one_more(place: &Place, list: &[&Call]) -> Result<Place, String> {
     let (&call, before) = list.split_last().expect("a call");
     let mut log = Vec::new();
     for &call in before {
         let (answer, _) = by_history(&log, call);
         log.push((call, answer));
     }
-    let mut after = place.clone();
-    let found = call.by_model(&mut after);
+    let mut paused = place.paused.clone();
+    let found = call.by_model(&mut paused);
     let wanted = by_history(&log, call);
+    log.push((call, wanted.0));
+    let after = Place {
+        paused,
+        waiting: waiting(&log).map(<[i32]>::to_vec),
+        scan: Undivided::last(&log),
+    };
     // "answers unfinished", "answer idle; then nothing moves"; after 24 "the scan still
     // awaits its finish"; "with 0 steps nothing moves".
     let stays = match found.0 {

@@ -316,6 +316,20 @@ fn as_the_scan() {
     assert!(accepted > 5000 && changed > 2000, "{accepted} {changed}");
 }
 
+/// The standard takes names in two letter cases as one, and so the ST of a text that
+/// request A.2 will refuse is no unit.
+#[test]
+fn letter_case() {
+    for text in [
+        "input v 0..1; input V 0..1;",
+        "input Var 0..1;",
+        "input MOD 0..1;",
+    ] {
+        let program = read_text(text.as_bytes()).expect("accepted without A.2");
+        assert_eq!(read(write_structured_text(&program).as_bytes()), None);
+    }
+}
+
 /// The cases of the folder, rows in turn from the start.
 #[test]
 fn cases_with_random_rows() {

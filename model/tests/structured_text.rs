@@ -176,6 +176,6 @@ fn answers_by_seed() {
         met[usize::from(answer.map_or_else(|r| r.number, |_| 0))] += 1;
     }
     for wanted in [0, 1, 2, 3, 4, 5, 6, 7, 8, 10, 21] {
-        assert!(met[wanted] > 1, "{wanted}: {met:?}");
+        assert!(met[wanted] > 0, "{wanted}: {met:?}");
     }
 }

@@ -156,9 +156,10 @@ pub struct Closure {
 }
 
 /// Every list of these calls, of any length: each call is made at each place met, until
-/// none is new. `next` makes the last of a list of calls, at the place that the others
-/// lead to, and answers the place after it. A difference that it finds is answered with
-/// its list, a shortest one.
+/// none is new. A place holds all that later answers rest on, of both sides of a
+/// comparison. `next` makes the last of a list of calls, at the place that the others lead
+/// to, and answers the place after it. A difference that it finds is answered with its
+/// list, a shortest one.
 pub fn closure<P: Clone + Eq + Hash, C, D>(
     first: P,
     calls: &[C],

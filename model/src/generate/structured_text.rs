@@ -49,9 +49,14 @@ fn source_tokens(rng: &mut Rng, names: Names) -> Vec<Vec<u8>> {
         _ => Shape::any(rng),
     };
     let mut tokens = text_tokens(rng, shape);
+    let reserved = match names {
+        Names::Any => *rng.choose(&[0, 0, 0, 1, 1, 2, 3]),
+        Names::Readable => 0,
+    };
     if names == Names::Readable {
         number_names(&mut tokens);
-    } else if rng.chance(30) {
+    }
+    for _ in 0..reserved {
         let name = *rng.choose(&RESERVED);
         rename(rng, &mut tokens, name.as_bytes());
     }
