@@ -144,37 +144,41 @@ fn closures() {
     let mut all = (0, 0, 0);
     for small in small_images() {
         let calls = alphabet(&small);
-        let met = closure(Place::default(), &calls, one_more);
+        let met = closure(Situation::default(), &calls, one_more);
         let met = met.unwrap_or_else(|difference| panic!("{}: {difference:?}", small.label));
         println!("{}: {met:?}", small.label);
-        all = (all.0 + met.places, all.1 + met.calls, met.depth.max(all.2));
+        all = (
+            all.0 + met.situations,
+            all.1 + met.calls,
+            met.depth.max(all.2),
+        );
     }
-    println!("places, calls, depth: {all:?}");
+    println!("situations, calls, depth: {all:?}");
     assert_eq!(all, (662, 12_382, 8));
 }
 
 /// What the model has after a list of calls, and what the list itself says: all that
 /// answers to later calls rest on, of both.
 #[derive(Clone, Default, PartialEq, Eq, Hash)]
-struct Place {
+struct Situation {
     paused: Paused,
     waiting: Option<Vec<i32>>,
     scan: Option<Undivided>,
 }
 
-/// Makes the last call of a list at the place that the others lead to.
-fn one_more(place: &Place, list: &[&Call]) -> Result<Place, String> {
-    let (&call, before) = list.split_last().expect("a call");
+/// Makes the last call of a list in the situation that the others lead to.
+fn one_more(before: &Situation, list: &[&Call]) -> Result<Situation, String> {
+    let (&call, earlier) = list.split_last().expect("a call");
     let mut log = Vec::new();
-    for &call in before {
+    for &call in earlier {
         let (answer, _) = by_history(&log, call);
         log.push((call, answer));
     }
-    let mut paused = place.paused.clone();
+    let mut paused = before.paused.clone();
     let found = call.by_model(&mut paused);
     let wanted = by_history(&log, call);
     log.push((call, wanted.0));
-    let after = Place {
+    let after = Situation {
         paused,
         waiting: waiting(&log).map(<[i32]>::to_vec),
         scan: Undivided::last(&log),
@@ -185,7 +189,7 @@ fn one_more(place: &Place, list: &[&Call]) -> Result<Place, String> {
         Err(refusal) => [IDLE, UNFINISHED, 24].contains(&refusal.number),
         Ok(steps) => steps == 0 && matches!(call, Call::Advance { .. }),
     };
-    match found == wanted && (!stays || after == *place) {
+    match found == wanted && (!stays || after == *before) {
         true => Ok(after),
         false => Err(format!("{found:?} wanted {wanted:?}")),
     }

@@ -253,11 +253,11 @@ fn closures_of_two() {
         let [first, mut second] = sets;
         second.share = 3;
         let events = small_events(&[&a, &b]);
-        let met = closure([first, second], &events, |place, list| {
+        let met = closure([first, second], &events, |before, list| {
             let event = list.last().expect("an event");
-            let mut sets = place.clone();
+            let mut sets = before.clone();
             let found = event.by_model(&mut sets);
-            let mut alone = place.clone();
+            let mut alone = before.clone();
             let wanted = match event {
                 Event::Round => Outcome::Visited(Ok(alone.each_mut().map(|s| s.visit()).to_vec())),
                 event => event.by_model(&mut alone),
@@ -268,7 +268,11 @@ fn closures_of_two() {
             }
         });
         let met = met.expect("no difference");
-        all = (all.0 + met.places, all.1 + met.calls, met.depth.max(all.2));
+        all = (
+            all.0 + met.situations,
+            all.1 + met.calls,
+            met.depth.max(all.2),
+        );
     }
     assert_eq!(all, (15_396, 122_616, 40));
 }

@@ -149,16 +149,16 @@ pub fn alphabet(small: &SmallImage) -> Vec<Call> {
 /// What a closure met.
 #[derive(Clone, Copy, Debug, PartialEq, Eq)]
 pub struct Closure {
-    pub places: usize,
+    pub situations: usize,
     pub calls: usize,
-    /// Calls of the longest list that was needed to meet a place first.
+    /// Calls of the longest list that was needed to meet a situation first.
     pub depth: usize,
 }
 
-/// Every list of these calls, of any length: each call is made at each place met, until
-/// none is new. A place holds all that later answers rest on, of both sides of a
-/// comparison. `next` makes the last of a list of calls, at the place that the others lead
-/// to, and answers the place after it. A difference that it finds is answered with its
+/// Every list of these calls, of any length: each call is made in each situation met, until
+/// none is new. A situation holds all that later answers rest on, of both sides of a
+/// comparison. `next` makes the last of a list of calls, in the situation that the others lead
+/// to, and answers the situation after it. A difference that it finds is answered with its
 /// list, a shortest one.
 pub fn closure<P: Clone + Eq + Hash, C, D>(
     first: P,
@@ -166,29 +166,29 @@ pub fn closure<P: Clone + Eq + Hash, C, D>(
     mut next: impl FnMut(&P, &[&C]) -> Result<P, D>,
 ) -> Result<Closure, (D, Vec<usize>)> {
     let mut met = HashSet::from([first.clone()]);
-    let mut places: Vec<(P, Vec<usize>)> = vec![(first, Vec::new())];
+    let mut situations: Vec<(P, Vec<usize>)> = vec![(first, Vec::new())];
     let mut at = 0;
     let mut made = 0;
-    while at < places.len() {
+    while at < situations.len() {
         for index in 0..calls.len() {
-            let (place, path) = &places[at];
+            let (situation, path) = &situations[at];
             let path: Vec<usize> = path.iter().copied().chain([index]).collect();
             let list: Vec<&C> = path.iter().map(|&index| &calls[index]).collect();
-            let after = match next(place, &list) {
+            let after = match next(situation, &list) {
                 Ok(after) => after,
                 Err(difference) => return Err((difference, path)),
             };
             made += 1;
             if met.insert(after.clone()) {
-                places.push((after, path));
+                situations.push((after, path));
             }
         }
         at += 1;
     }
     Ok(Closure {
-        places: places.len(),
+        situations: situations.len(),
         calls: made,
-        depth: places.last().map_or(0, |(_, path)| path.len()),
+        depth: situations.last().map_or(0, |(_, path)| path.len()),
     })
 }
 
