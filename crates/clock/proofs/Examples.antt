@@ -40,11 +40,11 @@ tested (at l u day minute again ∷ es) t =
     )
 
 -- the clock goes forward on 31 March 2024 and back from 3:00 to 2:00 on 27 October
-abbrev berlin : List ℤ
+abbrev pub berlin : List ℤ
 berlin = pos 28530780 ∷ pos 120 ∷ pos 28833180 ∷ pos 60 ∷ []
 
 -- back by 26 hours at minute 1
-abbrev dateline : List ℤ
+abbrev pub dateline : List ℤ
 dateline = pos 0 ∷ pos 840 ∷ pos 1 ∷ negsuc 719 ∷ []
 
 abbrev twice : List ℤ

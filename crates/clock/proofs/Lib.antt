@@ -4,3 +4,4 @@ pub mod Repeated
 pub mod Held
 pub mod Service
 pub mod Examples
+pub mod Fillings

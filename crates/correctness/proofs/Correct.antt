@@ -27,6 +27,7 @@ use Rattle.machine.proofs.Laws.{run-steps}
 use Rattle.machine.proofs.Ranges.{currentOf}
 use Rattle.machine.proofs.Translated.{exec-rules, run-exec}
 use Rattle.grammar.proofs.Accepted.{program-translatable}
+use Rattle.grammar.proofs.ConverseText.{accepted-exactly}
 use Rattle.translate.specs.Services.{translationOf}
 use Rattle.scan.specs.Services.{AfterStart, startOf, started, AfterScan, finished, runOf, scanCode, testedScan, scanned, scanOf}
 use Rattle.translate.proofs.Kept.{image-stored, stored-image}
@@ -151,5 +152,6 @@ trace-correct text buffer n e lent rows =
     record {
       program = x .program;
       parsed = x .parsed;
+      spelled = accepted-exactly .accepted-spelled text (x .program) (x .parsed);
       correct = λ l. rw (stored-image text buffer n x) (image-correct (x .program) (program-translatable text (x .program) (x .parsed)) lent (l ∙ sym (length-map (x .program .names) (λ n. n .range))) rows);
     }

@@ -11,6 +11,7 @@ use Rattle.semantics.specs.Program.{Program}
 use Rattle.bytecode.specs.Translation.{imageOf}
 use Rattle.bytecode.specs.Sound.{Sound}
 use Rattle.bytecode.proofs.Images.{check-exact, translated-sound}
+use Rattle.grammar.specs.Parse.{programOf}
 use Rattle.grammar.specs.Spelled.{Spelled}
 use Rattle.grammar.proofs.Accepted.{parse-growth, program-parsed, program-translatable}
 use Rattle.grammar.proofs.PlacesText.{program-refused}
@@ -21,10 +22,10 @@ use Rattle.correctness.specs.Demand2.{Translates, Declines, faulty, shor
 
 module _ (text buffer : List ℕ) where
   -- why a translation was refused, and that it left the buffer
-  refusal-declines : (number place : ℕ) → translationOf text buffer .answer ≡ refused number place → Declines text buffer number place × (translationOf text buffer .buffer ≡ buffer)
+  refusal-declines : (number place : ℕ) → translationOf text buffer .answer ≡ refused number place → Declines programOf text buffer number place × (translationOf text buffer .buffer ≡ buffer)
   refusal-declines number place = go (translationOf text buffer) (way text buffer)
     where
-      go : (r : AfterTranslation) → Way text buffer r → r .answer ≡ refused number place → Declines text buffer number place × (r .buffer ≡ buffer)
+      go : (r : AfterTranslation) → Way text buffer r → r .answer ≡ refused number place → Declines programOf text buffer number place × (r .buffer ≡ buffer)
       go r (image p e h) a = never (length (imageOf p)) number place a
       go r (no-room p e h) a =
           let k : bufferTooShort ≡ number = cc in
@@ -32,7 +33,7 @@ module _ (text buffer : List ℕ) where
           (rw (← k, ← q) (short p (accepted-exactly .accepted-spelled text p e) h), refl)
       go r (fault k q e) a = let i : k ≡ number = cc in let j : q ≡ place = cc in (rw (← i, ← j) (faulty k q e), refl)
 
-  declines-refused : (number place : ℕ) → Declines text buffer number place → translationOf text buffer .answer ≡ refused number place
+  declines-refused : (number place : ℕ) → Declines programOf text buffer number place → translationOf text buffer .answer ≡ refused number place
   unfolding translationOf
   declines-refused number place (faulty k q e) = rw e
   declines-refused number place (short p s h) = rw (accepted-exactly .spelled-accepted text p s, lt-leb (length (imageOf p)) (length buffer) h)

@@ -1,3 +1,4 @@
 pub mod Demand2
 pub mod Correct
 pub mod Table
+pub mod Caught

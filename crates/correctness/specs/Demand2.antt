@@ -6,14 +6,15 @@ use mathlib.Core.Path.{_≡_}
 use mathlib.Core.List.{List, _++_}
 use lib.ListN.{length, take, drop}
 use Rattle.limits.specs.Limits.{bufferTooShort}
-use Rattle.limits.specs.Answer.{accepted, refused}
+use Rattle.limits.specs.Answer.{Answer, accepted, refused}
 use Rattle.semantics.specs.Program.{Program}
 use Rattle.bytecode.specs.Translation.{imageOf}
 use Rattle.bytecode.specs.Check.{checkOf}
 use Rattle.bytecode.specs.Sound.{Sound}
-use Rattle.grammar.specs.Parse.{programOf}
+use Rattle.grammar.specs.Parse as G
 use Rattle.grammar.specs.Spelled.{Spelled}
-use Rattle.translate.specs.Services.{translationOf}
+use Rattle.translate.specs.Services.{AfterTranslation}
+use Rattle.translate.specs.Services as S
 
 infix 3 _exactlyIf_
 pub record _exactlyIf_ (A B : Type 0) : Type 0 where
@@ -28,13 +29,14 @@ pub record Translates (text buffer : List ℕ) (n : ℕ) : Type 0 where
   pub fits : n ≤ length buffer
 
 -- Why a translation is refused, with the number and the place.
-pub data Declines (text buffer : List ℕ) : ℕ → ℕ → Type 0 where
+pub data Declines (programOf : List ℕ → Answer Program) (text buffer : List ℕ) : ℕ → ℕ → Type 0 where
   -- the first fault of the text
-  faulty : (number place : ℕ) → programOf text ≡ refused number place → Declines text buffer number place
+  faulty : (number place : ℕ) → programOf text ≡ refused number place → Declines programOf text buffer number place
   -- 10 image buffer too short, after a text without fault (place: the text length)
-  short : (p : Program) → Spelled text p → length buffer < length (imageOf p) → Declines text buffer bufferTooShort (length text)
+  short : (p : Program) → Spelled text p → length buffer < length (imageOf p) → Declines programOf text buffer bufferTooShort (length text)
 
-pub record Demand2 : Type 0 where
+-- The claim about any two definitions, the programs of texts and the translation: the laws of Caught say which have it not.
+pub record Demand2Of (programOf : List ℕ → Answer Program) (translationOf : List ℕ → List ℕ → AfterTranslation) : Type 0 where
   -- A text is accepted, as the program p, exactly if it has document 01's grammar, limits, order and agreement, and spells p.
   pub accepted-exactly : (text : List ℕ) (p : Program) → (programOf text ≡ accepted p) exactlyIf Spelled text p
   -- A text means one program at most.
@@ -42,7 +44,7 @@ pub record Demand2 : Type 0 where
   -- Translation succeeds exactly if the text is accepted and its image fits the buffer; it answers the image's length.
   pub translated-exactly : (text buffer : List ℕ) (n : ℕ) → (translationOf text buffer .answer ≡ accepted n) exactlyIf Translates text buffer n
   -- Else it is refused, by the text's first fault or by 10: every text has an image or a refusal.
-  pub refused-exactly : (text buffer : List ℕ) (number place : ℕ) → (translationOf text buffer .answer ≡ refused number place) exactlyIf Declines text buffer number place
+  pub refused-exactly : (text buffer : List ℕ) (number place : ℕ) → (translationOf text buffer .answer ≡ refused number place) exactlyIf Declines programOf text buffer number place
   -- A fault has one of the numbers 1 to 9; its place is in the text, or is the text's length.
   pub faults : (text : List ℕ) (number place : ℕ) → programOf text ≡ refused number place → (1 ≤ number) × (number ≤ 9) × (place ≤ length text)
   -- Success writes only the image's bytes: those of the program that the text spells, and what stood behind them stays.
@@ -58,3 +60,7 @@ pub record Demand2 : Type 0 where
   pub written-checked : (text buffer : List ℕ) (n : ℕ) → translationOf text buffer .answer ≡ accepted n → checkOf (take n (translationOf text buffer .buffer)) ≡ accepted tt
   -- An image is at most half as long again as its text, and two bytes.
   pub growth : (text buffer : List ℕ) (n : ℕ) → translationOf text buffer .answer ≡ accepted n → 2 * n ≤ 3 * length text + 4
+
+-- The claim about those that the contracts cite.
+abbrev pub Demand2 : Type 0
+Demand2 = Demand2Of G.programOf S.translationOf

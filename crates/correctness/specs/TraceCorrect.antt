@@ -11,6 +11,7 @@ use Rattle.semantics.specs.Formula.{State, Satisfies}
 use Rattle.semantics.specs.Rows.{Reply, referenceReplies, startsOf, acceptedStates, acceptedRows, traceOf, finalState, lastPlace, Fits}
 use Rattle.bytecode.specs.Counting.{instructionsIn}
 use Rattle.grammar.specs.Parse.{programOf}
+use Rattle.grammar.specs.Spelled.{Spelled}
 use Rattle.translate.specs.Services.{translationOf}
 use Rattle.scan.specs.Services.{startOf, AfterScan, scanOf}
 
@@ -70,4 +71,6 @@ pub record TraceCorrect (p : Program) (image : List ℕ) (lent : State) (rows : 
 pub record Demand3 (text buffer : List ℕ) (n : ℕ) (lent : State) (rows : List (List ℤ)) : Type 0 where
   pub program : Program
   pub parsed : programOf text ≡ accepted program
+  -- its formulas are those that the text spells
+  pub spelled : Spelled text program
   pub correct : length lent ≡ length (program .names) → TraceCorrect program (take n (translationOf text buffer .buffer)) lent rows

@@ -105,6 +105,7 @@ module _ (text : List ℕ) (cells : List ℤ) (lengths : List ℕ) (m : Lent) wh
       (record {
         program = d .program;
         parsed = d .parsed;
+        spelled = d .spelled;
         translated = r .translated;
         sized = sized;
         correct = subst (λ (b : List ℕ). TraceCorrect (d .program) (take n b) (m .state) (rowsOf cells lengths)) (ap {A = AfterTranslation} (λ t. t .buffer) (r .translated)) (d .correct sized);

@@ -11,6 +11,7 @@ use Rattle.semantics.specs.Program.{Program}
 use Rattle.semantics.specs.Formula.{State, Trace}
 use Rattle.semantics.specs.Rows.{traceOf, finalState}
 use Rattle.grammar.specs.Parse.{programOf}
+use Rattle.grammar.specs.Spelled.{Spelled}
 use Rattle.translate.specs.Services.{translationOf}
 use Rattle.scan.specs.Services.{AfterStart, startOf, AfterScan}
 use Rattle.correctness.specs.TraceCorrect.{scansOf, replyOf, begun, found, TraceCorrect}
@@ -101,6 +102,7 @@ pub record Standing (image : List ℕ) (s : State) (rows : List (List ℤ)) (lef
 pub record Shown (text : List ℕ) (cells : List ℤ) (lengths : List ℕ) (before after : Lent) (n : ℕ) : Type 0 where
   pub program : Program
   pub parsed : programOf text ≡ accepted program
+  pub spelled : Spelled text program
   pub translated : translationOf text (before .image) ≡ record { answer = accepted n; buffer = after .image }
   pub sized : length (before .state) ≡ length (program .names)
   pub correct : TraceCorrect program (take n (after .image)) (before .state) (rowsOf cells lengths)
