@@ -1,6 +1,6 @@
-//! Times each service of the archive beside the reference model and, for scan, beside C that was generated from the same rules and
-//! compiled by `gcc -O2`: same input, all optimized, in turn, in one run. A ratio above 1 means that the archive is faster than the model.
-//! Buffers are not cleared between calls. A scan is timed over the rows of its trace, from the declared starts.
+//! Times each service of the archive beside the same service in plain C (baseline/, `gcc -O2`), the reference model and, for scan, C that
+//! was generated from the same rules (`gcc -O2`): same input, all optimized, in turn, in one run. A ratio below 1 means that the archive
+//! is faster. Buffers are not cleared between calls. A scan is timed over the rows of its trace, from the declared starts.
 //!
 //!     bench [--rounds N]                            the tables
 //!     bench --once WHO SERVICE INPUT CALLS          just so many calls, for bench/instructions
@@ -12,7 +12,7 @@ mod refused;
 mod timing;
 
 use input::{inputs, Input};
-use once::{archive, model, Memory, Work};
+use once::{archive, baseline, model, Memory, Work};
 use std::hint::black_box;
 use timing::Least;
 
@@ -23,6 +23,7 @@ struct Line<'i> {
     rules: native::Scan,
     memory: Memory,
     archive: Least,
+    baseline: Least,
     model: Least,
     native: Option<Least>,
 }
@@ -53,7 +54,10 @@ fn tables(rounds: u32) {
     for _ in 0..rounds {
         lines.iter_mut().for_each(Line::round);
     }
-    println!("{:<10} {:<14} {:>7} {:>11} {:>11} {:>7} {:>9}", "service", "input", "units", "archive", "model", "ratio", "gcc -O2");
+    println!(
+        "{:<10} {:<14} {:>7} {:>11} {:>11} {:>7} {:>11} {:>7} {:>10}",
+        "service", "input", "units", "archive", "plain C", "ratio", "model", "ratio", "rules in C"
+    );
     lines.iter().for_each(Line::print);
     growth(&lines);
     refused::table(inputs.iter().find(|input| input.name == "lock").expect("the lock"), rounds);
@@ -69,6 +73,7 @@ impl<'i> Line<'i> {
             work,
             rules,
             archive: Least::default(),
+            baseline: Least::default(),
             model: Least::default(),
             native: (service == "scan").then(Least::default),
         }
@@ -76,8 +81,9 @@ impl<'i> Line<'i> {
 
     fn round(&mut self) {
         let (work, memory) = (&self.work, &mut self.memory);
-        self.archive.round(&mut || archive(work, black_box(memory)));
-        self.model.round(&mut || model(work, black_box(memory)));
+        self.archive.round(&mut || _ = archive(work, black_box(memory)));
+        self.baseline.round(&mut || _ = baseline(work, black_box(memory)));
+        self.model.round(&mut || _ = model(work, black_box(memory)));
         if let Some(native) = &mut self.native {
             native.round(&mut || once::native(work, self.rules, black_box(memory)));
         }
@@ -97,13 +103,15 @@ impl<'i> Line<'i> {
 
     fn print(&self) {
         println!(
-            "{:<10} {:<14} {:>7} {:>11} {:>11} {:>7.2} {:>9}",
+            "{:<10} {:<14} {:>7} {:>11} {:>11} {:>7.2} {:>11} {:>7.2} {:>10}",
             self.work.service,
             self.input.name,
             self.work.units(),
             self.show(&self.archive),
+            self.show(&self.baseline),
+            self.archive.seconds / self.baseline.seconds,
             self.show(&self.model),
-            self.model.seconds / self.archive.seconds,
+            self.archive.seconds / self.model.seconds,
             self.native.as_ref().map_or(String::new(), |time| self.show(time))
         );
     }

@@ -1,4 +1,4 @@
-//! One call of a service as it is timed: by the archive, by the model, or by compiled rules.
+//! One call of a service as it is timed: by the archive, by plain C, by the model, or by compiled rules.
 
 use crate::input::{inputs, Input};
 use crate::native::Scan;
@@ -38,45 +38,48 @@ impl<'i> Work<'i> {
         }
     }
 
-    /// All leave the same memory, or nothing is timed.
+    /// All give the same answer (length or steps) and leave the same memory, or nothing is timed.
     pub fn agree(&self, compiled: Scan) {
-        let (mut a, mut m, mut c) = (self.memory(), self.memory(), self.memory());
-        archive(self, &mut a);
-        model(self, &mut m);
-        assert_eq!(a, m, "{}", self.input.name);
+        let (mut a, mut b, mut m, mut c) = (self.memory(), self.memory(), self.memory(), self.memory());
+        let answer = model(self, &mut m);
+        assert_eq!((archive(self, &mut a), &a), (answer, &m), "archive, {}", self.input.name);
+        assert_eq!((baseline(self, &mut b), &b), (answer, &m), "plain C, {}", self.input.name);
         if self.service == "scan" {
             native(self, compiled, &mut c);
-            assert_eq!(c, m, "{}", self.input.name);
+            assert_eq!(c, m, "compiled rules, {}", self.input.name);
         }
     }
 }
 
-pub fn archive(work: &Work, memory: &mut Memory) {
-    let input = work.input;
-    match work.service {
-        "translate" => assert!(rolvenko::translate(black_box(&input.text), &mut memory.image).is_ok()),
-        "check" => assert!(rolvenko::check(black_box(&input.image)).is_ok()),
-        _ => {
-            memory.state.copy_from_slice(&input.starts);
-            for row in &input.rows {
-                assert!(rolvenko::scan(black_box(&input.image), &mut memory.state, row).is_ok());
+/// A call by the services of one crate: the image's length, or the steps of all scans.
+macro_rules! call {
+    ($who:ident, $work:expr, $memory:expr) => {{
+        let (input, memory) = ($work.input, $memory);
+        match $work.service {
+            "translate" => $who::translate(black_box(&input.text), &mut memory.image).expect("an accepted text"),
+            "check" => $who::check(black_box(&input.image)).map(|()| 0).expect("a sound image"),
+            _ => {
+                memory.state.copy_from_slice(&input.starts);
+                let mut steps = 0;
+                for row in &input.rows {
+                    steps += $who::scan(black_box(&input.image), &mut memory.state, row).expect("an accepted row") as usize;
+                }
+                steps
             }
         }
-    }
+    }};
 }
 
-pub fn model(work: &Work, memory: &mut Memory) {
-    let input = work.input;
-    match work.service {
-        "translate" => assert!(rolvenko_model::translate(black_box(&input.text), &mut memory.image).is_ok()),
-        "check" => assert!(rolvenko_model::check(black_box(&input.image)).is_ok()),
-        _ => {
-            memory.state.copy_from_slice(&input.starts);
-            for row in &input.rows {
-                assert!(rolvenko_model::scan(black_box(&input.image), &mut memory.state, row).is_ok());
-            }
-        }
-    }
+pub fn archive(work: &Work, memory: &mut Memory) -> usize {
+    call!(rolvenko, work, memory)
+}
+
+pub fn baseline(work: &Work, memory: &mut Memory) -> usize {
+    call!(rolvenko_baseline, work, memory)
+}
+
+pub fn model(work: &Work, memory: &mut Memory) -> usize {
+    call!(rolvenko_model, work, memory)
 }
 
 /// The rows by compiled rules, which have only scans.
@@ -96,9 +99,10 @@ pub fn run(who: &str, service: &str, name: &str, calls: u32) {
     for _ in 0..calls {
         match who {
             "archive" => archive(&work, black_box(&mut memory)),
+            "baseline" => baseline(&work, black_box(&mut memory)),
             "model" => model(&work, black_box(&mut memory)),
-            _ => panic!("WHO is archive or model"),
-        }
+            _ => panic!("WHO is archive, baseline or model"),
+        };
     }
     println!("{}", work.units());
 }

@@ -1,4 +1,4 @@
-//! Scans that are refused before or behind their code: the archive's one-pass way leaves these in doubt, and its plain way answers them.
+//! Scans that are refused before or behind their code.
 
 use crate::input::Input;
 use crate::timing::Least;
@@ -26,6 +26,10 @@ impl Refused {
         rolvenko::scan(black_box(&self.image), &mut self.state, &self.row).map_or_else(|refusal| refusal.number, |_| 0)
     }
 
+    fn baseline(&mut self) -> u8 {
+        rolvenko_baseline::scan(black_box(&self.image), &mut self.state, &self.row).map_or_else(|refusal| refusal.number, |_| 0)
+    }
+
     fn model(&mut self) -> u8 {
         rolvenko_model::scan(black_box(&self.image), &mut self.state, &self.row).map_or_else(|refusal| refusal.number, |_| 0)
     }
@@ -44,14 +48,15 @@ fn cases(input: &Input) -> Vec<Refused> {
 /// Nanoseconds a call, over so many rounds.
 pub fn table(input: &Input, rounds: u32) {
     println!("\nrefused scans of {}, ns a call", input.name);
-    println!("{:<8} {:>9} {:>9} {:>7}", "refusal", "archive", "model", "ratio");
+    println!("{:<8} {:>9} {:>9} {:>7} {:>9} {:>7}", "refusal", "archive", "plain C", "ratio", "model", "ratio");
     for mut scan in cases(input) {
-        let (mut archive, mut model) = (Least::default(), Least::default());
+        let (mut archive, mut baseline, mut model) = (Least::default(), Least::default(), Least::default());
         for _ in 0..rounds {
             archive.round(&mut || assert_eq!(scan.archive(), scan.number));
+            baseline.round(&mut || assert_eq!(scan.baseline(), scan.number));
             model.round(&mut || assert_eq!(scan.model(), scan.number));
         }
-        let ratio = model.seconds / archive.seconds;
-        println!("{:<8} {:>9.0} {:>9.0} {ratio:>7.2}", scan.number, archive.seconds * 1e9, model.seconds * 1e9);
+        let [a, b, m] = [archive, baseline, model].map(|time| time.seconds * 1e9);
+        println!("{:<8} {a:>9.0} {b:>9.0} {:>7.2} {m:>9.0} {:>7.2}", scan.number, a / b, a / m);
     }
 }

@@ -1,4 +1,4 @@
-//! Links the archive that `rt staticlib ffi` writes. ROLVENKO_ARCHIVE names its folder where it is not the repository's own.
+//! Links the archive that `rt staticlib rolvenko` writes. ROLVENKO_ARCHIVE names its folder where it is not the repository's own.
 
 use std::env;
 use std::path::PathBuf;
@@ -9,7 +9,7 @@ fn main() {
         PathBuf::from,
     );
     println!("cargo:rerun-if-env-changed=ROLVENKO_ARCHIVE");
-    println!("cargo:rerun-if-changed={}", folder.join("libffi.a").display());
+    println!("cargo:rerun-if-changed={}", folder.join("librolvenko.a").display());
     println!("cargo:rustc-link-search=native={}", folder.display());
-    println!("cargo:rustc-link-lib=static=ffi");
+    println!("cargo:rustc-link-lib=static=rolvenko");
 }

@@ -1,6 +1,6 @@
 //! The image check against the model's.
 
-use crate::compare::{deep_image, fence, hex, Options, Table};
+use crate::compare::{deep_image, fence, hex, services, Options, Table};
 use crate::shrink::{shrink, smaller_bytes};
 use rolvenko_model::generate::{damaged_image, random_bytes, random_image, text, unsound_images, Rng, Shape};
 use rolvenko_model::{check_detail, read_text, write_image, IMAGE_LIMIT};
@@ -19,7 +19,7 @@ fn differs(image: &[u8]) -> bool {
         (refusal.number, refusal.place)
     });
     let lent = fence(image, 0x5A);
-    let found = rolvenko::check(lent.read(image.len())).map_err(|r| (r.number, r.place));
+    let found = services::check(lent.read(image.len())).map_err(|r| (r.number, r.place));
     found != wanted || lent != fence(image, 0x5A)
 }
 
@@ -29,7 +29,7 @@ fn compare(image: &[u8], table: &mut Table) -> Result<(), String> {
         return Err(format!(
             "image {}\narchive {:?}\nmodel   {:?}",
             hex(&small),
-            rolvenko::check(&small),
+            services::check(&small),
             check_detail(&small).map(|_| ())
         ));
     }

@@ -5,6 +5,13 @@ use std::collections::BTreeMap;
 use std::path::PathBuf;
 use std::time::{Duration, Instant};
 
+/// Whose services are compared with the model: the archive's, or with the feature `baseline` (translate, check, scan and trace only)
+/// those of the C program that bench/ measures against.
+#[cfg(not(feature = "baseline"))]
+pub use rolvenko as services;
+#[cfg(feature = "baseline")]
+pub use rolvenko_baseline as services;
+
 /// What can be compared, in this order.
 pub const SERVICES: [&str; 7] = ["translate", "check", "scan", "trace", "clock", "charge", "program"];
 

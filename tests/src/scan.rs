@@ -1,6 +1,6 @@
 //! Start and scan against the model's, on sound, damaged and random images, states and rows of any length and any numbers.
 
-use crate::compare::{deep_image, fence, hex, Options, Table};
+use crate::compare::{deep_image, fence, hex, services, Options, Table};
 use crate::shrink::{shrink, smaller_bytes, smaller_numbers};
 use rolvenko_model::generate::{any_number, damaged_image, random_bytes, random_image, row, state, text, unsound_images, Rng, Shape};
 use rolvenko_model::{check_detail, read_text, write_image, Range};
@@ -50,8 +50,8 @@ impl Call {
         let row = fence(self.row.as_deref().unwrap_or(&[]), FENCE);
         let lent = image.read(self.image.len());
         let answer = match &self.row {
-            None => rolvenko::start(lent, state.write(self.state.len())).map(|()| 0).map_err(|r| (r.number, r.place, 0)),
-            Some(line) => rolvenko::scan(lent, state.write(self.state.len()), row.read(line.len()))
+            None => services::start(lent, state.write(self.state.len())).map(|()| 0).map_err(|r| (r.number, r.place, 0)),
+            Some(line) => services::scan(lent, state.write(self.state.len()), row.read(line.len()))
                 .map_err(|r| (r.number, r.place, r.steps)),
         };
         let left = state.read(self.state.len()).to_vec();

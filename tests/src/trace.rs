@@ -1,6 +1,6 @@
 //! Whole lists of rows: the archive translates, starts and scans; the model's plain scan and its own formulas are the measure.
 
-use crate::compare::{Options, Table};
+use crate::compare::{services, Options, Table};
 use crate::shrink::{shrink, smaller_bytes, smaller_rules};
 use rolvenko_model::formula::step_satisfies;
 use rolvenko_model::generate::{row, text, Rng, Shape};
@@ -44,7 +44,7 @@ fn only_next(program: &Program, ranges: &[Range], before: &[i64], next: &[i64]) 
 /// One row against the plain scan: the number answered.
 fn one_row(image: &[u8], program: &Program, state: &mut [i32], line: &[i32]) -> Result<u8, String> {
     let mut plain = state.to_vec();
-    let answer = rolvenko::scan(image, state, line);
+    let answer = services::scan(image, state, line);
     let wanted = plain_scan(program, &mut plain, line);
     if answer.map(|_| ()).map_err(|r| r.number) != wanted || *state != *plain {
         return Err(format!("row {line:?}: scan {answer:?} leaves {state:?}, the plain scan {wanted:?} leaves {plain:?}"));
@@ -63,11 +63,11 @@ fn run_list(list: &List) -> Result<Vec<u8>, String> {
         return Ok(Vec::new());
     };
     let mut image = vec![0; 3 * list.source.len() / 2 + 2];
-    let length = rolvenko::translate(&list.source, &mut image).map_err(|r| format!("{r:?} for an accepted text"))?;
+    let length = services::translate(&list.source, &mut image).map_err(|r| format!("{r:?} for an accepted text"))?;
     let image = &image[..length];
     let header = check_detail(image).map_err(|f| format!("an image written is unsound: {f:?}"))?;
     let mut state = vec![list.fill; program.names.len()];
-    rolvenko::start(image, &mut state).map_err(|r| format!("start {r:?}"))?;
+    services::start(image, &mut state).map_err(|r| format!("start {r:?}"))?;
     if state != program.starts() {
         return Err(format!("start leaves {state:?}, not {:?}", program.starts()));
     }

@@ -1,6 +1,6 @@
 //! Translation against the model's: answer, place, every byte of the buffer and around it.
 
-use crate::compare::{fence, hex, Options, Table};
+use crate::compare::{fence, hex, services, Options, Table};
 use crate::shrink::{shrink, smaller_bytes};
 use rolvenko_model::generate::{limit_texts, mutate_bytes, mutated_text, random_bytes, text, token_soup, Rng, Shape};
 use rolvenko_model::{read_text, write_image};
@@ -23,7 +23,7 @@ fn both(source: &[u8], room: usize) -> Both {
     let lent = fence(source, 0x5A);
     let mut written = fence(&vec![0xA5; room], 0x5A);
     let mut wanted = written.clone();
-    let archive = rolvenko::translate(lent.read(source.len()), written.write(room)).map_err(|r| (r.number, r.place));
+    let archive = services::translate(lent.read(source.len()), written.write(room)).map_err(|r| (r.number, r.place));
     let model = rolvenko_model::translate(source, wanted.write(room)).map_err(|r| (r.number, r.place));
     Both {
         archive,

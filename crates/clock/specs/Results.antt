@@ -16,7 +16,7 @@ filledAnswer (F.Refused number place) = refused number place
 abbrev pub afterFill : Filled → List ℤ → AfterFill
 afterFill r left = record { answer = filledAnswer r; row = left }
 
--- how large the place is, which ffi packs into 64 bits
+-- how large the place is, which the C functions pack into 64 bits
 abbrev pub FilledWithin : Filled → Type 0
 FilledWithin F.Done = Unit {0}
 FilledWithin (F.Refused number place) = place ≤ textLimit

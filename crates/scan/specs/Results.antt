@@ -28,7 +28,7 @@ scanSteps (R.Refused number place n) = n
 abbrev pub afterScan : Scanned → State → AfterScan
 afterScan r left = record { answer = scanAnswer r; steps = scanSteps r; state = left }
 
--- ---- how large these numbers are, which ffi packs into 64 bits
+-- ---- how large these numbers are, which the C functions pack into 64 bits
 
 abbrev pub StartedWithin : ℕ → Started → Type 0
 StartedWithin most S.Done = Unit {0}

@@ -16,7 +16,7 @@ translatedAnswer (T.Refused number place) = refused number place
 abbrev pub afterTranslation : Translated → List ℕ → AfterTranslation
 afterTranslation r left = record { answer = translatedAnswer r; buffer = left }
 
--- how large these numbers are, which ffi packs into 64 bits
+-- how large these numbers are, which the C functions pack into 64 bits
 abbrev pub TranslatedWithin : Translated → Type 0
 TranslatedWithin (T.Image n) = n ≤ imageLimit
 TranslatedWithin (T.Refused number place) = place ≤ textLimit

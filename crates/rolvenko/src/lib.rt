@@ -5,7 +5,7 @@ ghost use Rattle.bytecode.specs.Check.{checkOf};
 ghost use Rattle.scan.specs.Services.{startOf, scanOf};
 ghost use Rattle.clock.specs.Services.{fillOf};
 ghost use Rattle.charge.specs.Charge.{chargeOf};
-ghost use Rattle.ffi.specs.Packed.{packed, packedTranslation, packedCheck, packedScan, packedCharge};
+ghost use Rattle.rolvenko.specs.Packed.{packed, packedTranslation, packedCheck, packedScan, packedCharge};
 ghost use Rattle.translate.specs.Services.{translationOf};
 
 fn pack(number: u8, place: usize, count: u64) -> u64

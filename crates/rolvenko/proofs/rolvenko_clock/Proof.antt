@@ -1,4 +1,4 @@
--- `ffi::rolvenko_clock` meets its contract. Assumes nothing.
+-- `rolvenko::rolvenko_clock` meets its contract. Assumes nothing.
 use mathlib.Core.Path.{_≡_, sym, ap, subst, _∙_}
 use mathlib.Core.List.{List}
 use native.Mathlib.Omega.{arith}
@@ -9,9 +9,9 @@ use mir.Facts.{toZ-ofZ}
 use Rattle.clock.specs.declared.Filled.{Filled}
 use Rattle.clock.specs.Services.{AfterFill}
 use Rattle.clock.specs.Results.{afterFill, FilledWithin}
-use Rattle.ffi.specs.Packed.{packedCheck}
-use Rattle.ffi.proofs.rolvenko_clock.Statement.{statement}
-use Rattle.ffi.proofs.rolvenko_clock.Tie as tie
+use Rattle.rolvenko.specs.Packed.{packedCheck}
+use Rattle.rolvenko.proofs.rolvenko_clock.Statement.{statement}
+use Rattle.rolvenko.proofs.rolvenko_clock.Tie as tie
 
 -- the answer r with the row left is the definition's
 answered : {r q : Filled} {left : List ℤ} {d : AfterFill} → r ≡ q → afterFill r left ≡ d → packedCheck (afterFill q left .answer) ≡ packedCheck (d .answer)

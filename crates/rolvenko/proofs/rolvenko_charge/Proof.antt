@@ -1,12 +1,12 @@
--- `ffi::rolvenko_charge` meets its contract: a charge and a place are within their limits, so they fit. Assumes nothing.
+-- `rolvenko::rolvenko_charge` meets its contract: a charge and a place are within their limits, so they fit. Assumes nothing.
 use mathlib.Core.Path.{sym, ap, subst, _∙_}
 use native.Mathlib.Omega.{arith}
 use borrow.Author.Needs.{needs}
 use Rattle.arith.proofs.Laws.{same32}
 use Rattle.charge.specs.Results.{chargedAnswer, ChargedWithin}
-use Rattle.ffi.specs.Packed.{packedCharge}
-use Rattle.ffi.proofs.rolvenko_charge.Statement.{statement}
-use Rattle.ffi.proofs.rolvenko_charge.Tie as tie
+use Rattle.rolvenko.specs.Packed.{packedCharge}
+use Rattle.rolvenko.proofs.rolvenko_charge.Statement.{statement}
+use Rattle.rolvenko.proofs.rolvenko_charge.Tie as tie
 
 mul-result : tie.Need-mul-result
 mul-result c =

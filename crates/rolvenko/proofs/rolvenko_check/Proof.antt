@@ -1,11 +1,11 @@
--- `ffi::rolvenko_check` meets its contract. Assumes nothing.
+-- `rolvenko::rolvenko_check` meets its contract. Assumes nothing.
 use mathlib.Core.Path.{sym, ap, subst, _∙_}
 use Rattle.checker.specs.Results.{checkedAnswer, CheckedWithin}
-use Rattle.ffi.specs.Packed.{packedCheck}
+use Rattle.rolvenko.specs.Packed.{packedCheck}
 use borrow.Author.Needs.{needs}
 use native.Mathlib.Omega.{arith}
-use Rattle.ffi.proofs.rolvenko_check.Statement.{statement}
-use Rattle.ffi.proofs.rolvenko_check.Tie as tie
+use Rattle.rolvenko.proofs.rolvenko_check.Statement.{statement}
+use Rattle.rolvenko.proofs.rolvenko_check.Tie as tie
 
 pack-requires : tie.Need-pack-requires
 pack-requires c κs =

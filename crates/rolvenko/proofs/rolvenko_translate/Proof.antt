@@ -1,4 +1,4 @@
--- `ffi::rolvenko_translate` meets its contract: places are at most the text's limit, lengths the image's, so they fit. Assumes nothing.
+-- `rolvenko::rolvenko_translate` meets its contract: places are at most the text's limit, lengths the image's, so they fit. Assumes nothing.
 use mathlib.Core.Path.{_≡_, sym, ap, subst, _∙_}
 use mathlib.Core.List.{List}
 use Prim.Native.Nat.{ℕ}
@@ -7,9 +7,9 @@ use borrow.Author.Needs.{needs}
 use Rattle.translate.specs.declared.Translated.{Translated}
 use Rattle.translate.specs.Services.{AfterTranslation}
 use Rattle.translate.specs.Results.{afterTranslation, TranslatedWithin}
-use Rattle.ffi.specs.Packed.{packedTranslation}
-use Rattle.ffi.proofs.rolvenko_translate.Statement.{statement}
-use Rattle.ffi.proofs.rolvenko_translate.Tie as tie
+use Rattle.rolvenko.specs.Packed.{packedTranslation}
+use Rattle.rolvenko.proofs.rolvenko_translate.Statement.{statement}
+use Rattle.rolvenko.proofs.rolvenko_translate.Tie as tie
 
 pack-requires : tie.Need-pack-requires
 pack-requires c κs =

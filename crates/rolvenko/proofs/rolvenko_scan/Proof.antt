@@ -1,4 +1,4 @@
--- `ffi::rolvenko_scan` meets its contract: places and steps are at most the image's limit, so they fit. Assumes nothing.
+-- `rolvenko::rolvenko_scan` meets its contract: places and steps are at most the image's limit, so they fit. Assumes nothing.
 use mathlib.Core.Path.{_≡_, sym, ap, subst, _∙_}
 use native.Mathlib.Omega.{arith}
 use borrow.Author.Needs.{needs}
@@ -7,9 +7,9 @@ use Rattle.scan.specs.declared.Scanned.{Scanned}
 use Rattle.scan.specs.Services.{AfterScan}
 use Rattle.scan.specs.Results.{afterScan, ScannedWithin}
 use Rattle.limits.specs.Limits.{imageLimit}
-use Rattle.ffi.specs.Packed.{packedScan}
-use Rattle.ffi.proofs.rolvenko_scan.Statement.{statement}
-use Rattle.ffi.proofs.rolvenko_scan.Tie as tie
+use Rattle.rolvenko.specs.Packed.{packedScan}
+use Rattle.rolvenko.proofs.rolvenko_scan.Statement.{statement}
+use Rattle.rolvenko.proofs.rolvenko_scan.Tie as tie
 
 -- the answer r with the state left is the definition's
 answered : {r q : Scanned} {left : State} {d : AfterScan} → r ≡ q → afterScan r left ≡ d → packedScan (afterScan q left) ≡ packedScan d

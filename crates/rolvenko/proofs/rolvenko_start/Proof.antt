@@ -1,4 +1,4 @@
--- `ffi::rolvenko_start` meets its contract. Assumes nothing.
+-- `rolvenko::rolvenko_start` meets its contract. Assumes nothing.
 use mathlib.Core.Path.{_≡_, sym, ap, subst, _∙_}
 use native.Mathlib.Omega.{arith}
 use borrow.Author.Needs.{needs}
@@ -7,9 +7,9 @@ use Rattle.scan.specs.declared.Started.{Started}
 use Rattle.scan.specs.Services.{AfterStart}
 use Rattle.scan.specs.Results.{afterStart, StartedWithin}
 use Rattle.limits.specs.Limits.{imageLimit}
-use Rattle.ffi.specs.Packed.{packedCheck}
-use Rattle.ffi.proofs.rolvenko_start.Statement.{statement}
-use Rattle.ffi.proofs.rolvenko_start.Tie as tie
+use Rattle.rolvenko.specs.Packed.{packedCheck}
+use Rattle.rolvenko.proofs.rolvenko_start.Statement.{statement}
+use Rattle.rolvenko.proofs.rolvenko_start.Tie as tie
 
 -- the answer r with the state left is the definition's
 answered : {r q : Started} {left : State} {d : AfterStart} → r ≡ q → afterStart r left ≡ d → packedCheck (afterStart q left .answer) ≡ packedCheck (d .answer)

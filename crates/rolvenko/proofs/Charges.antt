@@ -9,7 +9,7 @@ use Rattle.bytecode.proofs.CheckNumbers.{too-long, broken}
 use Rattle.charge.specs.Charge.{Charge, chargeOf}
 use Rattle.charge.proofs.Laws.{charge-exact}
 use Rattle.charge.proofs.Refusals.{ChargeRefusal, of-check, wrong-trace, not-chargeable, too-large, charge-numbers}
-use Rattle.ffi.specs.Packed.{packedCharge}
+use Rattle.rolvenko.specs.Packed.{packedCharge}
 
 nine : {number : ℕ} → ChargeRefusal number → 9 ≤ number
 nine (of-check too-long) = omega arith
