@@ -10,7 +10,7 @@ use lib.Dec.{ltb}
 use lib.ListN.{length, getD, drop}
 use lib.Seq.{drop-cons}
 use borrow.Author.Tests.{lt-ltb, le-ltb, ltb-true, ltb-false}
-use Rattle.lexer.specs.Token.{Kind, closeRound, bar, is, token, fault}
+use Rattle.lexer.specs.Token.{Kind, closeRound, bar, is, token, fault, lastKind, kindNumber}
 use Rattle.lexer.specs.Lexer.{tokenAt, sameToken}
 use Rattle.lexer.specs.Results.{kindOf}
 use Rattle.lexer.proofs.Laws.{cond-prop}
@@ -106,8 +106,9 @@ parts-spans text (c ∷ []) at = on-same (partFrom (length text) text (c .span .
 parts-spans text (c ∷ d ∷ cs) at =
     on-same (partFrom (length text) text (c .span .from) (c .span .to) at) _ _ (λ n. on-same (kindAt text bar n) _ _ (λ m. parts-spans text (d ∷ cs) m))
 
-pub separator-known : (i count w : ℕ) → w ≡ cond (ltb i count) 23 18 → w ≤ 30
-separator-known i count w e = rw e (cond-prop (λ (x : ℕ). x ≤ 30) (ltb i count) 23 18 (λ t. omega arith) (λ t. omega arith))
+pub separator-known : (i count w : ℕ) → w ≡ kindNumber (cond (ltb i count) bar closeRound) → w ≤ lastKind
+unfolding kindNumber
+separator-known i count w e = rw e (cond-prop (λ (x : Kind). kindNumber x ≤ lastKind) (ltb i count) bar closeRound (λ t. omega arith) (λ t. omega arith))
 
 pub spans-none : (from to : List ℕ) → spansIn from to 0 ≡ []
 unfolding spansIn
@@ -137,10 +138,10 @@ module _ (text from to : List ℕ) (count : ℕ) (s : Spans text from to count) 
   left-none : (i : ℕ) → count ≤ i → left i ≡ []
   left-none i h = let z : count - i ≡ 0 = omega arith in rw (z, spans-none (drop i from) (drop i to))
 
-  sign-after : (i : ℕ) → signAfter (left i) ≡ kindOf (cond (ltb i count) 23 18)
-  unfolding kindOf
+  sign-after : (i : ℕ) → signAfter (left i) ≡ kindOf (kindNumber (cond (ltb i count) bar closeRound))
+  unfolding kindOf kindNumber
   sign-after i =
-      cond-prop (λ (x : ℕ). signAfter (left i) ≡ kindOf (cond (ltb i count) 23 18)) (ltb i count) 0 0
+      cond-prop (λ (x : ℕ). signAfter (left i) ≡ kindOf (kindNumber (cond (ltb i count) bar closeRound))) (ltb i count) 0 0
       (λ t. rw (left-step i (ltb-true _ _ t), t)) (λ t. rw (left-none i (ltb-false _ _ t), t))
 
   abbrev Answers : ℕ → Compared → Type 0
@@ -162,7 +163,7 @@ module _ (text from to : List ℕ) (count : ℕ) (s : Spans text from to count) 
       unfolding spansFrom
       part-differs {r} p e g = answers at r (c .same ∙ rw (left-step i h, ← e, g))
 
-      module _ {q : Compared} (n : ℕ) (e : q ≡ partFrom (length text) text (getD from i 0) (getD to i 0) a) (g : q ≡ agrees n) (w : ℕ) (hw : w ≡ cond (ltb (i + 1) count) 23 18) {r : Compared} (f : r ≡ kindAt text (kindOf w) n) where
+      module _ {q : Compared} (n : ℕ) (e : q ≡ partFrom (length text) text (getD from i 0) (getD to i 0) a) (g : q ≡ agrees n) (w : ℕ) (hw : w ≡ kindNumber (cond (ltb (i + 1) count) bar closeRound)) {r : Compared} (f : r ≡ kindAt text (kindOf w) n) where
         after-sign : spansFrom text (left i) a ≡ onCompared r (λ m. spansFrom text (left (i + 1)) m)
         unfolding spansFrom
         after-sign = rw (left-step i h, ← e, g, sign-after (i + 1), ← hw, ← f)

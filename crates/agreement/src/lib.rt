@@ -7,6 +7,7 @@ ghost use Prim.Native.Nat.{_≤_};
 ghost use lib.Dec.{ltb};
 ghost use lib.ListN.{length};
 ghost use Rattle.lexer.specs.Results.{kindOf};
+ghost use Rattle.lexer.specs.Token.{kindNumber, closeRound, bar, lastKind};
 ghost use Rattle.grammar.specs.Rules.{Spanned, partFrom, kindAt, partsFrom};
 ghost use Rattle.grammar.specs.Internal.{TokensIn};
 ghost use Rattle.agreement.specs.Results.{comparedOf, faultAt, RepetitionBy};
@@ -101,7 +102,7 @@ fn compare_part(text: &[u8], from: usize, to: usize, at: usize) -> Compared
 
 // A token of a kind is wanted at `at`.
 fn compare_sign(text: &[u8], kind: u8, at: usize) -> Compared
-    requires { ⌜ kind ≤ 30 ⌝ }
+    requires { ⌜ kind ≤ lastKind ⌝ }
     ensures { λ r. ⌜ comparedOf r ≡ kindAt (now (text .entry)) (kindOf kind) at ⌝ }
 {
     let found = lexer::token_at(text, at);
@@ -116,7 +117,7 @@ fn compare_sign(text: &[u8], kind: u8, at: usize) -> Compared
 
 // The sign after a condition: `|` before another, `)` after the last.
 fn separator(next: usize, count: usize) -> u8
-    ensures { λ r. ⌜ r ≡ cond (ltb next count) 23 18 ⌝ }
+    ensures { λ r. ⌜ r ≡ kindNumber (cond (ltb next count) bar closeRound) ⌝ }
 {
     if next < count {
         return lexer::BAR;

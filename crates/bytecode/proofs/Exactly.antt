@@ -11,11 +11,11 @@ use lib.Signed.{leZ}
 use borrow.Author.Tests.{lt-ltb, le-ltb, ltb-true, ltb-false}
 use Rattle.limits.specs.Answer.{Answer, accepted}
 use Rattle.arith.specs.Values.{isInt32}
-use Rattle.semantics.specs.Program.{Range, allTrue}
+use Rattle.semantics.specs.Program.{Range, allTrue, RangeFits}
 use Rattle.arith.proofs.Basics.{T-true, true-T, and-left, and-right, T-not-false}
 use Rattle.leb128.specs.Numbers.{Read, got, nothing, numberAt, signedAt}
 use Rattle.bytecode.specs.Instructions.{Instruction, constant, current, previous, operation, negate, comparison, negated, both, either, gate, pick, assign, settle, fetch}
-use Rattle.bytecode.specs.Translation.{RangeFits, RangesFit}
+use Rattle.bytecode.specs.Translation.{RangesFit}
 use Rattle.bytecode.specs.Check.{Sort, number, truth, Known, known, one, empty, unset, closed, fresh, opened, advance, complete, item, checkRange, checkRanges, checkCounts, Header, checkHeader, ends, checkCode, atStart, checkBody, checkOf}
 use Rattle.bytecode.specs.Counting.{headerOf, codeOf, counted, countFrom, instructionsIn}
 use Rattle.bytecode.specs.Internal.{leftBy, leftByAll, Allowed, Finished, RangesAt, Spells, SoundByPlace}

@@ -12,13 +12,13 @@ use lib.Signed.{leZ}
 use borrow.Author.Tests.{lt-ltb, le-ltb}
 use Rattle.limits.specs.Answer.{Answer, accepted}
 use Rattle.arith.specs.Values.{isInt32}
-use Rattle.semantics.specs.Program.{Program, Range, Expression, Condition, Case, Rule, function, change, target, rangesOf, UsableE, UsableC, UsableK, UsableR, OrderedRules, knownFirst, allTrue}
+use Rattle.semantics.specs.Program.{Program, Range, Expression, Condition, Case, Rule, function, change, target, rangesOf, UsableE, UsableC, UsableK, UsableR, OrderedRules, knownFirst, allTrue, RangeFits}
 use Rattle.semantics.specs.Program as P
 use Rattle.arith.proofs.Basics.{T-true, and-left, and-right}
 use Rattle.semantics.proofs.Reference.{length-known}
 use Rattle.leb128.specs.Numbers.{number, zigzag}
 use Rattle.bytecode.specs.Instructions.{Instruction, constant, current, previous, operation, negate, comparison, negated, both, either, gate, pick, assign, settle, encode, encodeAll}
-use Rattle.bytecode.specs.Translation.{codeE, codeC, codeCase, codeK, codeR, codeRules, encodeRanges, encodeHeader, imageOf, depthE, depthC, ShallowK, ShallowR, Shallow, RangeFits, RangesFit, Translatable}
+use Rattle.bytecode.specs.Translation.{codeE, codeC, codeCase, codeK, codeR, codeRules, encodeRanges, encodeHeader, imageOf, depthE, depthC, ShallowK, ShallowR, Shallow, RangesFit, Translatable}
 use Rattle.bytecode.specs.Check.{Sort, truth, Known, known, guard, one, empty, unset, closed, fresh, opened, advance, complete, checkRange, checkRanges, Header, checkCounts, checkHeader, checkCode, checkBody, checkOf}
 use Rattle.bytecode.specs.Counting.{headerOf, codeOf}
 use Rattle.leb128.proofs.RoundTrip.{drop-behind, number-at, signed-at}

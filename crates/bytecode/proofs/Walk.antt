@@ -12,11 +12,11 @@ use lib.Signed.{leZ}
 use borrow.Author.Tests.{lt-ltb, le-ltb}
 use Rattle.limits.specs.Answer.{Answer, accepted, refused, _andThen_}
 use Rattle.arith.specs.Values.{isInt32}
-use Rattle.semantics.specs.Program.{Range}
+use Rattle.semantics.specs.Program.{Range, RangeFits}
 use Rattle.arith.proofs.Basics.{true-T}
 use Rattle.leb128.specs.Numbers.{Read, got, nothing, numberAt, signedAt}
 use Rattle.bytecode.specs.Instructions.{Instruction, fetch}
-use Rattle.bytecode.specs.Translation.{RangeFits, RangesFit}
+use Rattle.bytecode.specs.Translation.{RangesFit}
 use Rattle.bytecode.specs.Check.{Known, advance, complete, tested, item, Placed, checkRange, checkRanges, Counts, checkCounts, Header, checkHeader, ends, ifSome, checkCode, checkBody, checkOf}
 use Rattle.bytecode.specs.Internal.{RangesAt}
 

@@ -1,13 +1,9 @@
 -- The image of a program. Document 01, "The image". Assumes nothing.
 use Prim.Native.Nat.{ℕ, suc, _-_, _≤_, max}
-use mathlib.Core.Bool.{_&&_}
 use mathlib.Core.List.{List, [], _∷_, _++_}
-use lib.Dec.{T}
 use lib.ListN.{length}
-use lib.Signed.{leZ}
-use Rattle.arith.specs.Values.{isInt32}
 use Rattle.limits.specs.Limits.{stackLimit, nameLimit, imageLimit}
-use Rattle.semantics.specs.Program.{Range, Expression, Condition, Case, Rule, function, change, Program, rangesOf, WellFormed}
+use Rattle.semantics.specs.Program.{Range, Expression, Condition, Case, Rule, function, change, Program, rangesOf, WellFormed, RangeFits}
 use Rattle.semantics.specs.Program as P
 use Rattle.leb128.specs.Numbers.{number, zigzag}
 use Rattle.bytecode.specs.Instructions.{Instruction, constant, current, previous, operation, negate, comparison, negated, both, either, gate, pick, assign, settle, encodeAll}
@@ -86,11 +82,6 @@ Shallow [] = Unit {0}
 Shallow (r ∷ rs) = ShallowR r × Shallow rs
 
 -- ---- what an accepted text's program has
-
--- Bounds and start lie in −2,147,483,648..2,147,483,647, low ≤ high, start within them.
-abbrev pub RangeFits : Range → Type 0
-RangeFits n =
-    T (isInt32 (n .low)) × T (isInt32 (n .high) && leZ (n .low) (n .high)) × T (isInt32 (n .start) && leZ (n .low) (n .start) && leZ (n .start) (n .high))
 
 abbrev pub RangesFit : List Range → Type 0
 RangesFit [] = Unit {0}

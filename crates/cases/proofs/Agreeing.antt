@@ -7,7 +7,7 @@ use native.Mathlib.Omega.{arith}
 use lib.ListN.{length, getD, getElem?}
 use Rattle.bytecode.proofs.Soundness.{some-inj, none≢some}
 use Rattle.grammar.specs.Parsed.{accepted}
-use Rattle.grammar.specs.Rules.{Span, Spanned, Compared, agrees, casesOf, plainList, partsFrom, settled, agreeingList}
+use Rattle.grammar.specs.Rules.{Span, Spanned, Compared, agrees, casesOf, plainList, partsFrom, firstFound, agreeingList}
 use Rattle.grammar.specs.Internal.{Named, TokensIn}
 use Rattle.grammar.proofs.Shape.{conditionsOf}
 use Rattle.grammar.proofs.Listed.{Listed, last, next}
@@ -46,5 +46,5 @@ module _ (text starts ends : List ℕ) (names : Names) (d : Declared starts ends
   list-agrees at n h e = agreeing-reads (scopeOf text starts ends names) (few-names text d) (as-long text d) good (k .variable) (k .place) (k .end) (k .cases) kept-cases at n h e
 
   pub agreed : (at n : ℕ) → at ≤ length text → {r : Compared} → ((cases : List Spanned) → spansOf cases ≡ spansIn from upto count → r ≡ partsFrom text cases at) → r ≡ agrees n → (cases : List Spanned) → spansOf cases ≡ spansIn from upto count → accepted tt n ≡ placeOnly (agreeingList (scopeOf text starts ends names) cases at)
-  unfolding agreeingList settled placeOnly
+  unfolding agreeingList firstFound placeOnly
   agreed at n h f e cases s = rw (← f cases s, e, list-agrees at n h (sym (f (k .cases) (k .spans)) ∙ e))

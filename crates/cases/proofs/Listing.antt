@@ -46,13 +46,14 @@ module _ (sc : Scope) (done : List Condition) (a : ℕ) where
   list-fault (suc left) e = rw e
 
   module _ {k : Kind} {s n : ℕ} (e : tokenAt (sc .text) a ≡ token k s n) where
-    pub list-full : listFrom 0 sc done a ≡ refused tooMany s
+    pub list-full : is k openSquare ≡ true → listFrom 0 sc done a ≡ refused tooMany s
     unfolding listFrom
-    list-full = rw e
+    list-full f = rw (e, f)
 
-    pub list-other : (left : ℕ) → is k openSquare ≡ false → listFrom (suc left) sc done a ≡ refused notAllowed s
+    pub list-other : (left : ℕ) → is k openSquare ≡ false → listFrom left sc done a ≡ refused notAllowed s
     unfolding listFrom
-    list-other left f = rw (e, f)
+    list-other zero f = rw (e, f)
+    list-other (suc left) f = rw (e, f)
 
     module _ (left : ℕ) (f : is k openSquare ≡ true) where
       pub list-refused : {l q : ℕ} → Refuses (sc .text) (listed sc n) l q → listFrom (suc left) sc done a ≡ refused l q
@@ -99,15 +100,15 @@ module _ {sc : Scope} {at a left : ℕ} (w : Listing sc at a left) where
   listing-fault e = sym (plain-refused sc at (w .same ∙ list-fault sc (w .done) a left e))
 
   module _ {k s n : ℕ} (f : Found (sc .text) a k s n) where
-    pub listing-full : left ≡ 0 → refused tooMany s ≡ placeOnly (plainList sc at)
-    listing-full z = sym (plain-refused sc at (w .same ∙ (ap (λ (l : ℕ). listFrom l sc (w .done) a) z ∙ list-full sc (w .done) a (f .read))))
+    pub listing-full : is (kindOf k) openSquare ≡ true → left ≡ 0 → refused tooMany s ≡ placeOnly (plainList sc at)
+    listing-full i z = sym (plain-refused sc at (w .same ∙ (ap (λ (l : ℕ). listFrom l sc (w .done) a) z ∙ list-full sc (w .done) a (f .read) i)))
+
+    pub listing-other : is (kindOf k) openSquare ≡ false → refused notAllowed s ≡ placeOnly (plainList sc at)
+    listing-other i = sym (plain-refused sc at (w .same ∙ list-other sc (w .done) a (f .read) left i))
 
     module _ (z : left ≡ 0 → ⊥) where
       some-left : listFrom left sc (w .done) a ≡ listFrom (suc (left - 1)) sc (w .done) a
       some-left = let e : left ≡ suc (left - 1) = omega arith in ap (λ (l : ℕ). listFrom l sc (w .done) a) e
-
-      pub listing-other : is (kindOf k) openSquare ≡ false → refused notAllowed s ≡ placeOnly (plainList sc at)
-      listing-other i = sym (plain-refused sc at (w .same ∙ (some-left ∙ list-other sc (w .done) a (f .read) (left - 1) i)))
 
       pub listing-room : Room (sc .text) n 0
       listing-room = record { short = w .room .short; within = f .lies .within (w .room .within); room = omega arith }

@@ -13,7 +13,7 @@ use Rattle.semantics.specs.Program.{Expression, Condition, Case}
 use Rattle.grammar.specs.Parsed.{Parsed, accepted, refused, Wanted, sign, expected, phrase, followed}
 use Rattle.grammar.specs.Expressions.{Scope, wholeExpression}
 use Rattle.grammar.specs.Conditions.{listed}
-use Rattle.grammar.specs.Rules.{caseAt, Compared, differs, settled}
+use Rattle.grammar.specs.Rules.{caseAt, Compared, differs, firstFound}
 use Rattle.grammar.specs.Emitted.{codeE, codeC, codeK}
 use Rattle.grammar.proofs.Size.{Solid, Long, phrase-long}
 use Rattle.expressions.specs.Steps.{Room}
@@ -78,16 +78,16 @@ room-phrase {text} {n} ws s r e h =
 -- ---- of what a list reads as and where it differs
 
 module _ {A : Type 0} (r : Parsed A) where
-  pub place-accepted : {n : ℕ} → placeOnly r ≡ accepted tt n → (m : ℕ) → settled r (differs m) ≡ refused listsDiffer m
-  unfolding settled placeOnly
+  pub place-accepted : {n : ℕ} → placeOnly r ≡ accepted tt n → (m : ℕ) → firstFound r (differs m) ≡ refused listsDiffer m
+  unfolding firstFound placeOnly
   place-accepted {n} e m = go r e
     where
-      go : (p : Parsed A) → placeOnly p ≡ accepted tt n → settled p (differs m) ≡ refused listsDiffer m
+      go : (p : Parsed A) → placeOnly p ≡ accepted tt n → firstFound p (differs m) ≡ refused listsDiffer m
       go (accepted a n) e = refl
       go (refused k q) e = apart (sym e)
 
-  pub settled-as : {q : Parsed (Unit {0})} {m n : Compared} → q ≡ placeOnly (settled r m) → m ≡ n → q ≡ placeOnly (settled r n)
-  settled-as e f = e ∙ ap (λ (x : Compared). placeOnly (settled r x)) f
+  pub first-found-as : {q : Parsed (Unit {0})} {m n : Compared} → q ≡ placeOnly (firstFound r m) → m ≡ n → q ≡ placeOnly (firstFound r n)
+  first-found-as e f = e ∙ ap (λ (x : Compared). placeOnly (firstFound r x)) f
 
   pub place-refused : {k q : ℕ} → placeOnly r ≡ refused k q → r ≡ refused k q
   unfolding placeOnly
@@ -98,19 +98,19 @@ module _ {A : Type 0} (r : Parsed A) where
       go (refused l m) e = same-refusal e
 
 module _ {A : Type 0} {r : Parsed A} {k q : ℕ} (e : r ≡ refused k q) (m : ℕ) where
-  pub settled-before : q < m → settled r (differs m) ≡ refused k q
-  unfolding settled
-  settled-before h = rw (e, lt-ltb _ _ h)
+  pub first-found-before : q < m → firstFound r (differs m) ≡ refused k q
+  unfolding firstFound
+  first-found-before h = rw (e, lt-ltb _ _ h)
 
   module _ (h : m ≤ q) where
-    pub settled-here : q ≡ m → k ≤ 5 → settled r (differs m) ≡ refused k q
-    unfolding settled
-    settled-here i l = rw (e, le-ltb _ _ h, eq-eqb _ _ i, le-leb _ _ l)
+    pub first-found-here : q ≡ m → k ≤ 5 → firstFound r (differs m) ≡ refused k q
+    unfolding firstFound
+    first-found-here i l = rw (e, le-ltb _ _ h, eq-eqb _ _ i, le-leb _ _ l)
 
-    pub settled-late : q ≡ m → 5 < k → settled r (differs m) ≡ refused listsDiffer m
-    unfolding settled
-    settled-late i l = rw (e, le-ltb _ _ h, eq-eqb _ _ i, lt-leb _ _ l)
+    pub first-found-late : q ≡ m → 5 < k → firstFound r (differs m) ≡ refused listsDiffer m
+    unfolding firstFound
+    first-found-late i l = rw (e, le-ltb _ _ h, eq-eqb _ _ i, lt-leb _ _ l)
 
-    pub settled-after : (q ≡ m → ⊥) → settled r (differs m) ≡ refused listsDiffer m
-    unfolding settled
-    settled-after i = rw (e, le-ltb _ _ h, ne-eqb _ _ i)
+    pub first-found-after : (q ≡ m → ⊥) → firstFound r (differs m) ≡ refused listsDiffer m
+    unfolding firstFound
+    first-found-after i = rw (e, le-ltb _ _ h, ne-eqb _ _ i)

@@ -12,7 +12,7 @@ ghost use Rattle.limits.specs.Limits.{caseLimit, nameLimit};
 ghost use Rattle.lexer.specs.Bytes.{part};
 ghost use Rattle.semantics.specs.Program.{Condition};
 ghost use Rattle.grammar.specs.Parsed.{Parsed};
-ghost use Rattle.grammar.specs.Rules.{Spanned, caseAt, casesFrom, plainList, differs, settled as settledOf, agreeingList};
+ghost use Rattle.grammar.specs.Rules.{Spanned, caseAt, casesFrom, plainList, differs, firstFound, agreeingList};
 ghost use Rattle.grammar.specs.Internal.{Named};
 ghost use Rattle.expressions.specs.Scopes.{scopeOf, Declared};
 ghost use Rattle.expressions.specs.Steps.{Room};
@@ -169,11 +169,11 @@ fn plain_list(text: &[u8], starts: &[usize], ends: &[usize], names: Names, at: u
         let Token::Is(kind, start, end) = read else {
             return phrases::fault(read);
         };
-        if left == 0 {
-            return Expected::Refused(limits::TOO_MANY, start);
-        }
         if kind != lexer::OPEN_SQUARE {
             return Expected::Refused(limits::NOT_ALLOWED, start);
+        }
+        if left == 0 {
+            return Expected::Refused(limits::TOO_MANY, start);
         }
         let one = conditions::listed(text, starts, ends, names, end, &mut nothing, 0);
         let expressions::Step::Done(behind, _) = one else {
@@ -188,8 +188,8 @@ fn plain_list(text: &[u8], starts: &[usize], ends: &[usize], names: Names, at: u
 }
 
 // The second list differs first at m. Token by token and in number order at each: a refusal before m, or of 1 to 5 at m; else 7.
-fn settled(read: Expected, m: usize) -> Expected
-    ensures { λ r. ⌜ ((p : Parsed (List Condition)) → expectedOf read ≡ placeOnly p → expectedOf r ≡ placeOnly (settledOf p (differs m))) ⌝ }
+fn first_found(read: Expected, m: usize) -> Expected
+    ensures { λ r. ⌜ ((p : Parsed (List Condition)) → expectedOf read ≡ placeOnly p → expectedOf r ≡ placeOnly (firstFound p (differs m))) ⌝ }
 {
     let Expected::Refused(k, p) = read else {
         return Expected::Refused(limits::LISTS_DIFFER, m);
@@ -229,7 +229,7 @@ pub fn agreeing_list(
         Compared::Agrees(n) => Expected::After(n),
         Compared::Differs(m) => {
             let read = plain_list(text, starts, ends, names, at);
-            settled(read, m)
+            first_found(read, m)
         }
     }
 }

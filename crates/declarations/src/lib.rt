@@ -11,6 +11,7 @@ ghost use lib.IntN.{pos};
 ghost use lib.ListN.{length};
 ghost use lib.Seq.{sets};
 ghost use Rattle.lexer.specs.Results.{kindOf};
+ghost use Rattle.lexer.specs.Token.{lastKind};
 ghost use Rattle.semantics.specs.Program.{Name};
 ghost use Rattle.grammar.specs.Declarations.{inRange, signedAt, boundAt, startAt};
 ghost use Rattle.phrases.specs.declared.Expected.the-variants.{After};
@@ -119,7 +120,7 @@ fn digits(
     low: i32,
     high: i32,
 ) -> Bound
-    requires { ⌜ kind ≤ 30 ⌝ }
+    requires { ⌜ kind ≤ lastKind ⌝ }
     ensures { λ r. ⌜ boundOf r ≡ signedAt (inRange low high) (signedBy negative) (now (text .entry)) (kindOf kind) start end ⌝ }
 {
     if kind != lexer::DIGITS {
@@ -285,7 +286,7 @@ pub fn declarations(
     out: &mut [u8],
     to: usize,
 ) -> Declared
-    requires { ⌜ (word ≤ 30) × (to < 2 ^ 20) ⌝ }
+    requires { ⌜ (word ≤ lastKind) × (to < 2 ^ 20) ⌝ }
     requires { ⌜ Room (now starts) (now ends) count ⌝ }
     ensures { λ r. ⌜ ((names : List Name) → Holds (now (text .entry)) (now (starts .entry)) (now (ends .entry)) count names → DeclaresAll (kindOf word) (now (text .entry)) names at to (now (out .entry)) (now (out .exit)) (now (starts .exit)) (now (ends .exit)) r) ⌝ }
     ensures { λ r. ⌜ Few to r ⌝ }

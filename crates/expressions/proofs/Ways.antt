@@ -9,7 +9,7 @@ use lib.ListN.{length, set, getD}
 use lib.Seq.{sets}
 use lib.IntN.{pos}
 use borrow.Author.Tests.{lt-ltb, le-ltb}
-use Rattle.limits.specs.Limits.{noToken, notAllowed, outOfLimit, wrongName, tooEarly, tooMany}
+use Rattle.limits.specs.Limits.{noToken, notAllowed, outOfLimit, wrongName, tooEarly, tooMany, numberLimit}
 use Rattle.leb128.specs.Numbers.{number, zigzag}
 use Rattle.lexer.specs.Bytes.{part}
 use Rattle.lexer.specs.Token.{kindNumber, name, digits, openRound, closeRound, minus, fault}
@@ -20,7 +20,7 @@ use Rattle.bytecode.specs.Instructions.{operationCode}
 use Rattle.arith.specs.Values.{Operation, add, subtract, multiply, divide, modulo}
 use Rattle.semantics.specs.Program.{Expression, constant, current, previous, operation, negate}
 use Rattle.grammar.specs.Parsed.{Parsed, accepted, refused, andThen, sign, followed}
-use Rattle.grammar.specs.Expressions.{Scope, withId, currentAt, previousAt, numberLimit, numberAt, primary, negative, factor, productOf, sumOf, bracket}
+use Rattle.grammar.specs.Expressions.{Scope, withId, currentAt, previousAt, numberAt, primary, negative, factor, productOf, sumOf, bracket}
 use Rattle.grammar.specs.Emitted.{codeE}
 use Rattle.grammar.proofs.Growth.{Grown, products-end, sums-end, primary-grown, factor-grown, term-grown, expression-grown, bracket-grown}
 use Rattle.expressions.specs.declared.Lookahead.{Lookahead}

@@ -108,7 +108,7 @@ fn number(text: &[u8], start: usize, end: usize, out: &mut [u8], to: usize) -> S
     ensures { λ r. ⌜ Parses (now (text .entry)) codeE (numberAt (textOnly (now (text .entry))) start end) to (now (out .entry)) (now (out .exit)) r ⌝ }
 {
     let v = lexer::value(lexer::name(text, start, end));
-    if 2147483647 < v {
+    if limits::NUMBER_LIMIT < v {
         return Step::Refused(limits::OUT_OF_LIMIT, start);
     }
     instruction(

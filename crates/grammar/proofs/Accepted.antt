@@ -13,8 +13,8 @@ use Rattle.limits.specs.Limits.{textLimit, nameLimit}
 use Rattle.limits.specs.Answer as A
 use Rattle.arith.specs.Values.{isInt32}
 use Rattle.arith.proofs.Basics.{true-T, and-left, and-right, and-T}
-use Rattle.semantics.specs.Program.{Range, Name, Case, Rule, function, change, Program, rangesOf, target, within, knownFirst, allTrue, UsableR, OrderedRules, Ordered, AgreesR, AgreesAll, StartsWithin}
-use Rattle.bytecode.specs.Translation.{imageOf, depthE, depthC, ShallowK, ShallowR, Shallow, RangeFits, RangesFit, Translatable}
+use Rattle.semantics.specs.Program.{Range, Name, Case, Rule, function, change, Program, rangesOf, target, within, knownFirst, allTrue, UsableR, OrderedRules, Ordered, AgreesR, AgreesAll, StartsWithin, RangeFits}
+use Rattle.bytecode.specs.Translation.{imageOf, depthE, depthC, ShallowK, ShallowR, Shallow, RangesFit, Translatable}
 use Rattle.grammar.specs.Parsed.{Parsed, accepted, refused}
 use Rattle.grammar.specs.Parse.{program, parse, answerOf, programOf}
 use Rattle.grammar.specs.Derivation.{IsWord, IsName}

@@ -9,7 +9,7 @@ use native.Mathlib.Omega.{arith}
 use lib.ListN.{length, getD, getElem?}
 use lib.IntN.{pos}
 use borrow.Author.Tests.{le-ltb}
-use Rattle.limits.specs.Limits.{bracketLimit}
+use Rattle.limits.specs.Limits.{bracketLimit, numberLimit}
 use Rattle.lexer.specs.Bytes.{bytes, part}
 use Rattle.lexer.specs.Token.{Kind, kindNumber, name, digits, openRound, closeRound, openSquare, closeSquare, tilde, ampersand, bar, minus, plus, star, slash, modWord, is, Read, token, fault}
 use Rattle.lexer.specs.Token as T
@@ -19,7 +19,7 @@ use Rattle.lexer.proofs.Same.{same-kind}
 use Rattle.arith.specs.Values.{Operation, Comparison}
 use Rattle.semantics.specs.Program.{Expression, constant, current, previous, operation, negate, Condition, comparison, negated, both, either, UsableE, UsableC}
 use Rattle.grammar.specs.Parsed.{Parsed, accepted, refused, expected, rest, chain}
-use Rattle.grammar.specs.Expressions.{Scope, withId, currentAt, previousAt, numberLimit, numberAt, primary, negative, factor, productOf, sumOf, term, expression, bracket, wholeExpression}
+use Rattle.grammar.specs.Expressions.{Scope, withId, currentAt, previousAt, numberAt, primary, negative, factor, productOf, sumOf, term, expression, bracket, wholeExpression}
 use Rattle.grammar.specs.Conditions.{comparisonOf, compared, comparisonAt, opposite as opposed, inverted, atom, andAlso, orElse, connect, andOf, orOf, conjunction, condition, square, wholeCondition, listed}
 use Rattle.grammar.specs.Derivation.{Spells, IsDigits, ProductSign, SumSign, ComparisonSign, Level, SpellsE, a-number, a-current, a-previous, brackets, plain, opposite, one-factor, product, one-term, sum, LevelC, SpellsC, not-square, one-atom, conjoined, one-conjunction, disjoined}
 use Rattle.grammar.specs.Derivation as D

@@ -16,8 +16,7 @@ use Rattle.lexer.specs.Bytes.{bytes}
 use Rattle.lexer.specs.Token.{Kind, kindNumber, digits, initWord, dots, semicolon, minus, is, token}
 use Rattle.lexer.specs.Lexer.{tokenAt, overLong}
 use Rattle.lexer.proofs.Laws.{token-at-moved}
-use Rattle.semantics.specs.Program.{Range, Name}
-use Rattle.bytecode.specs.Translation.{RangeFits}
+use Rattle.semantics.specs.Program.{Range, Name, RangeFits}
 use Rattle.grammar.specs.Parsed.{accepted, sign, phrase}
 use Rattle.grammar.specs.Declarations.{inRange, signedAt, boundAt, spellings, newName, startAt, declaration, declarationsFrom}
 use Rattle.grammar.specs.Derivation.{Stands, Spells, IsName}

@@ -14,10 +14,10 @@ use Rattle.lexer.specs.Token.{kindNumber, ending, name, closeRound, tilde, is, 
 use Rattle.lexer.specs.Lexer.{tokenAt}
 use Rattle.lexer.proofs.Laws.{token-at-moved}
 use Rattle.semantics.specs.Program.{Expression, Condition, Case, Rule, function, change, target, allTrue, UsableE, UsableK, UsableR, OrderedRules}
-use Rattle.grammar.specs.Parsed.{accepted, phrase, followed}
+use Rattle.grammar.specs.Parsed.{accepted, phrase, followed, itemBound}
 use Rattle.grammar.specs.Expressions.{Scope, productOf, sumOf, wholeExpression}
 use Rattle.grammar.specs.Forms.{valueOpening, functionClosing, formulaClosing, changeOpening, noChangeOpening, ruleOpening}
-use Rattle.grammar.specs.Rules.{Spanned, casesFrom, plainList, agrees, partsFrom, settled, agreeingList, casesOf, functionAt, changeAt, formulas, ruleAt, ruled, rulesFrom}
+use Rattle.grammar.specs.Rules.{Spanned, casesFrom, plainList, agrees, partsFrom, firstFound, agreeingList, casesOf, functionAt, changeAt, formulas, ruleAt, ruled, rulesFrom}
 use Rattle.grammar.specs.Derivation.{Spells, IsName, SpellsE}
 use Rattle.grammar.specs.Derivation as D
 use Rattle.grammar.specs.Spelled.{SpellsCases, SpellsList, SpellsR, a-change, a-function, SpellsRules}
@@ -53,7 +53,7 @@ module _ (sc : Scope) (good : Named (sc .names)) (w : List ℕ) (nm : IsName w) 
   -- ---- a change formula and its no-change formula, after `v: GX(~`
 
   agreeing-goes : (cases : List Spanned) (cs : List Condition) (a m : ℕ) → plainList sc a ≡ accepted cs m → partsFrom (sc .text) cases a ≡ agrees m → agreeingList sc cases a ≡ accepted cs m
-  unfolding agreeingList settled
+  unfolding agreeingList firstFound
   agreeing-goes cases cs a m e1 e2 = rw (e2, e1)
 
   change-goes : (cases : List Spanned) (cs : List Condition) (a n1 n2 n3 n4 n5 : ℕ) → phrase (sc .text) (changeOpening w) a ≡ accepted tt n1 → casesFrom caseLimit sc w [] n1 ≡ accepted cases n2 → phrase (sc .text) (noChangeOpening w) n2 ≡ accepted tt n3 → agreeingList sc cases n3 ≡ accepted cs n4 → followed (sc .text) formulaClosing (change v (casesOf cases) cs) n4 ≡ accepted (change v (casesOf cases) cs) n5 → changeAt sc w v a ≡ accepted (change v (casesOf cases) cs) n5
@@ -189,6 +189,6 @@ rules-read (suc f) sc good done ts rs (S.SpellsRules.more us vs r qs d e) o fuel
     rules-on sc f a (x .start) (x .place) (p .place) done r (x .is-name) (x .reads)
     ∙ (rules-read f (ruled sc (target r)) good (done ++ (r ∷ [])) vs qs e (o .3) (omega arith) (p .place) n i (p .second) s m et ∙ ap (λ (y : List Rule). accepted y m) (append-assoc done (r ∷ []) qs))
 
--- 65 are enough
-pub few-unruled : (known : List Bool) → length known ≤ 64 → unruled known < 65
+-- `itemBound` rules are enough
+pub few-unruled : (known : List Bool) → length known ≤ 64 → unruled known < itemBound
 few-unruled known h = omega (arith, unruled-few known)

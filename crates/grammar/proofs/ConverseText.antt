@@ -13,7 +13,7 @@ use Rattle.lexer.specs.Token.{Kind, kindNumber, ending, name, inputWord, varWor
 use Rattle.lexer.specs.Lexer.{tokenAt}
 use Rattle.semantics.specs.Program.{Name, Rule, Program, knownFirst, rangesOf, OrderedRules, Ordered}
 use Rattle.semantics.proofs.Reference.{length-known}
-use Rattle.grammar.specs.Parsed.{accepted}
+use Rattle.grammar.specs.Parsed.{accepted, itemBound}
 use Rattle.grammar.specs.Declarations.{spellings, declarations}
 use Rattle.grammar.specs.Rules.{rulesFrom}
 use Rattle.grammar.specs.Parse.{program, parse, answerOf, programOf}
@@ -77,7 +77,7 @@ module _ (text : List ℕ) where
 
   -- ---- the whole
 
-  program-goes : (inputs names : List Name) (rules : List Rule) (a b n : ℕ) → declarations inputWord text [] 0 ≡ accepted inputs a → declarations varWord text inputs a ≡ accepted names b → rulesFrom 65 (record { text = text; names = spellings names; known = knownFirst (length inputs) (length names) }) [] b ≡ accepted rules n → program text ≡ accepted (record { inputs = length inputs; names = names; rules = rules }) n
+  program-goes : (inputs names : List Name) (rules : List Rule) (a b n : ℕ) → declarations inputWord text [] 0 ≡ accepted inputs a → declarations varWord text inputs a ≡ accepted names b → rulesFrom itemBound (record { text = text; names = spellings names; known = knownFirst (length inputs) (length names) }) [] b ≡ accepted rules n → program text ≡ accepted (record { inputs = length inputs; names = names; rules = rules }) n
   unfolding program
   program-goes inputs names rules a b n e1 e2 e3 = rw (e1, e2, e3)
 
@@ -96,9 +96,9 @@ module _ (text : List ℕ) where
       let more = variables-next vts variables dv (q .place) (p .place) i1 (q .second) none in
       let count : length (knownFirst (length inputs) (length names)) ≡ length names = length-known (length inputs) (length names) in
       program-goes inputs names rules (q .place) (p .place) (length text)
-      (declarations-read text inputWord refl 65 [] its inputs di (distinct-front inputs variables apart) (omega arith) (omega arith) 0 (q .place) (omega arith) (q .first) (more .kind) (more .start) (more .end) (more .is-token) (more .other))
-      (declarations-read text varWord refl 65 inputs vts variables dv apart (omega arith) (omega arith) (q .place) (p .place) i1 (q .second) (end .kind) (end .start) (end .end) (end .is-token) (end .other))
-      (rules-read 65 (record { text = text; names = spellings names; known = knownFirst (length inputs) (length names) }) good [] rts rules dr ordered (few-unruled (knownFirst (length inputs) (length names)) (omega arith)) (p .place) (t .end) i2 (p .second) (length text) (length text) (t .ends))
+      (declarations-read text inputWord refl itemBound [] its inputs di (distinct-front inputs variables apart) (omega arith) (omega arith) 0 (q .place) (omega arith) (q .first) (more .kind) (more .start) (more .end) (more .is-token) (more .other))
+      (declarations-read text varWord refl itemBound inputs vts variables dv apart (omega arith) (omega arith) (q .place) (p .place) i1 (q .second) (end .kind) (end .start) (end .end) (end .is-token) (end .other))
+      (rules-read itemBound (record { text = text; names = spellings names; known = knownFirst (length inputs) (length names) }) good [] rts rules dr ordered (few-unruled (knownFirst (length inputs) (length names)) (omega arith)) (p .place) (t .end) i2 (p .second) (length text) (length text) (t .ends))
 
 made : (p : Program) (i : ℕ) (l : List Name) → p .inputs ≡ i → p .names ≡ l → p ≡ record { inputs = i; names = l; rules = p .rules }
 made p i l e f = ap₂ (λ (x : ℕ) (y : List Name). record { inputs = x; names = y; rules = p .rules }) e f

@@ -12,7 +12,7 @@ use Rattle.lexer.specs.Bytes.{bytes}
 use Rattle.lexer.specs.Token.{kindNumber, inputWord, varWord}
 use Rattle.semantics.specs.Program.{Name, Rule, Program, knownFirst}
 use Rattle.semantics.proofs.Reference.{length-known}
-use Rattle.grammar.specs.Parsed.{Parsed, accepted, refused}
+use Rattle.grammar.specs.Parsed.{Parsed, accepted, refused, itemBound}
 use Rattle.grammar.specs.Expressions.{Scope}
 use Rattle.grammar.specs.Declarations.{spellings, declarations}
 use Rattle.grammar.specs.Rules.{rulesFrom}
@@ -70,16 +70,16 @@ unfolding program declarations isFixed kindNumber
 program-reads text =
     then-prop (Reads text) (declarations inputWord text [] 0) _ (λ k q. tt)
     (λ inputs n1 e1.
-    let g1 = subst (Ends (length text) (Names text 0)) e1 (declarations-fit text 65 inputWord [] 0 0 (omega arith) (tt, omega arith, omega arith, tt)) in
-    let d1 = subst (DeclaresFrom text (bytes "input") [] 0) e1 (declarations-derive text 65 inputWord refl [] 0 (omega arith)) in
+    let g1 = subst (Ends (length text) (Names text 0)) e1 (declarations-fit text itemBound inputWord [] 0 0 (omega arith) (tt, omega arith, omega arith, tt)) in
+    let d1 = subst (DeclaresFrom text (bytes "input") [] 0) e1 (declarations-derive text itemBound inputWord refl [] 0 (omega arith)) in
     then-prop (Reads text) (declarations varWord text inputs n1) _ (λ k q. tt)
     (λ names n2 e2.
-    let g2 = subst (Ends (length text) (Names text (length inputs))) e2 (declarations-fit text 65 varWord inputs n1 (length inputs) (g1 .1) (g1 .0 .0, g1 .0 .1, le-refl (length inputs), g1 .0 .3)) in
-    let d2 = subst (DeclaresFrom text (bytes "var") inputs n1) e2 (declarations-derive text 65 varWord refl inputs n1 (g1 .1)) in
+    let g2 = subst (Ends (length text) (Names text (length inputs))) e2 (declarations-fit text itemBound varWord inputs n1 (length inputs) (g1 .1) (g1 .0 .0, g1 .0 .1, le-refl (length inputs), g1 .0 .3)) in
+    let d2 = subst (DeclaresFrom text (bytes "var") inputs n1) e2 (declarations-derive text itemBound varWord refl inputs n1 (g1 .1)) in
     let sc : Scope = record { text = text; names = spellings names; known = knownFirst (length inputs) (length names) } in
-    then-prop (Reads text) (rulesFrom 65 sc [] n2) _ (λ k q. tt)
+    then-prop (Reads text) (rulesFrom itemBound sc [] n2) _ (λ k q. tt)
     (λ rules n3 e3.
-    let r = subst (RulesReads text (spellings names) [] n2) e3 (rules-derive 65 sc (omega (arith, spellings-length names, g2 .0 .1)) (spellings-length names ∙ sym (length-known (length inputs) (length names))) (named names (g2 .0 .0) (g2 .0 .3)) [] n2 (g2 .1)) in
+    let r = subst (RulesReads text (spellings names) [] n2) e3 (rules-derive itemBound sc (omega (arith, spellings-length names, g2 .0 .1)) (spellings-length names ∙ sym (length-known (length inputs) (length names))) (named names (g2 .0 .0) (g2 .0 .3)) [] n2 (g2 .1)) in
     read text inputs names rules n1 n2 d1 d2 r)))
 
 parsed : (text : List ℕ) (p : Program) (n : ℕ) → parse text ≡ accepted p n → program text ≡ accepted p n

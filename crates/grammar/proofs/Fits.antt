@@ -19,14 +19,14 @@ use Rattle.arith.specs.Values.{Operation, Comparison}
 use Rattle.arith.proofs.Laws.{mag-int32}
 use Rattle.semantics.specs.Program.{Expression, previous, operation, Condition, comparison, Case, UsableE, UsableC, UsableK}
 use Rattle.grammar.specs.Parsed.{Parsed, accepted, refused, Wanted, phrase, followed, rest, chain}
-use Rattle.grammar.specs.Expressions.{Scope, withId, currentAt, previousAt, numberLimit, numberAt, primary, negative, factor, productOf, sumOf, term, expression, bracket, wholeExpression}
+use Rattle.grammar.specs.Expressions.{Scope, withId, currentAt, previousAt, numberAt, primary, negative, factor, productOf, sumOf, term, expression, bracket, wholeExpression}
 use Rattle.grammar.specs.Conditions.{comparisonOf, compared, comparisonAt, opposite, inverted, atom, Connective, andAlso, orElse, connect, andOf, orOf, conjunction, condition, square, wholeCondition, listed}
 use Rattle.grammar.specs.Rules.{Spanned, caseAt, casesFrom, casesOf}
 use Rattle.grammar.proofs.Shape.{CaseFits, CasesFit}
 use Rattle.grammar.proofs.Combine.{token-prop, then-prop, option-prop}
 use Rattle.grammar.proofs.Bytes.{id-of}
 use Rattle.bytecode.specs.Translation.{depthE, depthC}
-use Rattle.limits.specs.Limits.{bracketLimit}
+use Rattle.limits.specs.Limits.{bracketLimit, numberLimit}
 
 -- what is accepted has the property
 abbrev pub Holds : {A : Type 0} → (A → Type 0) → Parsed A → Type 0

@@ -16,14 +16,14 @@ use Rattle.lexer.proofs.Laws.{cond-prop, apart, token-at-moved}
 use Rattle.arith.specs.Values.{Operation, Comparison}
 use Rattle.semantics.specs.Program.{Expression, previous, operation, Condition, comparison}
 use Rattle.grammar.specs.Parsed.{Parsed, accepted, refused, Wanted, sign, isWanted, expected, phrase, followed, rest, chain}
-use Rattle.grammar.specs.Expressions.{Scope, withId, currentAt, previousAt, numberLimit, numberAt, primary, negative, factor, productOf, sumOf, term, expression, bracket, wholeExpression}
+use Rattle.grammar.specs.Expressions.{Scope, withId, currentAt, previousAt, numberAt, primary, negative, factor, productOf, sumOf, term, expression, bracket, wholeExpression}
 use Rattle.grammar.specs.Conditions.{comparisonOf, compared, comparisonAt, opposite, inverted, atom, Connective, andAlso, orElse, connect, connectiveCode, andOf, orOf, conjunction, condition, square, wholeCondition, listed}
 use Rattle.grammar.specs.Emitted.{codeE, codeC}
 use Rattle.grammar.proofs.Combine.{token-prop, then-prop, option-prop}
 use Rattle.grammar.proofs.Bytes.{digits-bytes, id-bytes, id-of, part-length}
 use Rattle.bytecode.specs.Instructions.{operationCode, comparisonCode}
 use Rattle.leb128.specs.Numbers.{number}
-use Rattle.limits.specs.Limits.{bracketLimit}
+use Rattle.limits.specs.Limits.{bracketLimit, numberLimit}
 
 -- an accepted part that starts at `at` has a byte at least, ends within the text, and twice its code's bytes are at most three times
 -- its own, and one

@@ -11,7 +11,7 @@ use Rattle.lexer.proofs.Laws.{cond-prop}
 use Rattle.semantics.specs.Program.{Condition}
 use Rattle.grammar.specs.Parsed.{Parsed, accepted, refused}
 use Rattle.grammar.specs.Expressions.{Scope}
-use Rattle.grammar.specs.Rules.{Spanned, casesFrom, plainList, Compared, agrees, differs, partsFrom, settled, agreeingList, casesOf}
+use Rattle.grammar.specs.Rules.{Spanned, casesFrom, plainList, Compared, agrees, differs, partsFrom, firstFound, agreeingList, casesOf}
 use Rattle.grammar.specs.Derivation.{Spells}
 use Rattle.grammar.specs.Spelled.{SpellsCases}
 use Rattle.grammar.specs.Internal.{Named}
@@ -24,21 +24,21 @@ use Rattle.grammar.proofs.DerivedCases.{CasesRead, CasesReads, cases-de
 use Rattle.grammar.proofs.ConverseCases.{no-change-reads}
 
 -- a list that is accepted was read, and agrees
-record Settled (r : Parsed (List Condition)) (d : Compared) (ds : List Condition) (m : ℕ) : Type 0 where
+record NoneFound (r : Parsed (List Condition)) (d : Compared) (ds : List Condition) (m : ℕ) : Type 0 where
   place : ℕ
   agrees-at : d ≡ agrees place
   plain : r ≡ accepted ds m
 
-settled-inv : (r : Parsed (List Condition)) (d : Compared) (ds : List Condition) (m : ℕ) → settled r d ≡ accepted ds m → Settled r d ds m
-unfolding settled
-settled-inv r (agrees n) ds m e = record { place = n; agrees-at = refl; plain = e }
-settled-inv (accepted a n) (differs p) ds m e = never 7 p m ds e
-settled-inv (refused k q) (differs p) ds m e =
+first-found-inv : (r : Parsed (List Condition)) (d : Compared) (ds : List Condition) (m : ℕ) → firstFound r d ≡ accepted ds m → NoneFound r d ds m
+unfolding firstFound
+first-found-inv r (agrees n) ds m e = record { place = n; agrees-at = refl; plain = e }
+first-found-inv (accepted a n) (differs p) ds m e = never 7 p m ds e
+first-found-inv (refused k q) (differs p) ds m e =
     cond-prop P (ltb q p) _ _ (λ t f. never k q m ds f)
     (λ t. cond-prop P (eqb q p) _ _ (λ t2. cond-prop P (leb k 5) _ _ (λ t3 f. never k q m ds f) (λ t3 f. never 7 p m ds f)) (λ t2 f. never 7 p m ds f)) e
   where
     P : Parsed (List Condition) → Type 0
-    P x = x ≡ accepted ds m → Settled (refused k q) (differs p) ds m
+    P x = x ≡ accepted ds m → NoneFound (refused k q) (differs p) ds m
 
 module _ (sc : Scope) (few : length (sc .names) ≤ 64) (lengths : length (sc .names) ≡ length (sc .known)) where
   -- the cases of a change formula, from `at` up to n
@@ -78,7 +78,7 @@ module _ (sc : Scope) (few : length (sc .names) ≤ 64) (lengths : length (sc .n
   pub agreeing-same : Named (sc .names) → (w : List ℕ) (from to : ℕ) (cs : List Spanned) (c : CasesIn w from to cs) (at m : ℕ) (ds : List Condition) → at ≤ length (sc .text) → agreeingList sc cs at ≡ accepted ds m → Agreeing cs (c .list) at m ds
   unfolding agreeingList
   agreeing-same good w from to cs c at m ds h e =
-      let i = settled-inv (plainList sc at) (partsFrom (sc .text) cs at) ds m e in
+      let i = first-found-inv (plainList sc at) (partsFrom (sc .text) cs at) ds m e in
       let s = parts-spells (sc .text) cs (c .list) (c .lists) at (i .place) h (i .agrees-at) in
       same (i .place) s (sym (i .plain) ∙ agreeing-reads good w from to cs c at (i .place) h (i .agrees-at))
     where

@@ -19,11 +19,11 @@ use Rattle.lexer.specs.Lexer.{tokenAt, sameToken, overLong, valueOf}
 use Rattle.lexer.specs.Names.{idOf}
 use Rattle.lexer.proofs.Laws.{cond-prop, Moved, token-moved, Faulted, token-faulted}
 use Rattle.semantics.specs.Program.{Name, Condition, Rule, Program, target, allTrue}
-use Rattle.grammar.specs.Parsed.{Parsed, accepted, refused, phrase}
+use Rattle.grammar.specs.Parsed.{Parsed, accepted, refused, phrase, itemBound}
 use Rattle.grammar.specs.Expressions.{Scope, wholeExpression}
 use Rattle.grammar.specs.Conditions.{listed}
 use Rattle.grammar.specs.Declarations.{inRange, signedAt, boundAt, spellings, newName, startAt, declaration, declarationsFrom, declarations}
-use Rattle.grammar.specs.Rules.{Spanned, caseAt, casesFrom, listFrom, plainList, Compared, agrees, differs, onCompared, onFound, onWanted, partFrom, kindAt, partsFrom, settled, agreeingList, functionAt, changeAt, formulas, ruleAt, ruled, rulesFrom}
+use Rattle.grammar.specs.Rules.{Spanned, caseAt, casesFrom, listFrom, plainList, Compared, agrees, differs, onCompared, onFound, onWanted, partFrom, kindAt, partsFrom, firstFound, agreeingList, functionAt, changeAt, formulas, ruleAt, ruled, rulesFrom}
 use Rattle.grammar.specs.Parse.{program, parse, answerOf, programOf}
 use Rattle.grammar.proofs.Places.{Within, then-within, cond-within, option-within, token-within, phrase-within, followed-within, id-within, whole-expression-within, listed-within}
 
@@ -126,11 +126,11 @@ module _ (text : List ℕ) where
       compared-near (partFrom (length text) text (c .span .from) (c .span .to) at) _ (part-near (length text) (c .span .from) (c .span .to) at h)
       (λ n m. compared-near (kindAt text bar n) _ (kind-near bar n m) (λ e i. parts-near (d ∷ cs) e i))
 
-  settled-within : {A : Type 0} (r : Parsed A) (d : Compared) → Within (length text) r → Near d → Within (length text) (settled r d)
-  unfolding settled
-  settled-within r (agrees n) h g = h
-  settled-within (accepted a n) (differs m) h g = (omega arith, omega arith, g)
-  settled-within (refused k q) (differs m) h g =
+  first-found-within : {A : Type 0} (r : Parsed A) (d : Compared) → Within (length text) r → Near d → Within (length text) (firstFound r d)
+  unfolding firstFound
+  first-found-within r (agrees n) h g = h
+  first-found-within (accepted a n) (differs m) h g = (omega arith, omega arith, g)
+  first-found-within (refused k q) (differs m) h g =
       cond-within (length text) (ltb q m) _ _ h
       (cond-within (length text) (eqb q m) _ _ (cond-within (length text) (leb k 5) _ _ h (omega arith, omega arith, g)) (omega arith, omega arith, g))
 
@@ -158,7 +158,7 @@ module _ (sc : Scope) where
 
   list-within : (left : ℕ) (done : List Condition) (at : ℕ) → at ≤ length (sc .text) → Within (length (sc .text)) (listFrom left sc done at)
   unfolding listFrom
-  list-within zero done at h = token-within (sc .text) at _ h (λ k s n l m. (omega arith, omega arith, l))
+  list-within zero done at h = token-within (sc .text) at _ h (λ k s n l m. cond-within (length (sc .text)) (is k openSquare) _ _ (omega arith, omega arith, l) (omega arith, omega arith, l))
   list-within (suc left) done at h =
       token-within (sc .text) at _ h
       (λ k s n l m.
@@ -170,7 +170,7 @@ module _ (sc : Scope) where
   agreeing-within : (cases : List Spanned) (at : ℕ) → at ≤ length (sc .text) → Within (length (sc .text)) (agreeingList sc cases at)
   unfolding agreeingList plainList
   agreeing-within cases at h =
-      settled-within (sc .text) (plainList sc at) (partsFrom (sc .text) cases at)
+      first-found-within (sc .text) (plainList sc at) (partsFrom (sc .text) cases at)
       (then-within (length (sc .text)) (listFrom caseLimit sc [] at) _ (list-within caseLimit [] at h) (λ cs n m. followed-within (sc .text) _ cs n m))
       (parts-near (sc .text) cases at h)
 
@@ -215,9 +215,9 @@ rules-within (suc f) sc done at h =
 program-within : (text : List ℕ) → Within (length text) (program text)
 unfolding program declarations
 program-within text =
-    then-within (length text) (declarations inputWord text [] 0) _ (declarations-within text 65 inputWord [] 0 (omega arith))
-    (λ inputs n1 h1. then-within (length text) (declarations varWord text inputs n1) _ (declarations-within text 65 varWord inputs n1 h1)
-    (λ names n2 h2. then-within (length text) (rulesFrom 65 _ [] n2) _ (rules-within 65 _ [] n2 h2) (λ rules n3 h3. h3)))
+    then-within (length text) (declarations inputWord text [] 0) _ (declarations-within text itemBound inputWord [] 0 (omega arith))
+    (λ inputs n1 h1. then-within (length text) (declarations varWord text inputs n1) _ (declarations-within text itemBound varWord inputs n1 h1)
+    (λ names n2 h2. then-within (length text) (rulesFrom itemBound _ [] n2) _ (rules-within itemBound _ [] n2 h2) (λ rules n3 h3. h3)))
 
 -- what is accepted ends within the text; a refusal has a number of 1 to 9 and its place is within the text, or at its end
 pub parse-within : (text : List ℕ) → Within (length text) (parse text)

@@ -5,8 +5,8 @@ use mathlib.Core.Path.{_≡_}
 use mathlib.Core.Bool.{Bool, true, false}
 use mathlib.Core.List.{List, [], _∷_, map}
 use lib.ListN.{length, getD, set}
-use Rattle.semantics.specs.Program.{Name, Case, Condition, Rule, function, change, Program, UsableE, UsableC, target, allTrue, knownFirst}
-use Rattle.bytecode.specs.Translation.{depthE, depthC, RangeFits}
+use Rattle.semantics.specs.Program.{Name, Case, Condition, Rule, function, change, Program, UsableE, UsableC, target, allTrue, knownFirst, RangeFits}
+use Rattle.bytecode.specs.Translation.{depthE, depthC}
 use Rattle.grammar.specs.Derivation.{IsName}
 use Rattle.grammar.specs.Spelled.{Distinct}
 use Rattle.grammar.specs.Declarations.{spellings}

@@ -17,7 +17,7 @@ use Rattle.lexer.proofs.Laws.{cond-prop, token-at-moved}
 use Rattle.lexer.proofs.Same.{both-true}
 use Rattle.semantics.specs.Program.{Name, Rule, function, change, Program, target, allTrue, knownFirst}
 use Rattle.semantics.proofs.Reference.{length-known}
-use Rattle.grammar.specs.Parsed.{Parsed, accepted, refused, Wanted, sign, own, ownPrevious, isWanted, expected, phrase, followed}
+use Rattle.grammar.specs.Parsed.{Parsed, accepted, refused, Wanted, sign, own, ownPrevious, isWanted, expected, phrase, followed, itemBound}
 use Rattle.grammar.specs.Expressions.{Scope, withId, wholeExpression}
 use Rattle.grammar.specs.Conditions.{listed}
 use Rattle.grammar.specs.Declarations.{inRange, signedAt, boundAt, spellings, newName, startAt, declaration, declarationsFrom, declarations}
@@ -331,17 +331,17 @@ unfolding program declarations image header codeR
 program-small text =
     then-prop (Small (length text)) (declarations inputWord text [] 0) _ (λ k q. tt)
     (λ inputs n1 e1.
-    let g1 = subst (Ends (length text) (Names text 0)) e1 (declarations-fit text 65 inputWord [] 0 0 (omega arith) (tt, omega arith, omega arith, tt)) in
-    let p1 = subst (Pays (λ (l : List Name). length (header l)) (length text) 0) e1 (declarations-pay text 65 inputWord [] 0 (omega arith) (omega arith)) in
+    let g1 = subst (Ends (length text) (Names text 0)) e1 (declarations-fit text itemBound inputWord [] 0 0 (omega arith) (tt, omega arith, omega arith, tt)) in
+    let p1 = subst (Pays (λ (l : List Name). length (header l)) (length text) 0) e1 (declarations-pay text itemBound inputWord [] 0 (omega arith) (omega arith)) in
     then-prop (Small (length text)) (declarations varWord text inputs n1) _ (λ k q. tt)
     (λ names n2 e2.
-    let g2 = subst (Ends (length text) (Names text (length inputs))) e2 (declarations-fit text 65 varWord inputs n1 (length inputs) (g1 .1) (g1 .0 .0, g1 .0 .1, le-refl (length inputs), g1 .0 .3)) in
-    let p2 = subst (Pays (λ (l : List Name). length (header l)) (length text) 0) e2 (declarations-pay text 65 varWord inputs n1 (g1 .1) (omega (arith, p1 .0))) in
+    let g2 = subst (Ends (length text) (Names text (length inputs))) e2 (declarations-fit text itemBound varWord inputs n1 (length inputs) (g1 .1) (g1 .0 .0, g1 .0 .1, le-refl (length inputs), g1 .0 .3)) in
+    let p2 = subst (Pays (λ (l : List Name). length (header l)) (length text) 0) e2 (declarations-pay text itemBound varWord inputs n1 (g1 .1) (omega (arith, p1 .0))) in
     let sc : Scope = record { text = text; names = spellings names; known = knownFirst (length inputs) (length names) } in
-    then-prop (Small (length text)) (rulesFrom 65 sc [] n2) _ (λ k q. tt)
+    then-prop (Small (length text)) (rulesFrom itemBound sc [] n2) _ (λ k q. tt)
     (λ rules n3 e3.
     let p3 = subst (Pays (λ (rs : List Rule). length (codeR rs)) (length text) n2) e3
-    (rules-pay 65 sc (omega (arith, spellings-length names, g2 .0 .1)) (spellings-length names ∙ sym (length-known (length inputs) (length names))) [] n2 n2 (g2 .1) (omega arith)) in
+    (rules-pay itemBound sc (omega (arith, spellings-length names, g2 .0 .1)) (spellings-length names ∙ sym (length-known (length inputs) (length names))) [] n2 n2 (g2 .1) (omega arith)) in
     simp length-append (omega (arith, p2 .0, p3 .0, p3 .1, g2 .0 .1, g2 .0 .2, id-bytes (length inputs) (omega (arith, g2 .0 .1, g2 .0 .2)), id-bytes (length names - length inputs) (omega (arith, g2 .0 .1)))))))
 
 -- twice the image's bytes are at most three times the text's, and four; so no image of a text within its limit is over its own

@@ -16,14 +16,14 @@ use Rattle.lexer.specs.Token.{Kind, kindNumber, name, digits, ending, openSquar
 use Rattle.lexer.specs.Lexer.{tokenAt, overLong, valueOf}
 use Rattle.lexer.specs.Names.{idOf}
 use Rattle.lexer.proofs.Laws.{cond-prop, token-at-moved}
-use Rattle.semantics.specs.Program.{Name, Condition, Rule, function, change, target, allTrue, knownFirst}
+use Rattle.semantics.specs.Program.{Name, Condition, Rule, function, change, target, allTrue, knownFirst, RangeFits}
 use Rattle.arith.proofs.Basics.{and-both, true-T, and-T}
 use Rattle.semantics.proofs.Reference.{length-known}
-use Rattle.grammar.specs.Parsed.{Parsed, accepted, refused, Wanted, sign, phrase, followed}
+use Rattle.grammar.specs.Parsed.{Parsed, accepted, refused, Wanted, sign, phrase, followed, itemBound}
 use Rattle.grammar.specs.Expressions.{Scope, withId, wholeExpression}
 use Rattle.grammar.specs.Conditions.{listed}
 use Rattle.grammar.specs.Declarations.{inRange, signedAt, boundAt, spellings, newName, startAt, declaration, declarationsFrom, declarations}
-use Rattle.grammar.specs.Rules.{Spanned, casesFrom, listFrom, plainList, Compared, agrees, differs, partsFrom, settled, agreeingList, casesOf, functionAt, changeAt, formulas, ruleAt, ruled, rulesFrom}
+use Rattle.grammar.specs.Rules.{Spanned, casesFrom, listFrom, plainList, Compared, agrees, differs, partsFrom, firstFound, agreeingList, casesOf, functionAt, changeAt, formulas, ruleAt, ruled, rulesFrom}
 use Rattle.grammar.specs.Parse.{program, parse}
 use Rattle.grammar.specs.Emitted.{codeE, codeC}
 use Rattle.grammar.specs.Derivation.{IsName}
@@ -37,7 +37,6 @@ use Rattle.grammar.proofs.Lists.{cases-in, agreeing-same}
 use Rattle.grammar.proofs.Distinct.{new-apart, distinct-snoc}
 use Rattle.grammar.proofs.Derived.{sign-stands}
 use Rattle.grammar.proofs.Fits.{Holds, FitE, whole-expression-fits}
-use Rattle.bytecode.specs.Translation.{RangeFits}
 use Rattle.limits.specs.Limits.{nameLimit, caseLimit, textLimit}
 use Rattle.arith.specs.Values.{isInt32}
 
@@ -71,7 +70,7 @@ module _ (sc : Scope) (few : length (sc .names) ≤ 64) (lengths : length (sc .n
 
   list-kept : (left : ℕ) (done : List Condition) (at : ℕ) → at ≤ length (sc .text) → Kept (length (sc .text)) at (listFrom left sc done at)
   unfolding listFrom
-  list-kept zero done at h = token-prop (Kept (length (sc .text)) at) (tokenAt (sc .text) at) _ (λ k q. tt) (λ k s n et. tt)
+  list-kept zero done at h = token-prop (Kept (length (sc .text)) at) (tokenAt (sc .text) at) _ (λ k q. tt) (λ k s n et. cond-prop (Kept (length (sc .text)) at) (is k openSquare) _ _ (λ e. tt) (λ e. tt))
   list-kept (suc left) done at h =
       token-prop (Kept (length (sc .text)) at) (tokenAt (sc .text) at) _ (λ k q. tt)
       (λ k s n et.
@@ -88,18 +87,18 @@ module _ (sc : Scope) (few : length (sc .names) ≤ 64) (lengths : length (sc .n
       (λ e. (omega arith, g .1)))))
       (λ e. tt))
 
-  settled-kept : (at : ℕ) (r : Parsed (List Condition)) (d : Compared) → Kept (length (sc .text)) at r → Kept (length (sc .text)) at (settled r d)
-  unfolding settled
-  settled-kept at r (agrees n) h = h
-  settled-kept at (accepted a n) (differs p) h = tt
-  settled-kept at (refused k q) (differs p) h =
+  first-found-kept : (at : ℕ) (r : Parsed (List Condition)) (d : Compared) → Kept (length (sc .text)) at r → Kept (length (sc .text)) at (firstFound r d)
+  unfolding firstFound
+  first-found-kept at r (agrees n) h = h
+  first-found-kept at (accepted a n) (differs p) h = tt
+  first-found-kept at (refused k q) (differs p) h =
       cond-prop (Kept (length (sc .text)) at) (ltb q p) _ _ (λ e. tt)
       (λ e. cond-prop (Kept (length (sc .text)) at) (eqb q p) _ _ (λ e. cond-prop (Kept (length (sc .text)) at) (leb k 5) _ _ (λ e. tt) (λ e. tt)) (λ e. tt))
 
   pub agree-kept : (cases : List Spanned) (at : ℕ) → at ≤ length (sc .text) → Kept (length (sc .text)) at (agreeingList sc cases at)
   unfolding agreeingList plainList followed
   agree-kept cases at h =
-      settled-kept at (plainList sc at) (partsFrom (sc .text) cases at)
+      first-found-kept at (plainList sc at) (partsFrom (sc .text) cases at)
       (then-prop (Kept (length (sc .text)) at) (listFrom caseLimit sc [] at) _ (λ k q. tt)
       (λ cs n e.
       let g = subst (Kept (length (sc .text)) at) e (list-kept caseLimit [] at h) in
@@ -332,15 +331,15 @@ unfolding program declarations
 program-fits text =
     then-prop (Holds Fitting) (declarations inputWord text [] 0) _ (λ k q. tt)
     (λ inputs n1 e1.
-    let g1 = subst (Ends (length text) (Names text 0)) e1 (declarations-fit text 65 inputWord [] 0 0 (omega arith) (tt, omega arith, omega arith, tt)) in
+    let g1 = subst (Ends (length text) (Names text 0)) e1 (declarations-fit text itemBound inputWord [] 0 0 (omega arith) (tt, omega arith, omega arith, tt)) in
     then-prop (Holds Fitting) (declarations varWord text inputs n1) _ (λ k q. tt)
     (λ names n2 e2.
-    let g2 = subst (Ends (length text) (Names text (length inputs))) e2 (declarations-fit text 65 varWord inputs n1 (length inputs) (g1 .1) (g1 .0 .0, g1 .0 .1, le-refl (length inputs), g1 .0 .3)) in
+    let g2 = subst (Ends (length text) (Names text (length inputs))) e2 (declarations-fit text itemBound varWord inputs n1 (length inputs) (g1 .1) (g1 .0 .0, g1 .0 .1, le-refl (length inputs), g1 .0 .3)) in
     let sc : Scope = record { text = text; names = spellings names; known = knownFirst (length inputs) (length names) } in
-    then-prop (Holds Fitting) (rulesFrom 65 sc [] n2) _ (λ k q. tt)
+    then-prop (Holds Fitting) (rulesFrom itemBound sc [] n2) _ (λ k q. tt)
     (λ rules n3 e3.
     let c = subst (Holds (Continued (knownFirst (length inputs) (length names)) [])) e3
-    (rules-fit 65 sc (omega (arith, spellings-length names, g2 .0 .1)) (spellings-length names ∙ sym (length-known (length inputs) (length names))) (named names (g2 .0 .0) (g2 .0 .3)) [] n2 (g2 .1)) in
+    (rules-fit itemBound sc (omega (arith, spellings-length names, g2 .0 .1)) (spellings-length names ∙ sym (length-known (length inputs) (length names))) (named names (g2 .0 .0) (g2 .0 .3)) [] n2 (g2 .1)) in
     record { few = g2 .0 .1; inputs-fit = g2 .0 .2; names-fit = g2 .0 .0; distinct = g2 .0 .3; ordered = subst (RulesFit (knownFirst (length inputs) (length names))) (sym (c .is-more)) (c .ordered) })))
 
 -- the program of an accepted text is as Shape says

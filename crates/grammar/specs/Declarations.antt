@@ -13,7 +13,7 @@ use Rattle.lexer.specs.Token.{Kind, name, digits, initWord, dots, semicolon, mi
 use Rattle.lexer.specs.Lexer.{tokenAt, overLong, valueOf}
 use Rattle.lexer.specs.Names.{idOf}
 use Rattle.semantics.specs.Program.{Name}
-use Rattle.grammar.specs.Parsed.{Parsed, accepted, refused, andThen, onToken, onOption, sign, followed, phrase}
+use Rattle.grammar.specs.Parsed.{Parsed, accepted, refused, andThen, onToken, onOption, sign, followed, phrase, itemBound}
 
 unfoldable pub inRange : ℤ → ℤ → ℤ → Bool
 inRange low high z = leZ low z && leZ z high
@@ -41,7 +41,8 @@ boundAt test text at =
 abbrev pub spellings : List Name → List (List ℕ)
 spellings names = map (λ x. x .spelling) names
 
--- a new name's part of the text: 4 if it is declared already, 8 if it is over-long or the 65th
+-- a new name's part of the text: 4 if it is declared already, 8 if it is over-long or the 65th. (An over-long name is never 4 here:
+-- no name declared is over-long.)
 unfoldable pub newName : List ℕ → List Name → ℕ → Parsed (List ℕ)
 newName text names at =
     onToken (tokenAt text at)
@@ -70,7 +71,8 @@ declaration text names at =
     andThen (startAt text low high n4) (λ start n5.
     accepted (record { spelling = w; range = record { low = low; high = high; start = start } }) n5)))))
 
--- declarations that begin with the word, after the names declared so far. The 65th name is refused, so 65 are enough
+-- declarations that begin with the word, after the names declared so far. The 65th name is refused, so
+-- `itemBound` of them are enough
 unfoldable pub declarationsFrom : ℕ → Kind → List ℕ → List Name → ℕ → Parsed (List Name)
 declarationsFrom zero word text names at = accepted names at
 declarationsFrom (suc f) word text names at =
@@ -80,4 +82,4 @@ declarationsFrom (suc f) word text names at =
     cond (is k word) more (accepted names at))
 
 unfoldable pub declarations : Kind → List ℕ → List Name → ℕ → Parsed (List Name)
-declarations word text names at = declarationsFrom 65 word text names at
+declarations word text names at = declarationsFrom itemBound word text names at

@@ -6,13 +6,12 @@ use mathlib.Core.List.{List, [], _∷_, _++_}
 use mathlib.Core.Option.{some}
 use lib.ListN.{length, getElem?}
 use lib.IntN.{pos}
-use Rattle.limits.specs.Limits.{spellingLimit}
+use Rattle.limits.specs.Limits.{spellingLimit, numberLimit}
 use Rattle.arith.specs.Values.{Operation, add, subtract, multiply, divide, modulo, Comparison, equal, notEqual, less, lessEqual, greater, greaterEqual}
 use Rattle.semantics.specs.Program.{Expression, constant, current, previous, operation, negate, Condition, comparison, negated, both, either}
 use Rattle.lexer.specs.Bytes.{bytes, part}
 use Rattle.lexer.specs.Token.{Kind, name, ending, token}
 use Rattle.lexer.specs.Lexer.{isDigit, isLetter, isAlphanumeric, wordOf, tokenAt, valueOf}
-use Rattle.grammar.specs.Expressions.{numberLimit}
 
 -- ---- tokens
 

@@ -6,7 +6,7 @@ use mathlib.Core.Option.{Option, none, some}
 use lib.ListN.{getD}
 use lib.Dec.{ltb}
 use lib.IntN.{pos}
-use Rattle.limits.specs.Limits.{bracketLimit, notAllowed, outOfLimit, wrongName, tooEarly, tooMany}
+use Rattle.limits.specs.Limits.{bracketLimit, notAllowed, outOfLimit, wrongName, tooEarly, tooMany, numberLimit}
 use Rattle.lexer.specs.Bytes.{part}
 use Rattle.lexer.specs.Token.{Kind, name, digits, modWord, openRound, closeRound, plus, minus, star, slash, is}
 use Rattle.lexer.specs.Token as T
@@ -23,7 +23,8 @@ pub record Scope : Type 0 where
   pub names : List (List ℕ)
   pub known : List Bool
 
--- a name from s to n, found or not, whose token is at p: 4 if it is unknown, 8 if over-long (and so in no list of names)
+-- a name from s to n, found or not, whose token is at p: 4 if it is unknown. An over-long one is 8, never 4: it is in no list of names,
+-- so 8 is tested first
 unfoldable pub withId : {A : Type 0} → Scope → ℕ → ℕ → ℕ → (ℕ → Parsed A) → Parsed A
 withId sc p s n then =
     let found = onOption (idOf (sc .names) (part (sc .text) s n)) (refused wrongName p) then in
@@ -37,10 +38,7 @@ currentAt sc s n = withId sc s s n (λ i. cond (getD (sc .known) i false) (accep
 unfoldable pub previousAt : Scope → ℕ → ℕ → Parsed Expression
 previousAt sc s n = withId sc s (s + 1) n (λ i. accepted (previous i) n)
 
--- the greatest number
-abbrev pub numberLimit : ℕ
-numberLimit = 2147483647
-
+-- a number up to 2,147,483,647
 unfoldable pub numberAt : Scope → ℕ → ℕ → Parsed Expression
 numberAt sc s n =
     let v = valueOf (part (sc .text) s n) in

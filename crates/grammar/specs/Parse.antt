@@ -9,7 +9,7 @@ use Rattle.limits.specs.Answer.{Answer}
 use Rattle.limits.specs.Answer as A
 use Rattle.lexer.specs.Token.{inputWord, varWord}
 use Rattle.semantics.specs.Program.{Program, knownFirst}
-use Rattle.grammar.specs.Parsed.{Parsed, accepted, refused, andThen}
+use Rattle.grammar.specs.Parsed.{Parsed, accepted, refused, andThen, itemBound}
 use Rattle.grammar.specs.Declarations.{declarations, spellings}
 use Rattle.grammar.specs.Rules.{rulesFrom}
 
@@ -18,9 +18,10 @@ unfoldable pub program : List ℕ → Parsed Program
 program text =
     andThen (declarations inputWord text [] 0) (λ inputs n1.
     andThen (declarations varWord text inputs n1) (λ names n2.
-    andThen (rulesFrom 65 (record { text = text; names = spellings names; known = knownFirst (length inputs) (length names) }) [] n2) (λ rules n3.
+    andThen (rulesFrom itemBound (record { text = text; names = spellings names; known = knownFirst (length inputs) (length names) }) [] n2) (λ rules n3.
     accepted (record { inputs = length inputs; names = names; rules = rules }) n3)))
 
+-- 9 for a text over its limit, at place 0, before all else
 unfoldable pub parse : List ℕ → Parsed Program
 parse text = let read = program text in cond (ltb textLimit (length text)) (refused tooLong 0) read
 

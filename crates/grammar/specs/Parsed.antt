@@ -4,7 +4,7 @@ use mathlib.Core.Bool.{Bool, false, cond}
 use mathlib.Core.List.{List, [], _∷_}
 use mathlib.Core.Option.{Option, none, some}
 use lib.ListN.{length}
-use Rattle.limits.specs.Limits.{noToken, notAllowed}
+use Rattle.limits.specs.Limits.{nameLimit, noToken, notAllowed}
 use Rattle.lexer.specs.Bytes.{part}
 use Rattle.lexer.specs.Token.{Kind, name, previous, is, Read, token, fault}
 use Rattle.lexer.specs.Lexer.{tokenAt, sameName}
@@ -51,6 +51,10 @@ phrase text (w ∷ ws) at = andThen (expected text w at) (λ u n. phrase text ws
 -- x, then the tokens wanted
 unfoldable pub followed : {A : Type 0} → List ℕ → List Wanted → A → ℕ → Parsed A
 followed text ws x at = andThen (phrase text ws at) (λ u n. accepted x n)
+
+-- the bound on the recursion over declarations, and over rules: one more than the names that a text may have, so it is never reached
+abbrev pub itemBound : ℕ
+itemBound = nameLimit + 1
 
 -- ---- operators between operands, left to right
 

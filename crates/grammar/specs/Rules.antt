@@ -49,9 +49,10 @@ casesFrom (suc left) sc w done at =
 
 -- ---- the conditions of a no-change formula
 
--- `[c] | [c]`, after those done, with `left` conditions left to read. (A list longer than the other differs from it before that.)
+-- `[c] | [c]`, after those done, with `left` conditions left to read, as cases are read. (A list longer than the other differs from it
+-- at the `|` before, so no answer to a text shows this 8.)
 unfoldable pub listFrom : ℕ → Scope → List Condition → ℕ → Parsed (List Condition)
-listFrom zero sc done at = onToken (tokenAt (sc .text) at) (λ k s n. refused tooMany s)
+listFrom zero sc done at = onToken (tokenAt (sc .text) at) (λ k s n. cond (is k openSquare) (refused tooMany s) (refused notAllowed s))
 listFrom (suc left) sc done at =
     onToken (tokenAt (sc .text) at)
     (λ k s n.
@@ -107,13 +108,13 @@ partsFrom text (c ∷ d ∷ cs) at =
 
 -- The checks go token by token and in number order at each, so of a list that reads as r and differs first at m, a refusal before m
 -- is answered, and one of 1 to 5 at m; else 7 at m.
-unfoldable pub settled : {A : Type 0} → Parsed A → Compared → Parsed A
-settled r (agrees n) = r
-settled (accepted a n) (differs m) = refused listsDiffer m
-settled (refused k p) (differs m) = cond (ltb p m) (refused k p) (cond (eqb p m) (cond (leb k 5) (refused k p) (refused listsDiffer m)) (refused listsDiffer m))
+unfoldable pub firstFound : {A : Type 0} → Parsed A → Compared → Parsed A
+firstFound r (agrees n) = r
+firstFound (accepted a n) (differs m) = refused listsDiffer m
+firstFound (refused k p) (differs m) = cond (ltb p m) (refused k p) (cond (eqb p m) (cond (leb k 5) (refused k p) (refused listsDiffer m)) (refused listsDiffer m))
 
 unfoldable pub agreeingList : Scope → List Spanned → ℕ → Parsed (List Condition)
-agreeingList sc cases at = settled (plainList sc at) (partsFrom (sc .text) cases at)
+agreeingList sc cases at = firstFound (plainList sc at) (partsFrom (sc .text) cases at)
 
 -- ---- rules
 
@@ -147,18 +148,23 @@ formulas sc w v at =
     let computes = functionAt sc w v n in
     cond (is k tilde) changes computes))
 
--- the rule whose name stands from s to n: 6 for an input or a variable that has its rule, whose current values are just those known
+-- an input, or a variable that has its rule: just those whose current values may be used (law `known-exactly`)
+abbrev pub inputOrRuled : Scope → ℕ → Bool
+inputOrRuled sc v = getD (sc .known) v false
+
+-- the rule whose name stands from s to n: 6 for an input, or a second rule
 unfoldable pub ruleAt : Scope → ℕ → ℕ → Parsed Rule
 ruleAt sc s n =
     withId sc s s n (λ v.
     let rule = formulas sc (part (sc .text) s n) v n in
-    cond (getD (sc .known) v false) (refused wrongRule s) rule)
+    cond (inputOrRuled sc v) (refused wrongRule s) rule)
 
 -- after a rule its variable's current value may be used
 abbrev pub ruled : Scope → ℕ → Scope
 ruled sc v = record { text = sc .text; names = sc .names; known = set (sc .known) v true }
 
--- rules up to the end of the text, after those done: 6 at the end if a variable has none. No variable has two rules, so 65 are enough
+-- rules up to the end of the text, after those done: 6 at the end if a variable has none. No variable has two rules, so
+-- `itemBound` rules are enough
 unfoldable pub rulesFrom : ℕ → Scope → List Rule → ℕ → Parsed (List Rule)
 rulesFrom zero sc done at = refused wrongRule at
 rulesFrom (suc f) sc done at =

@@ -8,8 +8,7 @@ use mathlib.Core.Option.{some}
 use lib.ListN.{length, getElem?}
 use lib.IntN.{ℤ, pos, negℤ}
 use Rattle.limits.specs.Limits.{textLimit, nameLimit, caseLimit, bracketLimit}
-use Rattle.semantics.specs.Program.{Range, Name, Expression, Condition, Case, Rule, function, change, Program, Ordered}
-use Rattle.bytecode.specs.Translation.{RangeFits}
+use Rattle.semantics.specs.Program.{Range, Name, Expression, Condition, Case, Rule, function, change, Program, Ordered, RangeFits}
 use Rattle.lexer.specs.Bytes.{bytes}
 use Rattle.lexer.specs.Lexer.{sameName, valueOf}
 use Rattle.grammar.specs.Derivation.{Tokens, TokensOf, IsName, IsDigits, SpellsE, expression, SpellsC, condition}

@@ -7,7 +7,7 @@ use native.Mathlib.Omega.{arith}
 use lib.ListN.{length, getD, List·getD-eq-default}
 use lib.Dec.{eqb, leb}
 use borrow.Author.Tests.{eq-eqb, ne-eqb, eqb-true, eqb-false, leb-true, leb-false}
-use Rattle.lexer.specs.Token.{Kind, kindNumber, unknown, ending, name, previous, digits, inputWord, varWord, initWord, modWord, nextWord, dots, arrow, lessEqual, greaterEqual, notEqual, semicolon, colon, openRound, closeRound, openSquare, closeSquare, tilde, ampersand, bar, equals, less, greater, plus, minus, star, slash, is}
+use Rattle.lexer.specs.Token.{Kind, kindNumber, unknown, ending, name, previous, digits, inputWord, varWord, initWord, modWord, nextWord, dots, arrow, lessEqual, greaterEqual, notEqual, semicolon, colon, openRound, closeRound, openSquare, closeSquare, tilde, ampersand, bar, equals, less, greater, plus, minus, star, slash, is, lastKind}
 use Rattle.lexer.specs.Results.{kinds, kindOf}
 use Rattle.lexer.proofs.Laws.{cond-prop, both-true}
 
@@ -61,12 +61,12 @@ counted-at (w ∷ l) i zero h lt = omega (arith, eqb-true (kindNumber w) i (both
 counted-at (w ∷ l) i (suc k) h lt = omega (arith, counted-at l (suc i) k (both-true (eqb (kindNumber w) i) (counted (suc i) l) h .1) (omega arith))
 
 -- the number of a number's kind is that number
-pub kind-number : (k : ℕ) → k ≤ 30 → kindNumber (kindOf k) ≡ k
+pub kind-number : (k : ℕ) → k ≤ lastKind → kindNumber (kindOf k) ≡ k
 unfolding kindOf
 kind-number k h = omega (arith, counted-at kinds 0 k all-counted (omega arith))
 
 -- a number's kind, compared with a kind
-pub is-kind : (k : ℕ) (w : Kind) → k ≤ 30 → is (kindOf k) w ≡ eqb k (kindNumber w)
+pub is-kind : (k : ℕ) (w : Kind) → k ≤ lastKind → is (kindOf k) w ≡ eqb k (kindNumber w)
 unfolding is
 is-kind k w h = ap (λ (n : ℕ). eqb n (kindNumber w)) (kind-number k h)
 
@@ -74,11 +74,11 @@ pub kind-is : (k : ℕ) (w : Kind) → k ≡ kindNumber w → is (kindOf k) w �
 unfolding is
 kind-is k w e = eq-eqb _ _ (ap kindNumber (ap kindOf e ∙ number-kind w))
 
-pub kind-is-not : (k : ℕ) (w : Kind) → k ≤ 30 → (k ≡ kindNumber w → ⊥) → is (kindOf k) w ≡ false
+pub kind-is-not : (k : ℕ) (w : Kind) → k ≤ lastKind → (k ≡ kindNumber w → ⊥) → is (kindOf k) w ≡ false
 kind-is-not k w h f = is-kind k w h ∙ ne-eqb _ _ f
 
 -- only the end has the end's number
-pub ending-number : (k : ℕ) → k ≤ 30 → kindOf k ≡ ending → k ≡ 1
+pub ending-number : (k : ℕ) → k ≤ lastKind → kindOf k ≡ ending → k ≡ 1
 unfolding kindNumber
 ending-number k h e = sym (kind-number k h) ∙ ap kindNumber e
 
@@ -95,11 +95,11 @@ module _ (w : Kind) (k : ℕ) (e : k ≡ kindNumber w) where
   pub numbered : kindOf k ≡ w
   numbered = ap kindOf e ∙ number-kind w
 
--- a number of a known kind lies between 1 and 30
-pub known-number : (k : ℕ) → is (kindOf k) unknown ≡ false → (1 ≤ k) × (k ≤ 30)
+-- a number of a known kind lies between 1 and the last
+pub known-number : (k : ℕ) → is (kindOf k) unknown ≡ false → (1 ≤ k) × (k ≤ lastKind)
 unfolding is kindNumber kindOf
 known-number k e =
     let known = eqb-false (kindNumber (kindOf k)) 0 e in
-    cond-prop (λ (x : ℕ). (1 ≤ k) × (k ≤ 30)) (leb k 30) 0 0
-    (λ t. let low : k ≤ 30 = leb-true k 30 t in let some : k ≡ 0 → ⊥ = λ z. known (kind-number k low ∙ z) in (omega arith, low))
-    (λ t. absurd (known (ap kindNumber (List·getD-eq-default kinds unknown (leb-false k 30 t)))))
+    cond-prop (λ (x : ℕ). (1 ≤ k) × (k ≤ lastKind)) (leb k lastKind) 0 0
+    (λ t. let low : k ≤ lastKind = leb-true k lastKind t in let some : k ≡ 0 → ⊥ = λ z. known (kind-number k low ∙ z) in (omega arith, low))
+    (λ t. absurd (known (ap kindNumber (List·getD-eq-default kinds unknown (leb-false k lastKind t)))))

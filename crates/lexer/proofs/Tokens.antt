@@ -8,7 +8,7 @@ use lib.ListN.{length, getD}
 use lib.Dec.{eqb, ltb, leb}
 use borrow.Author.Tests.{eq-eqb, ne-eqb, lt-ltb, le-ltb, leb-true, leb-false}
 use Rattle.lexer.specs.Bytes.{part, sameBytes}
-use Rattle.lexer.specs.Token.{Kind, kindNumber, unknown, ending, name, digits, is, Read, token, fault}
+use Rattle.lexer.specs.Token.{Kind, kindNumber, unknown, ending, name, digits, is, Read, token, fault, lastKind}
 use Rattle.lexer.specs.Lexer.{isSpace, isDigit, isLetter, isAlphanumeric, runEnd, Word, words, wordIn, wordOf, pairOf, signOf, readOf, signAt, wordAt, digitsAt, previousAt, tokenOf, tokenPast, tokenAt}
 use Rattle.lexer.specs.Results.{kindOf, tokenRead, Lies, Placed}
 use Rattle.lexer.specs.declared.Token.{Token}
@@ -113,7 +113,7 @@ unfolding tokenAt tokenPast
 token-beyond text at h = rw (run-out isSpace text at h, le-ltb _ _ h)
 
 module _ (text : List ℕ) (at k s n : ℕ) (e : tokenRead (Is k s n) ≡ tokenAt text at) where
-  kind-known : (1 ≤ k) × (k ≤ 30)
+  kind-known : (1 ≤ k) × (k ≤ lastKind)
   kind-known = known-number k (subst Known (sym e) (token-known text at))
 
   lies : Lies (length text) at k s n

@@ -1,5 +1,6 @@
 -- Parts of a text and values of runs of digits. Assumes nothing.
-use mathlib.Core.Path.{_≡_, sym, _∙_}
+use mathlib.Core.Path.{_≡_, refl, sym, _∙_}
+use mathlib.Core.Bool.{Bool, true, false, _&&_}
 use mathlib.Core.List.{List, [], _∷_}
 use Prim.Native.Nat.{ℕ, _+_, _-_, _*_, _%_, _≤_, _<_, min}
 use native.Mathlib.Nat.{le-refl, min-eq-left, min-eq-right}
@@ -7,8 +8,10 @@ use native.Mathlib.Numerals.{add-one}
 use native.Mathlib.Omega.{arith}
 use lib.ListN.{length, getD, drop, drop-of-length-le, length-drop}
 use lib.Seq.{drop-cons, take-all, take-nil}
+use lib.Dec.{leb, ltb}
+use borrow.Author.Tests.{leb-true, ltb-true}
 use Rattle.lexer.specs.Bytes.{part}
-use Rattle.lexer.specs.Lexer.{valueOn, valueOf}
+use Rattle.lexer.specs.Lexer.{isDigit, digitValue, valueOn, valueOf}
 
 module _ (text : List ℕ) (start end : ℕ) where
   pub part-none : end ≤ start → part text start end ≡ []
@@ -30,6 +33,16 @@ module _ (l : List ℕ) (i v : ℕ) where
   pub value-end : length l ≤ i → valueOn (drop i l) v ≡ v
   unfolding valueOn
   value-end h = rw (drop-of-length-le l h)
+
+-- a digit's value is b − 48
+pub digit-value : (b : ℕ) → isDigit b ≡ true → digitValue b ≡ b - 48
+unfolding isDigit
+digit-value b e = go (leb 48 b) refl (ltb b 58) refl e
+  where
+    go : (t : Bool) → leb 48 b ≡ t → (u : Bool) → ltb b 58 ≡ u → t && u ≡ true → digitValue b ≡ b - 48
+    go true l true m h = omega (arith, leb-true 48 b l, ltb-true b 58 m)
+    go true l false m h = let z : _≡_ {A = ℕ} 0 1 = cc in absurd (omega arith)
+    go false l u m h = let z : _≡_ {A = ℕ} 0 1 = cc in absurd (omega arith)
 
 -- a value does not fall as digits follow
 pub value-grows : (l : List ℕ) (v : ℕ) → v ≤ valueOn l v

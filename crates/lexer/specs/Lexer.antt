@@ -149,10 +149,17 @@ tokenAt text at = tokenPast text (runEnd isSpace text at)
 unfoldable pub sameToken : List ℕ → Kind → ℕ → ℕ → Kind → ℕ → ℕ → Bool
 sameToken text k s n k2 s2 n2 = let r = sameName (part text s n) (part text s2 n2) in cond (is k k2) r false
 
--- ---- the value of a run of digits, after the value v; a digit's byte is 48 and its value, so its lower half is the value
+-- ---- the value of a run of digits
+
+-- A digit's byte is 48 (three times 16) and its value: b − 48 of a digit is the remainder by 16 (law `digit-value`), which the code works
+-- out of any byte.
+abbrev pub digitValue : ℕ → ℕ
+digitValue b = b % 16
+
+-- after the value v
 unfoldable pub valueOn : List ℕ → ℕ → ℕ
 valueOn [] v = v
-valueOn (b ∷ l) v = valueOn l (10 * v + b % 16)
+valueOn (b ∷ l) v = valueOn l (10 * v + digitValue b)
 
 unfoldable pub valueOf : List ℕ → ℕ
 valueOf l = valueOn l 0

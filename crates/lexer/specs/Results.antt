@@ -4,7 +4,7 @@ use mathlib.Core.Path.{_≡_}
 use mathlib.Core.List.{List, [], _∷_}
 use mathlib.Core.Option.{Option, none, some}
 use lib.ListN.{getD}
-use Rattle.lexer.specs.Token.{Kind, unknown, ending, name, previous, digits, inputWord, varWord, initWord, modWord, nextWord, dots, arrow, lessEqual, greaterEqual, notEqual, semicolon, colon, openRound, closeRound, openSquare, closeSquare, tilde, ampersand, bar, equals, less, greater, plus, minus, star, slash, Read, token, fault}
+use Rattle.lexer.specs.Token.{Kind, unknown, ending, name, previous, digits, inputWord, varWord, initWord, modWord, nextWord, dots, arrow, lessEqual, greaterEqual, notEqual, semicolon, colon, openRound, closeRound, openSquare, closeSquare, tilde, ampersand, bar, equals, less, greater, plus, minus, star, slash, lastKind, Read, token, fault}
 use Rattle.lexer.specs.declared.Token.{Token}
 use Rattle.lexer.specs.declared.Token.the-variants.{Is, Fault}
 use Rattle.lexer.specs.declared.Found.{Found}
@@ -31,7 +31,7 @@ foundId Nothing = none
 -- where a token read at `at` in a text of `len` bytes stands, and that its kind is known
 pub record Lies (len at k s n : ℕ) : Type 0 where
   pub some-kind : 1 ≤ k
-  pub known-kind : k ≤ 30
+  pub known-kind : k ≤ lastKind
   pub after : at ≤ s
   pub ordered : s ≤ n
   pub within : at ≤ len → n ≤ len

@@ -49,6 +49,10 @@ kindNumber minus = 28
 kindNumber star = 29
 kindNumber slash = 30
 
+-- the greatest of them
+abbrev pub lastKind : ℕ
+lastKind = 30
+
 -- the same kind
 unfoldable pub is : Kind → Kind → Bool
 is a b = eqb (kindNumber a) (kindNumber b)

@@ -5,7 +5,7 @@ use mathlib.Core.List.{List, [], _∷_, _++_}
 use Prim.Native.Nat.{ℕ, _≤_}
 use borrow.Author.Tests.{eq-eqb}
 use Rattle.limits.specs.Limits.{notAllowed}
-use Rattle.lexer.specs.Token.{kindNumber, is}
+use Rattle.lexer.specs.Token.{kindNumber, is, lastKind}
 use Rattle.lexer.specs.Results.{kindOf}
 use Rattle.lexer.specs.declared.Token.{Token}
 use Rattle.lexer.specs.declared.Token.the-variants.{Is, Fault}
@@ -22,7 +22,7 @@ pub same-kinds : (k w : ℕ) → k ≡ w → is (kindOf k) (kindOf w) ≡ true
 unfolding is
 same-kinds k w e = eq-eqb _ _ (ap (λ (x : ℕ). kindNumber (kindOf x)) e)
 
-pub other-kinds : (k w : ℕ) → k ≤ 30 → w ≤ 30 → (k ≡ w → ⊥) → is (kindOf k) (kindOf w) ≡ false
+pub other-kinds : (k w : ℕ) → k ≤ lastKind → w ≤ lastKind → (k ≡ w → ⊥) → is (kindOf k) (kindOf w) ≡ false
 other-kinds k w h i f = kind-is-not k (kindOf w) h (λ e. f (e ∙ kind-number w i))
 
 -- ---- one token, from what was read

@@ -4,6 +4,7 @@ ghost use mathlib.Core.Path.{_≡_};
 ghost use Prim.Native.Nat.{_≤_};
 ghost use Rattle.lexer.specs.Bytes.{part};
 ghost use Rattle.lexer.specs.Results.{kindOf};
+ghost use Rattle.lexer.specs.Token.{lastKind};
 ghost use Rattle.grammar.specs.Parsed.{sign, own, ownPrevious, expected, phrase};
 ghost use Rattle.grammar.specs.Forms.{ruleOpening, formulaClosing, functionClosing, valueOpening, caseValueOpening, unchangedValue, changeOpening, noChangeOpening};
 ghost use Rattle.phrases.specs.Results.{expectedOf, faultOf};
@@ -26,7 +27,7 @@ pub fn fault(read: Token) -> Expected
 
 // A token of a kind.
 pub fn expect(text: &[u8], at: usize, kind: u8) -> Expected
-    requires { ⌜ kind ≤ 30 ⌝ }
+    requires { ⌜ kind ≤ lastKind ⌝ }
     ensures { λ r. ⌜ expectedOf r ≡ expected (now (text .entry)) (sign (kindOf kind)) at ⌝ }
 {
     let read = lexer::token_at(text, at);

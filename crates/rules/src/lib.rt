@@ -12,6 +12,7 @@ ghost use Prim.Native.Nat.{_≤_, _<_};
 ghost use lib.ListN.{length};
 ghost use Rattle.limits.specs.Limits.{nameLimit};
 ghost use Rattle.lexer.specs.Bytes.{part};
+ghost use Rattle.grammar.specs.Parsed.{itemBound};
 ghost use Rattle.grammar.specs.Rules.{functionAt, changeAt, formulas as formulasAt, ruleAt, rulesFrom};
 ghost use Rattle.grammar.specs.Internal.{Named};
 ghost use Rattle.grammar.specs.Emitted.{codeR};
@@ -210,7 +211,7 @@ fn rules_in(
     requires { ⌜ Room (now text) at to ⌝ }
     requires { ⌜ SpanRoom (now from) (now upto) ⌝ }
     requires { ⌜ Named (scopeOf (now text) (now starts) (now ends) names .names) ⌝ }
-    ensures { λ r. ⌜ Writes codeR length (rulesFrom 65 (scopeOf (now (text .entry)) (now (starts .entry)) (now (ends .entry)) names) [] at) to (now (out .entry)) (now (out .exit)) r ⌝ }
+    ensures { λ r. ⌜ Writes codeR length (rulesFrom itemBound (scopeOf (now (text .entry)) (now (starts .entry)) (now (ends .entry)) names) [] at) to (now (out .entry)) (now (out .exit)) r ⌝ }
 {
     let count = names.count;
     let mut known = names.known;
@@ -260,7 +261,7 @@ pub fn rules(
     requires { ⌜ Declared (now starts) (now ends) names ⌝ }
     requires { ⌜ Room (now text) at to ⌝ }
     requires { ⌜ Named (scopeOf (now text) (now starts) (now ends) names .names) ⌝ }
-    ensures { λ r. ⌜ Writes codeR length (rulesFrom 65 (scopeOf (now (text .entry)) (now (starts .entry)) (now (ends .entry)) names) [] at) to (now (out .entry)) (now (out .exit)) r ⌝ }
+    ensures { λ r. ⌜ Writes codeR length (rulesFrom itemBound (scopeOf (now (text .entry)) (now (starts .entry)) (now (ends .entry)) names) [] at) to (now (out .entry)) (now (out .exit)) r ⌝ }
 {
     let mut from = [0usize; limits::CASE_LIMIT];
     let mut upto = [0usize; limits::CASE_LIMIT];

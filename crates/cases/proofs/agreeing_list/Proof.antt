@@ -2,7 +2,7 @@
 use mathlib.Core.Path.{sym, ap, _∙_}
 use Rattle.grammar.specs.Rules.{agreeingList}
 use Rattle.agreement.specs.Results.{comparedOf}
-use Rattle.cases.proofs.Ways.{settled-as}
+use Rattle.cases.proofs.Ways.{first-found-as}
 use Rattle.cases.proofs.Agreeing.{spans-read, agreed}
 use borrow.Author.Needs.{needs}
 use Rattle.cases.proofs.agreeing_list.Statement.{statement}
@@ -16,7 +16,7 @@ returns c = let p = c .before .before .before .before .before .before .before .b
 
 returns-2 : tie.Need-returns-2
 unfolding agreeingList
-returns-2 c = λ cases e. settled-as _ (c .settled .ensures _ (c .before .plain-list .ensures)) (sym (ap comparedOf (c .before .before .before .compared2 .given .1)) ∙ c .before .before .before .before .before .compare-lists .ensures cases e)
+returns-2 c = λ cases e. first-found-as _ (c .first-found .ensures _ (c .before .plain-list .ensures)) (sym (ap comparedOf (c .before .before .before .compared2 .given .1)) ∙ c .before .before .before .before .before .compare-lists .ensures cases e)
 
 pub agreeing-list-spec : {M : Type 1} → statement M
 agreeing-list-spec =

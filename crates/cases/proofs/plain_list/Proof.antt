@@ -27,9 +27,10 @@ returns : tie.Need-returns Inv-loop μ-loop
 returns c = rw (c .fault .ensures, c .before .enum-told .given .1) (listing-fault (c .before .before .before .before .loop .inv .0) (is-fault _ _ _ (c .before .before .before .token-at .ensures) _ (c .before .enum-told .given .1)))
 
 returns-2 : tie.Need-returns-2 Inv-loop μ-loop
+unfolding kindOf
 returns-2 c =
     let f = found-token _ _ (c .before .before .before .before .token-at .ensures) (c .before .before .read .given .1) in
-    listing-full (c .before .before .before .before .before .loop .inv .0) f (c .if1 .taken)
+    listing-other (c .before .before .before .before .before .loop .inv .0) f (other-kinds _ _ (f .lies .known-kind) (omega arith) (c .if1 .taken))
 
 returns-3 : tie.Need-returns-3 Inv-loop μ-loop
 unfolding kindOf
@@ -37,7 +38,7 @@ returns-3 c =
     let at-token-at = c .before .before .before .before .before in
     let at-loop = at-token-at .before in
     let f = found-token _ _ (at-token-at .token-at .ensures) (c .before .before .before .read .given .1) in
-    listing-other (at-loop .loop .inv .0) f (c .before .if1 .left) (other-kinds _ _ (f .lies .known-kind) (omega arith) (c .if2 .taken))
+    listing-full (at-loop .loop .inv .0) f (same-kinds _ 19 (c .before .if1 .left)) (c .if2 .taken)
 
 slice-aggregate-listed : tie.Need-slice-aggregate-listed Inv-loop μ-loop
 slice-aggregate-listed c = sym (c .before .before .before .before .before .before .before .loop .inv .1)
@@ -48,7 +49,7 @@ listed-requires c κs =
     let at-loop = at-token-at .before in
     let start = at-loop .before .before .before .before in
     let f = found-token _ _ (at-token-at .token-at .ensures) (c .before .before .before .before .read .given .1) in
-    (start .pre .0, listing-room (at-loop .loop .inv .0) f (c .before .before .if1 .left))
+    (start .pre .0, listing-room (at-loop .loop .inv .0) f (c .before .if2 .left))
 
 returns-4 : tie.Need-returns-4 Inv-loop μ-loop
 unfolding kindOf
@@ -59,8 +60,8 @@ returns-4 c =
     let at-token-at = at-read .before .before in
     let at-loop = at-token-at .before in
     let f = found-token _ _ (at-token-at .token-at .ensures) (at-read .read .given .1) in
-    let i = same-kinds _ 19 (at-if2 .if2 .left) in
-    rw (c .unlisted .ensures, c .before .enum-told2 .given .1) (listing-refused (at-loop .loop .inv .0) f (at-if1 .if1 .left) i (refused-by (c .before .before .before .before .listed .ensures) (c .before .enum-told2 .given .1)))
+    let i = same-kinds _ 19 (at-if1 .if1 .left) in
+    rw (c .unlisted .ensures, c .before .enum-told2 .given .1) (listing-refused (at-loop .loop .inv .0) f (at-if2 .if2 .left) i (refused-by (c .before .before .before .before .listed .ensures) (c .before .enum-told2 .given .1)))
 
 returns-5 : tie.Need-returns-5 Inv-loop μ-loop
 unfolding kindOf kindNumber
@@ -72,12 +73,12 @@ returns-5 c =
     let at-token-at = at-read .before .before in
     let at-loop = at-token-at .before in
     let f = found-token _ _ (at-token-at .token-at .ensures) (at-read .read .given .1) in
-    let i = same-kinds _ 19 (at-if2 .if2 .left) in
+    let i = same-kinds _ 19 (at-if1 .if1 .left) in
     let x = accepted-by (at-listed .listed .ensures) (c .before .before .before .before .one .given .1) in
-    c .expect .ensures ∙ sym (listing-last (at-loop .loop .inv .0) f (at-if1 .if1 .left) i x (c .before .if3 .taken))
+    c .expect .ensures ∙ sym (listing-last (at-loop .loop .inv .0) f (at-if2 .if2 .left) i x (c .before .if3 .taken))
 
 loop-less : tie.Need-loop-less Inv-loop μ-loop
-loop-less c = omega (arith, c .before .before .before .before .before .before .before .before .before .if1 .left)
+loop-less c = omega (arith, c .before .before .before .before .before .before .before .before .if2 .left)
 
 loop-again : tie.Need-loop-again Inv-loop μ-loop
 unfolding kindOf kindNumber
@@ -90,9 +91,9 @@ loop-again c =
     let at-loop = at-token-at .before in
     let start = at-loop .before .before .before .before in
     let f = found-token _ _ (at-token-at .token-at .ensures) (at-read .read .given .1) in
-    let i = same-kinds _ 19 (at-if2 .if2 .left) in
+    let i = same-kinds _ 19 (at-if1 .if1 .left) in
     let x = accepted-by (at-listed .listed .ensures) (c .before .before .before .one .given .1) in
-    (listing-more (at-loop .loop .inv .0) f (at-if1 .if1 .left) i x (few-names _ (start .pre .0)) (c .if3 .left), at-listed .listed .kept .1 .1 .1 .1 .1 .0 ∙ at-loop .loop .inv .1)
+    (listing-more (at-loop .loop .inv .0) f (at-if2 .if2 .left) i x (few-names _ (start .pre .0)) (c .if3 .left), at-listed .listed .kept .1 .1 .1 .1 .1 .0 ∙ at-loop .loop .inv .1)
 
 pub plain-list-spec : {M : Type 1} → statement M
 plain-list-spec =
