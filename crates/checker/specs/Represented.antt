@@ -6,7 +6,8 @@ use mathlib.Core.Option.{Option, none, some}
 use Rattle.limits.specs.Limits.{stackLimit, nameLimit}
 use Rattle.arith.specs.Flags.{flagsOf}
 use Rattle.bytecode.specs.Instructions.{Instruction}
-use Rattle.bytecode.specs.Check.{Sort, number, truth, Known, known, held, one, advance}
+use Rattle.bytecode.specs.Signature.{Sort, number, truth}
+use Rattle.bytecode.specs.Check.{Known, known, held, one, advance}
 use Rattle.checker.specs.declared.advance.Walk.{Walk}
 use Rattle.checker.specs.declared.advance.Advanced.{Advanced}
 use Rattle.checker.specs.declared.advance.Advanced.the-variants.{Kept, Broken}

@@ -18,7 +18,8 @@ use Rattle.semantics.specs.Formula.{State, at}
 use Rattle.semantics.specs.ReferenceScan.{rangeAt, ranged, picked}
 use Rattle.arith.proofs.Basics.{T-true, and-left, and-right, ok≢refusal}
 use Rattle.bytecode.specs.Instructions.{Instruction, constant, current, previous, operation, negate, comparison, negated, both, either, gate, pick, assign, settle}
-use Rattle.bytecode.specs.Check.{Sort, Known, known, held, one, empty, unset, closed, fresh, opened, advance, checkCode}
+use Rattle.bytecode.specs.Signature.{Sort}
+use Rattle.bytecode.specs.Check.{Known, known, held, one, empty, unset, closed, fresh, opened, advance, checkCode}
 use Rattle.bytecode.proofs.RoundTrip.{fetch-next}
 use Rattle.bytecode.proofs.Soundness.{none≢some, guard-some, one-some, idsOf, known-inside, advance-small, third}
 use Rattle.bytecode.proofs.Walk.{check-stepped}
