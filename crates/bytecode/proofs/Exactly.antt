@@ -18,7 +18,9 @@ use Rattle.bytecode.specs.Instructions.{Instruction, constant, current, 
 use Rattle.bytecode.specs.Translation.{RangeFits, RangesFit}
 use Rattle.bytecode.specs.Check.{Sort, number, truth, Known, known, one, empty, unset, closed, fresh, opened, advance, complete, item, checkRange, checkRanges, checkCounts, Header, checkHeader, ends, checkCode, atStart, checkBody, checkOf}
 use Rattle.bytecode.specs.Counting.{headerOf, codeOf, counted, countFrom, instructionsIn}
-use Rattle.bytecode.specs.Internal.{leftBy, leftByAll, Allowed, Finished, RangesAt, Spells, SoundByPlace}
+use Rattle.bytecode.specs.Sound.{RangesAt, Spells}
+use Rattle.bytecode.specs.Allowed.{leftBy, leftByAll, Allowed, Finished}
+use Rattle.bytecode.specs.Internal.{SoundByPlace}
 use Rattle.bytecode.proofs.RoundTrip.{fetch-next}
 use Rattle.bytecode.proofs.Soundness.{some-inj, none≢some, guard-some}
 use Rattle.bytecode.proofs.Walk.{check-sound, Stepped, check-stepped, check-ended}
@@ -45,12 +47,12 @@ opened-is : (o : Option ℕ) (v : ℕ) → T (opened o v) → o ≡ some v
 opened-is none v h = absurd h
 opened-is (some u) v h = ap some (eqb→eq u v h)
 
-record Kept (i : Instruction) (c d : Known) : Type 0 where
-  allowed : Allowed i c
-  left : leftBy i c ≡ d
+pub record KeptBy (i : Instruction) (c d : Known) : Type 0 where
+  pub allowed : Allowed i c
+  pub left : leftBy i c ≡ d
 
 -- what an instruction that keeps soundness needed, and leaves
-allowed-by : (i : Instruction) (vs : List Sort) (g : Bool) (o : Option ℕ) (ids : List Bool) (d : Known) → advance i (known vs g o ids) ≡ some d → Kept i (known vs g o ids) d
+allowed-by : (i : Instruction) (vs : List Sort) (g : Bool) (o : Option ℕ) (ids : List Bool) (d : Known) → advance i (known vs g o ids) ≡ some d → KeptBy i (known vs g o ids) d
 allowed-by (constant z) vs g o ids d e =
     let h = guard-some (isInt32 z && ltb (length vs) 40) _ d e in
     record { allowed = (and-left (isInt32 z) _ (h .0), ltb→lt (length vs) 40 (and-right (isInt32 z) _ (h .0))); left = h .1 }
@@ -133,20 +135,20 @@ advance-allowed (pick v) vs g o ids a = rw (a .0, a .1, T-true (unset ids v) (a 
 advance-allowed (assign v) vs g o ids a = rw (a .0, a .1, T-true (unset ids v) (a .2), a .3)
 advance-allowed (settle v) vs g o ids a = rw (a .0, a .1, T-true (unset ids v) (a .2), a .3, T-true (eqb v v) (eqb-refl v))
 
-kept-by : (i : Instruction) (c d : Known) → advance i c ≡ some d → Kept i c d
+pub kept-by : (i : Instruction) (c d : Known) → advance i c ≡ some d → KeptBy i c d
 kept-by i (known vs g o ids) d e = allowed-by i vs g o ids d e
 
-allowed-advances : (i : Instruction) (c : Known) → Allowed i c → advance i c ≡ some (leftBy i c)
+pub allowed-advances : (i : Instruction) (c : Known) → Allowed i c → advance i c ≡ some (leftBy i c)
 allowed-advances i (known vs g o ids) a = advance-allowed i vs g o ids a
 
-finished-by : (c : Known) → complete c ≡ true → Finished c
+pub finished-by : (c : Known) → complete c ≡ true → Finished c
 finished-by (known vs g o ids) e =
     let h = true-T _ e in
     let q = and-left (empty vs && not g && closed o) (allTrue ids) h in
     let r = and-left (empty vs && not g) (closed o) q in
     (empty-is vs (and-left (empty vs) _ r), T-not-false g (and-right (empty vs) _ r), closed-is o (and-right (empty vs && not g) (closed o) q), and-right (empty vs && not g && closed o) (allTrue ids) h)
 
-complete-if : (c : Known) → Finished c → complete c ≡ true
+pub complete-if : (c : Known) → Finished c → complete c ≡ true
 complete-if (known vs g o ids) f = rw (f .0, f .1, f .2, T-true (allTrue ids) (f .3))
 
 -- ---- the instructions in a row
@@ -206,10 +208,10 @@ walks base code (suc f) at (i ∷ is) c l s p e =
 
 -- ---- the header
 
-item-passes : {A B : Type 0} (o : Read A) (at : ℕ) (test : A → Bool) (k : A → ℕ → Answer B) (a : A) (next : ℕ) → o ≡ got a next → T (test a) → item o at test k ≡ k a next
+pub item-passes : {A B : Type 0} (o : Read A) (at : ℕ) (test : A → Bool) (k : A → ℕ → Answer B) (a : A) (next : ℕ) → o ≡ got a next → T (test a) → item o at test k ≡ k a next
 item-passes o at test k a next e t = rw e (rw (T-true (test a) t))
 
-range-passes : (bytes : List ℕ) (at at₁ at₂ at₃ : ℕ) (n : Range) → signedAt bytes at ≡ got (n .low) at₁ → signedAt bytes at₁ ≡ got (n .high) at₂ → signedAt bytes at₂ ≡ got (n .start) at₃
+pub range-passes : (bytes : List ℕ) (at at₁ at₂ at₃ : ℕ) (n : Range) → signedAt bytes at ≡ got (n .low) at₁ → signedAt bytes at₁ ≡ got (n .high) at₂ → signedAt bytes at₂ ≡ got (n .start) at₃
     → RangeFits n → checkRange bytes at ≡ accepted (record { range = n; next = at₃ })
 unfolding checkRange
 range-passes bytes at at₁ at₂ at₃ n e₁ e₂ e₃ f =
@@ -217,12 +219,12 @@ range-passes bytes at at₁ at₂ at₃ n e₁ e₂ e₃ f =
     ∙ item-passes (signedAt bytes at₁) at₁ (λ h. isInt32 h && leZ (n .low) h) _ (n .high) at₂ e₂ (f .1)
     ∙ item-passes (signedAt bytes at₂) at₂ (λ z. isInt32 z && leZ (n .low) z && leZ z (n .high)) _ (n .start) at₃ e₃ (f .2)
 
-ranges-pass : {B : Type 0} (bytes : List ℕ) (at : ℕ) (ns : List Range) (end : ℕ) (k : List Range → ℕ → Answer B) → RangesAt bytes at ns end → RangesFit ns → checkRanges bytes (length ns) at k ≡ k ns end
+pub ranges-pass : {B : Type 0} (bytes : List ℕ) (at : ℕ) (ns : List Range) (end : ℕ) (k : List Range → ℕ → Answer B) → RangesAt bytes at ns end → RangesFit ns → checkRanges bytes (length ns) at k ≡ k ns end
 ranges-pass bytes at [] end k r f = rw r
 ranges-pass bytes at (n ∷ ns) end k r f =
     rw (range-passes bytes at (r .0) (r .1) (r .2) n (r .3) (r .4) (r .5) (f .0)) (ranges-pass bytes (r .2) ns end (λ ms next. k (n ∷ ms) next) (r .6) (f .1))
 
-counts-pass : (bytes : List ℕ) (k m at₁ at₂ : ℕ) → numberAt bytes 0 ≡ got k at₁ → numberAt bytes at₁ ≡ got m at₂ → k + m ≤ 64 → checkCounts bytes ≡ accepted (record { inputs = k; names = k + m; place = at₂ })
+pub counts-pass : (bytes : List ℕ) (k m at₁ at₂ : ℕ) → numberAt bytes 0 ≡ got k at₁ → numberAt bytes at₁ ≡ got m at₂ → k + m ≤ 64 → checkCounts bytes ≡ accepted (record { inputs = k; names = k + m; place = at₂ })
 unfolding checkCounts
 counts-pass bytes k m at₁ at₂ e₁ e₂ few =
     item-passes (numberAt bytes 0) 0 (λ k. leb k 64) _ k at₁ e₁ (le→leb k 64 (omega arith))

@@ -3,5 +3,6 @@ pub mod Translation
 pub mod Check
 pub mod Counting
 pub mod Results
-pub mod Internal
 pub mod Sound
+pub mod Allowed
+pub mod Internal

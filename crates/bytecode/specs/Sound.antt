@@ -1,29 +1,63 @@
--- Sound images: the properties of document 01's paragraph, over the whole code. Document 01, "The image" (Sound). What instructions
--- leave (heldBy, idsBy) and how bytes spell ranges and instructions (RangesAt, Spells) stands in Internal. Assumes nothing.
+-- Sound images: the properties of document 01's paragraph, over the whole code. Document 01, "The image" (Sound). Assumes nothing.
 use Prim.Native.Nat.{ℕ, _+_, _≤_, _<_}
 use mathlib.Core.Path.{_≡_}
 use mathlib.Core.Bool.{Bool, true, false}
 use mathlib.Core.List.{List, [], _∷_, _++_}
 use lib.Dec.{T}
-use lib.ListN.{length, getD, drop}
+use lib.ListN.{length, getD, set, drop}
 use Rattle.limits.specs.Limits.{stackLimit, nameLimit, imageLimit}
 use Rattle.arith.specs.Values.{isInt32}
-use Rattle.semantics.specs.Program.{allTrue, knownFirst}
-use Rattle.leb128.specs.Numbers.{got, numberAt}
-use Rattle.bytecode.specs.Instructions.{Instruction, constant, current, previous, operation, negate, comparison, negated, both, either, gate, pick, assign, settle}
+use Rattle.semantics.specs.Program.{Range, allTrue, knownFirst}
+use Rattle.leb128.specs.Numbers.{got, numberAt, signedAt}
+use Rattle.bytecode.specs.Instructions.{Instruction, constant, current, previous, operation, negate, comparison, negated, both, either, gate, pick, assign, settle, fetch}
 use Rattle.bytecode.specs.Translation.{RangesFit}
 use Rattle.bytecode.specs.Check.{Sort, number, truth, unset, Header}
-use Rattle.bytecode.specs.Internal.{heldBy, idsBy, RangesAt, Spells}
 
--- the sorts of the values held after instructions, the last first
+-- ---- what instructions leave
+
+-- the sorts of the values held after an instruction, the last first
+abbrev pub heldBy : Instruction → List Sort → List Sort
+heldBy (constant z) vs = number ∷ vs
+heldBy (current i) vs = number ∷ vs
+heldBy (previous i) vs = number ∷ vs
+heldBy (operation o) vs = number ∷ drop 2 vs
+heldBy negate vs = number ∷ drop 1 vs
+heldBy (comparison o) vs = truth ∷ drop 2 vs
+heldBy negated vs = truth ∷ drop 1 vs
+heldBy both vs = truth ∷ drop 2 vs
+heldBy either vs = truth ∷ drop 2 vs
+heldBy gate vs = drop 1 vs
+heldBy (pick v) vs = drop 1 vs
+heldBy (assign v) vs = drop 1 vs
+heldBy (settle v) vs = vs
+
+-- the same after several
 abbrev pub heldAfter : List Instruction → List Sort → List Sort
 heldAfter [] vs = vs
 heldAfter (i ∷ is) vs = heldAfter is (heldBy i vs)
 
--- of each id, whether it is an input, or a variable settled or let by the instructions
+-- of each id, whether it is an input, or a variable settled or let, after an instruction
+abbrev pub idsBy : Instruction → List Bool → List Bool
+idsBy (constant z) ids = ids
+idsBy (current i) ids = ids
+idsBy (previous i) ids = ids
+idsBy (operation o) ids = ids
+idsBy negate ids = ids
+idsBy (comparison o) ids = ids
+idsBy negated ids = ids
+idsBy both ids = ids
+idsBy either ids = ids
+idsBy gate ids = ids
+idsBy (pick v) ids = ids
+idsBy (assign v) ids = set ids v true
+idsBy (settle v) ids = set ids v true
+
+-- the same after several
 abbrev pub idsAfter : List Instruction → List Bool → List Bool
 idsAfter [] ids = ids
 idsAfter (i ∷ is) ids = idsAfter is (idsBy i ids)
+
+-- ---- the code
 
 -- codes 1 to 9
 abbrev pub Plain : Instruction → Type 0
@@ -124,6 +158,19 @@ pub record SoundCode (first : List Bool) (code : List Instruction) : Type 0 wher
   -- nothing missing at the end: no value held, each variable settled or let
   pub none-held : heldAfter code [] ≡ []
   pub all-set : T (allTrue (idsAfter code first))
+
+-- ---- the bytes
+
+-- low, high, start of each name stand from a place on, up to another
+abbrev pub RangesAt : List ℕ → ℕ → List Range → ℕ → Type 0
+RangesAt bytes at [] end = at ≡ end
+RangesAt bytes at (n ∷ ns) end =
+    (at₁ : ℕ) × (at₂ : ℕ) × (at₃ : ℕ) × (signedAt bytes at ≡ got (n .low) at₁) × (signedAt bytes at₁ ≡ got (n .high) at₂) × (signedAt bytes at₂ ≡ got (n .start) at₃) × RangesAt bytes at₃ ns end
+
+-- the code is these instructions, one behind the other, from a place on: only the codes listed
+abbrev pub Spells : List ℕ → ℕ → List Instruction → Type 0
+Spells code at [] = length code ≤ at
+Spells code at (i ∷ is) = (next : ℕ) × (fetch code at ≡ got i next) × Spells code next is
 
 pub record Sound (bytes : List ℕ) : Type 0 where
   -- at most 65,536 bytes
