@@ -21,7 +21,8 @@ use Rattle.bytecode.specs.Signature.{Sort, number, truth, Role, pushes, 
 use Rattle.bytecode.specs.Check.{Known, known, one, empty, unset, closed, fresh, opened, taking, admits, advance, complete, item, checkRange, checkRanges, checkCounts, Header, checkHeader, ends, checkCode, atStart, checkBody, checkOf}
 use Rattle.bytecode.specs.Counting.{headerOf, codeOf, counted, countFrom, instructionsIn}
 use Rattle.bytecode.specs.Sound.{RangesAt, Spells}
-use Rattle.bytecode.specs.Internal.{leftIn, leftBy, leftByAll, AllowedIn, Allowed, Finished, SoundByPlace}
+use Rattle.bytecode.specs.Allowed.{leftIn, leftBy, leftByAll, AllowedIn, Allowed, Finished}
+use Rattle.bytecode.specs.Internal.{SoundByPlace}
 use Rattle.bytecode.proofs.RoundTrip.{fetch-next}
 use Rattle.bytecode.proofs.Soundness.{some-inj, none≢some, guard-some}
 use Rattle.bytecode.proofs.Walk.{check-sound, Stepped, check-stepped, check-ended}
@@ -113,11 +114,11 @@ below : (i : Instruction) (vs rest : List Sort) → vs ≡ signature i .takes ++
 below i vs rest e = rw e (drop-append-seam (signature i .takes) rest)
 
 -- what an instruction that keeps soundness needed, and leaves
-pub record Kept (i : Instruction) (c d : Known) : Type 0 where
+pub record KeptBy (i : Instruction) (c d : Known) : Type 0 where
   pub allowed : Allowed i c
   pub left : leftBy i c ≡ d
 
-pub kept-by : (i : Instruction) (c d : Known) → advance i c ≡ some d → Kept i c d
+pub kept-by : (i : Instruction) (c d : Known) → advance i c ≡ some d → KeptBy i c d
 kept-by i (known vs g o ids) d e =
     let t = taking-shape (signature i .takes) vs _ d e in
     let k = admitted (signature i .role) (t .0) g o ids d (t .2) in
@@ -196,10 +197,10 @@ walks base code (suc f) at (i ∷ is) c l s p e =
 
 -- ---- the header
 
-item-passes : {A B : Type 0} (o : Read A) (at : ℕ) (test : A → Bool) (k : A → ℕ → Answer B) (a : A) (next : ℕ) → o ≡ got a next → T (test a) → item o at test k ≡ k a next
+pub item-passes : {A B : Type 0} (o : Read A) (at : ℕ) (test : A → Bool) (k : A → ℕ → Answer B) (a : A) (next : ℕ) → o ≡ got a next → T (test a) → item o at test k ≡ k a next
 item-passes o at test k a next e t = rw e (rw (T-true (test a) t))
 
-range-passes : (bytes : List ℕ) (at at₁ at₂ at₃ : ℕ) (n : Range) → signedAt bytes at ≡ got (n .low) at₁ → signedAt bytes at₁ ≡ got (n .high) at₂ → signedAt bytes at₂ ≡ got (n .start) at₃
+pub range-passes : (bytes : List ℕ) (at at₁ at₂ at₃ : ℕ) (n : Range) → signedAt bytes at ≡ got (n .low) at₁ → signedAt bytes at₁ ≡ got (n .high) at₂ → signedAt bytes at₂ ≡ got (n .start) at₃
     → RangeFits n → checkRange bytes at ≡ accepted (record { range = n; next = at₃ })
 unfolding checkRange
 range-passes bytes at at₁ at₂ at₃ n e₁ e₂ e₃ f =
@@ -207,12 +208,12 @@ range-passes bytes at at₁ at₂ at₃ n e₁ e₂ e₃ f =
     ∙ item-passes (signedAt bytes at₁) at₁ (λ h. isInt32 h && leZ (n .low) h) _ (n .high) at₂ e₂ (f .1)
     ∙ item-passes (signedAt bytes at₂) at₂ (λ z. isInt32 z && leZ (n .low) z && leZ z (n .high)) _ (n .start) at₃ e₃ (f .2)
 
-ranges-pass : {B : Type 0} (bytes : List ℕ) (at : ℕ) (ns : List Range) (end : ℕ) (k : List Range → ℕ → Answer B) → RangesAt bytes at ns end → RangesFit ns → checkRanges bytes (length ns) at k ≡ k ns end
+pub ranges-pass : {B : Type 0} (bytes : List ℕ) (at : ℕ) (ns : List Range) (end : ℕ) (k : List Range → ℕ → Answer B) → RangesAt bytes at ns end → RangesFit ns → checkRanges bytes (length ns) at k ≡ k ns end
 ranges-pass bytes at [] end k r f = rw r
 ranges-pass bytes at (n ∷ ns) end k r f =
     rw (range-passes bytes at (r .0) (r .1) (r .2) n (r .3) (r .4) (r .5) (f .0)) (ranges-pass bytes (r .2) ns end (λ ms next. k (n ∷ ms) next) (r .6) (f .1))
 
-counts-pass : (bytes : List ℕ) (k m at₁ at₂ : ℕ) → numberAt bytes 0 ≡ got k at₁ → numberAt bytes at₁ ≡ got m at₂ → k + m ≤ 64 → checkCounts bytes ≡ accepted (record { inputs = k; names = k + m; place = at₂ })
+pub counts-pass : (bytes : List ℕ) (k m at₁ at₂ : ℕ) → numberAt bytes 0 ≡ got k at₁ → numberAt bytes at₁ ≡ got m at₂ → k + m ≤ 64 → checkCounts bytes ≡ accepted (record { inputs = k; names = k + m; place = at₂ })
 unfolding checkCounts
 counts-pass bytes k m at₁ at₂ e₁ e₂ few =
     item-passes (numberAt bytes 0) 0 (λ k. leb k 64) _ k at₁ e₁ (le→leb k 64 (omega arith))

@@ -5,4 +5,5 @@ pub mod Check
 pub mod Counting
 pub mod Results
 pub mod Sound
+pub mod Allowed
 pub mod Internal

@@ -15,6 +15,11 @@ use Rattle.grammar.specs.Spelled.{Spelled}
 use Rattle.grammar.proofs.Accepted.{parse-growth, program-parsed, program-translatable}
 use Rattle.grammar.proofs.PlacesText.{program-refused}
 use Rattle.grammar.proofs.ConverseText.{accepted-exactly, one-meaning}
+use Rattle.faults.proofs.TextPlaces.{fault-places}
+use Rattle.faults.proofs.FirstFound.{first-found}
+use Rattle.faults.proofs.ViableText.{allowed-before}
+use Rattle.faults.proofs.NoneBegun.{none-begun}
+use Rattle.faults.proofs.ImagePlaces.{broken-images}
 use Rattle.translate.specs.Services.{AfterTranslation, translationOf}
 use Rattle.translate.proofs.Kept.{never, Way, image, no-room, fault, way, Stored, image-stored, stored-image}
 use Rattle.correctness.specs.Demand2.{Translates, Declines, faulty, short, Demand2}
@@ -72,9 +77,14 @@ demand-2 = record {
   translated-exactly = λ text buffer n. record { only-if = λ a. stored-translates text buffer n (image-stored text buffer n a); whenever = translates-accepted text buffer n };
   refused-exactly = λ text buffer number place. record { only-if = λ a. refusal-declines text buffer number place a .0; whenever = declines-refused text buffer number place };
   faults = program-refused;
+  fault-places = fault-places;
+  first-found = first-found;
+  allowed-before = allowed-before;
+  none-begun = none-begun;
   written = written;
   untouched = λ text buffer number place a. refusal-declines text buffer number place a .1;
   checked-exactly = λ image. record { only-if = check-exact image .accepted-sound; whenever = check-exact image .sound-accepted };
+  broken-images = broken-images;
   written-sound = written-sound;
   written-checked = λ text buffer n a. check-exact (take n (translationOf text buffer .buffer)) .sound-accepted (written-sound text buffer n a);
   growth = growth;

@@ -13,6 +13,9 @@ use Rattle.bytecode.specs.Check.{checkOf}
 use Rattle.bytecode.specs.Sound.{Sound}
 use Rattle.grammar.specs.Parse.{programOf}
 use Rattle.grammar.specs.Spelled.{Spelled}
+use Rattle.faults.specs.Texts.{FaultPlaces, FirstFound}
+use Rattle.faults.specs.Grammar.{AllowedBefore, NoneBegun}
+use Rattle.faults.specs.Images.{BrokenImages}
 use Rattle.translate.specs.Services.{translationOf}
 
 infix 3 _exactlyIf_
@@ -45,6 +48,13 @@ pub record Demand2 : Type 0 where
   pub refused-exactly : (text buffer : List ℕ) (number place : ℕ) → (translationOf text buffer .answer ≡ refused number place) exactlyIf Declines text buffer number place
   -- A fault has one of the numbers 1 to 9; its place is in the text, or is the text's length.
   pub faults : (text : List ℕ) (number place : ℕ) → programOf text ≡ refused number place → (1 ≤ number) × (number ≤ 9) × (place ≤ length text)
+  -- It is 9, at 0, exactly if the text is over its limit; 1 stands where no token does; every other at a token or at the end.
+  pub fault-places : FaultPlaces
+  -- It is the first found: what stands behind its token does not count.
+  pub first-found : FirstFound
+  -- 2: what stands before its token begins a text of the grammar; what stands up to it, that token included, begins no accepted text.
+  pub allowed-before : AllowedBefore
+  pub none-begun : NoneBegun
   -- Success writes only the image's bytes: those of the program that the text spells, and what stood behind them stays.
   pub written : (text buffer : List ℕ) (n : ℕ) → translationOf text buffer .answer ≡ accepted n
       → (p : Program) → Spelled text p → translationOf text buffer .buffer ≡ imageOf p ++ drop (length (imageOf p)) buffer
@@ -53,6 +63,8 @@ pub record Demand2 : Type 0 where
       → translationOf text buffer .buffer ≡ buffer
   -- Check says sound exactly if the image has the properties of the paragraph "Sound".
   pub checked-exactly : (image : List ℕ) → (checkOf image ≡ accepted tt) exactlyIf Sound image
+  -- Check answers 11 exactly with the place of the first header number or instruction that breaks soundness, or the image length.
+  pub broken-images : BrokenImages
   -- What is written is sound, and check says so.
   pub written-sound : (text buffer : List ℕ) (n : ℕ) → translationOf text buffer .answer ≡ accepted n → Sound (take n (translationOf text buffer .buffer))
   pub written-checked : (text buffer : List ℕ) (n : ℕ) → translationOf text buffer .answer ≡ accepted n → checkOf (take n (translationOf text buffer .buffer)) ≡ accepted tt
