@@ -50,7 +50,7 @@ opened-is none v h = absurd h
 opened-is (some u) v h = ap some (eqb→eq u v h)
 
 -- the operands taken are those on top
-taking-shape : (xs vs : List Sort) (k : List Sort → Option Known) (d : Known) → taking xs vs k ≡ some d → (rest : List Sort) × (vs ≡ xs ++ rest) × (k rest ≡ some d)
+pub taking-shape : (xs vs : List Sort) (k : List Sort → Option Known) (d : Known) → taking xs vs k ≡ some d → (rest : List Sort) × (vs ≡ xs ++ rest) × (k rest ≡ some d)
 taking-shape [] vs k d e = (vs, refl, e)
 taking-shape (x ∷ xs) vs k d e =
     let a = one-shape x vs _ d e in
