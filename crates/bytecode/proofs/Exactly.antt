@@ -7,6 +7,7 @@ use mathlib.Core.List.{List, [], _∷_, _++_}
 use mathlib.Core.Option.{Option, none, some}
 use lib.Dec.{T, eqb, leb, ltb, ltb→lt, le→leb, eqb→eq, eqb-refl}
 use lib.ListN.{length, getD, drop}
+use lib.Seq.{drop-append-seam}
 use lib.Signed.{leZ}
 use borrow.Author.Tests.{lt-ltb, le-ltb, ltb-true, ltb-false}
 use Rattle.limits.specs.Answer.{Answer, accepted}
@@ -14,11 +15,14 @@ use Rattle.arith.specs.Values.{isInt32}
 use Rattle.semantics.specs.Program.{Range, allTrue, RangeFits}
 use Rattle.arith.proofs.Basics.{T-true, true-T, and-left, and-right, T-not-false}
 use Rattle.leb128.specs.Numbers.{Read, got, nothing, numberAt, signedAt}
-use Rattle.bytecode.specs.Instructions.{Instruction, constant, current, previous, operation, negate, comparison, negated, both, either, gate, pick, assign, settle, fetch}
+use Rattle.bytecode.specs.Instructions.{Instruction, fetch}
 use Rattle.bytecode.specs.Translation.{RangesFit}
-use Rattle.bytecode.specs.Check.{Sort, number, truth, Known, known, one, empty, unset, closed, fresh, opened, advance, complete, item, checkRange, checkRanges, checkCounts, Header, checkHeader, ends, checkCode, atStart, checkBody, checkOf}
+use Rattle.bytecode.specs.Signature.{Sort, number, truth, Role, pushes, computes, tests, opens, picks, lets, settles, signature}
+use Rattle.bytecode.specs.Check.{Known, known, one, empty, unset, closed, fresh, opened, taking, admits, advance, complete, item, checkRange, checkRanges, checkCounts, Header, checkHeader, ends, checkCode, atStart, checkBody, checkOf}
 use Rattle.bytecode.specs.Counting.{headerOf, codeOf, counted, countFrom, instructionsIn}
-use Rattle.bytecode.specs.Internal.{leftBy, leftByAll, Allowed, Finished, RangesAt, Spells, SoundByPlace}
+use Rattle.bytecode.specs.Sound.{RangesAt, Spells}
+use Rattle.bytecode.specs.Allowed.{leftIn, leftBy, leftByAll, AllowedIn, Allowed, Finished}
+use Rattle.bytecode.specs.Internal.{SoundByPlace}
 use Rattle.bytecode.proofs.RoundTrip.{fetch-next}
 use Rattle.bytecode.proofs.Soundness.{some-inj, none≢some, guard-some}
 use Rattle.bytecode.proofs.Walk.{check-sound, Stepped, check-stepped, check-ended}
@@ -45,108 +49,95 @@ opened-is : (o : Option ℕ) (v : ℕ) → T (opened o v) → o ≡ some v
 opened-is none v h = absurd h
 opened-is (some u) v h = ap some (eqb→eq u v h)
 
-record Kept (i : Instruction) (c d : Known) : Type 0 where
-  allowed : Allowed i c
-  left : leftBy i c ≡ d
+-- the operands taken are those on top
+pub taking-shape : (xs vs : List Sort) (k : List Sort → Option Known) (d : Known) → taking xs vs k ≡ some d → (rest : List Sort) × (vs ≡ xs ++ rest) × (k rest ≡ some d)
+taking-shape [] vs k d e = (vs, refl, e)
+taking-shape (x ∷ xs) vs k d e =
+    let a = one-shape x vs _ d e in
+    let b = taking-shape xs (a .0) k d (a .2) in
+    (b .0, a .1 ∙ ap {B = List Sort} (λ l. x ∷ l) (b .1), b .2)
+
+taking-is : (xs rest : List Sort) (k : List Sort → Option Known) → taking xs (xs ++ rest) k ≡ k rest
+taking-is [] rest k = refl
+taking-is (number ∷ xs) rest k = taking-is xs rest k
+taking-is (truth ∷ xs) rest k = taking-is xs rest k
+
+-- what an instruction of a role that keeps soundness needed, and leaves
+record KeptIn (r : Role) (rest : List Sort) (g : Bool) (o : Option ℕ) (ids : List Bool) (d : Known) : Type 0 where
+  allowed : AllowedIn r rest g o ids
+  left : leftIn r rest g o ids ≡ d
+
+admitted : (r : Role) (rest : List Sort) (g : Bool) (o : Option ℕ) (ids : List Bool) (d : Known) → admits r rest g o ids ≡ some d → KeptIn r rest g o ids d
+admitted (pushes fits) rest g o ids d e =
+    let h = guard-some (fits ids && ltb (length rest) 40) _ d e in
+    record { allowed = (and-left (fits ids) _ (h .0), ltb→lt (length rest) 40 (and-right (fits ids) _ (h .0))); left = h .1 }
+admitted computes rest g o ids d e = record { allowed = tt; left = some-inj e }
+admitted tests rest g o ids d e = let h = guard-some (not g) _ d e in record { allowed = T-not-false g (h .0); left = h .1 }
+admitted opens rest g o ids d e =
+    let h = guard-some (not g && empty rest) _ d e in
+    let s : rest ≡ [] = empty-is rest (and-right (not g) _ (h .0)) in
+    record { allowed = (T-not-false g (and-left (not g) _ (h .0)), s); left = rw s (h .1) }
+admitted (picks v) rest g o ids d e =
+    let h = guard-some (g && empty rest && unset ids v && fresh o v) _ d e in
+    let q = and-left (g && empty rest && unset ids v) (fresh o v) (h .0) in
+    let p = and-left (g && empty rest) (unset ids v) q in
+    let s : rest ≡ [] = empty-is rest (and-right g _ p) in
+    record { allowed = (T-true g (and-left g _ p), s, and-right (g && empty rest) (unset ids v) q, and-right (g && empty rest && unset ids v) (fresh o v) (h .0)); left = rw s (h .1) }
+admitted (lets v) rest g o ids d e =
+    let h = guard-some (not g && empty rest && unset ids v && closed o) _ d e in
+    let q = and-left (not g && empty rest && unset ids v) (closed o) (h .0) in
+    let p = and-left (not g && empty rest) (unset ids v) q in
+    let s : rest ≡ [] = empty-is rest (and-right (not g) _ p) in
+    let f : g ≡ false = T-not-false g (and-left (not g) _ p) in
+    let c : o ≡ none = closed-is o (and-right (not g && empty rest && unset ids v) (closed o) (h .0)) in
+    record { allowed = (f, s, and-right (not g && empty rest) (unset ids v) q, c); left = rw (s, f, c) (h .1) }
+admitted (settles v) rest g o ids d e =
+    let h = guard-some (not g && empty rest && unset ids v && opened o v) _ d e in
+    let q = and-left (not g && empty rest && unset ids v) (opened o v) (h .0) in
+    let p = and-left (not g && empty rest) (unset ids v) q in
+    let s : rest ≡ [] = empty-is rest (and-right (not g) _ p) in
+    let f : g ≡ false = T-not-false g (and-left (not g) _ p) in
+    record { allowed = (f, s, and-right (not g && empty rest) (unset ids v) q, opened-is o v (and-right (not g && empty rest && unset ids v) (opened o v) (h .0))); left = rw (s, f) (h .1) }
+
+-- an instruction of a role that is allowed keeps soundness
+admits-allowed : (r : Role) (rest : List Sort) (g : Bool) (o : Option ℕ) (ids : List Bool) → AllowedIn r rest g o ids → admits r rest g o ids ≡ some (leftIn r rest g o ids)
+admits-allowed (pushes fits) rest g o ids a = rw (T-true (fits ids) (a .0), lt-ltb (length rest) 40 (a .1))
+admits-allowed computes rest g o ids a = refl
+admits-allowed tests rest g o ids a = rw a
+admits-allowed opens rest g o ids a = rw (a .0, a .1)
+admits-allowed (picks v) rest g o ids a = rw (a .0, a .1, T-true (unset ids v) (a .2), T-true (fresh o v) (a .3))
+admits-allowed (lets v) rest g o ids a = rw (a .0, a .1, T-true (unset ids v) (a .2), a .3)
+admits-allowed (settles v) rest g o ids a = rw (a .0, a .1, T-true (unset ids v) (a .2), a .3, T-true (eqb v v) (eqb-refl v))
+
+-- the values below the operands
+below : (i : Instruction) (vs rest : List Sort) → vs ≡ signature i .takes ++ rest → drop (length (signature i .takes)) vs ≡ rest
+below i vs rest e = rw e (drop-append-seam (signature i .takes) rest)
 
 -- what an instruction that keeps soundness needed, and leaves
-allowed-by : (i : Instruction) (vs : List Sort) (g : Bool) (o : Option ℕ) (ids : List Bool) (d : Known) → advance i (known vs g o ids) ≡ some d → Kept i (known vs g o ids) d
-allowed-by (constant z) vs g o ids d e =
-    let h = guard-some (isInt32 z && ltb (length vs) 40) _ d e in
-    record { allowed = (and-left (isInt32 z) _ (h .0), ltb→lt (length vs) 40 (and-right (isInt32 z) _ (h .0))); left = h .1 }
-allowed-by (current i) vs g o ids d e =
-    let h = guard-some (getD ids i false && ltb (length vs) 40) _ d e in
-    record { allowed = (T-true _ (and-left (getD ids i false) _ (h .0)), ltb→lt (length vs) 40 (and-right (getD ids i false) _ (h .0))); left = h .1 }
-allowed-by (previous i) vs g o ids d e =
-    let h = guard-some (ltb i (length ids) && ltb (length vs) 40) _ d e in
-    record { allowed = (ltb→lt i (length ids) (and-left (ltb i (length ids)) _ (h .0)), ltb→lt (length vs) 40 (and-right (ltb i (length ids)) _ (h .0))); left = h .1 }
-allowed-by (operation x) vs g o ids d e =
-    let a = one-shape number vs _ d e in
-    let b = one-shape number (a .0) _ d (a .2) in
-    let s : vs ≡ number ∷ number ∷ b .0 = a .1 ∙ ap {B = List Sort} (λ l. number ∷ l) (b .1) in
-    record { allowed = (b .0, s); left = rw s (some-inj (b .2)) }
-allowed-by negate vs g o ids d e = let a = one-shape number vs _ d e in record { allowed = (a .0, a .1); left = rw (a .1) (some-inj (a .2)) }
-allowed-by (comparison x) vs g o ids d e =
-    let a = one-shape number vs _ d e in
-    let b = one-shape number (a .0) _ d (a .2) in
-    let h = guard-some (not g) _ d (b .2) in
-    let s : vs ≡ number ∷ number ∷ b .0 = a .1 ∙ ap {B = List Sort} (λ l. number ∷ l) (b .1) in
-    record { allowed = (T-not-false g (h .0), b .0, s); left = rw s (h .1) }
-allowed-by negated vs g o ids d e =
-    let a = one-shape truth vs _ d e in
-    let h = guard-some (not g) _ d (a .2) in
-    record { allowed = (T-not-false g (h .0), a .0, a .1); left = rw (a .1) (h .1) }
-allowed-by both vs g o ids d e =
-    let a = one-shape truth vs _ d e in
-    let b = one-shape truth (a .0) _ d (a .2) in
-    let h = guard-some (not g) _ d (b .2) in
-    let s : vs ≡ truth ∷ truth ∷ b .0 = a .1 ∙ ap {B = List Sort} (λ l. truth ∷ l) (b .1) in
-    record { allowed = (T-not-false g (h .0), b .0, s); left = rw s (h .1) }
-allowed-by either vs g o ids d e =
-    let a = one-shape truth vs _ d e in
-    let b = one-shape truth (a .0) _ d (a .2) in
-    let h = guard-some (not g) _ d (b .2) in
-    let s : vs ≡ truth ∷ truth ∷ b .0 = a .1 ∙ ap {B = List Sort} (λ l. truth ∷ l) (b .1) in
-    record { allowed = (T-not-false g (h .0), b .0, s); left = rw s (h .1) }
-allowed-by gate vs g o ids d e =
-    let a = one-shape truth vs _ d e in
-    let h = guard-some (not g && empty (a .0)) _ d (a .2) in
-    let s : vs ≡ truth ∷ [] = a .1 ∙ ap {B = List Sort} (λ l. truth ∷ l) (empty-is (a .0) (and-right (not g) _ (h .0))) in
-    record { allowed = (T-not-false g (and-left (not g) _ (h .0)), s); left = rw s (h .1) }
-allowed-by (pick v) vs g o ids d e =
-    let a = one-shape number vs _ d e in
-    let h = guard-some (g && empty (a .0) && unset ids v && fresh o v) _ d (a .2) in
-    let q = and-left (g && empty (a .0) && unset ids v) (fresh o v) (h .0) in
-    let r = and-left (g && empty (a .0)) (unset ids v) q in
-    let s : vs ≡ number ∷ [] = a .1 ∙ ap {B = List Sort} (λ l. number ∷ l) (empty-is (a .0) (and-right g _ r)) in
-    record { allowed = (T-true g (and-left g _ r), s, and-right (g && empty (a .0)) (unset ids v) q, and-right (g && empty (a .0) && unset ids v) (fresh o v) (h .0)); left = rw s (h .1) }
-allowed-by (assign v) vs g o ids d e =
-    let a = one-shape number vs _ d e in
-    let h = guard-some (not g && empty (a .0) && unset ids v && closed o) _ d (a .2) in
-    let q = and-left (not g && empty (a .0) && unset ids v) (closed o) (h .0) in
-    let r = and-left (not g && empty (a .0)) (unset ids v) q in
-    let s : vs ≡ number ∷ [] = a .1 ∙ ap {B = List Sort} (λ l. number ∷ l) (empty-is (a .0) (and-right (not g) _ r)) in
-    let f : g ≡ false = T-not-false g (and-left (not g) _ r) in
-    let c : o ≡ none = closed-is o (and-right (not g && empty (a .0) && unset ids v) (closed o) (h .0)) in
-    record { allowed = (f, s, and-right (not g && empty (a .0)) (unset ids v) q, c); left = rw (s, f, c) (h .1) }
-allowed-by (settle v) vs g o ids d e =
-    let h = guard-some (not g && empty vs && unset ids v && opened o v) _ d e in
-    let q = and-left (not g && empty vs && unset ids v) (opened o v) (h .0) in
-    let r = and-left (not g && empty vs) (unset ids v) q in
-    let s : vs ≡ [] = empty-is vs (and-right (not g) _ r) in
-    let f : g ≡ false = T-not-false g (and-left (not g) _ r) in
-    record { allowed = (f, s, and-right (not g && empty vs) (unset ids v) q, opened-is o v (and-right (not g && empty vs && unset ids v) (opened o v) (h .0))); left = rw (s, f) (h .1) }
+pub record KeptBy (i : Instruction) (c d : Known) : Type 0 where
+  pub allowed : Allowed i c
+  pub left : leftBy i c ≡ d
+
+pub kept-by : (i : Instruction) (c d : Known) → advance i c ≡ some d → KeptBy i c d
+kept-by i (known vs g o ids) d e =
+    let t = taking-shape (signature i .takes) vs _ d e in
+    let k = admitted (signature i .role) (t .0) g o ids d (t .2) in
+    record { allowed = record { rest = t .0; operands = t .1; in-role = k .allowed }; left = rw (below i vs (t .0) (t .1)) (k .left) }
 
 -- an instruction that is allowed keeps soundness
-advance-allowed : (i : Instruction) (vs : List Sort) (g : Bool) (o : Option ℕ) (ids : List Bool) → Allowed i (known vs g o ids) → advance i (known vs g o ids) ≡ some (leftBy i (known vs g o ids))
-advance-allowed (constant z) vs g o ids a = rw (T-true (isInt32 z) (a .0), lt-ltb (length vs) 40 (a .1))
-advance-allowed (current i) vs g o ids a = rw (a .0, lt-ltb (length vs) 40 (a .1))
-advance-allowed (previous i) vs g o ids a = rw (lt-ltb i (length ids) (a .0), lt-ltb (length vs) 40 (a .1))
-advance-allowed (operation x) vs g o ids a = rw (a .1)
-advance-allowed negate vs g o ids a = rw (a .1)
-advance-allowed (comparison x) vs g o ids a = rw (a .0, a .2)
-advance-allowed negated vs g o ids a = rw (a .0, a .2)
-advance-allowed both vs g o ids a = rw (a .0, a .2)
-advance-allowed either vs g o ids a = rw (a .0, a .2)
-advance-allowed gate vs g o ids a = rw (a .0, a .1)
-advance-allowed (pick v) vs g o ids a = rw (a .0, a .1, T-true (unset ids v) (a .2), T-true (fresh o v) (a .3))
-advance-allowed (assign v) vs g o ids a = rw (a .0, a .1, T-true (unset ids v) (a .2), a .3)
-advance-allowed (settle v) vs g o ids a = rw (a .0, a .1, T-true (unset ids v) (a .2), a .3, T-true (eqb v v) (eqb-refl v))
+pub allowed-advances : (i : Instruction) (c : Known) → Allowed i c → advance i c ≡ some (leftBy i c)
+allowed-advances i (known vs g o ids) a =
+    rw (below i vs (a .rest) (a .operands), a .operands)
+    (taking-is (signature i .takes) (a .rest) _ ∙ admits-allowed (signature i .role) (a .rest) g o ids (a .in-role))
 
-kept-by : (i : Instruction) (c d : Known) → advance i c ≡ some d → Kept i c d
-kept-by i (known vs g o ids) d e = allowed-by i vs g o ids d e
-
-allowed-advances : (i : Instruction) (c : Known) → Allowed i c → advance i c ≡ some (leftBy i c)
-allowed-advances i (known vs g o ids) a = advance-allowed i vs g o ids a
-
-finished-by : (c : Known) → complete c ≡ true → Finished c
+pub finished-by : (c : Known) → complete c ≡ true → Finished c
 finished-by (known vs g o ids) e =
     let h = true-T _ e in
     let q = and-left (empty vs && not g && closed o) (allTrue ids) h in
     let r = and-left (empty vs && not g) (closed o) q in
     (empty-is vs (and-left (empty vs) _ r), T-not-false g (and-right (empty vs) _ r), closed-is o (and-right (empty vs && not g) (closed o) q), and-right (empty vs && not g && closed o) (allTrue ids) h)
 
-complete-if : (c : Known) → Finished c → complete c ≡ true
+pub complete-if : (c : Known) → Finished c → complete c ≡ true
 complete-if (known vs g o ids) f = rw (f .0, f .1, f .2, T-true (allTrue ids) (f .3))
 
 -- ---- the instructions in a row
@@ -206,10 +197,10 @@ walks base code (suc f) at (i ∷ is) c l s p e =
 
 -- ---- the header
 
-item-passes : {A B : Type 0} (o : Read A) (at : ℕ) (test : A → Bool) (k : A → ℕ → Answer B) (a : A) (next : ℕ) → o ≡ got a next → T (test a) → item o at test k ≡ k a next
+pub item-passes : {A B : Type 0} (o : Read A) (at : ℕ) (test : A → Bool) (k : A → ℕ → Answer B) (a : A) (next : ℕ) → o ≡ got a next → T (test a) → item o at test k ≡ k a next
 item-passes o at test k a next e t = rw e (rw (T-true (test a) t))
 
-range-passes : (bytes : List ℕ) (at at₁ at₂ at₃ : ℕ) (n : Range) → signedAt bytes at ≡ got (n .low) at₁ → signedAt bytes at₁ ≡ got (n .high) at₂ → signedAt bytes at₂ ≡ got (n .start) at₃
+pub range-passes : (bytes : List ℕ) (at at₁ at₂ at₃ : ℕ) (n : Range) → signedAt bytes at ≡ got (n .low) at₁ → signedAt bytes at₁ ≡ got (n .high) at₂ → signedAt bytes at₂ ≡ got (n .start) at₃
     → RangeFits n → checkRange bytes at ≡ accepted (record { range = n; next = at₃ })
 unfolding checkRange
 range-passes bytes at at₁ at₂ at₃ n e₁ e₂ e₃ f =
@@ -217,12 +208,12 @@ range-passes bytes at at₁ at₂ at₃ n e₁ e₂ e₃ f =
     ∙ item-passes (signedAt bytes at₁) at₁ (λ h. isInt32 h && leZ (n .low) h) _ (n .high) at₂ e₂ (f .1)
     ∙ item-passes (signedAt bytes at₂) at₂ (λ z. isInt32 z && leZ (n .low) z && leZ z (n .high)) _ (n .start) at₃ e₃ (f .2)
 
-ranges-pass : {B : Type 0} (bytes : List ℕ) (at : ℕ) (ns : List Range) (end : ℕ) (k : List Range → ℕ → Answer B) → RangesAt bytes at ns end → RangesFit ns → checkRanges bytes (length ns) at k ≡ k ns end
+pub ranges-pass : {B : Type 0} (bytes : List ℕ) (at : ℕ) (ns : List Range) (end : ℕ) (k : List Range → ℕ → Answer B) → RangesAt bytes at ns end → RangesFit ns → checkRanges bytes (length ns) at k ≡ k ns end
 ranges-pass bytes at [] end k r f = rw r
 ranges-pass bytes at (n ∷ ns) end k r f =
     rw (range-passes bytes at (r .0) (r .1) (r .2) n (r .3) (r .4) (r .5) (f .0)) (ranges-pass bytes (r .2) ns end (λ ms next. k (n ∷ ms) next) (r .6) (f .1))
 
-counts-pass : (bytes : List ℕ) (k m at₁ at₂ : ℕ) → numberAt bytes 0 ≡ got k at₁ → numberAt bytes at₁ ≡ got m at₂ → k + m ≤ 64 → checkCounts bytes ≡ accepted (record { inputs = k; names = k + m; place = at₂ })
+pub counts-pass : (bytes : List ℕ) (k m at₁ at₂ : ℕ) → numberAt bytes 0 ≡ got k at₁ → numberAt bytes at₁ ≡ got m at₂ → k + m ≤ 64 → checkCounts bytes ≡ accepted (record { inputs = k; names = k + m; place = at₂ })
 unfolding checkCounts
 counts-pass bytes k m at₁ at₂ e₁ e₂ few =
     item-passes (numberAt bytes 0) 0 (λ k. leb k 64) _ k at₁ e₁ (le→leb k 64 (omega arith))

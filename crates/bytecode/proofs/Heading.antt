@@ -22,7 +22,7 @@ use Rattle.leb128.specs.Numbers.{Read, got, nothing, _then_, numberAt, signedAt
 use Rattle.leb128.proofs.Signs.{zigzag-unzigzag, zigzag-fits}
 use Rattle.bytecode.specs.Check.{item, Placed, checkRange, checkRanges, Counts, checkCounts, Header, withInputs, checkHeader}
 use Rattle.bytecode.specs.Counting.{extentOf, rangeAt, rangesFrom, rangesEnd}
-use Rattle.bytecode.specs.Internal.{RangesAt}
+use Rattle.bytecode.specs.Sound.{RangesAt}
 use Rattle.bytecode.proofs.Fetching.{number-within}
 use Rattle.bytecode.proofs.Walk.{header-read}
 

@@ -14,8 +14,7 @@ use Rattle.bytecode.specs.Instructions.{Instruction, encode, encodeAll}
 use Rattle.bytecode.specs.Translation.{codeRules, encodeRanges, imageOf, Translatable}
 use Rattle.bytecode.specs.Check.{checkOf}
 use Rattle.bytecode.specs.Counting.{headerOf, codeOf}
-use Rattle.bytecode.specs.Internal.{Spells}
-use Rattle.bytecode.specs.Sound.{Sound}
+use Rattle.bytecode.specs.Sound.{Sound, Spells}
 use Rattle.bytecode.proofs.RoundTrip.{AllSmall, fetch-encoded}
 use Rattle.bytecode.proofs.Soundness.{programHeader, header-of, code-of, translated-small, check-translated, past-end}
 use Rattle.bytecode.proofs.Spelling.{spells-encoded, ranges-encoded}

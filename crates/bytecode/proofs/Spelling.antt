@@ -19,7 +19,7 @@ use Rattle.leb128.proofs.Signs.{zigzag-unzigzag}
 use Rattle.leb128.proofs.RoundTrip.{one-spelling}
 use Rattle.bytecode.specs.Instructions.{Instruction, constant, current, previous, operation, negate, comparison, negated, both, either, gate, pick, assign, settle, operationCode, comparisonCode, encode, encodeAll, operationOf, comparisonOf, instructionOf, hasOperand, decoded, fetchCode, fetch}
 use Rattle.bytecode.specs.Translation.{encodeRanges}
-use Rattle.bytecode.specs.Internal.{RangesAt, Spells}
+use Rattle.bytecode.specs.Sound.{RangesAt, Spells}
 
 -- ---- the encoding of an instruction is its code byte and its operand
 

@@ -18,7 +18,7 @@ use Rattle.leb128.specs.Numbers.{Read, got, nothing, numberAt, signedAt}
 use Rattle.bytecode.specs.Instructions.{Instruction, fetch}
 use Rattle.bytecode.specs.Translation.{RangesFit}
 use Rattle.bytecode.specs.Check.{Known, advance, complete, tested, item, Placed, checkRange, checkRanges, Counts, checkCounts, Header, checkHeader, ends, ifSome, checkCode, checkBody, checkOf}
-use Rattle.bytecode.specs.Internal.{RangesAt}
+use Rattle.bytecode.specs.Sound.{RangesAt}
 
 pub refused≢accepted : {A X : Type 0} (a : A) (n k : ℕ) → refused n k ≡ accepted a → X
 refused≢accepted a n k e = let z : _≡_ {A = ℕ} 0 1 = cc in let f : ⊥ = omega arith in absurd f

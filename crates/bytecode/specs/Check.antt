@@ -11,7 +11,8 @@ use Rattle.limits.specs.Answer.{Answer, accepted, refused, _andThen_}
 use Rattle.arith.specs.Values.{isInt32}
 use Rattle.semantics.specs.Program.{Range, allTrue, knownFirst}
 use Rattle.leb128.specs.Numbers.{Read, got, nothing, numberAt, signedAt}
-use Rattle.bytecode.specs.Instructions.{Instruction, constant, current, previous, operation, negate, comparison, negated, both, either, gate, pick, assign, settle, fetch}
+use Rattle.bytecode.specs.Instructions.{Instruction, fetch}
+use Rattle.bytecode.specs.Signature.{Sort, number, truth, Role, pushes, computes, tests, opens, picks, lets, settles, signature}
 
 -- ---- the header
 
@@ -72,10 +73,6 @@ checkHeader bytes = checkCounts bytes andThen λ c. checkRanges bytes (c .names)
 
 -- ---- one instruction
 
--- operands of the right sort, numbers or yes-no
-pub data Sort : Type 0 where
-  number truth : Sort
-
 -- What is known before an instruction: the sorts of the values held; whether a gate awaits its pick; the variable whose picks
 -- await their settle; and of each id whether its current value may be used.
 pub data Known : Type 0 where
@@ -84,10 +81,6 @@ pub data Known : Type 0 where
 abbrev pub guard : Bool → Known → Option Known
 guard true c = some c
 guard false c = none
-
--- never over 40 values held
-abbrev pub held : Sort → List Sort → Bool → Option ℕ → List Bool → Bool → Option Known
-held x vs g o ids b = guard (b && ltb (length vs) stackLimit) (known (x ∷ vs) g o ids)
 
 -- an operand on top, of the right sort
 abbrev pub one : Sort → List Sort → (List Sort → Option Known) → Option Known
@@ -121,30 +114,31 @@ abbrev pub opened : Option ℕ → ℕ → Bool
 opened none v = false
 opened (some u) v = eqb u v
 
--- One instruction keeps soundness, or breaks it.
-abbrev pub advance : Instruction → Known → Option Known
--- constants in signed 32-bit range; never over 40 values held
-advance (constant z) (known vs g o ids) = held number vs g o ids (isInt32 z)
--- ids of names declared; current values by the rule above: of inputs, and of variables settled or let before
-advance (current i) (known vs g o ids) = held number vs g o ids (getD ids i false)
--- ids of names declared: a previous value of any name
-advance (previous i) (known vs g o ids) = held number vs g o ids (ltb i (length ids))
--- operands of the right sort, numbers or yes-no
-advance (operation x) (known vs g o ids) = one number vs λ vs₁. one number vs₁ λ vs₂. some (known (number ∷ vs₂) g o ids)
-advance negate (known vs g o ids) = one number vs λ vs₁. some (known (number ∷ vs₁) g o ids)
--- the same; not between a gate and its pick, where only codes 1 to 9 stand
-advance (comparison x) (known vs g o ids) = one number vs λ vs₁. one number vs₁ λ vs₂. guard (not g) (known (truth ∷ vs₂) g o ids)
-advance negated (known vs g o ids) = one truth vs λ vs₁. guard (not g) (known (truth ∷ vs₁) g o ids)
-advance both (known vs g o ids) = one truth vs λ vs₁. one truth vs₁ λ vs₂. guard (not g) (known (truth ∷ vs₂) g o ids)
-advance either (known vs g o ids) = one truth vs λ vs₁. one truth vs₁ λ vs₂. guard (not g) (known (truth ∷ vs₂) g o ids)
+-- the operands taken are on top, of the right sorts, and what follows goes on with the values below them
+abbrev pub taking : List Sort → List Sort → (List Sort → Option Known) → Option Known
+taking [] vs k = k vs
+taking (x ∷ xs) vs k = one x vs λ rest. taking xs rest k
+
+-- What an instruction of a role leaves, or that it breaks soundness: of the values below its operands, whether a gate awaits its pick,
+-- the variable whose picks await their settle, and the ids whose current values may be used.
+abbrev pub admits : Role → List Sort → Bool → Option ℕ → List Bool → Option Known
+-- constants in signed 32-bit range, ids of names declared, current values by the rule above; never over 40 values held
+admits (pushes fits) rest g o ids = guard (fits ids && ltb (length rest) stackLimit) (known (number ∷ rest) g o ids)
+admits computes rest g o ids = some (known (number ∷ rest) g o ids)
+-- not between a gate and its pick, where only codes 1 to 9 stand
+admits tests rest g o ids = guard (not g) (known (truth ∷ rest) g o ids)
 -- gate finds just one yes-no; each gate has its pick
-advance gate (known vs g o ids) = one truth vs λ vs₁. guard (not g && empty vs₁) (known [] true o ids)
+admits opens rest g o ids = guard (not g && empty rest) (known [] true o ids)
 -- pick just one number; each pick its gate; not picked after it is settled or let, no input ever; no pick of another id before the settle
-advance (pick v) (known vs g o ids) = one number vs λ vs₁. guard (g && empty vs₁ && unset ids v && fresh o v) (known [] false (some v) ids)
+admits (picks v) rest g o ids = guard (g && empty rest && unset ids v && fresh o v) (known [] false (some v) ids)
 -- let just one number; each variable settled or let once, no input ever; no let between picks and their settle
-advance (assign v) (known vs g o ids) = one number vs λ vs₁. guard (not g && empty vs₁ && unset ids v && closed o) (known [] false none (set ids v true))
+admits (lets v) rest g o ids = guard (not g && empty rest && unset ids v && closed o) (known [] false none (set ids v true))
 -- settle none; each variable settled or let once, no input ever; picks of the same id before it, at least one
-advance (settle v) (known vs g o ids) = guard (not g && empty vs && unset ids v && opened o v) (known [] false none (set ids v true))
+admits (settles v) rest g o ids = guard (not g && empty rest && unset ids v && opened o v) (known [] false none (set ids v true))
+
+-- One instruction keeps soundness, or breaks it: operands of the right sort, numbers or yes-no, then what its role asks for.
+abbrev pub advance : Instruction → Known → Option Known
+advance i (known vs g o ids) = taking (signature i .takes) vs λ rest. admits (signature i .role) rest g o ids
 
 -- nothing missing at the end: no value held, no gate without its pick, no picks without their settle, no variable without its rule
 abbrev pub complete : Known → Bool

@@ -1,7 +1,9 @@
 pub mod Instructions
+pub mod Signature
 pub mod Translation
 pub mod Check
 pub mod Counting
 pub mod Results
-pub mod Internal
 pub mod Sound
+pub mod Allowed
+pub mod Internal

@@ -1,61 +1,62 @@
--- Sound images: the properties of document 01's paragraph, over the whole code. Document 01, "The image" (Sound). What instructions
--- leave (heldBy, idsBy) and how bytes spell ranges and instructions (RangesAt, Spells) stands in Internal. Assumes nothing.
+-- Sound images: the properties of document 01's paragraph, over the whole code. Document 01, "The image" (Sound). Assumes nothing.
 use Prim.Native.Nat.{ℕ, _+_, _≤_, _<_}
 use mathlib.Core.Path.{_≡_}
 use mathlib.Core.Bool.{Bool, true, false}
 use mathlib.Core.List.{List, [], _∷_, _++_}
 use lib.Dec.{T}
-use lib.ListN.{length, getD, drop}
+use lib.ListN.{length, set, drop}
 use Rattle.limits.specs.Limits.{stackLimit, nameLimit, imageLimit}
-use Rattle.arith.specs.Values.{isInt32}
-use Rattle.semantics.specs.Program.{allTrue, knownFirst}
-use Rattle.leb128.specs.Numbers.{got, numberAt}
-use Rattle.bytecode.specs.Instructions.{Instruction, constant, current, previous, operation, negate, comparison, negated, both, either, gate, pick, assign, settle}
+use Rattle.semantics.specs.Program.{Range, allTrue, knownFirst}
+use Rattle.leb128.specs.Numbers.{got, numberAt, signedAt}
+use Rattle.bytecode.specs.Instructions.{Instruction, gate, pick, settle, fetch}
+use Rattle.bytecode.specs.Signature.{Sort, Role, pushes, computes, tests, opens, picks, lets, settles, signature, heldBy}
 use Rattle.bytecode.specs.Translation.{RangesFit}
-use Rattle.bytecode.specs.Check.{Sort, number, truth, unset, Header}
-use Rattle.bytecode.specs.Internal.{heldBy, idsBy, RangesAt, Spells}
+use Rattle.bytecode.specs.Check.{unset, Header}
 
 -- the sorts of the values held after instructions, the last first
 abbrev pub heldAfter : List Instruction → List Sort → List Sort
 heldAfter [] vs = vs
 heldAfter (i ∷ is) vs = heldAfter is (heldBy i vs)
 
--- of each id, whether it is an input, or a variable settled or let by the instructions
+-- of each id, whether it is an input, or a variable settled or let
+abbrev pub idsIn : Role → List Bool → List Bool
+idsIn (pushes fits) ids = ids
+idsIn computes ids = ids
+idsIn tests ids = ids
+idsIn opens ids = ids
+idsIn (picks v) ids = ids
+idsIn (lets v) ids = set ids v true
+idsIn (settles v) ids = set ids v true
+
 abbrev pub idsAfter : List Instruction → List Bool → List Bool
 idsAfter [] ids = ids
-idsAfter (i ∷ is) ids = idsAfter is (idsBy i ids)
+idsAfter (i ∷ is) ids = idsAfter is (idsIn (signature i .role) ids)
 
 -- codes 1 to 9
+abbrev pub PlainIn : Role → Type 0
+PlainIn (pushes fits) = Unit {0}
+PlainIn computes = Unit {0}
+PlainIn tests = ⊥
+PlainIn opens = ⊥
+PlainIn (picks v) = ⊥
+PlainIn (lets v) = ⊥
+PlainIn (settles v) = ⊥
+
 abbrev pub Plain : Instruction → Type 0
-Plain (constant z) = Unit {0}
-Plain (current i) = Unit {0}
-Plain (previous i) = Unit {0}
-Plain (operation o) = Unit {0}
-Plain negate = Unit {0}
-Plain (comparison o) = ⊥
-Plain negated = ⊥
-Plain both = ⊥
-Plain either = ⊥
-Plain gate = ⊥
-Plain (pick v) = ⊥
-Plain (assign v) = ⊥
-Plain (settle v) = ⊥
+Plain i = PlainIn (signature i .role)
 
 -- no let, and no pick or settle of another id than v
+abbrev pub WithinIn : ℕ → Role → Type 0
+WithinIn v (pushes fits) = Unit {0}
+WithinIn v computes = Unit {0}
+WithinIn v tests = Unit {0}
+WithinIn v opens = Unit {0}
+WithinIn v (picks u) = u ≡ v
+WithinIn v (lets u) = ⊥
+WithinIn v (settles u) = ⊥
+
 abbrev pub Within : ℕ → Instruction → Type 0
-Within v (constant z) = Unit {0}
-Within v (current i) = Unit {0}
-Within v (previous i) = Unit {0}
-Within v (operation o) = Unit {0}
-Within v negate = Unit {0}
-Within v (comparison o) = Unit {0}
-Within v negated = Unit {0}
-Within v both = Unit {0}
-Within v either = Unit {0}
-Within v gate = Unit {0}
-Within v (pick u) = u ≡ v
-Within v (assign u) = ⊥
-Within v (settle u) = ⊥
+Within v i = WithinIn v (signature i .role)
 
 abbrev pub Every : (Instruction → Type 0) → List Instruction → Type 0
 Every P [] = Unit {0}
@@ -90,27 +91,25 @@ pub record HasPicks (v : ℕ) (before : List Instruction) : Type 0 where
   pub found : before ≡ first ++ pick v ∷ between
   pub same : Every (Within v) between
 
--- what must hold at an instruction, of the values held and the ids known there
-abbrev pub Fitting : Instruction → List Sort → List Bool → Type 0
--- constants in signed 32-bit range; never over 40 values held
-Fitting (constant z) vs ids = T (isInt32 z) × (length vs < stackLimit)
--- ids of names declared; current values by the rule above: of inputs, and of variables settled or let before
-Fitting (current i) vs ids = (getD ids i false ≡ true) × (length vs < stackLimit)
--- ids of names declared: a previous value of any name
-Fitting (previous i) vs ids = (i < length ids) × (length vs < stackLimit)
--- operands of the right sort, numbers or yes-no
-Fitting (operation x) vs ids = (rest : List Sort) × (vs ≡ number ∷ number ∷ rest)
-Fitting negate vs ids = (rest : List Sort) × (vs ≡ number ∷ rest)
-Fitting (comparison x) vs ids = (rest : List Sort) × (vs ≡ number ∷ number ∷ rest)
-Fitting negated vs ids = (rest : List Sort) × (vs ≡ truth ∷ rest)
-Fitting both vs ids = (rest : List Sort) × (vs ≡ truth ∷ truth ∷ rest)
-Fitting either vs ids = (rest : List Sort) × (vs ≡ truth ∷ truth ∷ rest)
+-- what a role asks for, of the values below the operands and the ids known there
+abbrev pub FittingIn : Role → List Sort → List Bool → Type 0
+-- constants in signed 32-bit range; ids of names declared, current values by the rule above: of inputs, and of variables settled or let
+-- before; never over 40 values held
+FittingIn (pushes fits) rest ids = T (fits ids) × (length rest < stackLimit)
+FittingIn computes rest ids = Unit {0}
+FittingIn tests rest ids = Unit {0}
 -- gate finds just one yes-no
-Fitting gate vs ids = vs ≡ truth ∷ []
+FittingIn opens rest ids = rest ≡ []
 -- pick and let just one number, settle none; each variable settled or let once, not picked after that, no input ever
-Fitting (pick v) vs ids = (vs ≡ number ∷ []) × T (unset ids v)
-Fitting (assign v) vs ids = (vs ≡ number ∷ []) × T (unset ids v)
-Fitting (settle v) vs ids = (vs ≡ []) × T (unset ids v)
+FittingIn (picks v) rest ids = (rest ≡ []) × T (unset ids v)
+FittingIn (lets v) rest ids = (rest ≡ []) × T (unset ids v)
+FittingIn (settles v) rest ids = (rest ≡ []) × T (unset ids v)
+
+-- what must hold at an instruction: operands of the right sort, numbers or yes-no, and what its role asks for
+pub record Fitting (i : Instruction) (vs : List Sort) (ids : List Bool) : Type 0 where
+  pub rest : List Sort
+  pub operands : vs ≡ signature i .takes ++ rest
+  pub in-role : FittingIn (signature i .role) rest ids
 
 pub record SoundCode (first : List Bool) (code : List Instruction) : Type 0 where
   -- what must hold at each instruction, after those before it
@@ -124,6 +123,19 @@ pub record SoundCode (first : List Bool) (code : List Instruction) : Type 0 wher
   -- nothing missing at the end: no value held, each variable settled or let
   pub none-held : heldAfter code [] ≡ []
   pub all-set : T (allTrue (idsAfter code first))
+
+-- ---- the image
+
+-- low, high, start of each name stand from a place on, up to another
+abbrev pub RangesAt : List ℕ → ℕ → List Range → ℕ → Type 0
+RangesAt bytes at [] end = at ≡ end
+RangesAt bytes at (n ∷ ns) end =
+    (at₁ : ℕ) × (at₂ : ℕ) × (at₃ : ℕ) × (signedAt bytes at ≡ got (n .low) at₁) × (signedAt bytes at₁ ≡ got (n .high) at₂) × (signedAt bytes at₂ ≡ got (n .start) at₃) × RangesAt bytes at₃ ns end
+
+-- the code is these instructions, one behind the other, from a place on: only the codes listed
+abbrev pub Spells : List ℕ → ℕ → List Instruction → Type 0
+Spells code at [] = length code ≤ at
+Spells code at (i ∷ is) = (next : ℕ) × (fetch code at ≡ got i next) × Spells code next is
 
 pub record Sound (bytes : List ℕ) : Type 0 where
   -- at most 65,536 bytes

@@ -12,7 +12,8 @@ use lib.Pow.{pow-mono}
 use borrow.Author.Tests.{ltb-true}
 use Rattle.arith.specs.Flags.{flagsOf}
 use Rattle.arith.proofs.Flags.{length-flags}
-use Rattle.bytecode.specs.Check.{Sort, number, unset}
+use Rattle.bytecode.specs.Signature.{Sort, number}
+use Rattle.bytecode.specs.Check.{unset}
 use Rattle.checker.specs.Represented.{sortOf, sortsOf}
 
 -- ---- sorts

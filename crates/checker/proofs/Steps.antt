@@ -14,7 +14,8 @@ use Rattle.arith.specs.Values.{Operation, Comparison, isInt32}
 use Rattle.arith.proofs.Basics.{T-true}
 use Rattle.leb128.specs.Numbers.{unzigzag}
 use Rattle.bytecode.specs.Instructions.{constant, operation, negate, comparison, negated, both, either, gate, pick, assign}
-use Rattle.bytecode.specs.Check.{Sort, number, truth, Known, known, guard, one, empty, unset, closed, fresh, opened, advance}
+use Rattle.bytecode.specs.Signature.{Sort, number, truth}
+use Rattle.bytecode.specs.Check.{Known, known, guard, one, empty, unset, closed, fresh, opened, advance}
 use Rattle.bytecode.proofs.Heading.{unzigzag-int32}
 use Rattle.bytecode.proofs.Paired.{gateOf}
 use Rattle.checker.specs.declared.advance.Walk.{Walk}

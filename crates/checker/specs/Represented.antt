@@ -6,7 +6,8 @@ use mathlib.Core.Option.{Option, none, some}
 use Rattle.limits.specs.Limits.{stackLimit, nameLimit}
 use Rattle.arith.specs.Flags.{flagsOf}
 use Rattle.bytecode.specs.Instructions.{Instruction}
-use Rattle.bytecode.specs.Check.{Sort, number, truth, Known, known, held, one, advance}
+use Rattle.bytecode.specs.Signature.{Sort, number, truth, pushes}
+use Rattle.bytecode.specs.Check.{Known, known, one, admits, advance}
 use Rattle.checker.specs.declared.advance.Walk.{Walk}
 use Rattle.checker.specs.declared.advance.Advanced.{Advanced}
 use Rattle.checker.specs.declared.advance.Advanced.the-variants.{Kept, Broken}
@@ -62,7 +63,7 @@ advanceBy (some i) c = advance i c
 
 -- a number more is held
 unfoldable pub pushed : Known → Option Known
-pushed (known vs g o ids) = held number vs g o ids true
+pushed (known vs g o ids) = admits (pushes λ flags. true) vs g o ids
 
 -- an operand of a sort is on top; it is replaced by one of the same sort
 unfoldable pub kept : Sort → Known → Option Known

@@ -16,9 +16,14 @@ use Rattle.grammar.specs.Spelled.{Spelled}
 use Rattle.grammar.proofs.Accepted.{parse-growth, program-parsed, program-translatable}
 use Rattle.grammar.proofs.PlacesText.{program-refused}
 use Rattle.grammar.proofs.ConverseText.{accepted-exactly, one-meaning}
+use Rattle.faults.proofs.TextPlaces.{fault-places}
+use Rattle.faults.proofs.FirstFound.{first-found}
+use Rattle.faults.proofs.ViableText.{allowed-before}
+use Rattle.faults.proofs.NoneBegun.{none-begun}
+use Rattle.faults.proofs.ImagePlaces.{broken-images}
 use Rattle.translate.specs.Services.{AfterTranslation, translationOf}
 use Rattle.translate.proofs.Kept.{never, Way, image, no-room, fault, way, Stored, image-stored, stored-image}
-use Rattle.correctness.specs.Demand2.{Translates, Declines, faulty, short, Demand2}
+use Rattle.correctness.specs.Demand2.{Translates, Declines, faulty, short, Demand2, Refusals}
 
 module _ (text buffer : List ℕ) where
   -- why a translation was refused, and that it left the buffer
@@ -79,4 +84,13 @@ demand-2 = record {
   written-sound = written-sound;
   written-checked = λ text buffer n a. check-exact (take n (translationOf text buffer .buffer)) .sound-accepted (written-sound text buffer n a);
   growth = growth;
+}
+
+pub refusals : Refusals
+refusals = record {
+  fault-places = fault-places;
+  first-found = first-found;
+  allowed-before = allowed-before;
+  none-begun = none-begun;
+  broken-images = broken-images;
 }

@@ -13,6 +13,9 @@ use Rattle.bytecode.specs.Check.{checkOf}
 use Rattle.bytecode.specs.Sound.{Sound}
 use Rattle.grammar.specs.Parse as G
 use Rattle.grammar.specs.Spelled.{Spelled}
+use Rattle.faults.specs.Texts.{FaultPlaces, FirstFound}
+use Rattle.faults.specs.Grammar.{AllowedBefore, NoneBegun}
+use Rattle.faults.specs.Images.{BrokenImages}
 use Rattle.translate.specs.Services.{AfterTranslation}
 use Rattle.translate.specs.Services as S
 
@@ -64,3 +67,15 @@ pub record Demand2Of (programOf : List ℕ → Answer Program) (translationOf : 
 -- The claim about those that the contracts cite.
 abbrev pub Demand2 : Type 0
 Demand2 = Demand2Of G.programOf S.translationOf
+
+-- Where and why a text or an image is refused, apart from any way of reading it.
+pub record Refusals : Type 0 where
+  -- A fault is 9, at 0, exactly if the text is over its limit; 1 stands where no token does; every other at a token or at the end.
+  pub fault-places : FaultPlaces
+  -- It is the first found: what stands behind its token does not count.
+  pub first-found : FirstFound
+  -- 2: what stands before its token begins a text of the grammar; what stands up to it, that token included, begins no accepted text.
+  pub allowed-before : AllowedBefore
+  pub none-begun : NoneBegun
+  -- Check answers 11 exactly with the place of the first header number or instruction that breaks soundness, or the image length.
+  pub broken-images : BrokenImages

@@ -55,7 +55,7 @@ module _ (text : List ℕ) where
     next : (c : Spanned) (cs : List Spanned) (ts ls : List (List ℕ)) → c .span .from ≤ length text → Spells text (c .span .from) (c .span .to) ts → Listed cs ls → Listed (c ∷ cs) (ts ++ bytes "|" ∷ ls)
 
   -- a list that is not empty is compared part by part
-  parts-next : (c : Spanned) (cs : List Spanned) (ls : List (List ℕ)) → Listed cs ls → (at : ℕ) → partsFrom text (c ∷ cs) at ≡ onCompared (partFrom (length text) text (c .span .from) (c .span .to) at) (λ n. onCompared (kindAt text bar n) (λ m. partsFrom text cs m))
+  pub parts-next : (c : Spanned) (cs : List Spanned) (ls : List (List ℕ)) → Listed cs ls → (at : ℕ) → partsFrom text (c ∷ cs) at ≡ onCompared (partFrom (length text) text (c .span .from) (c .span .to) at) (λ n. onCompared (kindAt text bar n) (λ m. partsFrom text cs m))
   unfolding partsFrom
   parts-next c cs ls (last d ts h sp) at = refl
   parts-next c cs ls (next d ds ts us h sp r) at = refl
@@ -113,7 +113,7 @@ module _ (text : List ℕ) where
       same-place : (x y : ℕ) → agrees x ≡ agrees y → x ≡ y
       same-place x y q = cc
 
-  span-room : (c : Spanned) (ts : List (List ℕ)) → c .span .from ≤ length text → Spells text (c .span .from) (c .span .to) ts → c .span .to ≤ c .span .from + length text
+  pub span-room : (c : Spanned) (ts : List (List ℕ)) → c .span .from ≤ length text → Spells text (c .span .from) (c .span .to) ts → c .span .to ≤ c .span .from + length text
   span-room c ts h g = let sp = spells-in text (c .span .from) (c .span .to) ts h g in omega (arith, sp .1)
 
   -- a list that agrees is spelled by the same tokens, and a `)`

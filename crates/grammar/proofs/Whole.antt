@@ -136,10 +136,10 @@ module _ (sc : Scope) (few : length (sc .names) ≤ 64) (lengths : length (sc .n
         cond-prop (Ends (length (sc .text)) (Ruled v)) (is k tilde) _ _ (λ e. change-fits w v m (mv .2)) (λ e. function-fits w v n (k1 .1))))
 
     -- a rule that is the first of its variable
-    abbrev First : Rule → Type 0
+    abbrev pub First : Rule → Type 0
     First r = RuleFits (sc .known) r × (target r < length (sc .known)) × (getD (sc .known) (target r) false ≡ false)
 
-    rule-fits : (s n : ℕ) → n ≤ length (sc .text) → Ends (length (sc .text)) First (ruleAt sc s n)
+    pub rule-fits : (s n : ℕ) → n ≤ length (sc .text) → Ends (length (sc .text)) First (ruleAt sc s n)
     unfolding ruleAt withId
     rule-fits s n h =
         cond-prop (Ends (length (sc .text)) First) (overLong s n) _ _ (λ e. tt)

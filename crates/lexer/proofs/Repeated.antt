@@ -14,8 +14,8 @@ use Rattle.lexer.specs.Lexer.{isSpace, isDigit, isLetter, isAlphanumeric
 use Rattle.lexer.proofs.Laws.{run-stop, run-step}
 
 -- a part of a list that is cut off behind it
-inner : (l : List ℕ) (j m size : ℕ) → j + m ≤ size → j ≤ length l → take m (drop j l) ≡ drop j (take (j + m) (take size l))
-inner l j m size h i =
+pub part-cut : (l : List ℕ) (j m size : ℕ) → j + m ≤ size → j ≤ length l → take m (drop j l) ≡ drop j (take (j + m) (take size l))
+part-cut l j m size h i =
     let n : length (take j l) ≡ j = omega (arith, length-take j l) in
     sym (ap (λ (x : List ℕ). drop j x) (take-take (j + m) size l h ∙ take-add j m l) ∙ drop-at (take j l) (take m (drop j l)) j n)
 
@@ -57,9 +57,9 @@ module _ (text : List ℕ) (f g last : ℕ) (in-f : f + last < length text) (in-
       let ef : f + k - (f + j) ≡ k - j = omega arith in
       let room : j + (k - j) ≤ last + 1 = omega arith in
       rw (eg, ef, ← drop-drop j g text, ← drop-drop j f text)
-      (inner (drop g text) j (k - j) (last + 1) room (omega (arith, length-drop g text))
+      (part-cut (drop g text) j (k - j) (last + 1) room (omega (arith, length-drop g text))
       ∙ ap (λ (l : List ℕ). drop j (take (j + (k - j)) l)) (sym same)
-      ∙ sym (inner (drop f text) j (k - j) (last + 1) room (omega (arith, length-drop f text))))
+      ∙ sym (part-cut (drop f text) j (k - j) (last + 1) room (omega (arith, length-drop f text))))
 
   -- ---- runs
 

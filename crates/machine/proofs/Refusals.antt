@@ -18,12 +18,13 @@ use Rattle.semantics.specs.Formula.{State, at}
 use Rattle.semantics.specs.ReferenceScan.{rangeAt, ranged, picked}
 use Rattle.arith.proofs.Basics.{T-true, and-left, and-right, ok≢refusal}
 use Rattle.bytecode.specs.Instructions.{Instruction, constant, current, previous, operation, negate, comparison, negated, both, either, gate, pick, assign, settle}
-use Rattle.bytecode.specs.Check.{Sort, Known, known, held, one, empty, unset, closed, fresh, opened, advance, checkCode}
+use Rattle.bytecode.specs.Signature.{Sort, Role, pushes, computes, tests, opens, picks, lets, settles, signature}
+use Rattle.bytecode.specs.Check.{Known, known, one, empty, unset, closed, fresh, opened, admits, advance, checkCode}
 use Rattle.bytecode.proofs.RoundTrip.{fetch-next}
-use Rattle.bytecode.proofs.Soundness.{none≢some, guard-some, one-some, idsOf, known-inside, advance-small, third}
+use Rattle.bytecode.proofs.Soundness.{some-inj, none≢some, guard-some, idsOf, known-inside, advance-small, third}
+use Rattle.bytecode.proofs.Exactly.{taking-shape}
 use Rattle.bytecode.proofs.Walk.{check-stepped}
-use Rattle.bytecode.proofs.Soundness.{some-inj}
-use Rattle.machine.specs.Step.{Machine, machine, bit, yes, push, pop, gated, settled, isPick, declared, perform, step}
+use Rattle.machine.specs.Step.{Machine, machine, bit, yes, push, pop, gated, settled, endsPassing, isPick, declared, perform, step}
 use Rattle.machine.specs.Runs.{afterStep, run}
 
 -- a refusal of the rules at work: 14, 15, 16 or 17
@@ -110,11 +111,11 @@ popped x (m ∷ ms) (v ∷ vs) k f d l e h = h m ms vs (omega arith) (one-cons x
 moved : (c d : Known) (m : Machine) → c ≡ d → Matches c m → Matches d m
 moved c d m e h = subst (λ x. Matches x m) e h
 
-held-kept : (z : ℤ) (c : Bool) (ms : List ℤ) (t : State) (vs : List Sort) (g : Bool) (o : Option ℕ) (ids : List Bool) (b : Bool) (d : Known) → length ms ≡ length vs
-    → held Sort.number vs g o ids b ≡ some d → Kept d (push z c ms t)
-held-kept z c ms t vs g o ids b d l e =
-    let h = guard-some (b && ltb (length vs) 40) _ d e in
-    let k : length vs < 40 = ltb→lt (length vs) 40 (and-right b _ (h .0)) in
+held-kept : (z : ℤ) (c : Bool) (ms : List ℤ) (t : State) (vs : List Sort) (g : Bool) (o : Option ℕ) (ids : List Bool) (fits : List Bool → Bool) (d : Known) → length ms ≡ length vs
+    → admits (pushes fits) vs g o ids ≡ some d → Kept d (push z c ms t)
+held-kept z c ms t vs g o ids fits d l e =
+    let h = guard-some (fits ids && ltb (length vs) 40) _ d e in
+    let k : length vs < 40 = ltb→lt (length vs) 40 (and-right (fits ids) _ (h .0)) in
     let q : ltb (length ms) 40 ≡ true = lt-ltb (length ms) 40 (omega arith) in
     rw q (moved (known (Sort.number ∷ vs) g o ids) d (machine false c (z ∷ ms) t) (h .1) (ap suc l))
 
@@ -127,26 +128,21 @@ over : (vs : List Sort) (o : Option ℕ) (ids : List Bool) (d : Known) (c : Bool
 over vs o ids d c ms t e h = let x : Matches (known vs true o ids) (machine true c ms t) = (refl, h) in moved (known vs true o ids) d (machine true c ms t) e x
 
 -- an instruction that is passed over
+over-in : (r : Role) (rest : List Sort) (o : Option ℕ) (ids : List Bool) (d : Known) (c : Bool) (ms : List ℤ) (t : State)
+    → admits r rest true o ids ≡ some d → ms ≡ [] → Matches d (machine (not (endsPassing r)) c ms t)
+over-in (pushes fits) rest o ids d c ms t e h = over (Sort.number ∷ rest) o ids d c ms t (guard-some (fits ids && ltb (length rest) 40) _ d e .1) h
+over-in computes rest o ids d c ms t e h = over (Sort.number ∷ rest) o ids d c ms t (some-inj e) h
+over-in tests rest o ids d c ms t e h = none≢some d e
+over-in opens rest o ids d c ms t e h = none≢some d e
+over-in (picks v) rest o ids d c ms t e h = moved (known [] false (some v) ids) d (machine false c ms t) (guard-some (true && empty rest && unset ids v && fresh o v) _ d e .1) (rw h)
+over-in (lets v) rest o ids d c ms t e h = none≢some d e
+over-in (settles v) rest o ids d c ms t e h = none≢some d e
+
 over-keeps : (i : Instruction) (vs : List Sort) (o : Option ℕ) (ids : List Bool) (d : Known) (c : Bool) (ms : List ℤ) (t : State)
     → advance i (known vs true o ids) ≡ some d → ms ≡ [] → Matches d (machine (not (isPick i)) c ms t)
-over-keeps (constant z) vs o ids d c ms t e h = over (Sort.number ∷ vs) o ids d c ms t (guard-some (isInt32 z && ltb (length vs) 40) _ d e .1) h
-over-keeps (current i) vs o ids d c ms t e h = over (Sort.number ∷ vs) o ids d c ms t (guard-some (getD ids i false && ltb (length vs) 40) _ d e .1) h
-over-keeps (previous i) vs o ids d c ms t e h = over (Sort.number ∷ vs) o ids d c ms t (guard-some (ltb i (length ids) && ltb (length vs) 40) _ d e .1) h
-over-keeps (operation x) vs o ids d c ms t e h =
-    let a = one-some Sort.number vs _ d e in
-    let b = one-some Sort.number (a .0) _ d (a .1) in
-    over (Sort.number ∷ b .0) o ids d c ms t (some-inj (b .1)) h
-over-keeps negate vs o ids d c ms t e h = let a = one-some Sort.number vs _ d e in over (Sort.number ∷ a .0) o ids d c ms t (some-inj (a .1)) h
-over-keeps (comparison x) vs o ids d c ms t e h = let a = one-some Sort.number vs _ d e in let b = one-some Sort.number (a .0) _ d (a .1) in none≢some d (b .1)
-over-keeps negated vs o ids d c ms t e h = let a = one-some Sort.truth vs _ d e in none≢some d (a .1)
-over-keeps both vs o ids d c ms t e h = let a = one-some Sort.truth vs _ d e in let b = one-some Sort.truth (a .0) _ d (a .1) in none≢some d (b .1)
-over-keeps either vs o ids d c ms t e h = let a = one-some Sort.truth vs _ d e in let b = one-some Sort.truth (a .0) _ d (a .1) in none≢some d (b .1)
-over-keeps gate vs o ids d c ms t e h = let a = one-some Sort.truth vs _ d e in none≢some d (a .1)
-over-keeps (pick v) vs o ids d c ms t e h =
-    let a = one-some Sort.number vs _ d e in
-    moved (known [] false (some v) ids) d (machine false c ms t) (guard-some (true && empty (a .0) && unset ids v && fresh o v) _ d (a .1) .1) (rw h)
-over-keeps (assign v) vs o ids d c ms t e h = let a = one-some Sort.number vs _ d e in none≢some d (a .1)
-over-keeps (settle v) vs o ids d c ms t e h = none≢some d e
+over-keeps i vs o ids d c ms t e h =
+    let x = taking-shape (signature i .takes) vs _ d e in
+    over-in (signature i .role) (x .0) o ids d c ms t (x .2) h
 
 second : (a b c e : Bool) → T (a && b && c && e) → T b
 second a b c e h = and-right a b (and-left (a && b) c (and-left (a && b && c) e h))
@@ -174,15 +170,15 @@ module _ (ns : List Range) (s : State) where
     -- an instruction that is not passed over
     perform-keeps : (i : Instruction) (vs : List Sort) (g : Bool) (o : Option ℕ) (d : Known) (c : Bool) (ms : List ℤ) (t : State) → length ms ≡ length vs
         → advance i (known vs g o ids) ≡ some d → Kept d (perform ns s i c ms t)
-    perform-keeps (constant z) vs g o d c ms t l e = held-kept z c ms t vs g o ids (isInt32 z) d l e
+    perform-keeps (constant z) vs g o d c ms t l e = held-kept z c ms t vs g o ids (λ flags. isInt32 z) d l e
     perform-keeps (current i) vs g o d c ms t l e =
         let h = guard-some (getD ids i false && ltb (length vs) 40) _ d e in
         let k : i < length ids = known-inside ids i (T-true _ (and-left (getD ids i false) _ (h .0))) in
-        declared-kept i _ d (omega arith) (held-kept (at t i) c ms t vs g o ids (getD ids i false) d l e)
+        declared-kept i _ d (omega arith) (held-kept (at t i) c ms t vs g o ids (λ flags. getD flags i false) d l e)
     perform-keeps (previous i) vs g o d c ms t l e =
         let h = guard-some (ltb i (length ids) && ltb (length vs) 40) _ d e in
         let k : i < length ids = ltb→lt i (length ids) (and-left (ltb i (length ids)) _ (h .0)) in
-        declared-kept i _ d (omega arith) (held-kept (at s i) c ms t vs g o ids (ltb i (length ids)) d l e)
+        declared-kept i _ d (omega arith) (held-kept (at s i) c ms t vs g o ids (λ flags. ltb i (length flags)) d l e)
     perform-keeps (operation x) vs g o d c ms t l e =
         popped Sort.number ms vs _ _ d l e λ b ms₁ vs₁ l₁ e₁. popped Sort.number ms₁ vs₁ _ _ d l₁ e₁ λ a ms₂ vs₂ l₂ e₂.
         kept-bind (arithmetic x a b) _ d (λ k h. arithmetic-rules x a b k h) λ z.

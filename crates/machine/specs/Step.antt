@@ -13,6 +13,7 @@ use Rattle.semantics.specs.Program.{Range}
 use Rattle.semantics.specs.Formula.{State, at}
 use Rattle.semantics.specs.ReferenceScan.{ranged, picked}
 use Rattle.bytecode.specs.Instructions.{Instruction, constant, current, previous, operation, negate, comparison, negated, both, either, gate, pick, assign, settle}
+use Rattle.bytecode.specs.Signature.{Role, pushes, computes, tests, opens, picks, lets, settles, signature}
 
 -- Whether instructions are passed over up to the next pick; whether the variable at hand was picked; the values held, the last
 -- first; the current values.
@@ -47,21 +48,18 @@ abbrev pub settled : ℕ → ℤ → Bool → List ℤ → State → Machine
 settled v before true vs t = machine false false vs t
 settled v before false vs t = machine false false vs (set t v before)
 
--- the instruction at which passing over ends
+-- the role at which passing over ends
+abbrev pub endsPassing : Role → Bool
+endsPassing (pushes fits) = false
+endsPassing computes = false
+endsPassing tests = false
+endsPassing opens = false
+endsPassing (picks v) = true
+endsPassing (lets v) = false
+endsPassing (settles v) = false
+
 abbrev pub isPick : Instruction → Bool
-isPick (constant z) = false
-isPick (current i) = false
-isPick (previous i) = false
-isPick (operation o) = false
-isPick negate = false
-isPick (comparison o) = false
-isPick negated = false
-isPick both = false
-isPick either = false
-isPick gate = false
-isPick (pick v) = true
-isPick (assign v) = false
-isPick (settle v) = false
+isPick i = endsPassing (signature i .role)
 
 -- the ranges of the names, and the previous values
 module _ (ns : List Range) (s : State) where

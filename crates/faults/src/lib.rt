@@ -1,0 +1,1 @@
+// Refusals stated a second time. Definitions and laws only.
