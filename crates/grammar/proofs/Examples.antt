@@ -1,19 +1,15 @@
 -- The worked examples of texts hold: the answers of ExampleTexts, and the images of the latches L1, L2 and L5 of document 01. Two tables,
 -- each under one statement, proved by computing the definitions. Assumes nothing.
-use mathlib.Core.Path.{_≡_, refl, ap}
+use mathlib.Core.Path.{_≡_, refl}
 use mathlib.Core.List.{List, [], _∷_}
-use Prim.Native.Nat.{ℕ, zero, suc, _-_, _≤_, _<_}
-use native.Mathlib.Nat.{le-refl}
-use native.Mathlib.Omega.{arith}
+use Prim.Native.Nat.{ℕ, _<_}
 use lib.ListN.{length}
-use lib.Seq.{take-all}
 use borrow.Author.Tests.{lt-ltb}
 use Rattle.limits.specs.Limits.{textLimit, tooLong}
 use Rattle.limits.specs.Answer.{Answer, accepted, refused}
 use Rattle.lexer.specs.Bytes.{bytes, sameBytes}
 use Rattle.lexer.specs.Token.{is, kindNumber}
 use Rattle.lexer.specs.Lexer.{isSpace, isDigit, isLetter, isAlphanumeric, runOn, runEnd, sameName, wordOf, overLong, pairOf, signOf, readOf, signAt, wordAt, digitsAt, previousAt, tokenOf, tokenPast, tokenAt, sameToken, valueOn, valueOf}
-use Rattle.lexer.specs.Spelling.{All}
 use Rattle.lexer.specs.Names.{idFrom, idOf}
 use Rattle.leb128.specs.Numbers.{number, groups, zigzag}
 use Rattle.semantics.specs.Program.{Program}
@@ -24,10 +20,7 @@ use Rattle.grammar.specs.Conditions.{comparisonOf, compared, comparisonA
 use Rattle.grammar.specs.Declarations.{inRange, signedAt, boundAt, newName, startAt, declaration, declarationsFrom, declarations}
 use Rattle.grammar.specs.Rules.{caseAt, casesFrom, listFrom, plainList, partFrom, kindAt, partsFrom, firstFound, agreeingList, functionAt, changeAt, formulas, ruleAt, rulesFrom}
 use Rattle.grammar.specs.Parse.{program, parse, programOf}
-use Rattle.grammar.specs.Spelled.{Spelled}
-use Rattle.grammar.specs.Spelled as S
-use Rattle.grammar.proofs.ConverseText.{accepted-exactly}
-use Rattle.grammar.proofs.ExampleTexts.{Example, spaces, fine, numberOrder, afterChange, otherTokens, longNames, manyNames, missingRules, numbers, longestMatch, manyBrackets, manyCases, examples, round, computing}
+use Rattle.grammar.proofs.ExampleTexts.{Example, numberOrder, afterChange, otherTokens, longNames, manyNames, missingRules, numbers, longestMatch, manyBrackets, manyCases, examples, round, computing}
 use Rattle.grammar.proofs.Bytes.{heads, tails}
 
 -- ---- the two statements
@@ -151,50 +144,10 @@ examples-hold = (
 
 -- ---- the limit of a text
 
-length-spaces : (n : ℕ) → length (spaces n) ≡ n
-length-spaces zero = refl
-length-spaces (suc n) = ap suc (length-spaces n)
-
-all-spaces : (n : ℕ) → All isSpace (spaces n)
-unfolding isSpace
-all-spaces zero = tt
-all-spaces (suc n) = (refl, all-spaces n)
-
 -- a text over its limit is 9, before all else
 pub too-long : (text : List ℕ) → textLimit < length text → programOf text ≡ refused tooLong 0
 unfolding programOf parse
 too-long text h = rw (lt-ltb textLimit (length text) h)
-
--- White space alone is accepted, up to the limit
-nothing : Program
-nothing = record { inputs = 0; names = []; rules = [] }
-
-spaces-spelled : (n : ℕ) → n ≤ textLimit → Spelled (spaces n) nothing
-unfolding nothing
-spaces-spelled n h =
-    record {
-      short = omega (arith, length-spaces n);
-      input-tokens = [];
-      variable-tokens = [];
-      rule-tokens = [];
-      tokens = record { end = 0; spells = refl; ends = record { ordered = omega arith; within = le-refl (length (spaces n)); spaces = rw (take-all (length (spaces n) - 0) (spaces n) (omega arith)) (all-spaces n) } };
-      inputs = [];
-      variables = [];
-      declares-inputs = S.DeclareAll.none;
-      declares-variables = S.DeclareAll.none;
-      names = refl;
-      input-count = refl;
-      distinct = tt;
-      few = omega arith;
-      spells-rules = S.SpellsRules.none;
-      ordered = tt;
-    }
-
-pub spaces-answered : (n : ℕ) → (n ≤ textLimit → Holds (fine (spaces n))) × (textLimit < n → Holds (record { text = spaces n; answer = refused tooLong 0 }))
-spaces-answered n = (
-  λ h. ap verdict (accepted-exactly .spelled-accepted (spaces n) nothing (spaces-spelled n h)),
-  λ h. ap verdict (too-long (spaces n) (omega (arith, length-spaces n))),
-)
 
 -- ---- the table of images
 
