@@ -17,7 +17,8 @@ use Rattle.semantics.specs.Program.{Range, Name, Case, Rule, function, change, 
 use Rattle.bytecode.specs.Translation.{imageOf, depthE, depthC, ShallowK, ShallowR, Shallow, RangesFit, Translatable}
 use Rattle.grammar.specs.Parsed.{Parsed, accepted, refused}
 use Rattle.grammar.specs.Parse.{program, parse, answerOf, programOf}
-use Rattle.grammar.specs.Derivation.{IsWord, IsName}
+use Rattle.lexer.specs.Spelling.{IsWord}
+use Rattle.grammar.specs.Derivation.{IsName}
 use Rattle.grammar.specs.Spelled.{namesOf}
 use Rattle.grammar.specs.Internal.{Named}
 use Rattle.grammar.proofs.Combine.{never}

@@ -3,17 +3,16 @@ use mathlib.Core.Path.{_≡_, subst}
 use mathlib.Core.List.{List, [], _∷_}
 use mathlib.Core.Bool.{Bool, true, false, cond}
 use mathlib.Core.Option.{some}
-use Prim.Native.Nat.{ℕ, zero, suc, _+_, _-_, _*_, _/_, _%_, _≤_, _<_}
+use Prim.Native.Nat.{ℕ, zero, suc, _+_, _*_, _/_, _%_, _≤_, _<_}
 use native.Mathlib.Omega.{arith}
-use lib.ListN.{length, getD, length-take, length-drop}
-use lib.Seq.{drop-cons}
+use lib.ListN.{length}
 use lib.Dec.{ltb}
 use lib.IntN.{pos}
 use borrow.Author.Tests.{ltb-false}
-use Rattle.lexer.specs.Bytes.{part}
 use Rattle.lexer.specs.Lexer.{valueOn, valueOf, sameName}
 use Rattle.lexer.specs.Names.{idFrom, idOf}
 use Rattle.lexer.proofs.Laws.{cond-prop}
+pub use Rattle.lexer.proofs.Values.{part-length, part-cons}
 use Rattle.leb128.specs.Numbers.{groups, number, zigzag}
 
 -- 128 to the d
@@ -77,16 +76,6 @@ id-from (x ∷ l) w i j e = go (sameName w x) (λ h. id-from l w (i + 1) j h) e
 pub id-of : (l : List (List ℕ)) (w : List ℕ) (j : ℕ) → idOf l w ≡ some j → j < length l
 unfolding idOf
 id-of l w j e = omega (arith, id-from l w 0 j e)
-
-pub part-length : (text : List ℕ) (s n : ℕ) → s ≤ n → n ≤ length text → length (part text s n) ≡ n - s
-part-length text s n h l = simp (length-take, length-drop) (omega arith)
-
--- a part that has a byte is that byte and the rest
-pub part-cons : (text : List ℕ) (s n : ℕ) → s < n → n ≤ length text → part text s n ≡ getD text s 0 ∷ part text (s + 1) n
-part-cons text s n h l =
-    let e : n - s ≡ suc (n - (s + 1)) = omega arith in
-    let f : suc s ≡ s + 1 = omega arith in
-    rw (e, drop-cons text s 0 (omega arith), f)
 
 pub heads : {A : Type 0} {x y : A} {k l : List A} → x ∷ k ≡ y ∷ l → x ≡ y
 heads e = cc

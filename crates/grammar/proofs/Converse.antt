@@ -21,14 +21,14 @@ use Rattle.semantics.specs.Program.{Expression, constant, current, previous, op
 use Rattle.grammar.specs.Parsed.{Parsed, accepted, refused, expected, rest, chain}
 use Rattle.grammar.specs.Expressions.{Scope, withId, currentAt, previousAt, numberAt, primary, negative, factor, productOf, sumOf, term, expression, bracket, wholeExpression}
 use Rattle.grammar.specs.Conditions.{comparisonOf, compared, comparisonAt, opposite as opposed, inverted, atom, andAlso, orElse, connect, andOf, orOf, conjunction, condition, square, wholeCondition, listed}
-use Rattle.grammar.specs.Derivation.{Spells, IsDigits, ProductSign, SumSign, ComparisonSign, Level, SpellsE, a-number, a-current, a-previous, brackets, plain, opposite, one-factor, product, one-term, sum, LevelC, SpellsC, not-square, one-atom, conjoined, one-conjunction, disjoined}
+use Rattle.lexer.specs.Spelling.{IsDigits, Spelling}
+use Rattle.grammar.specs.Derivation.{Spells, ProductSign, SumSign, ComparisonSign, Level, SpellsE, a-number, a-current, a-previous, brackets, plain, opposite, one-factor, product, one-term, sum, LevelC, SpellsC, not-square, one-atom, conjoined, one-conjunction, disjoined}
 use Rattle.grammar.specs.Derivation as D
 use Rattle.grammar.specs.Internal.{Named}
 use Rattle.grammar.proofs.Combine.{one-sign, never}
 use Rattle.grammar.proofs.Bytes.{part-length, part-cons, tails}
-use Rattle.grammar.proofs.Spellings.{Spelling}
 use Rattle.grammar.proofs.Distinct.{place-id}
-use Rattle.grammar.proofs.Standing.{at-kind, split, stands-in, spells-in}
+use Rattle.grammar.proofs.Standing.{at-kind, split, stands-in, spells-in, is-read}
 
 -- ---- loops
 
@@ -142,18 +142,18 @@ module _ (sc : Scope) (good : Named (sc .names)) where
   current-reads l w i ei ek a n j g =
       let st = g .1 in
       let nm = good .each i w ei in
-      let mv = token-at-moved (sc .text) a (st .kind) (st .start) (g .0) j (st .is-token) in
-      rw (at-kind (sc .text) name w (nm .is-word, nm .no-word) a (g .0) j st, named-id {A = Expression} (st .start) (st .start) (g .0) i w _ (mv .1) (mv .2) (st .spelled) ei, ek, g .2)
+      let mv = token-at-moved (sc .text) a (st .kind) (st .start) (g .0) j (is-read st) in
+      rw (at-kind (sc .text) name w (record { is-word = nm .is-word; no-word = nm .no-word }) a (g .0) j st, named-id {A = Expression} (st .start) (st .start) (g .0) i w _ (mv .1) (mv .2) (st .spelled) ei, ek, g .2)
 
   previous-reads : (l : ℕ) (w : List ℕ) (i : ℕ) → getElem? (sc .names) i ≡ some w → Reader D.primary l ((bytes "_" ++ w) ∷ []) (previous i)
   unfolding primary previousAt is kindNumber
   previous-reads l w i ei a n j g =
       let st = g .1 in
       let nm = good .each i w ei in
-      let lt = st .some-bytes in
-      let mv = token-at-moved (sc .text) a (st .kind) (st .start) (g .0) j (st .is-token) in
+      let lt = st .is-token .some-bytes in
+      let mv = token-at-moved (sc .text) a (st .kind) (st .start) (g .0) j (is-read st) in
       let t : part (sc .text) (st .start + 1) (g .0) ≡ w = tails (sym (part-cons (sc .text) (st .start) (g .0) lt (mv .2)) ∙ st .spelled) in
-      rw (at-kind (sc .text) T.previous (bytes "_" ++ w) (record { rest = w; is-cons = refl; is-word = nm .is-word; no-word = nm .no-word }) a (g .0) j st, named-id {A = Expression} (st .start) (st .start + 1) (g .0) i w _ (omega arith) (mv .2) t ei, g .2)
+      rw (at-kind (sc .text) T.previous (bytes "_" ++ w) (record { rest = w; is-cons = refl; is-name = record { is-word = nm .is-word; no-word = nm .no-word } }) a (g .0) j st, named-id {A = Expression} (st .start) (st .start + 1) (g .0) i w _ (omega arith) (mv .2) t ei, g .2)
 
   -- an expression and what follows it
   read-expression : (l : ℕ) (ts : List (List ℕ)) (e : Expression) → Reader D.expression l ts e → (a n : ℕ) → a ≤ length (sc .text) → Spells (sc .text) a n ts → (k : Kind) (s m : ℕ) → tokenAt (sc .text) n ≡ token k s m → Stop k → expression (In l) sc a ≡ accepted e n

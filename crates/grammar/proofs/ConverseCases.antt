@@ -23,7 +23,7 @@ use Rattle.grammar.specs.Derivation.{Spells, IsName, Level, SpellsE, a-n
 use Rattle.grammar.specs.Derivation as D
 use Rattle.grammar.specs.Spelled.{squared, cased, SpellsCases, one-case, more-cases, SpellsList, one-listed, more-listed}
 use Rattle.grammar.specs.Internal.{Named}
-use Rattle.grammar.proofs.Spellings.{isFixed}
+use Rattle.lexer.proofs.Spellings.{isFixed}
 use Rattle.grammar.proofs.Standing.{split, stands-in, spells-in}
 use Rattle.grammar.proofs.Phrases.{signs, fixed-at, phrase-reads, followed-reads}
 use Rattle.grammar.proofs.Listed.{Listed, last, next}

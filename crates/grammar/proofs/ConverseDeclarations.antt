@@ -13,7 +13,7 @@ use Rattle.limits.specs.Limits.{nameLimit}
 use Rattle.arith.specs.Values.{isInt32}
 use Rattle.arith.proofs.Basics.{T-true, and-left, and-right, and-T}
 use Rattle.lexer.specs.Bytes.{bytes}
-use Rattle.lexer.specs.Token.{Kind, kindNumber, digits, initWord, dots, semicolon, minus, is, token}
+use Rattle.lexer.specs.Token.{Kind, kindNumber, digits, initWord, dots, semicolon, minus, is, token, spellingOf}
 use Rattle.lexer.specs.Lexer.{tokenAt, overLong}
 use Rattle.lexer.proofs.Laws.{token-at-moved}
 use Rattle.semantics.specs.Program.{Range, Name, RangeFits}
@@ -24,8 +24,8 @@ use Rattle.grammar.specs.Spelled.{SpellsZ, positive, negative, SpellsSta
 use Rattle.grammar.specs.Spelled as S
 use Rattle.grammar.proofs.Bytes.{part-length}
 use Rattle.grammar.proofs.Distinct.{apart-new, distinct-at}
-use Rattle.grammar.proofs.Spellings.{spellingOf, isFixed}
-use Rattle.grammar.proofs.Standing.{at-kind, split, stands-in, spells-in}
+use Rattle.lexer.proofs.Spellings.{isFixed}
+use Rattle.grammar.proofs.Standing.{at-kind, split, stands-in, spells-in, is-read}
 use Rattle.grammar.proofs.Phrases.{signs, fixed-at, name-at, phrase-reads, followed-reads}
 
 module _ (text : List ℕ) where
@@ -56,7 +56,7 @@ module _ (text : List ℕ) where
   unfolding newName overLong is kindNumber
   name-reads names w nm apart room a n h st =
       let short = nm .short in
-      let mv = token-at-moved text a (st .kind) (st .start) n h (st .is-token) in
+      let mv = token-at-moved text a (st .kind) (st .start) n h (is-read st) in
       let lw : length w ≡ n - st .start = sym (ap length (st .spelled)) ∙ part-length text (st .start) n (mv .1) (mv .2) in
       rw (name-at text w nm a n h st, st .spelled, apart-new (spellings names) w apart, le-ltb 16 (n - st .start) (omega arith), lt-ltb (length names) nameLimit room)
 

@@ -23,8 +23,8 @@ use Rattle.grammar.specs.Derivation as D
 use Rattle.grammar.specs.Spelled.{SpellsCases, SpellsList, SpellsR, a-change, a-function, SpellsRules}
 use Rattle.grammar.specs.Spelled as S
 use Rattle.grammar.specs.Internal.{Named}
-use Rattle.grammar.proofs.Spellings.{isFixed}
-use Rattle.grammar.proofs.Standing.{split, stands-in, spells-in, spells-append}
+use Rattle.lexer.proofs.Spellings.{isFixed}
+use Rattle.grammar.proofs.Standing.{split, stands-in, spells-in, spells-append, is-read}
 use Rattle.grammar.proofs.Phrases.{signs, fixed-at, name-at, phrase-reads, followed-reads, headTokens, middleTokens}
 use Rattle.grammar.proofs.Listed.{spells-parts}
 use Rattle.grammar.proofs.Converse.{named-id, spelled-expression}
@@ -114,7 +114,7 @@ module _ (sc : Scope) (good : Named (sc .names)) where
       let nm = good .each v w ev in
       let st = g .1 in
       let n = g .0 in
-      let mv = token-at-moved text a (st .kind) (st .start) n h (st .is-token) in
+      let mv = token-at-moved text a (st .kind) (st .start) n h (is-read st) in
       let tail = w ∷ bytes "=" ∷ bytes "(" ∷ us ++ bytes ")" ∷ bytes ")" ∷ bytes ";" ∷ [] in
       let p = split text n m (bytes ":" ∷ bytes "GX" ∷ bytes "(" ∷ []) tail (g .2) in
       let i = spells-in text n (p .place) (bytes ":" ∷ bytes "GX" ∷ bytes "(" ∷ []) (mv .2) (p .first) .1 in
@@ -133,7 +133,7 @@ module _ (sc : Scope) (good : Named (sc .names)) where
       let nm = good .each v w ev in
       let st = g .1 in
       let n = g .0 in
-      let mv = token-at-moved text a (st .kind) (st .start) n h (st .is-token) in
+      let mv = token-at-moved text a (st .kind) (st .start) n h (is-read st) in
       let tail = (headTokens w ++ us) ++ (middleTokens w ++ ls) ++ bytes ")" ∷ bytes ")" ∷ bytes ";" ∷ [] in
       let p = split text n m (bytes ":" ∷ bytes "GX" ∷ bytes "(" ∷ []) (bytes "~" ∷ tail) (g .2) in
       let i = spells-in text n (p .place) (bytes ":" ∷ bytes "GX" ∷ bytes "(" ∷ []) (mv .2) (p .first) .1 in

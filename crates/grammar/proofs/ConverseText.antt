@@ -23,8 +23,8 @@ use Rattle.grammar.specs.Spelled as S
 use Rattle.grammar.specs.Accepts.{Accepts}
 use Rattle.grammar.specs.Internal.{Named}
 use Rattle.grammar.proofs.Shape.{NamesFit}
-use Rattle.grammar.proofs.Spellings.{isFixed}
-use Rattle.grammar.proofs.Standing.{split, spells-in}
+use Rattle.lexer.proofs.Spellings.{isFixed}
+use Rattle.grammar.proofs.Standing.{split, spells-in, end-read}
 use Rattle.grammar.proofs.Phrases.{fixed-at, name-at}
 use Rattle.grammar.proofs.Whole.{named}
 use Rattle.grammar.proofs.Accepted.{program-parsed}
@@ -91,14 +91,14 @@ module _ (text : List ℕ) where
       let i1 = spells-in text 0 (q .place) its (omega arith) (q .first) .1 in
       let i2 = spells-in text (q .place) (p .place) vts i1 (q .second) .1 in
       let both : length (inputs ++ variables) ≡ length inputs + length variables = length-append inputs variables in
-      let end = rules-next varWord refl refl (spellings names) good rts rules dr (p .place) (t .end) i2 (p .second) (length text) (length text) (t .ends) in
-      let none = rules-next inputWord refl refl (spellings names) good rts rules dr (p .place) (t .end) i2 (p .second) (length text) (length text) (t .ends) in
+      let end = rules-next varWord refl refl (spellings names) good rts rules dr (p .place) (t .end) i2 (p .second) (length text) (length text) (end-read text (t .end) (t .ends)) in
+      let none = rules-next inputWord refl refl (spellings names) good rts rules dr (p .place) (t .end) i2 (p .second) (length text) (length text) (end-read text (t .end) (t .ends)) in
       let more = variables-next vts variables dv (q .place) (p .place) i1 (q .second) none in
       let count : length (knownFirst (length inputs) (length names)) ≡ length names = length-known (length inputs) (length names) in
       program-goes inputs names rules (q .place) (p .place) (length text)
       (declarations-read text inputWord refl itemBound [] its inputs di (distinct-front inputs variables apart) (omega arith) (omega arith) 0 (q .place) (omega arith) (q .first) (more .kind) (more .start) (more .end) (more .is-token) (more .other))
       (declarations-read text varWord refl itemBound inputs vts variables dv apart (omega arith) (omega arith) (q .place) (p .place) i1 (q .second) (end .kind) (end .start) (end .end) (end .is-token) (end .other))
-      (rules-read itemBound (record { text = text; names = spellings names; known = knownFirst (length inputs) (length names) }) good [] rts rules dr ordered (few-unruled (knownFirst (length inputs) (length names)) (omega arith)) (p .place) (t .end) i2 (p .second) (length text) (length text) (t .ends))
+      (rules-read itemBound (record { text = text; names = spellings names; known = knownFirst (length inputs) (length names) }) good [] rts rules dr ordered (few-unruled (knownFirst (length inputs) (length names)) (omega arith)) (p .place) (t .end) i2 (p .second) (length text) (length text) (end-read text (t .end) (t .ends)))
 
 made : (p : Program) (i : ℕ) (l : List Name) → p .inputs ≡ i → p .names ≡ l → p ≡ record { inputs = i; names = l; rules = p .rules }
 made p i l e f = ap₂ (λ (x : ℕ) (y : List Name). record { inputs = x; names = y; rules = p .rules }) e f

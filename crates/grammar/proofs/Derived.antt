@@ -11,6 +11,7 @@ use Rattle.limits.specs.Limits.{bracketLimit, numberLimit}
 use Rattle.lexer.specs.Bytes.{bytes, part}
 use Rattle.lexer.specs.Token.{Kind, kindNumber, ending, name, digits, openRound, closeRound, openSquare, closeSquare, tilde, ampersand, bar, minus, is, Read, token, fault}
 use Rattle.lexer.specs.Token as T
+use Rattle.lexer.specs.Spelling.{Spelling}
 use Rattle.lexer.specs.Lexer.{tokenAt, overLong, valueOf}
 use Rattle.lexer.specs.Names.{idOf}
 use Rattle.lexer.proofs.Laws.{cond-prop, token-at-moved}
@@ -25,7 +26,6 @@ use Rattle.grammar.specs.Emitted.{codeE, codeC}
 use Rattle.grammar.proofs.Combine.{token-prop, then-prop, option-prop, one-sign}
 use Rattle.grammar.proofs.Bytes.{part-cons, heads}
 use Rattle.grammar.proofs.Growth.{Grown, Reads, Inside, factor-grown, term-grown, expression-grown, bracket-grown, square-grown, atom-grown, conjunction-grown, condition-grown, not-end, operator-end, products-end, sums-end, comparisons-end, ands-end, ors-end}
-use Rattle.grammar.proofs.Spellings.{Spelling}
 use Rattle.grammar.proofs.Standing.{stands, stands-spelled, spells-append, id-names, product-sign, sum-sign, comparison-sign, only-sign}
 
 module _ (text : List ℕ) where

@@ -18,7 +18,7 @@ use Rattle.grammar.specs.Derivation.{Stands, Spells, SpellsE, SpellsC}
 use Rattle.grammar.specs.Derivation as D
 use Rattle.grammar.specs.Spelled.{squared, cased, SpellsCases, one-case, more-cases, SpellsList, one-listed, more-listed}
 use Rattle.grammar.proofs.Combine.{token-prop, then-prop}
-use Rattle.grammar.proofs.Spellings.{isFixed}
+use Rattle.lexer.proofs.Spellings.{isFixed}
 use Rattle.grammar.proofs.Standing.{stands-in, spells-in, spells-append}
 use Rattle.grammar.proofs.Phrases.{signs, fixed-stands, phrase-spells}
 use Rattle.grammar.proofs.Listed.{Listed, last, next}

@@ -11,19 +11,20 @@ use lib.Signed.{leZ}
 use Rattle.limits.specs.Limits.{nameLimit}
 use Rattle.arith.specs.Values.{isInt32}
 use Rattle.lexer.specs.Bytes.{bytes, part}
-use Rattle.lexer.specs.Token.{Kind, kindNumber, name, digits, initWord, dots, semicolon, minus, is, token}
+use Rattle.lexer.specs.Token.{Kind, kindNumber, name, digits, initWord, dots, semicolon, minus, is, token, spellingOf}
 use Rattle.lexer.specs.Lexer.{tokenAt, overLong, valueOf}
 use Rattle.lexer.specs.Names.{idOf}
 use Rattle.lexer.proofs.Laws.{cond-prop, token-at-moved}
 use Rattle.semantics.specs.Program.{Name}
 use Rattle.grammar.specs.Parsed.{Parsed, accepted, refused, andThen, sign, phrase, followed}
 use Rattle.grammar.specs.Declarations.{inRange, signedAt, boundAt, spellings, newName, startAt, declaration, declarationsFrom}
-use Rattle.grammar.specs.Derivation.{Stands, Spells, IsDigits}
+use Rattle.lexer.specs.Spelling.{IsDigits}
+use Rattle.grammar.specs.Derivation.{Stands, Spells}
 use Rattle.grammar.specs.Spelled.{SpellsZ, positive, negative, SpellsStart, absent, given, Declares, declares, DeclareAll}
 use Rattle.grammar.specs.Spelled as S
 use Rattle.grammar.proofs.Shape.{NameFits}
 use Rattle.grammar.proofs.Combine.{token-prop, then-prop, option-prop, one-sign}
-use Rattle.grammar.proofs.Spellings.{spellingOf, isFixed}
+use Rattle.lexer.proofs.Spellings.{isFixed}
 use Rattle.grammar.proofs.Standing.{spells-append, spells-append-left, spells-in}
 use Rattle.grammar.proofs.Phrases.{signs, fixed-stands, phrase-spells}
 use Rattle.grammar.proofs.Derived.{Derives, before, sign-stands, Closed, sign-derives}

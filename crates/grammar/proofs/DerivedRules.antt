@@ -23,8 +23,9 @@ use Rattle.grammar.specs.Spelled.{SpellsCases, SpellsList, SpellsR, a-ch
 use Rattle.grammar.specs.Spelled as S
 use Rattle.grammar.specs.Internal.{Named}
 use Rattle.grammar.proofs.Combine.{token-prop, then-prop, option-prop}
-use Rattle.grammar.proofs.Spellings.{isFixed, end-place}
-use Rattle.grammar.proofs.Standing.{spells-in, split, spells-append, id-names}
+use Rattle.lexer.specs.Spelling.{Separated}
+use Rattle.lexer.proofs.Spellings.{isFixed}
+use Rattle.grammar.proofs.Standing.{spells-in, split, spells-append, id-names, end-separated}
 use Rattle.grammar.proofs.Phrases.{signs, fixed-stands, phrase-spells, headTokens, middleTokens}
 use Rattle.grammar.proofs.DerivedCases.{cases-list}
 use Rattle.grammar.proofs.Lists.{cases-in, agreeing-same}
@@ -147,7 +148,7 @@ pub record RulesRead (text : List ℕ) (names : List (List ℕ)) (done : List Ru
   pub tokens : List (List ℕ)
   pub end : ℕ
   pub spells : Spells text at end tokens
-  pub ends : tokenAt text end ≡ token ending (length text) (length text)
+  pub ends : Separated text end (length text)
   pub derives : SpellsRules names tokens more
 
 abbrev pub RulesReads : List ℕ → List (List ℕ) → List Rule → ℕ → Parsed (List Rule) → Type 0
@@ -184,8 +185,7 @@ rules-derive (suc f) sc few lengths good done at h =
     (λ n1. cond-prop (RulesReads (sc .text) (sc .names) done at) (is k ending) _ _
     (λ e.
     let et2 : tokenAt (sc .text) at ≡ token ending s n = et ∙ ap (λ (x : Kind). token x s n) (same-kind k ending e) in
-    let pl = end-place (sc .text) at s n h et2 in
     cond-prop (RulesReads (sc .text) (sc .names) done at) (allTrue (sc .known)) _ _
-    (λ t. record { more = []; is-more = sym (append-nil done); tokens = []; end = at; spells = refl; ends = subst (λ (x : ℕ). tokenAt (sc .text) at ≡ token ending x (length (sc .text))) (pl .0) (et2 ∙ ap (λ (x : ℕ). token ending s x) (pl .1)); derives = S.SpellsRules.none })
+    (λ t. record { more = []; is-more = sym (append-nil done); tokens = []; end = at; spells = refl; ends = end-separated (sc .text) at s n h et2; derives = S.SpellsRules.none })
     (λ t. tt))
     (λ n2. tt)))

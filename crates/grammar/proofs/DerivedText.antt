@@ -20,7 +20,7 @@ use Rattle.grammar.specs.Parse.{program, parse}
 use Rattle.grammar.specs.Derivation.{TokensOf}
 use Rattle.grammar.specs.Spelled.{DeclareAll, SpellsRules, namesOf, Spelled}
 use Rattle.grammar.proofs.Combine.{then-prop, never}
-use Rattle.grammar.proofs.Spellings.{isFixed}
+use Rattle.lexer.proofs.Spellings.{isFixed}
 use Rattle.grammar.proofs.Standing.{spells-append}
 use Rattle.grammar.proofs.Whole.{Ends, Names, declarations-fit, spellings-length, named}
 use Rattle.grammar.proofs.DerivedDeclarations.{DeclaredFrom, DeclaresFrom, declarations-derive}

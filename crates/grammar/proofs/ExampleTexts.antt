@@ -13,15 +13,19 @@ pub record Example : Type 0 where
 
 -- ---- texts
 
-abbrev times : ℕ → List ℕ → List ℕ
+abbrev pub times : ℕ → List ℕ → List ℕ
 times zero l = []
 times (suc n) l = l ++ times n l
+
+-- white space alone
+abbrev pub spaces : ℕ → List ℕ
+spaces n = times n (bytes " ")
 
 -- a text that is refused where its second part begins, and one that is accepted
 abbrev at : List ℕ → ℕ → String → Example
 at before number after = record { text = before ++ bytes after; answer = refused number (length before) }
 
-abbrev fine : List ℕ → Example
+abbrev pub fine : List ℕ → Example
 fine text = record { text = text; answer = accepted tt }
 
 abbrev D : List ℕ
@@ -111,6 +115,7 @@ numberOrder =
     ∷ listing "[_v = 0 & i = 1]" 7 ")"
     ∷ listing "[_v = 0 & i = 1] | [_v = 1] " 7 "|"
     ∷ listing "[" 7 long
+    ∷ listing "[" 7 "_abcdefghijklmnopq"
     ∷ listing "[" 7 "("
     ∷ at (one ++ bytes "v: GX(~(v = _v) -> [" ++ round 16 (bytes "1") ++ bytes " = 1] & v = (1)); v: GX(v = _v -> ~([" ++ times 16 (bytes "(")) 7 "("
     ∷ listing "[" 1 "_mod"
@@ -132,6 +137,21 @@ afterChange =
     ∷ declared "v: GX(" 2 long
     ∷ declared "v: GX(~(v = " 2 "v)"
     ∷ declared "v: GX(~(v = " 2 "_w)"
+    ∷ []
+
+-- A token that the grammar does not allow is 2, at its own first byte: no `[` before a case, in it a name of another or an unknown one, no `[`
+-- after `~`, no `..`, no `;`, an unclosed bracket.
+abbrev pub otherTokens : List Example
+otherTokens =
+    declared "v: GX(~(v = _v) -> " 2 "v = (1)"
+    ∷ declared "v: GX(~(v = _v) -> [1=1] & " 2 "w = (1)"
+    ∷ declared "v: GX(~(v = _v) -> [1=1] & " 2 "zz = (1)"
+    ∷ declared "v: GX(~(v = _v) -> [~" 2 "1=1]"
+    ∷ at (bytes "input a 0 ") 2 "1;"
+    ∷ at (bytes "input a 0..1 ") 2 ");"
+    ∷ at (bytes "input a 1..2 ") 2 "init0;"
+    ∷ working "(1 " 2 ";"
+    ∷ declared "v: GX(~(v = _v) -> [[1=1 " 2 ") & v"
     ∷ []
 
 -- An over-long name is 8 in a declaration, as a rule's name and as a value, and 2 where a name is repeated.
@@ -229,8 +249,9 @@ manyBrackets =
 abbrev pub manyCases : List Example
 manyCases =
     at (cases 32) 8 "[1=1]&v=(1));"
+    ∷ at (cases 32) 2 ");"
     ∷ at (kept 31) 7 "|[1=1]));"
     ∷ []
 
 abbrev pub examples : List (List Example)
-examples = numberOrder ∷ afterChange ∷ longNames ∷ manyNames ∷ missingRules ∷ numbers ∷ longestMatch ∷ manyBrackets ∷ manyCases ∷ []
+examples = numberOrder ∷ afterChange ∷ otherTokens ∷ longNames ∷ manyNames ∷ missingRules ∷ numbers ∷ longestMatch ∷ manyBrackets ∷ manyCases ∷ []

@@ -2,7 +2,10 @@
 -- each under one statement, proved by computing the definitions. Assumes nothing.
 use mathlib.Core.Path.{_≡_, refl}
 use mathlib.Core.List.{List, [], _∷_}
-use Prim.Native.Nat.{ℕ}
+use Prim.Native.Nat.{ℕ, _<_}
+use lib.ListN.{length}
+use borrow.Author.Tests.{lt-ltb}
+use Rattle.limits.specs.Limits.{textLimit, tooLong}
 use Rattle.limits.specs.Answer.{Answer, accepted, refused}
 use Rattle.lexer.specs.Bytes.{bytes, sameBytes}
 use Rattle.lexer.specs.Token.{is, kindNumber}
@@ -17,7 +20,7 @@ use Rattle.grammar.specs.Conditions.{comparisonOf, compared, comparisonA
 use Rattle.grammar.specs.Declarations.{inRange, signedAt, boundAt, newName, startAt, declaration, declarationsFrom, declarations}
 use Rattle.grammar.specs.Rules.{caseAt, casesFrom, listFrom, plainList, partFrom, kindAt, partsFrom, firstFound, agreeingList, functionAt, changeAt, formulas, ruleAt, rulesFrom}
 use Rattle.grammar.specs.Parse.{program, parse, programOf}
-use Rattle.grammar.proofs.ExampleTexts.{Example, numberOrder, afterChange, longNames, manyNames, missingRules, numbers, longestMatch, manyBrackets, manyCases, examples, round, computing}
+use Rattle.grammar.proofs.ExampleTexts.{Example, numberOrder, afterChange, otherTokens, longNames, manyNames, missingRules, numbers, longestMatch, manyBrackets, manyCases, examples, round, computing}
 use Rattle.grammar.proofs.Bytes.{heads, tails}
 
 -- ---- the two statements
@@ -74,6 +77,10 @@ afterChange-computed : answersOf afterChange ≡ wanted afterChange
 unfolding opened
 afterChange-computed = refl
 
+otherTokens-computed : answersOf otherTokens ≡ wanted otherTokens
+unfolding opened
+otherTokens-computed = refl
+
 longNames-computed : answersOf longNames ≡ wanted longNames
 unfolding opened
 longNames-computed = refl
@@ -108,20 +115,23 @@ examples-hold = (
   (
     hold afterChange afterChange-computed,
     (
-      hold longNames longNames-computed,
+      hold otherTokens otherTokens-computed,
       (
-        hold manyNames manyNames-computed,
+        hold longNames longNames-computed,
         (
-          hold missingRules missingRules-computed,
+          hold manyNames manyNames-computed,
           (
-            hold numbers numbers-computed,
+            hold missingRules missingRules-computed,
             (
-              hold longestMatch longestMatch-computed,
+              hold numbers numbers-computed,
               (
-                hold manyBrackets manyBrackets-computed,
+                hold longestMatch longestMatch-computed,
                 (
-                  hold manyCases manyCases-computed,
-                  tt,
+                  hold manyBrackets manyBrackets-computed,
+                  (
+                    hold manyCases manyCases-computed,
+                    tt,
+                  ),
                 ),
               ),
             ),
@@ -131,6 +141,13 @@ examples-hold = (
     ),
   ),
 )
+
+-- ---- the limit of a text
+
+-- a text over its limit is 9, before all else
+pub too-long : (text : List ℕ) → textLimit < length text → programOf text ≡ refused tooLong 0
+unfolding programOf parse
+too-long text h = rw (lt-ltb textLimit (length text) h)
 
 -- ---- the table of images
 
@@ -150,6 +167,11 @@ latches =
     ∷ record {
       text = computing (bytes "9 - 4 - 2 * 3");
       image = 0x00 ∷ 0x01 ∷ 0x00 ∷ 0x02 ∷ 0x00 ∷ 0x01 ∷ 0x12 ∷ 0x01 ∷ 0x08 ∷ 0x05 ∷ 0x01 ∷ 0x04 ∷ 0x01 ∷ 0x06 ∷ 0x06 ∷ 0x05 ∷ 0x15 ∷ 0x00 ∷ [];
+    }
+    -- the comparisons
+    ∷ record {
+      text = bytes "var v 0..1; v:GX(~(v=_v)->[_v<>1&_v<=0&_v<1&0>=_v&1>_v&_v=0]&v=(1));v:GX(v=_v->~([_v<>1&_v<=0&_v<1&0>=_v&1>_v&_v=0]));";
+      image = 0x00 ∷ 0x01 ∷ 0x00 ∷ 0x02 ∷ 0x00 ∷ 0x03 ∷ 0x00 ∷ 0x01 ∷ 0x02 ∷ 0x0b ∷ 0x03 ∷ 0x00 ∷ 0x01 ∷ 0x00 ∷ 0x0d ∷ 0x11 ∷ 0x03 ∷ 0x00 ∷ 0x01 ∷ 0x02 ∷ 0x0c ∷ 0x11 ∷ 0x01 ∷ 0x00 ∷ 0x03 ∷ 0x00 ∷ 0x0f ∷ 0x11 ∷ 0x01 ∷ 0x02 ∷ 0x03 ∷ 0x00 ∷ 0x0e ∷ 0x11 ∷ 0x03 ∷ 0x00 ∷ 0x01 ∷ 0x00 ∷ 0x0a ∷ 0x11 ∷ 0x13 ∷ 0x01 ∷ 0x02 ∷ 0x14 ∷ 0x00 ∷ 0x16 ∷ 0x00 ∷ [];
     }
     ∷ []
 

@@ -9,7 +9,7 @@ use native.Mathlib.Omega.{arith}
 use lib.ListN.{length}
 use borrow.Author.Tests.{lt-ltb, le-ltb, eq-eqb}
 use Rattle.lexer.specs.Bytes.{bytes}
-use Rattle.lexer.specs.Token.{Kind, kindNumber, closeRound, bar, is, Read, token, fault}
+use Rattle.lexer.specs.Token.{Kind, kindNumber, closeRound, bar, is, Read, token, fault, spellingOf}
 use Rattle.lexer.specs.Lexer.{tokenAt, sameToken}
 use Rattle.lexer.proofs.Laws.{token-at-moved}
 use Rattle.lexer.proofs.Same.{same-token}
@@ -17,8 +17,8 @@ use Rattle.grammar.specs.Rules.{Spanned, Compared, agrees, differs, onCo
 use Rattle.grammar.specs.Derivation.{Stands, Spells}
 use Rattle.grammar.proofs.Bytes.{part-length}
 use Rattle.grammar.proofs.Distinct.{same-itself}
-use Rattle.grammar.proofs.Spellings.{spellingOf, isFixed, one-kind}
-use Rattle.grammar.proofs.Standing.{stands-kind, stands-in, spells-in, split, spells-append, spells-append-left}
+use Rattle.lexer.proofs.Spellings.{isFixed, one-kind}
+use Rattle.grammar.proofs.Standing.{stands-kind, stands-in, spells-in, split, spells-append, spells-append-left, is-read, stands-read}
 use Rattle.grammar.proofs.Phrases.{fixed-stands, fixed-at}
 
 -- ---- a comparison that agrees
@@ -75,12 +75,12 @@ module _ (text : List ℕ) where
   twin-stands : (t : List ℕ) (from n at m : ℕ) (more : ℕ → Compared) → from ≤ length text → at ≤ length text → (st : Stands text from n t) → (x : Found (tokenAt text at) (sameToken text (st .kind) (st .start) n) more m) → Stands text at (x .end) t
   twin-stands t from n at m more h i st x =
       let same = same-token text (st .kind) (st .start) n (x .kind) (x .start) (x .end) (x .passes) in
-      let mv = token-at-moved text from (st .kind) (st .start) n h (st .is-token) in
+      let mv = token-at-moved text from (st .kind) (st .start) n h (is-read st) in
       let mw = token-at-moved text at (x .kind) (x .start) (x .end) i (x .is-token) in
       let l1 = part-length text (st .start) n (mv .1) (mv .2) in
       let l2 = part-length text (x .start) (x .end) (mw .1) (mw .2) in
-      let some = st .some-bytes in
-      record { kind = x .kind; start = x .start; is-token = x .is-token; some-bytes = omega (arith, l1, l2, ap length (same .1)); spelled = sym (same .1) ∙ st .spelled }
+      let some = st .is-token .some-bytes in
+      stands-read text at (x .kind) (x .start) (x .end) i (omega (arith, l1, l2, ap length (same .1))) (x .is-token) t (sym (same .1) ∙ st .spelled)
 
   part-spells : (ts : List (List ℕ)) (f from to at m : ℕ) → from ≤ length text → at ≤ length text → to ≤ from + f → Spells text from to ts → partFrom f text from to at ≡ agrees m → Spells text at m ts
   unfolding partFrom
@@ -96,7 +96,7 @@ module _ (text : List ℕ) where
       let lt : from < to = omega (arith, mv .0, sp .0) in
       let room : to ≤ g .0 + f = omega (arith, mv .0) in
       same-next st (mv .1) (λ j b q. part-spells ts f (g .0) to j m (mv .1) b room (g .2) q)
-      (found (tokenAt text at) (sameToken text (st .kind) (st .start) (g .0)) (λ n. partFrom f text (g .0) to n) m (rw (lt-ltb from to lt, st .is-token) at e))
+      (found (tokenAt text at) (sameToken text (st .kind) (st .start) (g .0)) (λ n. partFrom f text (g .0) to n) m (rw (lt-ltb from to lt, is-read st) at e))
     where
       same-next : {n : ℕ} (st : Stands text from n t) → n ≤ length text → ((j : ℕ) → j ≤ length text → partFrom f text n to j ≡ agrees m → Spells text j m ts) → Found (tokenAt text at) (sameToken text (st .kind) (st .start) n) (λ j. partFrom f text n to j) m → Spells text at m (t ∷ ts)
       same-next {n} st b rec x =
@@ -156,7 +156,7 @@ module _ (text : List ℕ) where
       let mv = stands-in text from (g .0) t h (g .1) in
       let mw = stands-in text at (k .0) t i (k .1) in
       let sp = spells-in text (g .0) to ts (mv .1) (g .2) in
-      rw (lt-ltb from to (omega (arith, mv .0, sp .0)), g .1 .is-token, k .1 .is-token, twin-same t from (g .0) at (k .0) h i (g .1) (k .1))
+      rw (lt-ltb from to (omega (arith, mv .0, sp .0)), is-read (g .1), is-read (k .1), twin-same t from (g .0) at (k .0) h i (g .1) (k .1))
       (spells-part ts f (g .0) to (k .0) m (mv .1) (mw .1) (omega (arith, mv .0)) (g .2) (k .2))
 
   stands-compared : (w : Kind) → isFixed w ≡ true → (at n : ℕ) → at ≤ length text → Stands text at n (spellingOf w) → kindAt text w at ≡ agrees n

@@ -8,7 +8,8 @@ use lib.ListN.{length, getD}
 use borrow.Author.Tests.{eq-eqb}
 use Rattle.arith.proofs.Basics.{and-both}
 use Rattle.lexer.specs.Bytes.{bytes, part}
-use Rattle.lexer.specs.Token.{Kind, kindNumber, ending, name, previous, is, Read, token, fault}
+use Rattle.lexer.specs.Token.{Kind, kindNumber, ending, name, previous, is, Read, token, fault, spellingOf}
+use Rattle.lexer.specs.Spelling.{Spelling}
 use Rattle.lexer.specs.Lexer.{tokenAt, sameName}
 use Rattle.lexer.proofs.Laws.{token-at-moved}
 use Rattle.lexer.proofs.Same.{same-kind, same-name, both-true}
@@ -17,7 +18,7 @@ use Rattle.grammar.specs.Derivation.{Stands, Spells, IsName}
 use Rattle.grammar.proofs.Combine.{never}
 use Rattle.grammar.proofs.Bytes.{part-cons, heads, tails}
 use Rattle.grammar.proofs.Distinct.{same-itself}
-use Rattle.grammar.proofs.Spellings.{Spelling, spellingOf, isFixed, fixed-spelling}
+use Rattle.lexer.proofs.Spellings.{isFixed, fixed-spelling}
 use Rattle.grammar.proofs.Standing.{stands, stands-spelled, at-kind, stands-in}
 
 -- the tokens that a phrase wants
@@ -129,7 +130,7 @@ module _ (text : List ℕ) where
   fixed-at k f a n h st = at-kind text k (spellingOf k) (fixed-spelling k f (spellingOf k) .1 refl) a n h st
 
   pub name-at : (w : List ℕ) → IsName w → (a n : ℕ) → a ≤ length text → (st : Stands text a n w) → tokenAt text a ≡ token name (st .start) n
-  name-at w nm a n h st = at-kind text name w (nm .is-word, nm .no-word) a n h st
+  name-at w nm a n h st = at-kind text name w (record { is-word = nm .is-word; no-word = nm .no-word }) a n h st
 
   is-itself : (k : Kind) → is k k ≡ true
   unfolding is
@@ -140,9 +141,8 @@ module _ (text : List ℕ) where
   expected-reads (sign k) ws f o a n h st = rw (fixed-at k (and-both (isFixed k) (signs ws) f .0) a n h st, is-itself k)
   expected-reads (own w) ws f o a n h st = rw (name-at w (o .0) a n h st, st .spelled, same-itself w)
   expected-reads (ownPrevious w) ws f o a n h st =
-      let mv = token-at-moved text a (st .kind) (st .start) n h (st .is-token) in
-      let t : part text (st .start + 1) n ≡ w = tails (sym (part-cons text (st .start) n (st .some-bytes) (mv .2)) ∙ st .spelled) in
-      rw (at-kind text previous (bytes "_" ++ w) (record { rest = w; is-cons = refl; is-word = o .0 .is-word; no-word = o .0 .no-word }) a n h st, t, same-itself w)
+      let t : part text (st .start + 1) n ≡ w = tails (sym (part-cons text (st .start) n (st .is-token .some-bytes) (st .is-token .within)) ∙ st .spelled) in
+      rw (at-kind text previous (bytes "_" ++ w) (record { rest = w; is-cons = refl; is-name = record { is-word = o .0 .is-word; no-word = o .0 .no-word } }) a n h st, t, same-itself w)
 
   owns-more : (w : Wanted) (ws : List Wanted) → Owns (w ∷ ws) → Owns ws
   owns-more (sign k) ws o = o

@@ -1,27 +1,32 @@
 -- A part of a text whose bytes stand once more, up to its `]`: so do its tokens, and the comparison agrees. Assumes nothing.
-use mathlib.Core.Path.{_≡_, refl, ap, sym, _∙_, subst}
+use mathlib.Core.Path.{_≡_, ap, sym, _∙_, subst}
 use mathlib.Core.List.{List, [], _∷_}
 use Prim.Native.Nat.{ℕ, _+_, _-_, _≤_, _<_}
 use native.Mathlib.Omega.{arith}
 use lib.ListN.{length, getD, take, drop}
 use Rattle.lexer.specs.Bytes.{part}
 use Rattle.lexer.specs.Token.{token}
-use Rattle.lexer.specs.Lexer.{isSpace, runEnd, tokenAt}
-use Rattle.lexer.proofs.Laws.{run-from, token-at-moved, token-past-space}
+use Rattle.lexer.specs.Lexer.{isSpace, runEnd}
+use Rattle.lexer.proofs.Laws.{run-from, run-within, token-at-moved, token-past-space}
 use Rattle.lexer.proofs.Repeated.{moved, behind, part-twice, token-twice}
 use Rattle.grammar.specs.Rules.{agrees, partFrom}
 use Rattle.grammar.specs.Derivation.{Stands, Spells}
 use Rattle.grammar.specs.Internal.{TokensIn}
-use Rattle.grammar.proofs.Standing.{stands-in, spells-in}
+use Rattle.grammar.proofs.Standing.{stands-in, spells-in, is-read, stands-read}
 use Rattle.grammar.proofs.Listed.{spells-part}
 
 module _ (text : List ℕ) where
   -- the space before tokens may be left out, and put back
   past-space : (at n : ℕ) (t : List ℕ) → Stands text at n t → Stands text (runEnd isSpace text at) n t
-  past-space at n t st = record { kind = st .kind; start = st .start; is-token = token-past-space text at ∙ st .is-token; some-bytes = st .some-bytes; spelled = st .spelled }
+  past-space at n t st =
+      let sep = st .separated in
+      let i : at ≤ length text = omega (arith, sep .ordered, sep .within) in
+      stands-read text (runEnd isSpace text at) (st .kind) (st .start) n (run-within isSpace text at i) (st .is-token .some-bytes) (token-past-space text at ∙ is-read st) t (st .spelled)
 
   with-space : (at n : ℕ) (t : List ℕ) → Stands text (runEnd isSpace text at) n t → Stands text at n t
-  with-space at n t st = record { kind = st .kind; start = st .start; is-token = sym (token-past-space text at) ∙ st .is-token; some-bytes = st .some-bytes; spelled = st .spelled }
+  with-space at n t st =
+      let sep = st .separated in
+      stands-read text at (st .kind) (st .start) n (omega (arith, run-from isSpace text at, sep .ordered, sep .within)) (st .is-token .some-bytes) (sym (token-past-space text at) ∙ is-read st) t (st .spelled)
 
   module _ (f g last : ℕ) (in-f : f + last < length text) (in-g : g + last < length text) (same : take (last + 1) (drop f text) ≡ take (last + 1) (drop g text)) (closed : getD text (f + last) 0 ≡ 93) where
     abbrev there : ℕ → ℕ
@@ -29,17 +34,13 @@ module _ (text : List ℕ) where
 
     stands-twice : (t : List ℕ) (i n : ℕ) → i ≤ last → n ≤ f + last + 1 → Stands text (f + i) n t → Stands text (g + i) (there n) t
     stands-twice t i n h m st =
-        let mv = token-at-moved text (f + i) (st .kind) (st .start) n (omega arith) (st .is-token) in
-        let lt = st .some-bytes in
+        let mv = token-at-moved text (f + i) (st .kind) (st .start) n (omega arith) (is-read st) in
+        let lt = st .is-token .some-bytes in
         let es : f + (st .start - f) ≡ st .start = omega (arith, mv .0) in
         let en : f + (n - f) ≡ n = omega (arith, mv .0) in
-        record {
-          kind = st .kind;
-          start = there (st .start);
-          is-token = token-twice text f g last in-f in-g same closed i h ∙ ap (moved text f g last in-f in-g same closed) (st .is-token);
-          some-bytes = omega (arith, mv .0);
-          spelled = part-twice text f g last in-f in-g same closed (st .start - f) (n - f) (omega arith) (omega arith) ∙ rw (es, en) (st .spelled);
-        }
+        stands-read text (g + i) (st .kind) (there (st .start)) (there n) (omega arith) (omega (arith, mv .0))
+        (token-twice text f g last in-f in-g same closed i h ∙ ap (moved text f g last in-f in-g same closed) (is-read st)) t
+        (part-twice text f g last in-f in-g same closed (st .start - f) (n - f) (omega arith) (omega arith) ∙ rw (es, en) (st .spelled))
 
     spells-twice : (ts : List (List ℕ)) (i : ℕ) → i ≤ last + 1 → Spells text (f + i) (f + last + 1) ts → Spells text (g + i) (g + last + 1) ts
     spells-twice [] i h e = omega (arith, e)

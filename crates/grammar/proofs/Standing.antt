@@ -7,33 +7,68 @@ use Prim.Native.Nat.{ℕ, suc, _+_, _≤_, _<_}
 use native.Mathlib.Omega.{arith}
 use lib.ListN.{length, getElem?}
 use Rattle.lexer.specs.Bytes.{part}
-use Rattle.lexer.specs.Token.{Kind, ending, is, token}
+use Rattle.lexer.specs.Token.{Kind, ending, is, Read, token}
 use Rattle.lexer.specs.Token as T
+use Rattle.lexer.specs.Spelling.{Spelling, TokenFrom, Separated, FirstRead, a-token, the-end, no-token}
 use Rattle.lexer.specs.Lexer.{tokenAt, sameName}
 use Rattle.lexer.specs.Names.{idFrom, idOf}
 use Rattle.lexer.proofs.Laws.{cond-prop, token-at-moved}
 use Rattle.lexer.proofs.Same.{same-kind, same-name}
+use Rattle.lexer.proofs.Longest.{tokens-exactly}
 use Rattle.arith.specs.Values.{Operation, add, subtract, multiply, divide, modulo, Comparison, equal, notEqual, less, lessEqual, greater, greaterEqual}
 use Rattle.grammar.specs.Expressions.{productOf, sumOf}
 use Rattle.grammar.specs.Conditions.{comparisonOf}
 use Rattle.grammar.specs.Derivation.{Stands, Spells, SumSign, ProductSign, ComparisonSign}
 use Rattle.grammar.specs.Derivation as D
-use Rattle.grammar.proofs.Spellings.{Spelling, token-spelled, one-kind}
+use Rattle.lexer.proofs.Spellings.{token-spelled, one-kind}
+
+-- ---- what stands is what is read
+
+-- a token that stands is read
+pub is-read : {text : List ℕ} {a n : ℕ} {w : List ℕ} (st : Stands text a n w) → tokenAt text a ≡ token (st .kind) (st .start) n
+is-read {text} {a} {n} st = tokens-exactly .only text a _ (a-token (st .kind) (st .start) n (st .separated) (st .is-token))
 
 module _ (text : List ℕ) where
+  first-token : (a : ℕ) (k : Kind) (s n : ℕ) (r : Read) → FirstRead text a r → r ≡ token k s n → s < n → Separated text a s × TokenFrom text s n k
+  first-token a k s n r (a-token j p m sep t) e l =
+      let i : j ≡ k = cc in
+      let q : p ≡ s = cc in
+      let o : m ≡ n = cc in
+      (subst (Separated text a) q sep, subst (λ (x : Kind). TokenFrom text s n x) i (subst (λ (x : ℕ). TokenFrom text s x j) o (subst (λ (x : ℕ). TokenFrom text x m j) q t)))
+  first-token a k s n r (the-end sep) e l = let q : length text ≡ s = cc in let o : length text ≡ n = cc in absurd (omega arith)
+  first-token a k s n r (no-token p sep l2 f g) e l = let z : _≡_ {A = ℕ} 0 1 = cc in absurd (omega arith)
+
+  -- a token that is read, and has a byte, stands there
+  pub stands-read : (a : ℕ) (k : Kind) (s n : ℕ) → a ≤ length text → s < n → tokenAt text a ≡ token k s n → (w : List ℕ) → part text s n ≡ w → Stands text a n w
+  stands-read a k s n h l e w q =
+      let f = first-token a k s n (tokenAt text a) (tokens-exactly .reads text a h) e l in
+      record { kind = k; start = s; separated = f .0; is-token = f .1; spelled = q }
+
+  -- the end of the text is read where only space is left
+  pub end-read : (a : ℕ) → Separated text a (length text) → tokenAt text a ≡ token ending (length text) (length text)
+  end-read a sep = tokens-exactly .only text a _ (the-end sep)
+
+  end-first : (a s n : ℕ) (r : Read) → FirstRead text a r → r ≡ token ending s n → Separated text a (length text)
+  end-first a s n r (a-token j p m sep t) e = let i : j ≡ ending = cc in absurd (subst (λ (x : Kind). Spelling x (part text p m)) i (t .spells))
+  end-first a s n r (the-end sep) e = sep
+  end-first a s n r (no-token p sep l2 f g) e = let z : _≡_ {A = ℕ} 0 1 = cc in absurd (omega arith)
+
+  pub end-separated : (a s n : ℕ) → a ≤ length text → tokenAt text a ≡ token ending s n → Separated text a (length text)
+  end-separated a s n h e = end-first a s n (tokenAt text a) (tokens-exactly .reads text a h) e
+
   -- a token that is read, and is not the end, stands there
   pub stands : (a : ℕ) (k : Kind) (s n : ℕ) → a ≤ length text → (k ≡ ending → ⊥) → tokenAt text a ≡ token k s n → Stands text a n (part text s n)
-  stands a k s n h ne e = record { kind = k; start = s; is-token = e; some-bytes = token-at-moved text a k s n h e .3 ne; spelled = refl }
+  stands a k s n h ne e = stands-read a k s n h (token-at-moved text a k s n h e .3 ne) e (part text s n) refl
 
   pub stands-spelled : (a : ℕ) (k : Kind) (s n : ℕ) → a ≤ length text → (k ≡ ending → ⊥) → tokenAt text a ≡ token k s n → Spelling k (part text s n)
   stands-spelled a k s n h ne e = token-spelled text a k s n h (token-at-moved text a k s n h e .3 ne) e
 
   pub stands-kind : (a n : ℕ) (w : List ℕ) → a ≤ length text → (st : Stands text a n w) → Spelling (st .kind) w
-  stands-kind a n w h st = subst (Spelling (st .kind)) (st .spelled) (token-spelled text a (st .kind) (st .start) n h (st .some-bytes) (st .is-token))
+  stands-kind a n w h st = subst (Spelling (st .kind)) (st .spelled) (st .is-token .spells)
 
   -- a token whose spelling is of a kind is read as one of that kind
   pub at-kind : (k : Kind) (w : List ℕ) → Spelling k w → (a n : ℕ) → a ≤ length text → (st : Stands text a n w) → tokenAt text a ≡ token k (st .start) n
-  at-kind k w sp a n h st = st .is-token ∙ ap (λ (x : Kind). token x (st .start) n) (one-kind (st .kind) k w (stands-kind a n w h st) sp)
+  at-kind k w sp a n h st = is-read st ∙ ap (λ (x : Kind). token x (st .start) n) (one-kind (st .kind) k w (stands-kind a n w h st) sp)
 
   -- ---- lists of tokens
 
@@ -58,9 +93,8 @@ module _ (text : List ℕ) where
 
   pub stands-in : (a n : ℕ) (w : List ℕ) → a ≤ length text → Stands text a n w → (a < n) × (n ≤ length text)
   stands-in a n w h st =
-      let mv = token-at-moved text a (st .kind) (st .start) n h (st .is-token) in
-      let some = st .some-bytes in
-      (omega (arith, mv .0), mv .2)
+      let some = st .is-token .some-bytes in
+      (omega (arith, st .separated .ordered), st .is-token .within)
 
   -- tokens stand within the text
   pub spells-in : (a n : ℕ) (ts : List (List ℕ)) → a ≤ length text → Spells text a n ts → (a ≤ n) × (n ≤ length text)

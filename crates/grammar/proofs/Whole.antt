@@ -236,7 +236,7 @@ module _ (text : List ℕ) where
       (λ t2.
       let r = sign-stands text name refl at k s n h et e in (
         record {
-          is-name = record { is-word = r .1 .0; short = omega (arith, ltb-false 16 (n - s) t); no-word = r .1 .1 };
+          is-name = record { is-word = r .1 .is-word; short = omega (arith, ltb-false 16 (n - s) t); no-word = r .1 .no-word };
           apart = new-apart (spellings names) (part text s n) z;
           room = ltb-true (length names) 64 t2;
         },

@@ -1,7 +1,6 @@
 -- Which token lists spell an expression or a condition, apart from any way of reading them. Document 01, "The text". Assumes nothing.
-use Prim.Native.Nat.{ℕ, suc, _≤_, _<_}
+use Prim.Native.Nat.{ℕ, suc, _≤_}
 use mathlib.Core.Path.{_≡_}
-use mathlib.Core.Bool.{Bool, true}
 use mathlib.Core.List.{List, [], _∷_, _++_}
 use mathlib.Core.Option.{some}
 use lib.ListN.{length, getElem?}
@@ -10,8 +9,9 @@ use Rattle.limits.specs.Limits.{spellingLimit, numberLimit}
 use Rattle.arith.specs.Values.{Operation, add, subtract, multiply, divide, modulo, Comparison, equal, notEqual, less, lessEqual, greater, greaterEqual}
 use Rattle.semantics.specs.Program.{Expression, constant, current, previous, operation, negate, Condition, comparison, negated, both, either}
 use Rattle.lexer.specs.Bytes.{bytes, part}
-use Rattle.lexer.specs.Token.{Kind, name, ending, token}
-use Rattle.lexer.specs.Lexer.{isDigit, isLetter, isAlphanumeric, wordOf, tokenAt, valueOf}
+use Rattle.lexer.specs.Token.{Kind, wordKinds}
+use Rattle.lexer.specs.Lexer.{valueOf}
+use Rattle.lexer.specs.Spelling.{IsWord, IsDigits, NoneOf, TokenFrom, Separated}
 
 -- ---- tokens
 
@@ -19,12 +19,12 @@ use Rattle.lexer.specs.Lexer.{isDigit, isLetter, isAlphanumeric, wordOf, tokenA
 abbrev pub Tokens : Type 0
 Tokens = List (List ℕ)
 
--- Tokens are read by longest match. The token w is the first from a on, and ends at n.
+-- The token w is the first from a on, and ends at n.
 pub record Stands (text : List ℕ) (a n : ℕ) (w : List ℕ) : Type 0 where
   pub kind : Kind
   pub start : ℕ
-  pub is-token : tokenAt text a ≡ token kind start n
-  pub some-bytes : start < n
+  pub separated : Separated text a start
+  pub is-token : TokenFrom text start n kind
   pub spelled : part text start n ≡ w
 
 -- from a up to b stand just the tokens listed
@@ -36,27 +36,13 @@ Spells text a b (w ∷ ws) = (n : ℕ) × Stands text a n w × Spells text n b w
 pub record TokensOf (text : List ℕ) (ws : Tokens) : Type 0 where
   pub end : ℕ
   pub spells : Spells text 0 end ws
-  pub ends : tokenAt text end ≡ token ending (length text) (length text)
-
-abbrev pub All : (ℕ → Bool) → List ℕ → Type 0
-All test [] = Unit {0}
-All test (b ∷ l) = (test b ≡ true) × All test l
-
--- a letter, then letters or digits
-abbrev pub IsWord : List ℕ → Type 0
-IsWord [] = ⊥
-IsWord (b ∷ l) = (isLetter b ≡ true) × All isAlphanumeric l
+  pub ends : Separated text end (length text)
 
 -- A name is a letter, then letters or digits (ASCII), 1 to 16 bytes. Words of the grammar are no names.
 pub record IsName (w : List ℕ) : Type 0 where
   pub is-word : IsWord w
   pub short : length w ≤ spellingLimit
-  pub no-word : wordOf w ≡ name
-
--- a run of digits
-abbrev pub IsDigits : List ℕ → Type 0
-IsDigits [] = ⊥
-IsDigits (b ∷ l) = (isDigit b ≡ true) × All isDigit l
+  pub no-word : NoneOf wordKinds w
 
 -- ---- expressions
 

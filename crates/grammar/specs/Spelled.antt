@@ -11,7 +11,8 @@ use Rattle.limits.specs.Limits.{textLimit, nameLimit, caseLimit, bracketLimit}
 use Rattle.semantics.specs.Program.{Range, Name, Expression, Condition, Case, Rule, function, change, Program, Ordered, RangeFits}
 use Rattle.lexer.specs.Bytes.{bytes}
 use Rattle.lexer.specs.Lexer.{sameName, valueOf}
-use Rattle.grammar.specs.Derivation.{Tokens, TokensOf, IsName, IsDigits, SpellsE, expression, SpellsC, condition}
+use Rattle.lexer.specs.Spelling.{IsDigits}
+use Rattle.grammar.specs.Derivation.{Tokens, TokensOf, IsName, SpellsE, expression, SpellsC, condition}
 
 -- ---- declarations
 

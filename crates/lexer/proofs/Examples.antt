@@ -3,7 +3,7 @@ use mathlib.Core.Path.{_≡_, refl}
 use mathlib.Core.Bool.{true, false}
 use mathlib.Core.List.{[], _∷_}
 use Rattle.lexer.specs.Bytes.{bytes, sameBytes}
-use Rattle.lexer.specs.Token.{name, previous, digits, modWord, dots, arrow, lessEqual, less, kindNumber, ending, is, token, fault}
+use Rattle.lexer.specs.Token.{name, previous, digits, modWord, dots, arrow, lessEqual, greaterEqual, notEqual, less, greater, kindNumber, ending, is, token, fault}
 use Rattle.lexer.specs.Lexer.{isSpace, isDigit, isLetter, isAlphanumeric, runOn, runEnd, wordOf, overLong, pairOf, signOf, readOf, signAt, wordAt, digitsAt, previousAt, tokenOf, tokenPast, tokenAt, valueOn, valueOf}
 
 underscores : (tokenAt (bytes "_modx") 0 ≡ token previous 0 5) × (tokenAt (bytes "_mod") 0 ≡ fault 0) × (tokenAt (bytes "a_b") 0 ≡ token name 0 1) × (tokenAt (bytes "a_b") 1 ≡ token previous 1 3) × (tokenAt (bytes "_ a") 0 ≡ fault 0) × (tokenAt (bytes "_1") 0 ≡ fault 0) × (tokenAt (bytes " _") 0 ≡ fault 1)
@@ -14,9 +14,9 @@ words-and-digits : (tokenAt (bytes " mod(") 0 ≡ token modWord 1 4) × (tokenAt
 unfolding tokenAt tokenPast tokenOf previousAt wordAt digitsAt signAt readOf pairOf signOf wordOf runEnd runOn isSpace isDigit isLetter isAlphanumeric is kindNumber sameBytes
 words-and-digits = (refl, refl, refl, refl)
 
-signs : (tokenAt (bytes "...") 0 ≡ token dots 0 2) × (tokenAt (bytes "...") 2 ≡ fault 2) × (tokenAt (bytes "1->2") 1 ≡ token arrow 1 3) × (tokenAt (bytes "<->") 0 ≡ token less 0 1) × (tokenAt (bytes "<->") 1 ≡ token arrow 1 3) × (tokenAt (bytes "<=>") 0 ≡ token lessEqual 0 2) × (tokenAt (bytes "<") 0 ≡ token less 0 1)
+signs : (tokenAt (bytes "...") 0 ≡ token dots 0 2) × (tokenAt (bytes "...") 2 ≡ fault 2) × (tokenAt (bytes "1->2") 1 ≡ token arrow 1 3) × (tokenAt (bytes "<->") 0 ≡ token less 0 1) × (tokenAt (bytes "<->") 1 ≡ token arrow 1 3) × (tokenAt (bytes "<=>") 0 ≡ token lessEqual 0 2) × (tokenAt (bytes "<") 0 ≡ token less 0 1) × (tokenAt (bytes "<>") 0 ≡ token notEqual 0 2) × (tokenAt (bytes ">=") 0 ≡ token greaterEqual 0 2) × (tokenAt (bytes "> =") 0 ≡ token greater 0 1)
 unfolding tokenAt tokenPast tokenOf previousAt wordAt digitsAt signAt readOf pairOf signOf wordOf runEnd runOn isSpace isDigit isLetter isAlphanumeric is kindNumber sameBytes
-signs = (refl, refl, refl, refl, refl, refl, refl)
+signs = (refl, refl, refl, refl, refl, refl, refl, refl, refl, refl)
 
 -- VT, FF, NUL and bytes from 128 on start no token; the four that separate do not either, and stand before the end
 other-bytes : (tokenAt (11 ∷ []) 0 ≡ fault 0) × (tokenAt (12 ∷ []) 0 ≡ fault 0) × (tokenAt (0 ∷ []) 0 ≡ fault 0) × (tokenAt (128 ∷ []) 0 ≡ fault 0) × (tokenAt (255 ∷ []) 0 ≡ fault 0) × (tokenAt (32 ∷ 9 ∷ 10 ∷ 13 ∷ []) 0 ≡ token ending 4 4)

@@ -1,15 +1,15 @@
 -- Bytes that stand a second time in a text, up to a `]`, are the same tokens there: no token goes on over a `]`. Assumes nothing.
 use mathlib.Core.Path.{_≡_, refl, ap, sym, _∙_}
-use mathlib.Core.List.{List, _++_}
-use mathlib.Core.Bool.{Bool, true, false, _&&_, cond}
+use mathlib.Core.List.{List}
+use mathlib.Core.Bool.{Bool, true, false, cond}
 use Prim.Native.Nat.{ℕ, zero, suc, _+_, _-_, _≤_, _<_}
 use native.Mathlib.Omega.{arith}
 use lib.ListN.{length, getD, take, drop, length-take, length-drop}
 use lib.Seq.{getD-take, getD-drop, take-take, drop-drop, take-add, drop-at}
 use lib.Dec.{eqb, ltb}
 use borrow.Author.Tests.{lt-ltb, ltb-true, ltb-false, eqb-true, eqb-false}
-use Rattle.lexer.specs.Bytes.{part}
-use Rattle.lexer.specs.Token.{Kind, kindNumber, unknown, name, dots, arrow, lessEqual, greaterEqual, notEqual, is, Read, token, fault}
+use Rattle.lexer.specs.Bytes.{part, sameBytes}
+use Rattle.lexer.specs.Token.{Kind, kindNumber, unknown, name, is, Read, token, fault}
 use Rattle.lexer.specs.Lexer.{isSpace, isDigit, isLetter, isAlphanumeric, runEnd, wordOf, pairOf, signOf, readOf, signAt, wordAt, digitsAt, previousAt, tokenOf, tokenPast, tokenAt}
 use Rattle.lexer.proofs.Laws.{run-stop, run-step}
 
@@ -33,18 +33,8 @@ unfolding isSpace
 space-ends = refl
 
 no-pair : (b : ℕ) → is (pairOf 93 b) unknown ≡ true
-unfolding pairOf is kindNumber
-no-pair b = pairs (eqb b 46) (eqb b 62) (eqb b 61)
-  where
-    pairs : (x y z : Bool) → eqb (kindNumber (cond (x && false) dots (cond (y && false) arrow (cond (z && false) lessEqual (cond (z && false) greaterEqual (cond (y && false) notEqual unknown)))))) 0 ≡ true
-    pairs true true true = refl
-    pairs true true false = refl
-    pairs true false true = refl
-    pairs true false false = refl
-    pairs false true true = refl
-    pairs false true false = refl
-    pairs false false true = refl
-    pairs false false false = refl
+unfolding pairOf is kindNumber sameBytes
+no-pair b = refl
 
 -- the bytes from f on stand once more from g on, up to a `]` that is `last` bytes behind
 module _ (text : List ℕ) (f g last : ℕ) (in-f : f + last < length text) (in-g : g + last < length text) (same : take (last + 1) (drop f text) ≡ take (last + 1) (drop g text)) (closed : getD text (f + last) 0 ≡ 93) where

@@ -8,8 +8,8 @@ use lib.ListN.{length, getD}
 use lib.Dec.{eqb, ltb, leb}
 use borrow.Author.Tests.{eq-eqb, ne-eqb, lt-ltb, le-ltb, leb-true, leb-false}
 use Rattle.lexer.specs.Bytes.{part, sameBytes}
-use Rattle.lexer.specs.Token.{Kind, kindNumber, unknown, ending, name, digits, is, Read, token, fault, lastKind}
-use Rattle.lexer.specs.Lexer.{isSpace, isDigit, isLetter, isAlphanumeric, runEnd, Word, words, wordIn, wordOf, pairOf, signOf, readOf, signAt, wordAt, digitsAt, previousAt, tokenOf, tokenPast, tokenAt}
+use Rattle.lexer.specs.Token.{Kind, kindNumber, unknown, ending, name, digits, is, Read, token, fault, lastKind, spellingOf, wordKinds}
+use Rattle.lexer.specs.Lexer.{isSpace, isDigit, isLetter, isAlphanumeric, runEnd, kindIn, wordOf, pairOf, signOf, readOf, signAt, wordAt, digitsAt, previousAt, tokenOf, tokenPast, tokenAt}
 use Rattle.lexer.specs.Results.{kindOf, tokenRead, Lies, Placed}
 use Rattle.lexer.specs.declared.Token.{Token}
 use Rattle.lexer.specs.declared.Token.the-variants.{Is, Fault}
@@ -58,18 +58,18 @@ abbrev Known : Read → Type 0
 Known (token k s n) = is k unknown ≡ false
 Known (fault p) = Unit {0}
 
-abbrev AllKnown : List Word → Type 0
+abbrev AllKnown : List Kind → Type 0
 AllKnown [] = Unit {0}
-AllKnown (w ∷ ws) = (is (w .kind) unknown ≡ false) × AllKnown ws
+AllKnown (k ∷ ks) = (is k unknown ≡ false) × AllKnown ks
 
-word-in-known : (ws : List Word) (run : List ℕ) → AllKnown ws → is (wordIn ws run) unknown ≡ false
+word-in-known : (ks : List Kind) (run : List ℕ) → AllKnown ks → is (kindIn ks run name) unknown ≡ false
 unfolding is kindNumber
 word-in-known [] run h = refl
-word-in-known (w ∷ ws) run h = cond-prop (λ (k : Kind). is k unknown ≡ false) (sameBytes run (w .spelling)) _ _ (λ t. h .0) (λ t. word-in-known ws run (h .1))
+word-in-known (k ∷ ks) run h = cond-prop (λ (w : Kind). is w unknown ≡ false) (sameBytes run (spellingOf k)) _ _ (λ t. h .0) (λ t. word-in-known ks run (h .1))
 
 word-known : (run : List ℕ) → is (wordOf run) unknown ≡ false
 unfolding wordOf is kindNumber
-word-known run = word-in-known words run (refl, (refl, (refl, (refl, (refl, tt)))))
+word-known run = word-in-known wordKinds run (refl, (refl, (refl, (refl, (refl, tt)))))
 
 sign-known : (a b s : ℕ) → Known (signAt a b s)
 unfolding signAt readOf

@@ -2,11 +2,11 @@
 use mathlib.Core.Path.{_≡_, refl, sym, _∙_}
 use mathlib.Core.Bool.{Bool, true, false, _&&_}
 use mathlib.Core.List.{List, [], _∷_}
-use Prim.Native.Nat.{ℕ, _+_, _-_, _*_, _%_, _≤_, _<_, min}
+use Prim.Native.Nat.{ℕ, suc, _+_, _-_, _*_, _%_, _≤_, _<_, min}
 use native.Mathlib.Nat.{le-refl, min-eq-left, min-eq-right}
 use native.Mathlib.Numerals.{add-one}
 use native.Mathlib.Omega.{arith}
-use lib.ListN.{length, getD, drop, drop-of-length-le, length-drop}
+use lib.ListN.{length, getD, drop, drop-of-length-le, length-drop, length-take}
 use lib.Seq.{drop-cons, take-all, take-nil}
 use lib.Dec.{leb, ltb}
 use borrow.Author.Tests.{leb-true, ltb-true}
@@ -25,6 +25,16 @@ module _ (text : List ℕ) (start end : ℕ) where
   part-over h =
       take-all (end - start) (drop start text) (omega (arith, length-drop start text)) ∙ sym (take-all (length text - start) (drop start text) (omega (arith, length-drop start text)))
 
+pub part-length : (text : List ℕ) (s n : ℕ) → s ≤ n → n ≤ length text → length (part text s n) ≡ n - s
+part-length text s n h l = simp (length-take, length-drop) (omega arith)
+
+-- a part that has a byte is that byte and the rest
+pub part-cons : (text : List ℕ) (s n : ℕ) → s < n → n ≤ length text → part text s n ≡ getD text s 0 ∷ part text (s + 1) n
+part-cons text s n h l =
+    let e : n - s ≡ suc (n - (s + 1)) = omega arith in
+    let f : suc s ≡ s + 1 = omega arith in
+    rw (e, drop-cons text s 0 (omega arith), f)
+
 module _ (l : List ℕ) (i v : ℕ) where
   pub value-step : i < length l → valueOn (drop i l) v ≡ valueOn (drop (i + 1) l) (10 * v + getD l i 0 % 16)
   unfolding valueOn
@@ -33,6 +43,8 @@ module _ (l : List ℕ) (i v : ℕ) where
   pub value-end : length l ≤ i → valueOn (drop i l) v ≡ v
   unfolding valueOn
   value-end h = rw (drop-of-length-le l h)
+
+-- ---- values
 
 -- a digit's value is b − 48
 pub digit-value : (b : ℕ) → isDigit b ≡ true → digitValue b ≡ b - 48

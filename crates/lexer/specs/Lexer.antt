@@ -5,8 +5,8 @@ use mathlib.Core.List.{List, [], _∷_}
 use lib.ListN.{length, getD, drop}
 use lib.Dec.{ltb, leb, eqb}
 use Rattle.limits.specs.Limits.{spellingLimit}
-use Rattle.lexer.specs.Bytes.{bytes, part, sameBytes}
-use Rattle.lexer.specs.Token.{Kind, unknown, ending, name, previous, digits, inputWord, varWord, initWord, modWord, nextWord, dots, arrow, lessEqual, greaterEqual, notEqual, semicolon, colon, openRound, closeRound, openSquare, closeSquare, tilde, ampersand, bar, equals, less, greater, plus, minus, star, slash, is, Read, token, fault}
+use Rattle.lexer.specs.Bytes.{part, sameBytes}
+use Rattle.lexer.specs.Token.{Kind, unknown, ending, name, previous, digits, spellingOf, wordKinds, pairKinds, signKinds, is, Read, token, fault}
 
 -- ---- bytes
 
@@ -36,28 +36,14 @@ runEnd p text at = runOn p (drop at text) at
 
 -- ---- names
 
--- a word of the grammar
-pub record Word : Type 0 where
-  pub spelling : List ℕ
-  pub kind : Kind
-
--- Words of the grammar, no names: `input var init mod GX`.
-abbrev pub words : List Word
-words =
-    record { spelling = bytes "input"; kind = inputWord }
-    ∷ record { spelling = bytes "var"; kind = varWord }
-    ∷ record { spelling = bytes "init"; kind = initWord }
-    ∷ record { spelling = bytes "mod"; kind = modWord }
-    ∷ record { spelling = bytes "GX"; kind = nextWord }
-    ∷ []
-
-abbrev pub wordIn : List Word → List ℕ → Kind
-wordIn [] run = name
-wordIn (w ∷ ws) run = let r = wordIn ws run in cond (sameBytes run (w .spelling)) (w .kind) r
+-- the kind among those listed that the bytes spell, by the table, or else another
+abbrev pub kindIn : List Kind → List ℕ → Kind → Kind
+kindIn [] w other = other
+kindIn (k ∷ ks) w other = let r = kindIn ks w other in cond (sameBytes w (spellingOf k)) k r
 
 -- A name is a letter, then letters or digits: such a run is a word of the grammar, else a name.
 unfoldable pub wordOf : List ℕ → Kind
-wordOf run = wordIn words run
+wordOf run = kindIn wordKinds run name
 
 -- 1 to 16 bytes (a longer run is a name too, but is refused 8): the name that begins at s and ends before n is over-long.
 unfoldable pub overLong : ℕ → ℕ → Bool
@@ -69,34 +55,13 @@ sameName a b = sameBytes a b
 
 -- ---- signs
 
--- `..` `->` `<=` `>=` `<>`, by the first byte a and the second byte b
+-- of two bytes, a and b
 unfoldable pub pairOf : ℕ → ℕ → Kind
-pairOf a b =
-    cond (eqb b 46 && eqb a 46) dots
-    (cond (eqb b 62 && eqb a 45) arrow
-    (cond (eqb b 61 && eqb a 60) lessEqual
-    (cond (eqb b 61 && eqb a 62) greaterEqual
-    (cond (eqb b 62 && eqb a 60) notEqual unknown))))
+pairOf a b = kindIn pairKinds (a ∷ b ∷ []) unknown
 
--- `; : ( ) [ ] ~ & | = < > + - * /`
+-- of one byte
 unfoldable pub signOf : ℕ → Kind
-signOf b =
-    cond (eqb b 59) semicolon
-    (cond (eqb b 58) colon
-    (cond (eqb b 40) openRound
-    (cond (eqb b 41) closeRound
-    (cond (eqb b 91) openSquare
-    (cond (eqb b 93) closeSquare
-    (cond (eqb b 126) tilde
-    (cond (eqb b 38) ampersand
-    (cond (eqb b 124) bar
-    (cond (eqb b 61) equals
-    (cond (eqb b 60) less
-    (cond (eqb b 62) greater
-    (cond (eqb b 43) plus
-    (cond (eqb b 45) minus
-    (cond (eqb b 42) star
-    (cond (eqb b 47) slash unknown)))))))))))))))
+signOf b = kindIn signKinds (b ∷ []) unknown
 
 -- a token, unless it is of no kind
 unfoldable pub readOf : Kind → ℕ → ℕ → Read

@@ -1,19 +1,67 @@
 -- The tokens of a text. Document 01, "The text", first paragraph. Assumes nothing.
 use Prim.Native.Nat.{ℕ}
 use mathlib.Core.Bool.{Bool}
+use mathlib.Core.List.{List, [], _∷_}
 use lib.Dec.{eqb}
+use Rattle.lexer.specs.Bytes.{bytes}
 
 pub data Kind : Type 0 where
   unknown : Kind  -- a byte that starts no token, a lone `_` or `.`
   ending : Kind  -- the end of the text
   name previous digits : Kind  -- a, _a, 7
-  inputWord varWord initWord modWord nextWord : Kind  -- input var init mod GX
-  dots arrow lessEqual greaterEqual notEqual : Kind  -- .. -> <= >= <>
-  semicolon colon : Kind  -- ; :
-  openRound closeRound openSquare closeSquare : Kind  -- ( ) [ ]
-  tilde ampersand bar : Kind  -- ~ & |
-  equals less greater : Kind  -- = < >
-  plus minus star slash : Kind  -- + - * /
+  inputWord varWord initWord modWord nextWord : Kind  -- words of the grammar
+  dots arrow lessEqual greaterEqual notEqual : Kind
+  semicolon colon : Kind
+  openRound closeRound openSquare closeSquare : Kind
+  tilde ampersand bar : Kind
+  equals less greater : Kind
+  plus minus star slash : Kind
+
+-- The table of spellings: words of the grammar, `input var init mod GX`, `..` `->` `<=` `>=` `<>`, and `; : ( ) [ ] ~ & | = < > + - * /`.
+-- A kind that has more than one spelling, or none, has no bytes here.
+abbrev pub spellingOf : Kind → List ℕ
+spellingOf unknown = []
+spellingOf ending = []
+spellingOf name = []
+spellingOf previous = []
+spellingOf digits = []
+spellingOf inputWord = bytes "input"
+spellingOf varWord = bytes "var"
+spellingOf initWord = bytes "init"
+spellingOf modWord = bytes "mod"
+spellingOf nextWord = bytes "GX"
+spellingOf dots = bytes ".."
+spellingOf arrow = bytes "->"
+spellingOf lessEqual = bytes "<="
+spellingOf greaterEqual = bytes ">="
+spellingOf notEqual = bytes "<>"
+spellingOf semicolon = bytes ";"
+spellingOf colon = bytes ":"
+spellingOf openRound = bytes "("
+spellingOf closeRound = bytes ")"
+spellingOf openSquare = bytes "["
+spellingOf closeSquare = bytes "]"
+spellingOf tilde = bytes "~"
+spellingOf ampersand = bytes "&"
+spellingOf bar = bytes "|"
+spellingOf equals = bytes "="
+spellingOf less = bytes "<"
+spellingOf greater = bytes ">"
+spellingOf plus = bytes "+"
+spellingOf minus = bytes "-"
+spellingOf star = bytes "*"
+spellingOf slash = bytes "/"
+
+-- the kinds in it: words of the grammar, signs of two bytes, signs of one byte
+abbrev pub wordKinds : List Kind
+wordKinds = inputWord ∷ varWord ∷ initWord ∷ modWord ∷ nextWord ∷ []
+
+abbrev pub pairKinds : List Kind
+pairKinds = dots ∷ arrow ∷ lessEqual ∷ greaterEqual ∷ notEqual ∷ []
+
+abbrev pub signKinds : List Kind
+signKinds =
+    semicolon ∷ colon ∷ openRound ∷ closeRound ∷ openSquare ∷ closeSquare ∷ tilde ∷ ampersand ∷ bar ∷ equals ∷ less ∷ greater ∷ plus ∷ minus ∷ star ∷ slash ∷ []
 
 -- the number by which a program tells kinds apart
 unfoldable pub kindNumber : Kind → ℕ

@@ -7,88 +7,13 @@ use native.Mathlib.Omega.{arith}
 use lib.ListN.{length, getD, take, drop, List·getD-eq-default}
 use lib.Dec.{eqb, ltb, leb}
 use borrow.Author.Tests.{eqb-true, ltb-true, ltb-false, lt-leb}
 use Rattle.lexer.specs.Bytes.{bytes, part, sameBytes}
-use Rattle.lexer.specs.Token.{Kind, kindNumber, unknown, ending, name, previous, digits, inputWord, varWord, initWord, modWord, nextWord, dots, arrow, lessEqual, greaterEqual, notEqual, semicolon, colon, openRound, closeRound, openSquare, closeSquare, tilde, ampersand, bar, equals, less, greater, plus, minus, star, slash, is, Read, token, fault}
-use Rattle.lexer.specs.Lexer.{isSpace, isDigit, isLetter, isAlphanumeric, runOn, runEnd, sameName, wordOf, pairOf, signOf, readOf, signAt, wordAt, digitsAt, previousAt, tokenOf, tokenPast, tokenAt}
+use Rattle.lexer.specs.Token.{Kind, kindNumber, unknown, ending, name, previous, digits, inputWord, varWord, initWord, modWord, nextWord, dots, arrow, lessEqual, greaterEqual, notEqual, semicolon, colon, openRound, closeRound, openSquare, closeSquare, tilde, ampersand, bar, equals, less, greater, plus, minus, star, slash, spellingOf, wordKinds, pairKinds, signKinds, is, Read, token, fault}
+use Rattle.lexer.specs.Lexer.{isSpace, isDigit, isLetter, isAlphanumeric, runOn, runEnd, kindIn, wordOf, pairOf, signOf, readOf, signAt, wordAt, digitsAt, previousAt, tokenOf, tokenPast, tokenAt}
+use Rattle.lexer.specs.Spelling.{All, IsWord, IsDigits, NoneOf, Spelling}
 use Rattle.lexer.proofs.Laws.{cond-prop, run-on-ge, run-from, run-within, run-some, token-at-moved}
-use Rattle.lexer.proofs.Same.{same-name, same-kind}
-use Rattle.grammar.specs.Derivation.{All, IsWord, IsDigits}
-use Rattle.grammar.proofs.Bytes.{part-cons}
-
--- a previous value: `_` and a name
-pub record IsPrevious (w : List ℕ) : Type 0 where
-  pub rest : List ℕ
-  pub is-cons : w ≡ 95 ∷ rest
-  pub is-word : IsWord rest
-  pub no-word : wordOf rest ≡ name
-
--- the one spelling of a word of the grammar and of a sign
-abbrev pub spellingOf : Kind → List ℕ
-spellingOf unknown = []
-spellingOf ending = []
-spellingOf name = []
-spellingOf previous = []
-spellingOf digits = []
-spellingOf inputWord = bytes "input"
-spellingOf varWord = bytes "var"
-spellingOf initWord = bytes "init"
-spellingOf modWord = bytes "mod"
-spellingOf nextWord = bytes "GX"
-spellingOf dots = bytes ".."
-spellingOf arrow = bytes "->"
-spellingOf lessEqual = bytes "<="
-spellingOf greaterEqual = bytes ">="
-spellingOf notEqual = bytes "<>"
-spellingOf semicolon = bytes ";"
-spellingOf colon = bytes ":"
-spellingOf openRound = bytes "("
-spellingOf closeRound = bytes ")"
-spellingOf openSquare = bytes "["
-spellingOf closeSquare = bytes "]"
-spellingOf tilde = bytes "~"
-spellingOf ampersand = bytes "&"
-spellingOf bar = bytes "|"
-spellingOf equals = bytes "="
-spellingOf less = bytes "<"
-spellingOf greater = bytes ">"
-spellingOf plus = bytes "+"
-spellingOf minus = bytes "-"
-spellingOf star = bytes "*"
-spellingOf slash = bytes "/"
-
--- the spellings of each kind
-abbrev pub Spelling : Kind → List ℕ → Type 0
-Spelling unknown w = ⊥
-Spelling ending w = ⊥
-Spelling name w = IsWord w × (wordOf w ≡ name)
-Spelling previous w = IsPrevious w
-Spelling digits w = IsDigits w
-Spelling inputWord w = w ≡ spellingOf inputWord
-Spelling varWord w = w ≡ spellingOf varWord
-Spelling initWord w = w ≡ spellingOf initWord
-Spelling modWord w = w ≡ spellingOf modWord
-Spelling nextWord w = w ≡ spellingOf nextWord
-Spelling dots w = w ≡ spellingOf dots
-Spelling arrow w = w ≡ spellingOf arrow
-Spelling lessEqual w = w ≡ spellingOf lessEqual
-Spelling greaterEqual w = w ≡ spellingOf greaterEqual
-Spelling notEqual w = w ≡ spellingOf notEqual
-Spelling semicolon w = w ≡ spellingOf semicolon
-Spelling colon w = w ≡ spellingOf colon
-Spelling openRound w = w ≡ spellingOf openRound
-Spelling closeRound w = w ≡ spellingOf closeRound
-Spelling openSquare w = w ≡ spellingOf openSquare
-Spelling closeSquare w = w ≡ spellingOf closeSquare
-Spelling tilde w = w ≡ spellingOf tilde
-Spelling ampersand w = w ≡ spellingOf ampersand
-Spelling bar w = w ≡ spellingOf bar
-Spelling equals w = w ≡ spellingOf equals
-Spelling less w = w ≡ spellingOf less
-Spelling greater w = w ≡ spellingOf greater
-Spelling plus w = w ≡ spellingOf plus
-Spelling minus w = w ≡ spellingOf minus
-Spelling star w = w ≡ spellingOf star
-Spelling slash w = w ≡ spellingOf slash
+use Rattle.lexer.proofs.Same.{same-bytes, same-kind}
+use Rattle.lexer.proofs.Values.{part-cons}
 
 -- the kinds with one spelling are those from number 5 on
 unfoldable pub isFixed : Kind → Bool
@@ -128,6 +53,38 @@ fixed-spelling minus e w = (λ h. h, λ h. h)
 fixed-spelling star e w = (λ h. h, λ h. h)
 fixed-spelling slash e w = (λ h. h, λ h. h)
 
+-- ---- words of the grammar are no names
+
+none-in : (ks : List Kind) (w : List ℕ) (other : Kind) → NoneOf ks w → kindIn ks w other ≡ other
+none-in [] w other h = refl
+none-in (k ∷ ks) w other h = cond-prop (λ (x : Kind). x ≡ other) (sameBytes w (spellingOf k)) _ _ (λ e. absurd (h .0 (same-bytes w (spellingOf k) e))) (λ e. none-in ks w other (h .1))
+
+pub word-name : (w : List ℕ) → NoneOf wordKinds w → wordOf w ≡ name
+unfolding wordOf
+word-name w h = none-in wordKinds w name h
+
+pub name-word : (w : List ℕ) → wordOf w ≡ name → NoneOf wordKinds w
+unfolding wordOf sameBytes
+name-word w e = (
+  no inputWord refl (λ z. let y : _≡_ {A = ℕ} 0 1 = cc in omega arith),
+  (
+    no varWord refl (λ z. let y : _≡_ {A = ℕ} 0 1 = cc in omega arith),
+    (
+      no initWord refl (λ z. let y : _≡_ {A = ℕ} 0 1 = cc in omega arith),
+      (
+        no modWord refl (λ z. let y : _≡_ {A = ℕ} 0 1 = cc in omega arith),
+        (
+          no nextWord refl (λ z. let y : _≡_ {A = ℕ} 0 1 = cc in omega arith),
+          tt,
+        ),
+      ),
+    ),
+  ),
+)
+  where
+    no : (k : Kind) → wordOf (spellingOf k) ≡ k → (k ≡ name → ⊥) → w ≡ spellingOf k → ⊥
+    no k f g q = g (sym f ∙ (ap wordOf (sym q) ∙ e))
+
 -- ---- from kind to spelling
 
 none-run : (p : ℕ → Bool) (n : ℕ) → All p (take n [])
@@ -143,20 +100,20 @@ all-run p (b ∷ l) i =
     (λ e. let h : runOn p l (i + 1) - i ≡ suc (runOn p l (i + 1) - (i + 1)) = omega (arith, run-on-ge p l (i + 1)) in rw h (e, all-run p l (i + 1)))
     (λ e. let h : i - i ≡ 0 = omega arith in rw h tt)
 
-part-all : (p : ℕ → Bool) (text : List ℕ) (s : ℕ) → All p (part text s (runEnd p text s))
+pub part-all : (p : ℕ → Bool) (text : List ℕ) (s : ℕ) → All p (part text s (runEnd p text s))
 unfolding runEnd
 part-all p text s = all-run p (drop s text) s
 
-part-one : (text : List ℕ) (s : ℕ) → s + 1 ≤ length text → part text s (s + 1) ≡ getD text s 0 ∷ []
+pub part-one : (text : List ℕ) (s : ℕ) → s + 1 ≤ length text → part text s (s + 1) ≡ getD text s 0 ∷ []
 part-one text s h = let e : s + 1 - (s + 1) ≡ 0 = omega arith in part-cons text s (s + 1) (omega arith) h ∙ rw e
 
-part-two : (text : List ℕ) (s : ℕ) → s + 2 ≤ length text → part text s (s + 2) ≡ getD text s 0 ∷ getD text (s + 1) 0 ∷ []
+pub part-two : (text : List ℕ) (s : ℕ) → s + 2 ≤ length text → part text s (s + 2) ≡ getD text s 0 ∷ getD text (s + 1) 0 ∷ []
 part-two text s h =
     let e : s + 1 + 1 ≡ s + 2 = omega arith in
     part-cons text s (s + 2) (omega arith) h ∙ ap (λ (l : List ℕ). getD text s 0 ∷ l) (subst (λ (n : ℕ). part text (s + 1) n ≡ getD text (s + 1) 0 ∷ []) e (part-one text (s + 1) (omega arith)))
 
 -- the part of a text that a run of letters and digits after a letter makes
-run-word : (text : List ℕ) (s : ℕ) → s < length text → isLetter (getD text s 0) ≡ true → IsWord (part text s (runEnd isAlphanumeric text s))
+pub run-word : (text : List ℕ) (s : ℕ) → s < length text → isLetter (getD text s 0) ≡ true → IsWord (part text s (runEnd isAlphanumeric text s))
 unfolding isAlphanumeric
 run-word text s h e =
     let lt = run-some isAlphanumeric text s h (rw e) in
@@ -164,7 +121,7 @@ run-word text s h e =
     let q = part-cons text s (runEnd isAlphanumeric text s) lt (run-within isAlphanumeric text s (omega arith)) in
     rw q (e, subst (All isAlphanumeric) q w .1)
 
-run-digits : (text : List ℕ) (s : ℕ) → s < length text → isDigit (getD text s 0) ≡ true → IsDigits (part text s (runEnd isDigit text s))
+pub run-digits : (text : List ℕ) (s : ℕ) → s < length text → isDigit (getD text s 0) ≡ true → IsDigits (part text s (runEnd isDigit text s))
 run-digits text s h e =
     let lt = run-some isDigit text s h e in
     let w : All isDigit (part text s (runEnd isDigit text s)) = part-all isDigit text s in
@@ -172,75 +129,47 @@ run-digits text s h e =
     rw q (subst (All isDigit) q w)
 
 -- a word of the grammar is spelled as its kind says, and any other is a name
-word-spelled : (w : List ℕ) → IsWord w → Spelling (wordOf w) w
-unfolding wordOf sameName
+pub word-spelled : (w : List ℕ) → IsWord w → Spelling (wordOf w) w
+unfolding wordOf
 word-spelled w h =
-    cond-prop P (sameBytes w (bytes "input")) _ _ (λ e q. same-name w (bytes "input") e)
-    (λ n1. cond-prop P (sameBytes w (bytes "var")) _ _ (λ e q. same-name w (bytes "var") e)
-    (λ n2. cond-prop P (sameBytes w (bytes "init")) _ _ (λ e q. same-name w (bytes "init") e)
-    (λ n3. cond-prop P (sameBytes w (bytes "mod")) _ _ (λ e q. same-name w (bytes "mod") e)
-    (λ n4. cond-prop P (sameBytes w (bytes "GX")) _ _ (λ e q. same-name w (bytes "GX") e)
-    (λ n5 q. (h, q)))))) refl
+    cond-prop P (sameBytes w (bytes "input")) _ _ (λ e q. same-bytes w (bytes "input") e)
+    (λ n1. cond-prop P (sameBytes w (bytes "var")) _ _ (λ e q. same-bytes w (bytes "var") e)
+    (λ n2. cond-prop P (sameBytes w (bytes "init")) _ _ (λ e q. same-bytes w (bytes "init") e)
+    (λ n3. cond-prop P (sameBytes w (bytes "mod")) _ _ (λ e q. same-bytes w (bytes "mod") e)
+    (λ n4. cond-prop P (sameBytes w (bytes "GX")) _ _ (λ e q. same-bytes w (bytes "GX") e)
+    (λ n5 q. record { is-word = h; no-word = name-word w q }))))) refl
   where
     P : Kind → Type 0
     P k = wordOf w ≡ k → Spelling k w
 
-one : (b v : ℕ) → eqb b v ≡ true → b ∷ [] ≡ v ∷ []
-one b v e = ap (λ (x : ℕ). x ∷ []) (eqb-true b v e)
+abbrev AllFixed : List Kind → Type 0
+AllFixed [] = Unit {0}
+AllFixed (k ∷ ks) = (isFixed k ≡ true) × AllFixed ks
+
+-- bytes that a table lookup finds are spelled as the kind found says
+in-spelled : (ks : List Kind) (w : List ℕ) → AllFixed ks → is (kindIn ks w unknown) unknown ≡ false → Spelling (kindIn ks w unknown) w
+unfolding is kindNumber
+in-spelled [] w f h = let z : _≡_ {A = ℕ} 0 1 = cc in absurd (omega arith)
+in-spelled (k ∷ ks) w f h =
+    cond-prop (λ (x : Kind). is x unknown ≡ false → Spelling x w) (sameBytes w (spellingOf k)) _ _
+    (λ e i. fixed-spelling k (f .0) w .1 (same-bytes w (spellingOf k) e)) (λ e i. in-spelled ks w (f .1) i) h
 
 -- a sign of one byte
-sign-spelled : (b : ℕ) → is (signOf b) unknown ≡ false → Spelling (signOf b) (b ∷ [])
-unfolding signOf is kindNumber
-sign-spelled b =
-    cond-prop P (eqb b 59) _ _ (λ e h. one b 59 e)
-    (λ n. cond-prop P (eqb b 58) _ _ (λ e h. one b 58 e)
-    (λ n. cond-prop P (eqb b 40) _ _ (λ e h. one b 40 e)
-    (λ n. cond-prop P (eqb b 41) _ _ (λ e h. one b 41 e)
-    (λ n. cond-prop P (eqb b 91) _ _ (λ e h. one b 91 e)
-    (λ n. cond-prop P (eqb b 93) _ _ (λ e h. one b 93 e)
-    (λ n. cond-prop P (eqb b 126) _ _ (λ e h. one b 126 e)
-    (λ n. cond-prop P (eqb b 38) _ _ (λ e h. one b 38 e)
-    (λ n. cond-prop P (eqb b 124) _ _ (λ e h. one b 124 e)
-    (λ n. cond-prop P (eqb b 61) _ _ (λ e h. one b 61 e)
-    (λ n. cond-prop P (eqb b 60) _ _ (λ e h. one b 60 e)
-    (λ n. cond-prop P (eqb b 62) _ _ (λ e h. one b 62 e)
-    (λ n. cond-prop P (eqb b 43) _ _ (λ e h. one b 43 e)
-    (λ n. cond-prop P (eqb b 45) _ _ (λ e h. one b 45 e)
-    (λ n. cond-prop P (eqb b 42) _ _ (λ e h. one b 42 e)
-    (λ n. cond-prop P (eqb b 47) _ _ (λ e h. one b 47 e)
-    (λ n h. let z : _≡_ {A = ℕ} 0 1 = cc in omega arith))))))))))))))))
-  where
-    P : Kind → Type 0
-    P k = is k unknown ≡ false → Spelling k (b ∷ [])
-
-two : (a b u v : ℕ) → eqb b v && eqb a u ≡ true → a ∷ b ∷ [] ≡ u ∷ v ∷ []
-two a b u v e = go (eqb b v) refl (eqb a u) refl e
-  where
-    go : (t : Bool) → eqb b v ≡ t → (u2 : Bool) → eqb a u ≡ u2 → t && u2 ≡ true → a ∷ b ∷ [] ≡ u ∷ v ∷ []
-    go true p true q h = let i : a ≡ u = eqb-true a u q in let j : b ≡ v = eqb-true b v p in cc
-    go true p false q h = let z : _≡_ {A = ℕ} 0 1 = cc in absurd (omega arith)
-    go false p u2 q h = let z : _≡_ {A = ℕ} 0 1 = cc in absurd (omega arith)
+pub sign-spelled : (b : ℕ) → is (signOf b) unknown ≡ false → Spelling (signOf b) (b ∷ [])
+unfolding signOf isFixed kindNumber
+sign-spelled b = in-spelled signKinds (b ∷ []) (refl, (refl, (refl, (refl, (refl, (refl, (refl, (refl, (refl, (refl, (refl, (refl, (refl, (refl, (refl, (refl, tt))))))))))))))))
 
 -- a sign of two bytes
-pair-spelled : (a b : ℕ) → is (pairOf a b) unknown ≡ false → Spelling (pairOf a b) (a ∷ b ∷ [])
-unfolding pairOf is kindNumber
-pair-spelled a b =
-    cond-prop P (eqb b 46 && eqb a 46) _ _ (λ e h. two a b 46 46 e)
-    (λ n. cond-prop P (eqb b 62 && eqb a 45) _ _ (λ e h. two a b 45 62 e)
-    (λ n. cond-prop P (eqb b 61 && eqb a 60) _ _ (λ e h. two a b 60 61 e)
-    (λ n. cond-prop P (eqb b 61 && eqb a 62) _ _ (λ e h. two a b 62 61 e)
-    (λ n. cond-prop P (eqb b 62 && eqb a 60) _ _ (λ e h. two a b 60 62 e)
-    (λ n h. let z : _≡_ {A = ℕ} 0 1 = cc in omega arith)))))
-  where
-    P : Kind → Type 0
-    P k = is k unknown ≡ false → Spelling k (a ∷ b ∷ [])
+pub pair-spelled : (a b : ℕ) → is (pairOf a b) unknown ≡ false → Spelling (pairOf a b) (a ∷ b ∷ [])
+unfolding pairOf isFixed kindNumber
+pair-spelled a b = in-spelled pairKinds (a ∷ b ∷ []) (refl, (refl, (refl, (refl, (refl, tt)))))
 
 -- what is read within the text is spelled as its kind says
 abbrev Told : List ℕ → Read → Type 0
 Told text (token k s n) = n ≤ length text → Spelling k (part text s n)
 Told text (fault p) = Unit {0}
 
-sign-told : (text : List ℕ) (s : ℕ) → Told text (signAt (getD text s 0) (getD text (s + 1) 0) s)
+pub sign-told : (text : List ℕ) (s : ℕ) → Told text (signAt (getD text s 0) (getD text (s + 1) 0) s)
 unfolding signAt readOf
 sign-told text s =
     let a = getD text s 0 in
@@ -249,7 +178,7 @@ sign-told text s =
     (λ e. cond-prop (Told text) (is (signOf a) unknown) _ _ (λ e2. tt) (λ e2 h. rw (part-one text s h) (sign-spelled a e2)))
     (λ e h. rw (part-two text s h) (pair-spelled a b e))
 
-in-text : (text : List ℕ) (i : ℕ) → isLetter (getD text i 0) ≡ true → i < length text
+pub in-text : (text : List ℕ) (i : ℕ) → isLetter (getD text i 0) ≡ true → i < length text
 unfolding isLetter
 in-text text i e = go (ltb i (length text)) refl
   where
@@ -273,8 +202,7 @@ previous-told text s e =
     record {
       rest = part text (s + 1) n;
       is-cons = part-cons text s n (omega arith) h ∙ ap (λ (x : ℕ). x ∷ part text (s + 1) n) e;
-      is-word = run-word text (s + 1) l2 e1;
-      no-word = same-kind (wordOf (part text (s + 1) n)) name e2;
+      is-name = record { is-word = run-word text (s + 1) l2 e1; no-word = name-word (part text (s + 1) n) (same-kind (wordOf (part text (s + 1) n)) name e2) };
     })
     (λ e2. tt))
     (λ e1. tt)
@@ -318,11 +246,11 @@ signKind b (c ∷ []) = pairOf b c
 signKind b (c ∷ d ∷ l) = unknown
 
 -- the kind of the token that a spelling is
-pub kindOf : List ℕ → Kind
-kindOf [] = unknown
-kindOf (b ∷ l) = cond (isLetter b) (wordOf (b ∷ l)) (cond (isDigit b) digits (cond (eqb b 95) previous (signKind b l)))
+pub kindSpelled : List ℕ → Kind
+kindSpelled [] = unknown
+kindSpelled (b ∷ l) = cond (isLetter b) (wordOf (b ∷ l)) (cond (isDigit b) digits (cond (eqb b 95) previous (signKind b l)))
 
-digit-letter : (b : ℕ) → isDigit b ≡ true → isLetter b ≡ false
+pub digit-letter : (b : ℕ) → isDigit b ≡ true → isLetter b ≡ false
 unfolding isDigit isLetter
 digit-letter b e = go (leb 48 b) refl (ltb b 58) refl e
   where
@@ -331,21 +259,21 @@ digit-letter b e = go (leb 48 b) refl (ltb b 58) refl e
     go true t false u h = let z : _≡_ {A = ℕ} 0 1 = cc in absurd (omega arith)
     go false t v u h = let z : _≡_ {A = ℕ} 0 1 = cc in absurd (omega arith)
 
-name-kind : (w : List ℕ) → IsWord w → wordOf w ≡ name → kindOf w ≡ name
-unfolding kindOf
+name-kind : (w : List ℕ) → IsWord w → wordOf w ≡ name → kindSpelled w ≡ name
+unfolding kindSpelled
 name-kind [] h e = absurd h
 name-kind (b ∷ l) h e = rw (h .0, e)
 
-digits-kind : (w : List ℕ) → IsDigits w → kindOf w ≡ digits
-unfolding kindOf
+digits-kind : (w : List ℕ) → IsDigits w → kindSpelled w ≡ digits
+unfolding kindSpelled
 digits-kind [] h = absurd h
 digits-kind (b ∷ l) h = rw (digit-letter b (h .0), h .0)
 
-kind-of : (k : Kind) (w : List ℕ) → Spelling k w → kindOf w ≡ k
-unfolding kindOf signKind isLetter isDigit wordOf sameBytes signOf pairOf
+kind-of : (k : Kind) (w : List ℕ) → Spelling k w → kindSpelled w ≡ k
+unfolding kindSpelled signKind isLetter isDigit wordOf sameBytes signOf pairOf
 kind-of unknown w h = absurd h
 kind-of ending w h = absurd h
-kind-of name w h = name-kind w (h .0) (h .1)
+kind-of name w h = name-kind w (h .is-word) (word-name w (h .no-word))
 kind-of previous w h = rw (h .is-cons)
 kind-of digits w h = digits-kind w h
 kind-of inputWord w h = rw h
