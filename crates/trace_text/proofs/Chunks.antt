@@ -13,8 +13,6 @@ use Rattle.trace_text.specs.Output.{Put}
 use Rattle.trace_text.specs.Internal.{stageAfter, textAfter, stageOver, textOver, isRows, bytesBefore}
 use Rattle.trace_text.proofs.Puts.{Putting, putting-next, putting-done}
 
--- ---- bytes split one after the other: what a ++ b comes to is what b comes to after a
-
 -- ---- past the line `#`
 
 pub rows-of : (stage : Stage) → isRows stage ≡ true → stage ≡ Rows

@@ -21,7 +21,7 @@ use Rattle.trace_text.proofs.Rows.{row-ends, long-length}
 use Rattle.trace_text.proofs.Splitting.{rows-split, line-ended, line-open, open-bare, open-bytes, open-ended, line-begun}
 
 -- what is handed to scan while bytes are read, line by line, and at the end of the input for a line that has begun
-pub rowsRead : Line → List ℤ → List ℕ → List (List ℤ)
+unfoldable pub rowsRead : Line → List ℤ → List ℕ → List (List ℤ)
 rowsRead s cells [] = cond (isBegun s) (handedRow s cells ∷ []) []
 rowsRead s cells (b ∷ l) =
     let ended = handedRow s cells ∷ rowsRead Start (cellsOf s cells) l in

@@ -16,8 +16,6 @@ use Rattle.trace_text.specs.declared.Line.{Line}
 use Rattle.trace_text.specs.declared.Line.the-variants.{Start, Wanted, Minus, Number, NoRow}
 use Rattle.trace_text.specs.Input.{before, linesOf, bare, isHashLine, textIn, textOf, rowsIn, rowLines}
 use Rattle.trace_text.specs.Internal.{stageAfter, textAfter, textOver, bytesBefore, bytesIn, isEnded, isBegun, counts, longerBy, digitAfter, numberBegins, lineAfter, lineOver}
-use Rattle.trace_text.specs.Output.{Put}
-use Rattle.trace_text.proofs.Lengths.{put-cut}
 use Rattle.trace_text.proofs.Chunks.{text-rows, none-before}
 
 -- ---- a byte as the splitter sees it
@@ -97,10 +95,6 @@ text-seen text h = take-all 32769 text (omega arith)
 
 pub text-over : (text : List ℕ) → 32768 < length text → 32768 < length (take 32769 text)
 text-over text h = rw length-take (omega arith)
-
--- so the text that is lent to translate is the text, or over its limit as the text is
-pub text-held : (input : List ℕ) {buffer after : List ℕ} {n : ℕ} → length buffer ≡ 32769 → Put buffer 0 (textOver LineStart input) after n → take n after ≡ take 32769 (textOf input)
-text-held input e h = put-cut h ∙ (rw (e, text-split input))
 
 -- ---- the rows
 

@@ -3,12 +3,11 @@
 ghost use mathlib.Core.Path.{_≡_};
 ghost use mathlib.Core.Bool.{true};
 ghost use Prim.Native.Nat.{_+_, _≤_};
-ghost use lib.ListN.{length, drop, set};
+ghost use lib.ListN.{drop, set};
 ghost use lib.Seq.{sets};
-ghost use Rattle.trace_text.specs.Input.{bare};
 ghost use Rattle.trace_text.specs.Row.{longRow};
 ghost use Rattle.trace_text.specs.Output.{Put};
-ghost use Rattle.trace_text.specs.Internal.{textStage, stageAfter, textAfter, stageOver, textOver, isRows, bytesBefore, longerBy, digitAfter, numberBegins, signed as signedOf, inRange, counts, cellsEnd, lineAfter, cellsAfter, lineOver, cellsOver, countOf, cellsOf, bytesIn, isEnded, isBegun};
+ghost use Rattle.trace_text.specs.Internal.{textStage, stageAfter, textAfter, stageOver, textOver, isRows, bytesBefore, longerBy, digitAfter, numberBegins, signed as signedOf, inRange, counts, cellsEnd, lineAfter, cellsAfter, countOf, cellsOf, isBegun};
 use lexer::classes;
 
 pub mod print;
@@ -40,15 +39,6 @@ pub struct Split {
 pub struct Divided {
     pub split: Split,
     pub rows: usize,
-}
-
-pub fn split_start() -> Split
-    ensures { λ r. ⌜ (r .stage ≡ Stage.LineStart) × (r .length ≡ 0) ⌝ }
-{
-    Split {
-        stage: Stage::LineStart,
-        length: 0,
-    }
 }
 
 pub fn is_rows(stage: Stage) -> bool
@@ -167,13 +157,6 @@ pub enum Line {
     NoRow,
 }
 
-// The line behind a chunk, the place behind its LF (or the chunk's end), and whether LF ended it.
-pub struct Fed {
-    pub line: Line,
-    pub next: usize,
-    pub ended: bool,
-}
-
 // A byte of the line was read: at the end of the input such a line is a row, and an empty one is no line.
 pub fn is_begun(s: Line) -> bool
     ensures { λ r. ⌜ r ≡ isBegun s ⌝ }
@@ -274,7 +257,7 @@ fn number_byte(cells: &mut [i32], n: usize, negative: bool, v: u64, b: u8) -> Li
 }
 
 // One byte of a line. Numbers are stored where they end.
-fn line_byte(cells: &mut [i32], s: Line, b: u8) -> Line
+pub fn line_byte(cells: &mut [i32], s: Line, b: u8) -> Line
     ensures { λ r. ⌜ (r ≡ lineAfter s b) × (now (cells .exit) ≡ cellsAfter s (now (cells .entry)) b) ⌝ }
 {
     match s {
@@ -283,33 +266,6 @@ fn line_byte(cells: &mut [i32], s: Line, b: u8) -> Line
         Line::Minus(n) => digit(n, true, 0, b),
         Line::Number(n, negative, v) => number_byte(cells, n, negative, v, b),
         Line::NoRow => Line::NoRow,
-    }
-}
-
-// The bytes of a chunk from a place on, as far as the line goes.
-pub fn line_chunk(cells: &mut [i32], s: Line, chunk: &[u8], from: usize) -> Fed
-    ensures { λ r. ⌜ r .line ≡ lineOver s (bare (drop from (now (chunk .entry)))) ⌝ }
-    ensures { λ _. ⌜ now (cells .exit) ≡ cellsOver s (now (cells .entry)) (bare (drop from (now (chunk .entry)))) ⌝ }
-    ensures { λ r. ⌜ (r .next ≡ from + bytesIn (drop from (now (chunk .entry)))) × (r .ended ≡ isEnded (drop from (now (chunk .entry)))) ⌝ }
-{
-    let mut line = s;
-    let mut i = from;
-    while i < chunk.len() {
-        let b = chunk[i];
-        i += 1;
-        if b == 10 {
-            return Fed {
-                line: line,
-                next: i,
-                ended: true,
-            };
-        }
-        line = line_byte(cells, line, b);
-    }
-    Fed {
-        line: line,
-        next: i,
-        ended: false,
     }
 }
 

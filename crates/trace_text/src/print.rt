@@ -2,7 +2,8 @@
 // most the buffer's end.
 ghost use mathlib.Core.Path.{_≡_};
 ghost use mathlib.Core.List.{[], _∷_, map};
-ghost use Prim.Native.Nat.{min};
+ghost use Prim.Native.Nat.{_+_, _*_, _≤_, min};
+ghost use lib.ListN.{length};
 ghost use Rattle.lexer.specs.Bytes.{part};
 ghost use Rattle.lexer.specs.Names.{namesOf};
 ghost use Rattle.trace_text.specs.Output.{Put, unsignedDecimal, decimalOf, spaced, refusedLine, headLine, rowLine};
@@ -125,6 +126,7 @@ pub fn put_head(
 // Numbers, each after a space.
 fn put_values(out: &mut [u8], at: usize, values: &[i32]) -> usize
     ensures { λ r. ⌜ Put (now (out .entry)) at (spaced (map decimalOf (now (values .entry)))) (now (out .exit)) r ⌝ }
+    ensures { λ _. ⌜ length (spaced (map decimalOf (now (values .entry)))) ≤ 12 * length (now (values .entry)) ⌝ }
 {
     let mut place = clip(out.len(), at);
     let mut i = 0;
@@ -140,6 +142,7 @@ fn put_values(out: &mut [u8], at: usize, values: &[i32]) -> usize
 // Row number, values, refusal or 0.
 pub fn put_row(out: &mut [u8], at: usize, number: u64, values: &[i32], refusal: u64) -> usize
     ensures { λ r. ⌜ Put (now (out .entry)) at (rowLine number (now (values .entry)) refusal) (now (out .exit)) r ⌝ }
+    ensures { λ _. ⌜ length (rowLine number (now (values .entry)) refusal) ≤ 12 * length (now (values .entry)) + 42 ⌝ }
 {
     let first = put_unsigned_decimal(out, at, number);
     let second = put_values(out, first, values);
@@ -151,6 +154,7 @@ pub fn put_row(out: &mut [u8], at: usize, number: u64, values: &[i32], refusal: 
 // `refused K at P`
 pub fn put_refused(out: &mut [u8], at: usize, number: u64, place: u64) -> usize
     ensures { λ r. ⌜ Put (now (out .entry)) at (refusedLine number place) (now (out .exit)) r ⌝ }
+    ensures { λ _. ⌜ length (refusedLine number place) ≤ 53 ⌝ }
 {
     let first = put_bytes(out, at, b"refused ");
     let second = put_unsigned_decimal(out, first, number);

@@ -1,0 +1,400 @@
+// The trace program without its input and output: it is fed standard input in parts, and puts out the bytes to print.
+use scan::Scanned;
+use trace_text::Line;
+use trace_text::Split;
+use trace_text::Stage;
+use translate::Analysis;
+ghost use Prim.Native.Nat.{_+_, _≤_};
+ghost use mathlib.Core.Path.{_≡_};
+ghost use mathlib.Core.Bool.{false};
+ghost use mathlib.Core.List.{List};
+ghost use lib.IntN.{ℤ};
+ghost use lib.ListN.{length, take};
+ghost use Rattle.limits.specs.Answer.{accepted};
+ghost use Rattle.declarations.specs.Post.{Room};
+ghost use Rattle.semantics.specs.Program.{Program};
+ghost use Rattle.grammar.specs.Parse.{programOf};
+ghost use Rattle.scan.specs.Services.{scanOf};
+ghost use Rattle.scan.specs.Results.{scanAnswer};
+ghost use Rattle.correctness.specs.TraceCorrect.{verdictOf};
+ghost use Rattle.trace_text.specs.Internal.{isRows, handedRow, cellsOf};
+ghost use Rattle.tracer.specs.Printed.{refusalOf};
+ghost use Rattle.tracer.specs.Session.{Session, textRoom, lineRoom, sessionOf, nextNumber, scanLine, after, putBy, atEnd};
+ghost use Rattle.tracer.specs.Post.{Memory, PutWhole, Accepts, Begins, Opens, Takes};
+
+// One byte more than a text may have, so that a longer one is refused.
+pub const TEXT_ROOM: usize = 32769;
+
+pub const OUTPUT_ROOM: usize = 65536;
+
+// Room for a line, and for the head with the start's line.
+const LINE_ROOM: usize = 2048;
+
+// Where the program stands between two parts of its input.
+pub enum Tracer {
+    // In the text: how many of its bytes are stored. With the stage `Rows`, the text was refused.
+    Text(Stage, usize),
+    // In the rows: the lengths of image and state, the line begun, and the number of the last row.
+    Rows(usize, usize, Line, u64),
+}
+
+// The bytes taken of a part, and the end of the bytes put out.
+pub struct Fed {
+    pub tracer: Tracer,
+    pub taken: usize,
+    pub put: usize,
+}
+
+// Behind the text, with the end of the bytes put out.
+struct Opened {
+    tracer: Tracer,
+    put: usize,
+}
+
+// Behind a byte of the rows, with the end of the bytes put out.
+struct Traced {
+    line: Line,
+    number: u64,
+    put: usize,
+}
+
+// The same behind a part of them.
+struct FedRows {
+    line: Line,
+    number: u64,
+    taken: usize,
+    put: usize,
+}
+
+fn scan_number(r: Scanned) -> u64
+    ensures { λ n. ⌜ n ≡ refusalOf (verdictOf (scanAnswer r)) ⌝ }
+{
+    match r {
+        Scanned::Done(_) => 0,
+        Scanned::Refused(number, _, _) => number as u64,
+    }
+}
+
+// Every line is a row, and counts.
+fn next_number(number: u64) -> u64
+    ensures { λ r. ⌜ r ≡ nextNumber number ⌝ }
+{
+    if number < u64::MAX {
+        return number + 1;
+    }
+    number
+}
+
+// A line that has ended: its row is scanned, and the state it leaves printed.
+fn trace_row(
+    image: &[u8],
+    state: &mut [i32],
+    cells: &mut [i32],
+    line: Line,
+    number: u64,
+    out: &mut [u8],
+    at: usize,
+) -> usize
+    requires { ⌜ (65 ≤ length (now cells)) × (length (now state) ≤ 64) × (at + lineRoom ≤ length (now out)) ⌝ }
+    ensures { λ r. ⌜ now (state .exit) ≡ scanOf (now (image .entry)) (now (state .entry)) (handedRow line (now (cells .entry))) .state ⌝ }
+    ensures { λ r. ⌜ now (cells .exit) ≡ cellsOf line (now (cells .entry)) ⌝ }
+    ensures { λ r. ⌜ PutWhole (now (out .entry)) at (scanLine number (scanOf (now (image .entry)) (now (state .entry)) (handedRow line (now (cells .entry))))) (now (out .exit)) r ⌝ }
+{
+    let count = trace_text::line_end(cells, line);
+    let scanned = scan::scan(image, state, &cells[..count]);
+    trace_text::print::put_row(out, at, number, state, scan_number(scanned))
+}
+
+// One byte of the rows.
+fn trace_byte(
+    image: &[u8],
+    state: &mut [i32],
+    cells: &mut [i32],
+    line: Line,
+    number: u64,
+    b: u8,
+    out: &mut [u8],
+    at: usize,
+) -> Traced
+    requires { ⌜ (65 ≤ length (now cells)) × (length (now state) ≤ 64) × (at + lineRoom ≤ length (now out)) ⌝ }
+    ensures { λ r. ⌜ Session.inRows (now (image .entry)) (now (state .exit)) (r .line) (now (cells .exit)) (r .number)
+        ≡ after (Session.inRows (now (image .entry)) (now (state .entry)) line (now (cells .entry)) number) b ⌝ }
+    ensures { λ r. ⌜ PutWhole (now (out .entry)) at (putBy (Session.inRows (now (image .entry)) (now (state .entry)) line (now (cells .entry)) number) b) (now (out .exit)) (r .put) ⌝ }
+{
+    if b != 10 {
+        let more = trace_text::line_byte(cells, line, b);
+        return Traced {
+            line: more,
+            number,
+            put: at,
+        };
+    }
+    let next = next_number(number);
+    let put = trace_row(image, state, cells, line, next, out, at);
+    Traced {
+        line: Line::Start,
+        number: next,
+        put,
+    }
+}
+
+// The bytes of a part that lie in the rows, as far as there is room for another line.
+fn feed_rows(
+    image: &[u8],
+    state: &mut [i32],
+    cells: &mut [i32],
+    begun: Line,
+    last: u64,
+    part: &[u8],
+    out: &mut [u8],
+) -> FedRows
+    requires { ⌜ (65 ≤ length (now cells)) × (length (now state) ≤ 64) × (lineRoom ≤ length (now out)) ⌝ }
+    ensures { λ r. ⌜ Takes (length (now (out .entry)))
+        (Session.inRows (now (image .entry)) (now (state .entry)) begun (now (cells .entry)) last) (now (part .entry)) (r .taken)
+        (Session.inRows (now (image .entry)) (now (state .exit)) (r .line) (now (cells .exit)) (r .number)) (now (out .exit)) (r .put) ⌝ }
+{
+    let mut line = begun;
+    let mut number = last;
+    let mut taken = 0;
+    let mut put = 0;
+    while taken < part.len() {
+        if out.len() - put < LINE_ROOM {
+            return FedRows {
+                line,
+                number,
+                taken,
+                put,
+            };
+        }
+        let traced = trace_byte(image, state, cells, line, number, part[taken], out, put);
+        line = traced.line;
+        number = traced.number;
+        put = traced.put;
+        taken += 1;
+    }
+    FedRows {
+        line,
+        number,
+        taken,
+        put,
+    }
+}
+
+// An accepted text: its image, the start, and their lines put out.
+fn begin_trace(
+    text: &[u8],
+    image: &mut [u8],
+    state: &mut [i32],
+    starts: &[usize],
+    ends: &[usize],
+    size: usize,
+    out: &mut [u8],
+) -> usize
+    requires { ⌜ Accepts (now text) (now starts) (now ends) size (length (now state)) ⌝ }
+    requires { ⌜ (49154 ≤ length (now image)) × (lineRoom ≤ length (now out)) ⌝ }
+    ensures { λ r. ⌜ ((p : Program) → programOf (now (text .entry)) ≡ accepted p → Begins (take size (now (image .exit))) (now (state .exit)) (take r (now (out .exit))) p) ⌝ }
+    ensures { λ r. ⌜ r ≤ length (now (out .exit)) ⌝ }
+{
+    translate::translate(text, image);
+    let at = trace_text::print::put_head(out, 0, text, starts, ends, state.len());
+    scan::start(&image[..size], state);
+    trace_text::print::put_row(out, at, 0, state, 0)
+}
+
+// The text is whole: its refusal, or its trace so far, put out.
+fn open_in(
+    text: &[u8],
+    image: &mut [u8],
+    state: &mut [i32],
+    starts: &mut [usize],
+    ends: &mut [usize],
+    out: &mut [u8],
+) -> Opened
+    requires { ⌜ Room (now starts) (now ends) 0 ⌝ }
+    requires { ⌜ (49154 ≤ length (now image)) × (length (now state) ≡ 64) × (lineRoom ≤ length (now out)) ⌝ }
+    ensures { λ r. ⌜ Opens (now (text .entry)) (now (image .exit)) (now (state .exit)) (now (out .exit)) (r .tracer) (r .put) ⌝ }
+{
+    let analysis = translate::analyse(text, starts, ends);
+    match analysis {
+        Analysis::Refused(number, place) => {
+            let put = trace_text::print::put_refused(out, 0, number as u64, place as u64);
+            Opened {
+                tracer: Tracer::Text(Stage::Rows, 0),
+                put,
+            }
+        }
+        Analysis::Accepted(size, _, names) => {
+            let put = begin_trace(text, image, &mut state[..names], starts, ends, size, out);
+            Opened {
+                tracer: Tracer::Rows(size, names, Line::Start, 0),
+                put,
+            }
+        }
+    }
+}
+
+fn open_trace(text: &[u8], image: &mut [u8], state: &mut [i32], out: &mut [u8]) -> Opened
+    requires { ⌜ (49154 ≤ length (now image)) × (length (now state) ≡ 64) × (lineRoom ≤ length (now out)) ⌝ }
+    ensures { λ r. ⌜ Opens (now (text .entry)) (now (image .exit)) (now (state .exit)) (now (out .exit)) (r .tracer) (r .put) ⌝ }
+{
+    let mut starts = [0usize; limits::NAME_LIMIT];
+    let mut ends = [0usize; limits::NAME_LIMIT];
+    open_in(text, image, state, &mut starts, &mut ends, out)
+}
+
+// The bytes of a part that lie in the text, as far as the rows; behind the line `#` the trace is begun.
+fn feed_text(
+    text: &mut [u8],
+    image: &mut [u8],
+    state: &mut [i32],
+    stage: Stage,
+    stored: usize,
+    part: &[u8],
+    out: &mut [u8],
+) -> Fed
+    requires { ⌜ (stored ≤ length (now text)) × (length (now text) ≡ textRoom) × (isRows stage ≡ false) ⌝ }
+    requires { ⌜ (49154 ≤ length (now image)) × (length (now state) ≡ 64) × (lineRoom ≤ length (now out)) ⌝ }
+    ensures { λ r. ⌜ ((cells : List ℤ) → Takes (length (now (out .entry))) (Session.inText stage (take stored (now (text .entry))) cells) (now (part .entry)) (r .taken)
+        (sessionOf (r .tracer) (now (text .exit)) (now (image .exit)) (now (state .exit)) cells) (now (out .exit)) (r .put)) ⌝ }
+{
+    let split = Split {
+        stage,
+        length: stored,
+    };
+    let divided = trace_text::split_chunk(text, split, part, 0);
+    let found = divided.split;
+    let reached = found.stage;
+    let end = found.length;
+    if !trace_text::is_rows(reached) {
+        return Fed {
+            tracer: Tracer::Text(reached, end),
+            taken: divided.rows,
+            put: 0,
+        };
+    }
+    let opened = open_trace(&text[..end], image, state, out);
+    let tracer = opened.tracer;
+    Fed {
+        tracer,
+        taken: divided.rows,
+        put: opened.put,
+    }
+}
+
+fn feed_in(
+    text: &mut [u8],
+    image: &mut [u8],
+    state: &mut [i32],
+    cells: &mut [i32],
+    tracer: Tracer,
+    part: &[u8],
+    out: &mut [u8],
+) -> Fed
+    requires { ⌜ Memory (now text) (now image) (now state) (now cells) × (lineRoom ≤ length (now out)) ⌝ }
+    ensures { λ r. ⌜ Takes (length (now (out .entry))) (sessionOf tracer (now (text .entry)) (now (image .entry)) (now (state .entry)) (now (cells .entry))) (now (part .entry)) (r .taken)
+        (sessionOf (r .tracer) (now (text .exit)) (now (image .exit)) (now (state .exit)) (now (cells .exit))) (now (out .exit)) (r .put) ⌝ }
+{
+    match tracer {
+        Tracer::Text(stage, stored) => {
+            if trace_text::is_rows(stage) {
+                return Fed {
+                    tracer: Tracer::Text(stage, stored),
+                    taken: part.len(),
+                    put: 0,
+                };
+            }
+            let n = trace_text::print::clip(text.len(), stored);
+            feed_text(text, image, state, stage, n, part, out)
+        }
+        Tracer::Rows(size, names, line, number) => {
+            let end = trace_text::print::clip(image.len(), size);
+            let n = trace_text::print::clip(state.len(), names);
+            let fed = feed_rows(
+                &image[..end],
+                &mut state[..n],
+                cells,
+                line,
+                number,
+                part,
+                out,
+            );
+            let begun = fed.line;
+            Fed {
+                tracer: Tracer::Rows(end, n, begun, fed.number),
+                taken: fed.taken,
+                put: fed.put,
+            }
+        }
+    }
+}
+
+fn finish_in(
+    text: &[u8],
+    image: &mut [u8],
+    state: &mut [i32],
+    cells: &mut [i32],
+    tracer: Tracer,
+    out: &mut [u8],
+) -> usize
+    requires { ⌜ Memory (now text) (now image) (now state) (now cells) × (lineRoom ≤ length (now out)) ⌝ }
+    ensures { λ r. ⌜ take r (now (out .exit)) ≡ atEnd (sessionOf tracer (now (text .entry)) (now (image .entry)) (now (state .entry)) (now (cells .entry))) ⌝ }
+    ensures { λ r. ⌜ r ≤ length (now (out .exit)) ⌝ }
+{
+    match tracer {
+        Tracer::Text(stage, stored) => {
+            if trace_text::is_rows(stage) {
+                return 0;
+            }
+            let n = trace_text::print::clip(text.len(), stored);
+            let opened = open_trace(&text[..n], image, state, out);
+            opened.put
+        }
+        Tracer::Rows(size, names, line, number) => {
+            if !trace_text::is_begun(line) {
+                return 0;
+            }
+            let end = trace_text::print::clip(image.len(), size);
+            let n = trace_text::print::clip(state.len(), names);
+            let next = next_number(number);
+            trace_row(&image[..end], &mut state[..n], cells, line, next, out, 0)
+        }
+    }
+}
+
+// Before the first byte.
+pub fn begin() -> Tracer
+    ensures { λ r. ⌜ r ≡ Tracer.Text Stage.LineStart 0 ⌝ }
+{
+    Tracer::Text(Stage::LineStart, 0)
+}
+
+// The next bytes of the input. Where the buffer might not have room for another line, the rest of the part is left for the next call.
+pub fn feed(
+    text: &mut [u8; TEXT_ROOM],
+    image: &mut [u8; limits::IMAGE_ROOM],
+    state: &mut [i32; limits::NAME_LIMIT],
+    cells: &mut [i32; trace_text::LONG_ROW],
+    tracer: Tracer,
+    part: &[u8],
+    out: &mut [u8; OUTPUT_ROOM],
+) -> Fed
+    ensures { λ r. ⌜ Takes (length (now (out .entry))) (sessionOf tracer (now (text .entry)) (now (image .entry)) (now (state .entry)) (now (cells .entry))) (now (part .entry)) (r .taken)
+        (sessionOf (r .tracer) (now (text .exit)) (now (image .exit)) (now (state .exit)) (now (cells .exit))) (now (out .exit)) (r .put) ⌝ }
+{
+    feed_in(text, image, state, cells, tracer, part, out)
+}
+
+// The input has ended: the end of the bytes put out.
+pub fn finish(
+    text: &[u8; TEXT_ROOM],
+    image: &mut [u8; limits::IMAGE_ROOM],
+    state: &mut [i32; limits::NAME_LIMIT],
+    cells: &mut [i32; trace_text::LONG_ROW],
+    tracer: Tracer,
+    out: &mut [u8; OUTPUT_ROOM],
+) -> usize
+    ensures { λ r. ⌜ take r (now (out .exit)) ≡ atEnd (sessionOf tracer (now (text .entry)) (now (image .entry)) (now (state .entry)) (now (cells .entry))) ⌝ }
+    ensures { λ r. ⌜ r ≤ length (now (out .exit)) ⌝ }
+{
+    finish_in(text, image, state, cells, tracer, out)
+}
