@@ -12,9 +12,9 @@ use Rattle.lexer.specs.Token.{Kind, closeRound, bar, Read, token, fault}
 use Rattle.lexer.specs.Lexer.{tokenAt, sameToken}
 use Rattle.semantics.specs.Program.{Condition}
 use Rattle.grammar.specs.Parsed.{Parsed, accepted, refused}
-use Rattle.grammar.specs.Rules.{Spanned, Compared, agrees, differs, onCompared, onFound, partFrom, kindAt, partsFrom, settled}
+use Rattle.grammar.specs.Rules.{Spanned, Compared, agrees, differs, onCompared, onFound, partFrom, kindAt, partsFrom, firstFound}
 use Rattle.grammar.specs.Derivation.{Tokens, Stands, Spells}
-use Rattle.grammar.proofs.Standing.{stands-in, spells-in}
+use Rattle.grammar.proofs.Standing.{stands-in, spells-in, is-read, stands-read}
 use Rattle.grammar.proofs.Listed.{Listed, last, next, parts-next}
 use Rattle.faults.proofs.Reaching.{Reaches, reaches-le, readStart, starts-after}
 use Rattle.faults.proofs.Prefix.{part-same, token-stays}
@@ -80,14 +80,10 @@ module _ (S : Setting) where
       let i = stands-in (S .text) from (g .0) t h st in
       let j = spells-in (S .text) (g .0) to ts (i .1) (g .2) in
       let m : g .0 < S .end = omega (arith, j .0, S .some-bytes) in
-      let su : Stands (S .twin) from (g .0) t =
-      record {
-        kind = st .kind;
-        start = st .start;
-        is-token = token-stays (S .text) (S .twin) (S .end) (S .in-text) (S .in-twin) (S .same) from (st .kind) (st .start) (g .0) h (st .is-token) m;
-        some-bytes = st .some-bytes;
-        spelled = sym (part-same (S .text) (S .twin) (S .end) (S .in-text) (S .in-twin) (S .same) (st .start) (g .0) (omega arith)) ∙ st .spelled;
-      } in
+      let w : from ≤ length (S .twin) = omega (arith, i .0, j .0, S .some-bytes, S .in-twin) in
+      let e = token-stays (S .text) (S .twin) (S .end) (S .in-text) (S .in-twin) (S .same) from (st .kind) (st .start) (g .0) h (is-read st) m in
+      let q = sym (part-same (S .text) (S .twin) (S .end) (S .in-text) (S .in-twin) (S .same) (st .start) (g .0) (omega arith)) ∙ st .spelled in
+      let su : Stands (S .twin) from (g .0) t = stands-read (S .twin) from (st .kind) (st .start) (g .0) w (st .is-token .some-bytes) e t q in
       (g .0, su, spells-stay ts (g .0) to (i .1) (g .2) l)
 
   part-far : (ts : Tokens) (f f' from to at : ℕ) → from ≤ length (S .text) → Spells (S .text) from to ts → to ≤ S .place → S .place < at → SameCompared S (partFrom f (S .text) from to at) (partFrom f' (S .twin) from to at)
@@ -119,8 +115,8 @@ module _ (S : Setting) where
       let st = g .1 in
       let i = stands-in (S .text) from (g .0) t h st in
       let j = spells-in (S .text) (g .0) to ts (i .1) (g .2) in
-      let su = token-stays (S .text) (S .twin) (S .end) (S .in-text) (S .in-twin) (S .same) from (st .kind) (st .start) (g .0) h (st .is-token) (omega (arith, j .0, S .some-bytes)) in
-      rw (lt-ltb from to (omega (arith, i .0, j .0)), st .is-token, su)
+      let su = token-stays (S .text) (S .twin) (S .end) (S .in-text) (S .in-twin) (S .same) from (st .kind) (st .start) (g .0) h (is-read st) (omega (arith, j .0, S .some-bytes)) in
+      rw (lt-ltb from to (omega (arith, i .0, j .0)), is-read st, su)
       (found-agrees at (sameToken (S .text) (st .kind) (st .start) (g .0)) (sameToken (S .twin) (st .kind) (st .start) (g .0)) _ _ c (λ k s n e. same-tokens (st .kind) (st .start) (g .0) at (omega (arith, j .0, S .some-bytes)) c k s n e)
       (λ n x. ih f f' (g .0) to n (i .1) (g .2) l (omega (arith, i .0)) (omega (arith, i .0)) x))
 
@@ -175,11 +171,11 @@ module _ (S : Setting) where
 
   -- ---- 7
 
-  far-settled : (r : Parsed (List Condition)) (d : Compared) → S .place < placeOf r → S .place < reached d → S .place < placeOf (settled r d)
-  unfolding settled
-  far-settled r (agrees n) l m = l
-  far-settled (accepted a n) (differs q) l m = m
-  far-settled (refused k p) (differs q) l m = go (ltb p q) (eqb p q) (leb k 5)
+  far-first : (r : Parsed (List Condition)) (d : Compared) → S .place < placeOf r → S .place < reached d → S .place < placeOf (firstFound r d)
+  unfolding firstFound
+  far-first r (agrees n) l m = l
+  far-first (accepted a n) (differs q) l m = m
+  far-first (refused k p) (differs q) l m = go (ltb p q) (eqb p q) (leb k 5)
     where
       go : (t u v : Bool) → S .place < placeOf {A = List Condition} (cond t (refused k p) (cond u (cond v (refused k p) (refused 7 q)) (refused 7 q)))
       go true u v = l
@@ -188,33 +184,33 @@ module _ (S : Setting) where
       go false false v = m
 
   -- a refusal before what differs stays, and what differs before a refusal is 7
-  refused-stays : (k q : ℕ) (d : Compared) → q ≤ S .place → S .place < reached d → settled {A = List Condition} (refused k q) d ≡ refused k q
-  unfolding settled
+  refused-stays : (k q : ℕ) (d : Compared) → q ≤ S .place → S .place < reached d → firstFound {A = List Condition} (refused k q) d ≡ refused k q
+  unfolding firstFound
   refused-stays k q (agrees n) l m = refl
   refused-stays k q (differs n) l m = rw (lt-ltb q n (omega arith))
 
-  differs-first : (r : Parsed (List Condition)) (m : ℕ) → S .place < placeOf r → m ≤ S .place → settled r (differs m) ≡ refused 7 m
-  unfolding settled
+  differs-first : (r : Parsed (List Condition)) (m : ℕ) → S .place < placeOf r → m ≤ S .place → firstFound r (differs m) ≡ refused 7 m
+  unfolding firstFound
   differs-first (accepted a n) m l h = refl
   differs-first (refused k q) m l h = rw (le-ltb q m (omega arith), not-equal q m (omega arith))
 
-  itself : (k q m : ℕ) → q ≤ S .place → m ≤ S .place → Same {A = List Condition} S (settled (refused k q) (differs m)) (settled (refused k q) (differs m))
-  unfolding settled
+  itself : (k q m : ℕ) → q ≤ S .place → m ≤ S .place → Same {A = List Condition} S (firstFound (refused k q) (differs m)) (firstFound (refused k q) (differs m))
+  unfolding firstFound
   itself k q m l h = cond-same (ltb q m) (refuses k q l) (cond-same (eqb q m) (cond-same (leb k 5) (refuses k q l) (refuses 7 m h)) (refuses 7 m h))
 
   met-near : (at n : ℕ) (d : Compared) → MeetsAt (S .text) at n d → reached d ≤ n
   met-near at n (agrees m) g = omega (arith, g)
   met-near at n (differs m) g = omega (arith, g .early)
 
-  pub settled-same : (at : ℕ) (r r' : Parsed (List Condition)) (d d' : Compared) → Same S r r' → SameCompared S d d' → ((ds : List Condition) (n : ℕ) → r ≡ accepted ds n → MeetsAt (S .text) at n d) → Same S (settled r d) (settled r' d')
-  unfolding settled
-  settled-same at r r' d d' (yields a n i) (agree m j) f = yields a n i
-  settled-same at r r' d d' (yields a n i) (differ m j) f = refuses 7 m j
-  settled-same at r r' d d' (yields a n (inl c)) (far l l') f = absurd (omega (arith, met-near at n d (f a n refl), reaches-le (S .text) c, b-within S))
-  settled-same at r r' d d' (yields a n (inr x)) (far l l') f = beyond (far-settled (accepted a n) d x l) (far-settled (accepted a n) d' x l')
-  settled-same at r r' d d' (refuses k q i) (agree m j) f = refuses k q i
-  settled-same at r r' d d' (refuses k q i) (differ m j) f = itself k q m i j
-  settled-same at r r' d d' (refuses k q i) (far l l') f = rw (refused-stays k q d i l, refused-stays k q d' i l') (refuses k q i)
-  settled-same at r r' d d' (beyond x x') (agree m j) f = beyond x x'
-  settled-same at r r' d d' (beyond x x') (differ m j) f = rw (differs-first r m x j, differs-first r' m x' j) (refuses 7 m j)
-  settled-same at r r' d d' (beyond x x') (far l l') f = beyond (far-settled r d x l) (far-settled r' d' x' l')
+  pub first-same : (at : ℕ) (r r' : Parsed (List Condition)) (d d' : Compared) → Same S r r' → SameCompared S d d' → ((ds : List Condition) (n : ℕ) → r ≡ accepted ds n → MeetsAt (S .text) at n d) → Same S (firstFound r d) (firstFound r' d')
+  unfolding firstFound
+  first-same at r r' d d' (yields a n i) (agree m j) f = yields a n i
+  first-same at r r' d d' (yields a n i) (differ m j) f = refuses 7 m j
+  first-same at r r' d d' (yields a n (inl c)) (far l l') f = absurd (omega (arith, met-near at n d (f a n refl), reaches-le (S .text) c, b-within S))
+  first-same at r r' d d' (yields a n (inr x)) (far l l') f = beyond (far-first (accepted a n) d x l) (far-first (accepted a n) d' x l')
+  first-same at r r' d d' (refuses k q i) (agree m j) f = refuses k q i
+  first-same at r r' d d' (refuses k q i) (differ m j) f = itself k q m i j
+  first-same at r r' d d' (refuses k q i) (far l l') f = rw (refused-stays k q d i l, refused-stays k q d' i l') (refuses k q i)
+  first-same at r r' d d' (beyond x x') (agree m j) f = beyond x x'
+  first-same at r r' d d' (beyond x x') (differ m j) f = rw (differs-first r m x j, differs-first r' m x' j) (refuses 7 m j)
+  first-same at r r' d d' (beyond x x') (far l l') f = beyond (far-first r d x l) (far-first r' d' x' l')

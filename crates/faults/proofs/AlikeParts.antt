@@ -8,14 +8,14 @@ use native.Mathlib.Omega.{arith}
 use lib.ListN.{length, getD}
 use lib.Dec.{ltb}
 use lib.IntN.{pos}
-use Rattle.limits.specs.Limits.{bracketLimit}
+use Rattle.limits.specs.Limits.{bracketLimit, numberLimit}
 use Rattle.lexer.specs.Token.{Kind, name, digits, openRound, openSquare, tilde, minus, is}
 use Rattle.lexer.specs.Token as T
 use Rattle.lexer.specs.Lexer.{sameName, overLong, valueOf}
 use Rattle.lexer.specs.Names.{idOf}
 use Rattle.semantics.specs.Program.{Expression, Condition, operation, constant}
 use Rattle.grammar.specs.Parsed.{Parsed, accepted, refused, onOption, Wanted, sign, own, ownPrevious, expected, phrase, followed, rest, chain}
-use Rattle.grammar.specs.Expressions.{Scope, withId, currentAt, previousAt, numberLimit, numberAt, primary, negative, factor, productOf, sumOf, term, expression, bracket, wholeExpression}
+use Rattle.grammar.specs.Expressions.{Scope, withId, currentAt, previousAt, numberAt, primary, negative, factor, productOf, sumOf, term, expression, bracket, wholeExpression}
 use Rattle.grammar.specs.Conditions.{comparisonOf, compared, comparisonAt, opposite, inverted, atom, connect, andOf, orOf, conjunction, condition, square, wholeCondition, listed}
 use Rattle.faults.proofs.Reaching.{reaches-le}
 use Rattle.faults.proofs.Readings.{rest-reads, chain-reads}

@@ -34,7 +34,7 @@ use Rattle.faults.proofs.Reaching.{reaches-le, token-after}
 use Rattle.faults.proofs.Readings.{read-within, phrase-reads, whole-expression-reads}
 use Rattle.faults.proofs.Closing.{plain-meets}
 use Rattle.faults.proofs.ReadingsText.{case-reads, agreeing-reads}
-use Rattle.faults.proofs.AlikeLists.{Before, parts-agree, settled-same}
+use Rattle.faults.proofs.AlikeLists.{Before, parts-agree, first-same}
 use Rattle.faults.proofs.Alike.{Setting, Alike, Any, TokenIn, read-after, b-within, plain, only, late, done-alike, past-alike, here-alike, not-allowed, step-alike, step-in, cond-alike, option-alike, then-alike, then-known, word-alike, word-in, token-alike, token-in}
 use Rattle.faults.proofs.AlikeParts.{scope, phrase-alike, followed-alike, whole-expression-alike, listed-alike}
 
@@ -111,7 +111,7 @@ module _ (S : Setting) (names : List (List ℕ)) (known : List Bool) where
 
   list-alike : (left : ℕ) (done : List Condition) (at : ℕ) → Alike S Any at (λ t. listFrom left (scope names known t) done at)
   unfolding listFrom
-  list-alike zero done at = token-alike at (λ k s n. here-alike 8 (omega arith) (omega arith))
+  list-alike zero done at = token-alike at (λ k s n. cond-alike (is k openSquare) (here-alike 8 (omega arith) (omega arith)) not-allowed)
   list-alike (suc left) done at =
       token-alike at
       (λ k s n.
@@ -189,7 +189,7 @@ module _ (S : Setting) (names : List (List ℕ)) (known : List Bool) where
     agreeing-alike w from to cases at =
         record {
           reads = λ t r. agreeing-reads (scope names known t) few lengths good w from to cases (r .cases-are) at (r .within);
-          alike = λ r r' c. settled-same S at (plainList (scope names known (S .text)) at) (plainList (scope names known (S .twin)) at) (partsFrom (S .text) cases at) (partsFrom (S .twin) cases at)
+          alike = λ r r' c. first-same S at (plainList (scope names known (S .text)) at) (plainList (scope names known (S .twin)) at) (partsFrom (S .text) cases at) (partsFrom (S .twin) cases at)
               (plain-alike at .alike tt tt c)
               (parts-agree S cases (r .cases-are .list) (r .cases-are .lists) (before-later at (S .place) cases (omega (arith, reaches-le (S .text) c, b-within S)) (r .spans)) at (inl c))
               (λ ds n e. plain-meets (scope names known (S .text)) few good lengths w from to cases (r .cases-are) at n ds (r .within) e);

@@ -14,10 +14,11 @@ use Rattle.lexer.specs.Lexer.{sameName}
 use Rattle.lexer.proofs.Laws.{cond-prop}
 use Rattle.lexer.proofs.Same.{same-name}
 use Rattle.grammar.specs.Derivation as D
-use Rattle.grammar.specs.Derivation.{Tokens, IsName, IsDigits, SumSign, ProductSign, ComparisonSign, Level, LevelC, SpellsE, a-number, a-current, a-previous, brackets, plain, opposite, one-factor, product, one-term, sum, SpellsC, compared, square, not-square, one-atom, conjoined, one-conjunction, disjoined}
+use Rattle.lexer.specs.Spelling.{IsDigits, Spelling}
+use Rattle.grammar.specs.Derivation.{Tokens, IsName, SumSign, ProductSign, ComparisonSign, Level, LevelC, SpellsE, a-number, a-current, a-previous, brackets, plain, opposite, one-factor, product, one-term, sum, SpellsC, compared, square, not-square, one-atom, conjoined, one-conjunction, disjoined}
 use Rattle.grammar.specs.Spelled.{squared, SpellsCases, one-case, more-cases}
 use Rattle.grammar.specs.Internal.{Named}
-use Rattle.grammar.proofs.Spellings.{Spelling, one-kind}
+use Rattle.lexer.proofs.Spellings.{one-kind}
 
 -- ---- open brackets
 
@@ -59,7 +60,7 @@ kinds-differ a b h e = h (ap kindNumber e)
 
 name-other : (w : List ℕ) → IsName w → (d : ℕ) → depthBy w d ≡ some d
 unfolding kindNumber
-name-other w h d = other-kind name w (h .is-word, h .no-word) (kinds-differ name openRound (λ e. omega (arith, e))) (kinds-differ name closeRound (λ e. omega (arith, e))) d
+name-other w h d = other-kind name w (record { is-word = h .is-word; no-word = h .no-word }) (kinds-differ name openRound (λ e. omega (arith, e))) (kinds-differ name closeRound (λ e. omega (arith, e))) d
 
 digits-other : (w : List ℕ) → IsDigits w → (d : ℕ) → depthBy w d ≡ some d
 unfolding kindNumber
@@ -68,7 +69,7 @@ digits-other w h d = other-kind digits w h (kinds-differ digits openRound (λ e.
 previous-other : (w : List ℕ) → IsName w → (d : ℕ) → depthBy (bytes "_" ++ w) d ≡ some d
 unfolding kindNumber
 previous-other w h d =
-    other-kind previous (95 ∷ w) (record { rest = w; is-cons = refl; is-word = h .is-word; no-word = h .no-word }) (kinds-differ previous openRound (λ e. omega (arith, e))) (kinds-differ previous closeRound (λ e. omega (arith, e))) d
+    other-kind previous (95 ∷ w) (record { rest = w; is-cons = refl; is-name = record { is-word = h .is-word; no-word = h .no-word } }) (kinds-differ previous openRound (λ e. omega (arith, e))) (kinds-differ previous closeRound (λ e. omega (arith, e))) d
 
 -- ---- balanced tokens
 

@@ -24,8 +24,8 @@ use Rattle.grammar.specs.Derivation.{Tokens, Stands, Spells, SpellsC}
 use Rattle.grammar.specs.Spelled.{squared}
 use Rattle.grammar.specs.Internal.{Named}
 use Rattle.grammar.specs.Rules.{Spanned, Compared, agrees, differs, onCompared, partFrom, kindAt, partsFrom, casesOf, listFrom, plainList}
-use Rattle.grammar.proofs.Spellings.{isFixed}
-use Rattle.grammar.proofs.Standing.{stands-in, spells-in, spells-append}
+use Rattle.lexer.proofs.Spellings.{isFixed}
+use Rattle.grammar.proofs.Standing.{stands-in, spells-in, spells-append, is-read}
 use Rattle.grammar.proofs.Combine.{token-prop, then-prop, never, same-end}
 use Rattle.grammar.proofs.Derived.{Derives, Closed, listed-derives}
 use Rattle.grammar.proofs.Lists.{CasesIn}
@@ -87,8 +87,8 @@ module _ (text : List ℕ) where
   differs-here at n n1 w P h su sp =
       let i = stands-in text at n1 w h su .1 in
       let j = spells-in text n1 n P i sp .0 in
-      let k = su .some-bytes in
-      record { place = at; kind = su .kind; end = n1; reached = Reach.none; is-token = su .is-token; early = omega arith }
+      let k = su .is-token .some-bytes in
+      record { place = at; kind = su .kind; end = n1; reached = Reach.none; is-token = is-read su; early = omega arith }
 
   pub part-stays : (f to at : ℕ) → partFrom f text to to at ≡ agrees at
   unfolding partFrom
@@ -123,19 +123,19 @@ module _ (text : List ℕ) where
       let lt : from < to = omega (arith, mv .0, s .0) in
       let room : to ≤ g .0 + f = omega (arith, mv .0) in
       let o = open-after t ts d e q in
-      rw (lt-ltb from to lt, st .is-token, su .is-token)
+      rw (lt-ltb from to lt, is-read st, is-read su)
       (cond-prop (Goes at n e) (sameToken text (st .kind) (st .start) (g .0) (su .kind) (su .start) (sp .0)) _ _
       (λ y.
       let same : t ≡ x = sym (st .spelled) ∙ same-token text (st .kind) (st .start) (g .0) (su .kind) (su .start) (sp .0) y .1 ∙ su .spelled in
       let c2 : Then (depthBy x d) P (λ e. Closes P e) = c in
       let c3 : Closes P (o .0) = subst (λ (z : Option ℕ). Then z P (λ e. Closes P e)) (ap (λ (w : List ℕ). depthBy w d) (sym same) ∙ o .1) c2 in
-      goes-behind at (sp .0) n e (Reach.more (su .kind) (su .start) (sp .0) (su .is-token) Reach.none) (partFrom f text (g .0) to (sp .0))
+      goes-behind at (sp .0) n e (Reach.more (su .kind) (su .start) (sp .0) (is-read su) Reach.none) (partFrom f text (g .0) to (sp .0))
       (part-goes n ts f (g .0) to (sp .0) (o .0) e P (mv .1) (mw .1) room (g .2) (o .2) (sp .2) c3))
       (λ y. differs-here at n (sp .0) x P i su (sp .2)))
 
   one-token : (at m : ℕ) (x y : List ℕ) → Stands text at m x → Stands text at m y → x ≡ y
   one-token at m x y a b =
-      let e : token (a .kind) (a .start) m ≡ token (b .kind) (b .start) m = sym (a .is-token) ∙ b .is-token in
+      let e : token (a .kind) (a .start) m ≡ token (b .kind) (b .start) m = sym (is-read a) ∙ is-read b in
       let f : a .start ≡ b .start = cc in
       sym (a .spelled) ∙ ap (λ (s : ℕ). part text s m) f ∙ b .spelled
 
@@ -145,13 +145,13 @@ module _ (text : List ℕ) where
   bar-goes n at d [] h sp c = absurd c
   bar-goes n at d (x ∷ P) h sp c =
       let su = sp .1 in
-      rw (su .is-token)
+      rw (is-read su)
       (cond-prop (Goes at n d) (is (su .kind) bar) _ _
       (λ y.
-      let b = fixed-stands text bar refl at (su .kind) (su .start) (sp .0) h (su .is-token) y in
+      let b = fixed-stands text bar refl at (su .kind) (su .start) (sp .0) h (is-read su) y in
       let e : x ≡ bytes "|" = one-token at (sp .0) x (bytes "|") su b in
       let c2 : Closes (bytes "|" ∷ P) d = subst (λ (w : List ℕ). Closes (w ∷ P) d) e c in
-      record { reached = Reach.more (su .kind) (su .start) (sp .0) (su .is-token) Reach.none; within = stands-in text at (sp .0) x h su .1; tokens = P; spells = sp .2; closing = c2 })
+      record { reached = Reach.more (su .kind) (su .start) (sp .0) (is-read su) Reach.none; within = stands-in text at (sp .0) x h su .1; tokens = P; spells = sp .2; closing = c2 })
       (λ y. differs-here at n (sp .0) x P h su (sp .2)))
 
   -- where the comparison with a list ends
@@ -164,10 +164,10 @@ module _ (text : List ℕ) where
   round-meets n at [] h sp c = absurd c
   round-meets n at (x ∷ P) h sp c =
       let su = sp .1 in
-      rw (su .is-token)
+      rw (is-read su)
       (cond-prop (MeetsAt at n) (is (su .kind) closeRound) _ _
       (λ y.
-      let b = fixed-stands text closeRound refl at (su .kind) (su .start) (sp .0) h (su .is-token) y in
+      let b = fixed-stands text closeRound refl at (su .kind) (su .start) (sp .0) h (is-read su) y in
       let e : x ≡ bytes ")" = one-token at (sp .0) x (bytes ")") su b in
       let c2 : Closes (bytes ")" ∷ P) 0 = subst (λ (w : List ℕ). Closes (w ∷ P) 0) e c in
       let r : P ≡ [] = c2 in
@@ -225,7 +225,7 @@ module _ (sc : Scope) (few : length (sc .names) ≤ 64) (good : Named (sc .names
 
   list-even : (left : ℕ) (done : List Condition) (at : ℕ) → at ≤ length (sc .text) → Evens at (listFrom left sc done at)
   unfolding listFrom isFixed kindNumber
-  list-even zero done at h = token-prop (Evens at) (tokenAt (sc .text) at) _ (λ k q. tt) (λ k s n et. tt)
+  list-even zero done at h = token-prop (Evens at) (tokenAt (sc .text) at) _ (λ k q. tt) (λ k s n et. cond-prop (Evens at) (is k openSquare) _ _ (λ eo. tt) (λ eo. tt))
   list-even (suc left) done at h =
       token-prop (Evens at) (tokenAt (sc .text) at) _ (λ k q. tt)
       (λ k s n et. cond-prop (Evens at) (is k openSquare) _ _

@@ -13,7 +13,7 @@ use Rattle.lexer.proofs.Laws.{token-at-moved, token-faulted, Faulted}
 use Rattle.lexer.proofs.Same.{same-kind}
 use Rattle.grammar.specs.Parsed.{Parsed, refused}
 use Rattle.grammar.specs.Parse.{program, parse, answerOf, programOf}
-use Rattle.grammar.proofs.Spellings.{end-place}
+use Rattle.lexer.proofs.Spellings.{end-place}
 use Rattle.grammar.proofs.ConverseText.{short-parse}
 use Rattle.faults.specs.Texts.{readEnd, SameThrough, FirstFound}
 use Rattle.faults.proofs.Reaching.{reaches-le, readStart, token-again, not-ending}

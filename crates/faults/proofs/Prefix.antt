@@ -15,7 +15,7 @@ use Rattle.lexer.specs.Lexer.{isSpace, isDigit, isLetter, isAlphanumeric, runEn
 use Rattle.lexer.proofs.Laws.{run-stop, run-step, run-from, token-at-moved}
 use Rattle.lexer.proofs.Same.{same-kind}
 use Rattle.lexer.proofs.Repeated.{part-cut}
-use Rattle.grammar.proofs.Spellings.{end-place}
+use Rattle.lexer.proofs.Spellings.{end-place}
 use Rattle.faults.proofs.Reaching.{readStart, starts-past, not-ending}
 
 module _ (text twin : List ℕ) (size : ℕ) (in-text : size ≤ length text) (in-twin : size ≤ length twin) (same : take size text ≡ take size twin) where

@@ -15,7 +15,7 @@ use Rattle.lexer.specs.Lexer.{isSpace, isDigit, isLetter, isAlphanumeric, runEn
 use Rattle.lexer.proofs.Laws.{cond-prop, run-out, run-from, token-past-space, Moved, token-moved, token-at-moved}
 use Rattle.lexer.proofs.Same.{same-kind}
 use Rattle.grammar.specs.Derivation.{Tokens, Spells}
-use Rattle.grammar.proofs.Spellings.{end-place}
+use Rattle.lexer.proofs.Spellings.{end-place}
 use Rattle.grammar.proofs.Standing.{stands, stands-in}
 
 -- where what is read begins

@@ -8,7 +8,7 @@ use Prim.Native.Nat.{ℕ, zero, suc, _+_, _≤_}
 use native.Mathlib.Omega.{arith}
 use lib.ListN.{length, getD}
 use lib.Dec.{ltb}
-use Rattle.limits.specs.Limits.{bracketLimit}
+use Rattle.limits.specs.Limits.{bracketLimit, numberLimit}
 use Rattle.lexer.specs.Bytes.{part}
 use Rattle.lexer.specs.Token.{Kind, name, digits, openRound, openSquare, tilde, minus, is, Read, token, fault}
 use Rattle.lexer.specs.Token as T
@@ -16,7 +16,7 @@ use Rattle.lexer.specs.Lexer.{tokenAt, overLong, valueOf}
 use Rattle.lexer.specs.Names.{idOf}
 use Rattle.semantics.specs.Program.{Expression, Condition, operation}
 use Rattle.grammar.specs.Parsed.{Parsed, accepted, refused, andThen, onToken, onOption, Wanted, isWanted, expected, phrase, followed, rest, chain}
-use Rattle.grammar.specs.Expressions.{Scope, withId, currentAt, previousAt, numberLimit, numberAt, primary, negative, factor, productOf, sumOf, term, expression, bracket, wholeExpression}
+use Rattle.grammar.specs.Expressions.{Scope, withId, currentAt, previousAt, numberAt, primary, negative, factor, productOf, sumOf, term, expression, bracket, wholeExpression}
 use Rattle.grammar.specs.Conditions.{comparisonOf, compared, comparisonAt, opposite, inverted, atom, connect, andOf, orOf, conjunction, condition, square, wholeCondition, listed}
 use Rattle.faults.proofs.Reaching as Reach
 use Rattle.faults.proofs.Reaching.{Reaches, joined, reaches-within}

@@ -24,11 +24,11 @@ use Rattle.semantics.proofs.Reference.{length-known}
 use Rattle.grammar.specs.Parsed.{Parsed, accepted, refused}
 use Rattle.grammar.specs.Expressions.{Scope}
 use Rattle.grammar.specs.Declarations.{inRange, signedAt, boundAt, spellings, newName, startAt, declaration, declarationsFrom, declarations}
-use Rattle.grammar.specs.Rules.{Spanned, caseAt, casesFrom, listFrom, plainList, Compared, agrees, differs, onCompared, onFound, partFrom, kindAt, partsFrom, settled, agreeingList, functionAt, changeAt, formulas, ruleAt, ruled, rulesFrom}
+use Rattle.grammar.specs.Rules.{Spanned, caseAt, casesFrom, listFrom, plainList, Compared, agrees, differs, onCompared, onFound, partFrom, kindAt, partsFrom, firstFound, agreeingList, functionAt, changeAt, formulas, ruleAt, ruled, rulesFrom}
 use Rattle.grammar.specs.Parse.{program, parse}
 use Rattle.grammar.specs.Derivation.{Tokens, Spells}
 use Rattle.grammar.specs.Internal.{Named}
-use Rattle.grammar.proofs.Standing.{stands-in, spells-in}
+use Rattle.grammar.proofs.Standing.{stands-in, spells-in, is-read}
 use Rattle.grammar.proofs.Listed.{Listed, last, next, parts-next}
 use Rattle.grammar.proofs.Lists.{CasesIn, cases-in}
 use Rattle.grammar.proofs.Whole.{Ends, Names, First, rule-fits, declarations-fit, spellings-length, named}
@@ -116,7 +116,7 @@ module _ (text : List ℕ) where
       let st = g .1 in
       let i = stands-in text from (g .0) t h st in
       let j = spells-in text (g .0) to ts (i .1) (g .2) in
-      rw (lt-ltb from to (omega (arith, i .0, j .0)), st .is-token) (found-comes at (sameToken text (st .kind) (st .start) (g .0)) _ (λ m. part-comes ts f (g .0) to m (i .1) (g .2)))
+      rw (lt-ltb from to (omega (arith, i .0, j .0)), is-read st) (found-comes at (sameToken text (st .kind) (st .start) (g .0)) _ (λ m. part-comes ts f (g .0) to m (i .1) (g .2)))
 
   pub kind-comes : (w : Kind) (at : ℕ) → ComesTo at (kindAt text w at)
   unfolding kindAt
@@ -155,11 +155,11 @@ module _ (text : List ℕ) where
     fault-first c1 t c2 e = elim (ordered text c1 c2) [ inl c ↦ on-way c t e | inr c ↦ off-way c t e ]
 
   -- of a list that reads as r and differs first at m: at m begins a token
-  settled-reads : (at : ℕ) (r : Parsed (List Condition)) (d : Compared) → ReadsFrom text at r → ComesTo at d → ((ds : List Condition) (n : ℕ) → r ≡ accepted ds n → MeetsAt text at n d) → ReadsFrom text at (settled r d)
-  unfolding settled
-  settled-reads at r (agrees n) h g f = h
-  settled-reads at (accepted ds n) (differs m) h g f = let x = f ds n refl in record { found = (x .place, x .reached, rw (x .is-token) (omega arith, omega arith, refl)) }
-  settled-reads at (refused k q) (differs m) h g f =
+  first-reads : (at : ℕ) (r : Parsed (List Condition)) (d : Compared) → ReadsFrom text at r → ComesTo at d → ((ds : List Condition) (n : ℕ) → r ≡ accepted ds n → MeetsAt text at n d) → ReadsFrom text at (firstFound r d)
+  unfolding firstFound
+  first-reads at r (agrees n) h g f = h
+  first-reads at (accepted ds n) (differs m) h g f = let x = f ds n refl in record { found = (x .place, x .reached, rw (x .is-token) (omega arith, omega arith, refl)) }
+  first-reads at (refused k q) (differs m) h g f =
       cond-prop (ReadsFrom text at) (ltb q m) _ _ (λ t. h)
       (λ t. cond-prop (ReadsFrom text at) (eqb q m) _ _
       (λ u. cond-prop (ReadsFrom text at) (leb k 5) _ _ (λ v. h) (λ v. differing (tokenAt text (g .0)) refl (ltb-false q m t) (λ e. over-five v (e .0))))
@@ -199,7 +199,7 @@ module _ (sc : Scope) where
 
   list-reads : (left : ℕ) (done : List Condition) (at : ℕ) → ReadsFrom (sc .text) at (listFrom left sc done at)
   unfolding listFrom
-  list-reads zero done at = token-reads (sc .text) at (λ k s n e. here 8 e (omega arith) (omega arith))
+  list-reads zero done at = token-reads (sc .text) at (λ k s n e. cond-reads (is k openSquare) (here 8 e (omega arith) (omega arith)) (not-allowed e))
   list-reads (suc left) done at =
       token-reads (sc .text) at
       (λ k s n e.
@@ -220,7 +220,7 @@ module _ (sc : Scope) where
     pub agreeing-reads : (w : List ℕ) (from to : ℕ) (cases : List Spanned) → CasesIn sc few lengths w from to cases → (at : ℕ) → at ≤ length (sc .text) → ReadsFrom (sc .text) at (agreeingList sc cases at)
     unfolding agreeingList
     agreeing-reads w from to cases c at h =
-        settled-reads (sc .text) at (plainList sc at) (partsFrom (sc .text) cases at) (plain-reads at) (parts-comes (sc .text) cases (c .list) (c .lists) at)
+        first-reads (sc .text) at (plainList sc at) (partsFrom (sc .text) cases at) (plain-reads at) (parts-comes (sc .text) cases (c .list) (c .lists) at)
         (λ ds n e. plain-meets sc few good lengths w from to cases c at n ds h e)
 
     change-reads : (w : List ℕ) (v at : ℕ) → at ≤ length (sc .text) → ReadsFrom (sc .text) at (changeAt sc w v at)

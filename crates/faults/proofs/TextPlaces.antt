@@ -14,7 +14,7 @@ use Rattle.lexer.specs.Lexer.{tokenAt}
 use Rattle.semantics.specs.Program.{Program}
 use Rattle.grammar.specs.Parsed.{Parsed, accepted, refused}
 use Rattle.grammar.specs.Parse.{parse, answerOf, programOf}
-use Rattle.grammar.proofs.Spellings.{end-place}
+use Rattle.lexer.proofs.Spellings.{end-place}
 use Rattle.faults.specs.Texts.{Behind, TokenBegins, FaultPlaces}
 use Rattle.faults.proofs.Reaching.{Reaches, reaches-within, spelt-to, token-again}
 use Rattle.faults.proofs.Readings.{RefusalOf, RefusedFrom}

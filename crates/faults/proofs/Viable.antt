@@ -15,7 +15,7 @@ use Rattle.grammar.specs.Parsed.{Parsed, accepted, refused, andThen, onToken, o
 use Rattle.grammar.specs.Derivation.{Tokens, Stands, Spells}
 use Rattle.grammar.proofs.Combine.{one-sign}
 use Rattle.grammar.proofs.Growth.{operator-end}
-use Rattle.grammar.proofs.Spellings.{Spelling}
+use Rattle.lexer.specs.Spelling.{Spelling}
 use Rattle.grammar.proofs.Standing.{stands, stands-spelled, spells-in, spells-append}
 use Rattle.grammar.proofs.Derived.{sign-is}
 use Rattle.faults.specs.Grammar.{BegunBefore}

@@ -11,7 +11,7 @@ use lib.IntN.{ℤ, pos, negℤ}
 use Rattle.limits.specs.Limits.{nameLimit}
 use Rattle.arith.specs.Values.{isInt32}
 use Rattle.lexer.specs.Bytes.{bytes, part, sameBytes}
-use Rattle.lexer.specs.Token.{Kind, kindNumber, name, digits, minus, dots, initWord, semicolon, is, token}
+use Rattle.lexer.specs.Token.{Kind, kindNumber, name, digits, minus, dots, initWord, semicolon, is, token, spellingOf}
 use Rattle.lexer.specs.Token as T
 use Rattle.lexer.specs.Lexer.{isDigit, isLetter, wordOf, sameName, tokenAt, overLong, valueOf}
 use Rattle.lexer.specs.Names.{idOf}
@@ -21,15 +21,16 @@ use Rattle.arith.proofs.Basics.{and-both}
 use Rattle.semantics.specs.Program.{Name}
 use Rattle.grammar.specs.Parsed.{Parsed, accepted, refused, andThen, Wanted, sign, own, ownPrevious, expected, phrase, followed}
 use Rattle.grammar.specs.Declarations.{inRange, signedAt, boundAt, spellings, newName, startAt, declaration, declarationsFrom, declarations}
-use Rattle.grammar.specs.Derivation.{Tokens, Stands, IsDigits}
+use Rattle.lexer.specs.Spelling.{IsDigits, SpellsName}
+use Rattle.grammar.specs.Derivation.{Tokens, Stands}
 use Rattle.grammar.specs.Spelled.{SpellsZ, positive, negative, SpellsStart, absent, given}
 use Rattle.grammar.proofs.Bytes.{part-cons, heads}
 use Rattle.grammar.proofs.Growth.{not-end}
-use Rattle.grammar.proofs.Spellings.{isFixed, spellingOf}
+use Rattle.lexer.proofs.Spellings.{isFixed, name-word}
 use Rattle.grammar.proofs.Phrases.{fixed-stands, wantedToken, wantedTokens, signs}
 use Rattle.grammar.proofs.Derived.{sign-stands}
 use Rattle.faults.specs.Grammar as G
-use Rattle.faults.specs.Grammar.{NameToken, IsDeclaration, AreDeclarations}
+use Rattle.faults.specs.Grammar.{IsDeclaration, AreDeclarations}
 use Rattle.faults.proofs.Viable.{Viable, by-other, refused-here, one-token, wider, with-value, behind, then-viable, cond-viable, option-viable, token-viable}
 
 -- one language behind another
@@ -94,7 +95,7 @@ module _ (text : List ℕ) where
   -- ---- declarations
 
   abbrev Name1 : Tokens → Type 0
-  Name1 us = (w : List ℕ) × (us ≡ w ∷ []) × NameToken w
+  Name1 us = (w : List ℕ) × (us ≡ w ∷ []) × SpellsName w
 
   abbrev Digits1 : Tokens → Type 0
   Digits1 us = (w : List ℕ) × (us ≡ w ∷ []) × IsDigits w
@@ -112,7 +113,7 @@ module _ (text : List ℕ) where
 
   a-name : Name1 (bytes "a" ∷ [])
   unfolding isLetter wordOf sameBytes
-  a-name = (bytes "a", refl, ((refl, tt), refl))
+  a-name = (bytes "a", refl, record { is-word = (refl, tt); no-word = name-word (bytes "a") refl })
 
   signed-viable : (test : ℤ → Bool) (signed : ℤ → ℤ) (at : ℕ) (k : Kind) (s n : ℕ) → at ≤ length text → tokenAt text at ≡ token k s n → Viable Digits1 text at (signedAt test signed text k s n)
   unfolding signedAt is kindNumber

@@ -9,7 +9,7 @@ use lib.ListN.{length, getD, getElem?}
 use lib.Dec.{ltb}
 use lib.IntN.{pos}
 use borrow.Author.Tests.{ltb-false}
-use Rattle.limits.specs.Limits.{bracketLimit}
+use Rattle.limits.specs.Limits.{bracketLimit, numberLimit}
 use Rattle.lexer.specs.Bytes.{bytes, part}
 use Rattle.lexer.specs.Token.{Kind, kindNumber, name, digits, openRound, closeRound, openSquare, closeSquare, tilde, ampersand, bar, minus, is, token}
 use Rattle.lexer.specs.Token as T
@@ -19,13 +19,13 @@ use Rattle.lexer.proofs.Laws.{token-at-moved}
 use Rattle.arith.specs.Values.{Operation, Comparison, equal}
 use Rattle.semantics.specs.Program.{Expression, constant, current, previous, operation, negate, Condition, comparison, negated, both, either}
 use Rattle.grammar.specs.Parsed.{Parsed, refused, sign}
-use Rattle.grammar.specs.Expressions.{Scope, withId, currentAt, previousAt, numberLimit, numberAt, primary, negative, factor, productOf, sumOf, term, expression, bracket, wholeExpression}
+use Rattle.grammar.specs.Expressions.{Scope, withId, currentAt, previousAt, numberAt, primary, negative, factor, productOf, sumOf, term, expression, bracket, wholeExpression}
 use Rattle.grammar.specs.Conditions.{comparisonOf, compared, comparisonAt, opposite as opposed, inverted, atom, Connective, andAlso, orElse, connect, andOf, orOf, conjunction, condition, square, wholeCondition}
 use Rattle.grammar.specs.Derivation as D
 use Rattle.grammar.specs.Derivation.{Tokens, Stands, ComparisonSign, Level, LevelC, SpellsE, a-number, a-current, a-previous, brackets, plain, opposite, one-factor, product, one-term, sum, SpellsC, not-square, one-atom, conjoined, one-conjunction, disjoined}
 use Rattle.grammar.proofs.Bytes.{part-cons, heads}
 use Rattle.grammar.proofs.Growth.{not-end, operator-end, products-end, sums-end, comparisons-end, ands-end, ors-end}
-use Rattle.grammar.proofs.Spellings.{Spelling}
+use Rattle.lexer.specs.Spelling.{Spelling}
 use Rattle.grammar.proofs.Standing.{stands, stands-spelled, id-names, product-sign, sum-sign, comparison-sign, only-sign}
 use Rattle.grammar.proofs.Derived.{sign-stands, sign-is}
 use Rattle.faults.specs.Grammar.{IsExpression, IsCondition}

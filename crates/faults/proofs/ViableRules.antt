@@ -12,19 +12,20 @@ use Rattle.lexer.specs.Token.{Kind, kindNumber, name, openSquare, closeRound, c
 use Rattle.lexer.specs.Lexer.{tokenAt}
 use Rattle.lexer.proofs.Laws.{token-at-moved}
 use Rattle.semantics.specs.Program.{Condition}
+use Rattle.lexer.specs.Spelling.{SpellsName}
 use Rattle.grammar.specs.Parsed.{Parsed, accepted, refused, sign}
 use Rattle.grammar.specs.Expressions.{Scope}
 use Rattle.grammar.specs.Conditions.{listed}
 use Rattle.grammar.specs.Forms.{changeOpening, noChangeOpening, ruleOpening, valueOpening, functionClosing, formulaClosing, caseValueOpening}
-use Rattle.grammar.specs.Rules.{Spanned, caseAt, casesFrom, listFrom, plainList, Compared, agrees, differs, partsFrom, settled, agreeingList, functionAt, changeAt, formulas, ruleAt}
+use Rattle.grammar.specs.Rules.{Spanned, caseAt, casesFrom, listFrom, plainList, Compared, agrees, differs, partsFrom, firstFound, agreeingList, functionAt, changeAt, formulas, ruleAt}
 use Rattle.grammar.specs.Derivation as D
 use Rattle.grammar.specs.Derivation.{Tokens}
 use Rattle.grammar.specs.Spelled.{squared, cased}
-use Rattle.grammar.proofs.Spellings.{isFixed}
+use Rattle.lexer.proofs.Spellings.{isFixed}
 use Rattle.grammar.proofs.Phrases.{fixed-stands, wantedTokens, signs}
 use Rattle.grammar.proofs.Derived.{sign-stands}
 use Rattle.faults.specs.Grammar as G
-use Rattle.faults.specs.Grammar.{IsExpression, IsCondition, NameToken, AreCases, AreConditions, IsRule}
+use Rattle.faults.specs.Grammar.{IsExpression, IsCondition, AreCases, AreConditions, IsRule}
 use Rattle.faults.proofs.Viable.{Viable, by-other, refused-here, wider, behind, then-viable, cond-viable, token-viable}
 use Rattle.faults.proofs.ViableParts.{zeros, equal-zeros, zero-in-expression, zero-in-condition, id-viable, whole-expression-viable, whole-condition-viable}
 use Rattle.faults.proofs.ViableDeclarations.{Cat, cat-viable, nothing-more, Just, phrase-viable, followed-by}
@@ -111,7 +112,7 @@ module _ (sc : Scope) where
 
   list-viable : (left : ℕ) (done : List Condition) (at : ℕ) → at ≤ length (sc .text) → Viable (AreConditions (sc .names)) (sc .text) at (listFrom left sc done at)
   unfolding listFrom isFixed kindNumber
-  list-viable zero done at h = token-viable (sc .text) at (λ k s n e. by-other 8 (λ q. omega (arith, q)))
+  list-viable zero done at h = token-viable (sc .text) at (λ k s n e. cond-viable (is k openSquare) (λ t. by-other 8 (λ q. omega (arith, q))) (λ t. refused-here _ some-conditions e))
   list-viable (suc left) done at h =
       token-viable (sc .text) at
       (λ k s n e. cond-viable (is k openSquare)
@@ -132,18 +133,18 @@ module _ (sc : Scope) where
   unfolding plainList signs isFixed kindNumber
   plain-viable at h = cat-viable h (bytes ")" ∷ []) refl (list-viable caseLimit [] at h) (λ cs n i. followed-by (sc .text) (sign closeRound ∷ []) refl cs n i)
 
-  settled-viable : {L : Tokens → Type 0} (at : ℕ) (r : Parsed (List Condition)) (d : Compared) → Viable L (sc .text) at r → Viable L (sc .text) at (settled r d)
-  unfolding settled
-  settled-viable at r (agrees n) x = x
-  settled-viable at (accepted a n) (differs m) x = by-other 7 (λ q. omega (arith, q))
-  settled-viable at (refused k q) (differs m) x =
+  first-viable : {L : Tokens → Type 0} (at : ℕ) (r : Parsed (List Condition)) (d : Compared) → Viable L (sc .text) at r → Viable L (sc .text) at (firstFound r d)
+  unfolding firstFound
+  first-viable at r (agrees n) x = x
+  first-viable at (accepted a n) (differs m) x = by-other 7 (λ q. omega (arith, q))
+  first-viable at (refused k q) (differs m) x =
       cond-viable (ltb q m) (λ t. x) (λ t. cond-viable (eqb q m) (λ u. cond-viable (leb k 5) (λ v. x) (λ v. by-other 7 (λ q. omega (arith, q)))) (λ u. by-other 7 (λ q. omega (arith, q))))
 
   agreeing-viable : (cases : List Spanned) (at : ℕ) → at ≤ length (sc .text) → Viable Closed1 (sc .text) at (agreeingList sc cases at)
   unfolding agreeingList
-  agreeing-viable cases at h = settled-viable at (plainList sc at) (partsFrom (sc .text) cases at) (plain-viable at h)
+  agreeing-viable cases at h = first-viable at (plainList sc at) (partsFrom (sc .text) cases at) (plain-viable at h)
 
-  module _ (w : List ℕ) (is-name : NameToken w) where
+  module _ (w : List ℕ) (is-name : SpellsName w) where
     abbrev Computes : Tokens → Type 0
     Computes = Cat (Just (sc .text) (wantedTokens (valueOpening w))) (Cat E (Just (sc .text) (wantedTokens functionClosing)))
 

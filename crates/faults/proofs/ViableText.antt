@@ -20,7 +20,7 @@ use Rattle.grammar.specs.Declarations.{spellings, declarations}
 use Rattle.grammar.specs.Rules.{ruleAt, ruled, rulesFrom}
 use Rattle.grammar.specs.Parse.{program, parse}
 use Rattle.grammar.specs.Derivation.{Tokens, Spells}
-use Rattle.grammar.proofs.Spellings.{isFixed}
+use Rattle.lexer.proofs.Spellings.{isFixed}
 use Rattle.bytecode.proofs.Soundness.{none≢some}
 use Rattle.grammar.proofs.Standing.{spells-in}
 use Rattle.grammar.proofs.Whole.{Ends, Names, declarations-fit, named}
@@ -108,7 +108,7 @@ program-failing text =
     let good = named names (g2 .0 .0) (g2 .0 .3) in
     let sc : Scope = record { text = text; names = spellings names; known = knownFirst (length inputs) (length names) } in
     same-failing NamedRules text n2 (rulesFrom 65 sc [] n2) _
-    (weaker (AreRules (spellings names)) NamedRules text n2 (rulesFrom 65 sc [] n2) (λ ts x. (spellings names, λ i w q. let y = good .each i w q in (y .is-word, y .no-word), x)) (rules-failing 65 sc [] n2 h2))))
+    (weaker (AreRules (spellings names)) NamedRules text n2 (rulesFrom 65 sc [] n2) (λ ts x. (spellings names, λ i w q. let y = good .each i w q in (record { is-word = y .is-word; no-word = y .no-word }), x)) (rules-failing 65 sc [] n2 h2))))
 
 parse-failing : (text : List ℕ) → Failing IsText text 0 (parse text)
 unfolding parse

@@ -10,13 +10,14 @@ use Rattle.limits.specs.Limits.{textLimit, bracketLimit, notAllowed}
 use Rattle.limits.specs.Answer as A
 use Rattle.semantics.specs.Program.{Expression, Condition, Program, UsableE, UsableC}
 use Rattle.lexer.specs.Bytes.{bytes}
-use Rattle.lexer.specs.Token.{Kind, name, token}
-use Rattle.lexer.specs.Lexer.{wordOf, tokenAt}
+use Rattle.lexer.specs.Token.{Kind, token}
+use Rattle.lexer.specs.Lexer.{tokenAt}
 use Rattle.grammar.specs.Parsed.{refused}
 use Rattle.grammar.specs.Expressions.{Scope, wholeExpression}
 use Rattle.grammar.specs.Conditions.{wholeCondition, listed}
 use Rattle.grammar.specs.Parse.{programOf}
-use Rattle.grammar.specs.Derivation.{Tokens, Spells, IsWord, Level, SpellsE, expression, LevelC, SpellsC, condition}
+use Rattle.lexer.specs.Spelling.{SpellsName}
+use Rattle.grammar.specs.Derivation.{Tokens, Spells, Level, SpellsE, expression, LevelC, SpellsC, condition}
 use Rattle.grammar.specs.Spelled.{SpellsZ, SpellsStart, declarationForm, squared, cased, changeForm, functionForm, Spelled}
 use Rattle.grammar.specs.Internal.{Named}
 use Rattle.faults.specs.Texts.{SameThrough}
@@ -34,16 +35,13 @@ pub record IsCondition (names : List (List ℕ)) (level : LevelC) (ts : Tokens) 
 
 -- ---- whole texts: the grammar alone, without the limits, names and order that 3 to 8 are about
 
--- a name, of any length
-abbrev pub NameToken : List ℕ → Type 0
-NameToken w = IsWord w × (wordOf w ≡ name)
-
+-- names are of any length
 abbrev pub AreNames : List (List ℕ) → Type 0
-AreNames names = (i : ℕ) (w : List ℕ) → getElem? names i ≡ some w → NameToken w
+AreNames names = (i : ℕ) (w : List ℕ) → getElem? names i ≡ some w → SpellsName w
 
 -- `input go 0..1 init 0;` `var run 0..1;`
 pub data IsDeclaration (word : List ℕ) : Tokens → Type 0 where
-  declares : (w : List ℕ) (low high start : Tokens) (l h s : ℤ) → NameToken w → SpellsZ low l → SpellsZ high h → SpellsStart start s → IsDeclaration word (declarationForm word w low high start)
+  declares : (w : List ℕ) (low high start : Tokens) (l h s : ℤ) → SpellsName w → SpellsZ low l → SpellsZ high h → SpellsStart start s → IsDeclaration word (declarationForm word w low high start)
 
 pub data AreDeclarations (word : List ℕ) : Tokens → Type 0 where
   none : AreDeclarations word []
@@ -60,8 +58,8 @@ pub data AreConditions (names : List (List ℕ)) : Tokens → Type 0 where
   more : (ts cs : Tokens) → IsCondition names condition ts → AreConditions names cs → AreConditions names (squared ts ++ bytes "|" ∷ cs)
 
 pub data IsRule (names : List (List ℕ)) : Tokens → Type 0 where
-  a-change : (v : List ℕ) (cs ls : Tokens) → NameToken v → AreCases names v cs → AreConditions names ls → IsRule names (changeForm v cs ls)
-  a-function : (v : List ℕ) (ts : Tokens) → NameToken v → IsExpression names expression ts → IsRule names (functionForm v ts)
+  a-change : (v : List ℕ) (cs ls : Tokens) → SpellsName v → AreCases names v cs → AreConditions names ls → IsRule names (changeForm v cs ls)
+  a-function : (v : List ℕ) (ts : Tokens) → SpellsName v → IsExpression names expression ts → IsRule names (functionForm v ts)
 
 pub data AreRules (names : List (List ℕ)) : Tokens → Type 0 where
   none : AreRules names []
