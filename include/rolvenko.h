@@ -1,8 +1,9 @@
 /* Rolvenko: launch rules translated, checked, started and scanned, rows filled with the local time, and the licence charge of a trace, as
  * six C functions.
  *
- * Link target/staticlib/librolvenko.a, which `rt staticlib rolvenko` writes (x86-64 Linux; it needs memcpy and memset, allocates nothing and keeps
- * nothing between calls, so calls from several threads on memory of their own do not meet).
+ * Link target/staticlib/librolvenko.a, which `rt staticlib rolvenko` writes, or what ./install puts down of it (-lrolvenko; pkg-config
+ * rolvenko). It is for x86-64 Linux, needs memcpy and memset, allocates nothing and keeps nothing between calls, so calls from several
+ * threads on memory of their own do not meet.
  *
  * The answer. Each function answers one 64-bit number, number * 2^56 + place * 2^24 + count:
  *
