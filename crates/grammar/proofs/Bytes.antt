@@ -5,7 +5,7 @@ use mathlib.Core.Bool.{Bool, true, false, cond}
 use mathlib.Core.Option.{some}
 use Prim.Native.Nat.{ℕ, zero, suc, _+_, _-_, _*_, _/_, _%_, _≤_, _<_}
 use native.Mathlib.Omega.{arith}
-use lib.ListN.{length, getD, length-take, length-drop}
+use lib.ListN.{length, getD, getElem?, length-take, length-drop}
 use lib.Seq.{drop-cons}
 use lib.Dec.{ltb}
 use lib.IntN.{pos}
@@ -77,6 +77,11 @@ id-from (x ∷ l) w i j e = go (sameName w x) (λ h. id-from l w (i + 1) j h) e
 pub id-of : (l : List (List ℕ)) (w : List ℕ) (j : ℕ) → idOf l w ≡ some j → j < length l
 unfolding idOf
 id-of l w j e = omega (arith, id-from l w 0 j e)
+
+pub place-in : (names : List (List ℕ)) (i : ℕ) (w : List ℕ) → getElem? names i ≡ some w → i < length names
+place-in [] i w e = let z : _≡_ {A = ℕ} 0 1 = cc in absurd (omega arith)
+place-in (x ∷ l) zero w e = omega arith
+place-in (x ∷ l) (suc i) w e = omega (arith, place-in l i w e)
 
 pub part-length : (text : List ℕ) (s n : ℕ) → s ≤ n → n ≤ length text → length (part text s n) ≡ n - s
 part-length text s n h l = simp (length-take, length-drop) (omega arith)
