@@ -16,7 +16,7 @@ use Rattle.grammar.specs.Parsed.{Parsed, accepted, refused, andThen, sign, foll
 use Rattle.grammar.specs.Expressions.{Scope, expression}
 use Rattle.grammar.specs.Conditions.{comparisonOf, compared, comparisonAt, opposite, inverted, atom, Connective, andAlso, orElse, connect, connectiveCode, andOf, orOf, square, wholeCondition, listed}
 use Rattle.grammar.specs.Emitted.{codeE, codeC}
-use Rattle.grammar.proofs.Growth.{Grown, not-end, connect-code, ands-end, ors-end, comparisons-end, bracket-grown, atom-grown, conjunction-grown, square-grown}
+use Rattle.grammar.proofs.Growth.{Grown, not-end, connect-code, ands-end, ors-end, comparisons-end, atom-grown, conjunction-grown, square-grown}
 use Rattle.expressions.specs.declared.Lookahead.{Lookahead}
 use Rattle.expressions.specs.declared.scope.Names.{Names}
 use Rattle.expressions.specs.Scopes.{scopeOf, Declared}
@@ -193,10 +193,10 @@ listed-is sc n = refl
 
 module _ {text starts ends : List ℕ} {names : Names} (d : Declared starts ends names) (left : ℕ) {at to : ℕ} (r : Room text at to) where
   pub atom-grows : Grown codeC (length text) at (atomIn left (scopeOf text starts ends names) at)
-  atom-grows = atom-grown _ (few-names text d) _ (bracket-grown _ (few-names text d) left) _ (square-grown _ (few-names text d) left) at (r .within)
+  atom-grows = atom-grown _ (few-names text d) left at (r .within)
 
   pub conjunction-grows : Grown codeC (length text) at (conjunctionIn left (scopeOf text starts ends names) at)
-  conjunction-grows = conjunction-grown _ (few-names text d) _ (bracket-grown _ (few-names text d) left) _ (square-grown _ (few-names text d) left) at (r .within)
+  conjunction-grows = conjunction-grown _ (few-names text d) left at (r .within)
 
 -- behind `[c]`, whose bracket is the token h, there is room for a byte
 pub square-fits : (text starts ends : List ℕ) (names : Names) (left at to : ℕ) {t u v : ℕ} {before after : List ℕ} {p r : Step} {g h : Lookahead} → p ≡ Done g v → Parses text codeC (square left (scopeOf text starts ends names) (h .start) (h .end)) u before after p → r ≡ Done h t → r ≡ stepAt (tokenAt text at) at to → h .kind ≡ kindNumber openSquare → Declared starts ends names → Room text at u → v < 2 ^ 32

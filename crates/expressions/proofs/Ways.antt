@@ -22,7 +22,7 @@ use Rattle.semantics.specs.Program.{Expression, constant, current, previous, op
 use Rattle.grammar.specs.Parsed.{Parsed, accepted, refused, andThen, sign, followed}
 use Rattle.grammar.specs.Expressions.{Scope, withId, currentAt, previousAt, numberAt, primary, negative, factor, productOf, sumOf, bracket}
 use Rattle.grammar.specs.Emitted.{codeE}
-use Rattle.grammar.proofs.Growth.{Grown, products-end, sums-end, primary-grown, factor-grown, term-grown, expression-grown, bracket-grown}
+use Rattle.grammar.proofs.Growth.{Grown, products-end, sums-end, primary-grown, factor-grown, term-grown, expression-grown}
 use Rattle.expressions.specs.declared.Lookahead.{Lookahead}
 use Rattle.expressions.specs.declared.Step.{Step}
 use Rattle.expressions.specs.declared.Step.the-variants.{Done, Refused}
@@ -231,16 +231,16 @@ module _ (text starts ends : List ℕ) (names : Names) (left at : ℕ) where
 
 module _ {text starts ends : List ℕ} {names : Names} (d : Declared starts ends names) (left : ℕ) {at to : ℕ} (r : Room text at to) where
   primary-grows : Grown codeE (length text) at (primaryIn left (scopeOf text starts ends names) at)
-  primary-grows = primary-grown _ (few-names text d) _ (bracket-grown _ (few-names text d) left) at (r .within)
+  primary-grows = primary-grown _ (few-names text d) left at (r .within)
 
   pub factor-grows : Grown codeE (length text) at (factorIn left (scopeOf text starts ends names) at)
-  factor-grows = factor-grown _ (few-names text d) _ (bracket-grown _ (few-names text d) left) at (r .within)
+  factor-grows = factor-grown _ (few-names text d) left at (r .within)
 
   pub term-grows : Grown codeE (length text) at (termIn left (scopeOf text starts ends names) at)
-  term-grows = term-grown _ (few-names text d) _ (bracket-grown _ (few-names text d) left) at (r .within)
+  term-grows = term-grown _ (few-names text d) left at (r .within)
 
   pub expression-grows : Grown codeE (length text) at (expressionIn left (scopeOf text starts ends names) at)
-  expression-grows = expression-grown _ (few-names text d) _ (bracket-grown _ (few-names text d) left) at (r .within)
+  expression-grows = expression-grown _ (few-names text d) left at (r .within)
 
 -- behind a primary there is room for a byte
 pub primary-fits : (text starts ends : List ℕ) (names : Names) (left : ℕ) {at to u : ℕ} {before after : List ℕ} {r : Step} {h : Lookahead} → r ≡ Done h u → Parses text codeE (primaryIn left (scopeOf text starts ends names) at) to before after r → Declared starts ends names → Room text at to → u < 2 ^ 32

@@ -219,7 +219,7 @@ module _ (sc : Scope) (few : length (sc .names) ≤ 64) (good : Named (sc .names
   listed-even : (at n m : ℕ) (c : Condition) → at ≤ length (sc .text) → Stands (sc .text) at n (bytes "[") → listed sc n ≡ accepted c m → Even at m
   listed-even at n m c h st e =
       let i = stands-in (sc .text) at n (bytes "[") h st .1 in
-      let d = subst (Derives (sc .text) (Closed (sc .text) (SpellsC (sc .names) D.condition bracketLimit) (bytes "]")) n) e (listed-derives sc few n i) in
+      let d = subst (Derives (sc .text) (Closed (sc .text) (SpellsC (sc .names) D.condition bracketLimit) (bytes "]")) n) e (listed-derives sc n i) in
       let ts = d .derives .inner in
       record { tokens = squared ts; spells = (n, st, subst (Spells (sc .text) n m) (d .derives .is-closed) (d .spells)); balanced = balanced-squared (sc .names) good bracketLimit ts c (d .derives .derives) }
 

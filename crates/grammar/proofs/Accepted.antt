@@ -19,13 +19,14 @@ use Rattle.grammar.specs.Parsed.{Parsed, accepted, refused}
 use Rattle.grammar.specs.Parse.{program, parse, answerOf, programOf}
 use Rattle.lexer.specs.Spelling.{IsWord}
 use Rattle.grammar.specs.Derivation.{IsName}
-use Rattle.grammar.specs.Spelled.{namesOf}
+use Rattle.grammar.specs.Spelled.{namesOf, Spelled}
 use Rattle.grammar.specs.Internal.{Named}
 use Rattle.grammar.proofs.Combine.{never}
 use Rattle.grammar.proofs.Shape.{CasesFit, RuleFits, RulesFit, NamesFit, Fitting}
 use Rattle.grammar.proofs.Fits.{Holds, cases-usable}
 use Rattle.grammar.proofs.Whole.{named, parse-fits}
-use Rattle.grammar.proofs.Size.{Small, parse-small}
+use Rattle.grammar.proofs.DerivedText.{parse-reads}
+use Rattle.grammar.proofs.Size.{spelled-small}
 use Rattle.grammar.proofs.Image.{image-emitted}
 
 -- ---- names
@@ -133,16 +134,38 @@ module _ (text : List ℕ) (p : Program) (n : ℕ) (e : parse text ≡ accepted 
   pub parse-few : length (p .names) ≤ nameLimit
   parse-few = fitting .few
 
+  pub parse-ordered : Ordered p
+  parse-ordered = rw (length-map (p .names) (λ n. n .range)) (rules-ordered (knownFirst (p .inputs) (length (p .names))) (p .rules) (fitting .ordered))
+
+  -- what is accepted has document 01's grammar, limits, order and agreement
+  pub parse-spelled : Spelled text p
+  parse-spelled =
+      let r = parse-reads text p n e in
+      record {
+        short = parse-short text p n e;
+        input-tokens = r .input-tokens;
+        variable-tokens = r .variable-tokens;
+        rule-tokens = r .rule-tokens;
+        tokens = r .tokens;
+        inputs = r .inputs;
+        variables = r .variables;
+        declares-inputs = r .declares-inputs;
+        declares-variables = r .declares-variables;
+        names = r .names;
+        input-count = r .input-count;
+        distinct = parse-named .distinct;
+        few = parse-few;
+        spells-rules = r .spells-rules;
+        ordered = parse-ordered;
+      }
+
   -- 16 open brackets hold at most 38 values
   pub parse-depth : depthRules (p .rules) ≤ 38
   parse-depth = rules-depth (knownFirst (p .inputs) (length (p .names))) (p .rules) (fitting .ordered)
 
   -- twice the image's bytes are at most three times the text's, and four
   pub parse-growth : 2 * length (imageOf p) ≤ 3 * length text + 4
-  parse-growth = rw (← image-emitted p) (subst (Small (length text)) e (parse-small text))
-
-  pub parse-ordered : Ordered p
-  parse-ordered = rw (length-map (p .names) (λ n. n .range)) (rules-ordered (knownFirst (p .inputs) (length (p .names))) (p .rules) (fitting .ordered))
+  parse-growth = rw (← image-emitted p) (spelled-small text p parse-spelled)
 
   -- the program of an accepted text is what translation, soundness and the meaning of its formulas ask for
   pub parse-translatable : Translatable p

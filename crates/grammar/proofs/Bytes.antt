@@ -5,7 +5,7 @@ use mathlib.Core.Bool.{Bool, true, false, cond}
 use mathlib.Core.Option.{some}
 use Prim.Native.Nat.{ℕ, zero, suc, _+_, _*_, _/_, _%_, _≤_, _<_}
 use native.Mathlib.Omega.{arith}
-use lib.ListN.{length}
+use lib.ListN.{length, getElem?}
 use lib.Dec.{ltb}
 use lib.IntN.{pos}
 use borrow.Author.Tests.{ltb-false}
@@ -76,6 +76,11 @@ id-from (x ∷ l) w i j e = go (sameName w x) (λ h. id-from l w (i + 1) j h) e
 pub id-of : (l : List (List ℕ)) (w : List ℕ) (j : ℕ) → idOf l w ≡ some j → j < length l
 unfolding idOf
 id-of l w j e = omega (arith, id-from l w 0 j e)
+
+pub place-in : (names : List (List ℕ)) (i : ℕ) (w : List ℕ) → getElem? names i ≡ some w → i < length names
+place-in [] i w e = let z : _≡_ {A = ℕ} 0 1 = cc in absurd (omega arith)
+place-in (x ∷ l) zero w e = omega arith
+place-in (x ∷ l) (suc i) w e = omega (arith, place-in l i w e)
 
 pub heads : {A : Type 0} {x y : A} {k l : List A} → x ∷ k ≡ y ∷ l → x ≡ y
 heads e = cc

@@ -2,10 +2,9 @@
 use mathlib.Core.Path.{_≡_, refl, ap, sym, _∙_, subst}
 use mathlib.Core.List.{List, [], _∷_, _++_, map, append-assoc}
 use mathlib.Core.Bool.{Bool, true, false}
-use mathlib.Core.Option.{some}
-use Prim.Native.Nat.{ℕ, zero, suc, _+_, _≤_, _<_}
+use Prim.Native.Nat.{ℕ, zero, suc, _+_, _≤_}
 use native.Mathlib.Omega.{arith}
-use lib.ListN.{length, getElem?, replicate, getD-replicate, length-replicate, length-map}
+use lib.ListN.{length, replicate, getD-replicate, length-replicate, length-map}
 use lib.Dec.{lt→ltb}
 use lib.IntN.{pos}
 use Rattle.limits.specs.Limits.{caseLimit, bracketLimit}
@@ -24,6 +23,7 @@ use Rattle.grammar.specs.Derivation as D
 use Rattle.grammar.specs.Spelled.{squared, cased, SpellsCases, one-case, more-cases, SpellsList, one-listed, more-listed}
 use Rattle.grammar.specs.Internal.{Named}
 use Rattle.lexer.proofs.Spellings.{isFixed}
+use Rattle.grammar.proofs.Bytes.{place-in}
 use Rattle.grammar.proofs.Standing.{split, stands-in, spells-in}
 use Rattle.grammar.proofs.Phrases.{signs, fixed-at, phrase-reads, followed-reads}
 use Rattle.grammar.proofs.Listed.{Listed, last, next}
@@ -31,11 +31,6 @@ use Rattle.grammar.proofs.Converse.{spelled-expression, spelled-listed}
 use Rattle.grammar.proofs.DerivedCases.{cases-list}
 
 -- ---- values that may be used where every name is known
-
-place-in : (names : List (List ℕ)) (i : ℕ) (w : List ℕ) → getElem? names i ≡ some w → i < length names
-place-in [] i w e = let z : _≡_ {A = ℕ} 0 1 = cc in absurd (omega arith)
-place-in (x ∷ l) zero w e = omega arith
-place-in (x ∷ l) (suc i) w e = omega (arith, place-in l i w e)
 
 module _ (names : List (List ℕ)) where
   abbrev everything : List Bool

@@ -27,10 +27,9 @@ use Rattle.lexer.proofs.Spellings.{isFixed}
 use Rattle.grammar.proofs.Standing.{split, spells-in, end-read}
 use Rattle.grammar.proofs.Phrases.{fixed-at, name-at}
 use Rattle.grammar.proofs.Whole.{named}
-use Rattle.grammar.proofs.Accepted.{program-parsed}
+use Rattle.grammar.proofs.Accepted.{parse-spelled, program-parsed}
 use Rattle.grammar.proofs.ConverseDeclarations.{declarations-read}
 use Rattle.grammar.proofs.ConverseRules.{rules-read, few-unruled}
-use Rattle.grammar.proofs.DerivedText.{parse-spelled}
 
 -- ---- names
 

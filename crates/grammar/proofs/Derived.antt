@@ -22,11 +22,10 @@ use Rattle.grammar.specs.Expressions.{Scope, withId, currentAt, previous
 use Rattle.grammar.specs.Conditions.{comparisonOf, compared, comparisonAt, opposite as opposed, inverted, atom, Connective, andAlso, orElse, connect, andOf, orOf, conjunction, condition, square, wholeCondition, listed}
 use Rattle.grammar.specs.Derivation.{Stands, Spells, SpellsE, a-number, a-current, a-previous, brackets, plain, opposite, one-factor, product, one-term, sum, SpellsC, not-square, one-atom, conjoined, one-conjunction, disjoined}
 use Rattle.grammar.specs.Derivation as D
-use Rattle.grammar.specs.Emitted.{codeE, codeC}
 use Rattle.grammar.proofs.Combine.{token-prop, then-prop, option-prop, one-sign}
 use Rattle.grammar.proofs.Bytes.{part-cons, heads}
-use Rattle.grammar.proofs.Growth.{Grown, Reads, Inside, factor-grown, term-grown, expression-grown, bracket-grown, square-grown, atom-grown, conjunction-grown, condition-grown, not-end, operator-end, products-end, sums-end, comparisons-end, ands-end, ors-end}
-use Rattle.grammar.proofs.Standing.{stands, stands-spelled, spells-append, id-names, product-sign, sum-sign, comparison-sign, only-sign}
+use Rattle.grammar.proofs.NotEnd.{not-end, operator-end, products-end, sums-end, comparisons-end, ands-end, ors-end}
+use Rattle.grammar.proofs.Standing.{stands, stands-spelled, spells-in, spells-append, id-names, product-sign, sum-sign, comparison-sign, only-sign}
 
 module _ (text : List ℕ) where
   -- tokens that spell e stand from `at` up to n
@@ -58,7 +57,7 @@ module _ (text : List ℕ) where
   pub joined : (a n m l : ℕ) (w : List ℕ) (ts us : List (List ℕ)) → Spells text a n ts → Stands text n m w → Spells text m l us → Spells text a l (ts ++ w ∷ us)
   joined a n m l w ts us h st g = spells-append text a n l ts (w ∷ us) h (m, st, g)
 
-  module _ {O A : Type 0} (Q R : List (List ℕ) → A → Type 0) (join : O → A → A → A) (operator : Kind → Option O) (no-end : operator ending ≡ none) (one : (ts : List (List ℕ)) (a : A) → Q ts a → R ts a) (more : (k : Kind) (w : List ℕ) (o : O) (ts us : List (List ℕ)) (a b : A) → operator k ≡ some o → Spelling k w → R ts a → Q us b → R (ts ++ w ∷ us) (join o a b)) (operand : ℕ → Parsed A) (ho : (at : ℕ) → at ≤ length text → Derives Q at (operand at)) (code : A → List ℕ) (hg : Reads text code operand) where
+  module _ {O A : Type 0} (Q R : List (List ℕ) → A → Type 0) (join : O → A → A → A) (operator : Kind → Option O) (no-end : operator ending ≡ none) (one : (ts : List (List ℕ)) (a : A) → Q ts a → R ts a) (more : (k : Kind) (w : List ℕ) (o : O) (ts us : List (List ℕ)) (a b : A) → operator k ≡ some o → Spelling k w → R ts a → Q us b → R (ts ++ w ∷ us) (join o a b)) (operand : ℕ → Parsed A) (ho : (at : ℕ) → at ≤ length text → Derives Q at (operand at)) where
     rest-derives : (f at : ℕ) (a : A) (n : ℕ) → n ≤ length text → Derived R at n a → Derives R at (rest join operator operand text f a n)
     unfolding rest
     rest-derives zero at a n l h = h
@@ -71,8 +70,7 @@ module _ (text : List ℕ) where
         then-prop (Derives R at) (operand m) _ (λ k q. tt)
         (λ b n2 es.
         let d : Derived Q m n2 b = subst (Derives Q m) es (ho m (mv .2)) in
-        let g = subst (Grown code (length text) m) es (hg m (mv .2)) in
-        rest-derives f at (join o a b) n2 (g .1)
+        rest-derives f at (join o a b) n2 (spells-in text m n2 (d .tokens) (mv .2) (d .spells) .1)
         (record {
           tokens = h .tokens ++ part text s m ∷ d .tokens;
           spells = joined at n m n2 (part text s m) (h .tokens) (d .tokens) (h .spells) (stands text n k s m l ne et) (d .spells);
@@ -85,8 +83,7 @@ module _ (text : List ℕ) where
         then-prop (Derives R at) (operand at) _ (λ k q. tt)
         (λ a n es.
         let d : Derived Q at n a = subst (Derives Q at) es (ho at l) in
-        let g = subst (Grown code (length text) at) es (hg at l) in
-        rest-derives (suc (length text)) at a n (g .1) (record { tokens = d .tokens; spells = d .spells; derives = one (d .tokens) a (d .derives) }))
+        rest-derives (suc (length text)) at a n (spells-in text at n (d .tokens) l (d .spells) .1) (record { tokens = d .tokens; spells = d .spells; derives = one (d .tokens) a (d .derives) }))
 
   -- a sign that is read is spelled as its kind says
   pub sign-stands : (w : Kind) → is ending w ≡ false → (a : ℕ) (k : Kind) (s n : ℕ) → a ≤ length text → tokenAt text a ≡ token k s n → is k w ≡ true → Stands text a n (part text s n) × Spelling w (part text s n)
@@ -124,7 +121,7 @@ module _ (text : List ℕ) where
 
 -- ---- expressions
 
-module _ (sc : Scope) (few : length (sc .names) ≤ 64) where
+module _ (sc : Scope) where
   -- what follows the `(` of a bracket, with l brackets left before it
   abbrev ClosedE : ℕ → List (List ℕ) → Expression → Type 0
   ClosedE zero ts e = ⊥
@@ -141,11 +138,11 @@ module _ (sc : Scope) (few : length (sc .names) ≤ 64) where
       (λ e. option-prop (Derives (sc .text) R at) (idOf (sc .names) (part (sc .text) s n)) _ _ (λ z. tt)
       (λ v ev. h v (id-names (sc .names) (part (sc .text) s n) v ev)))
 
-  module _ (l : ℕ) (inner : ℕ → ℕ → Parsed Expression) (hg : Inside (sc .text) codeE inner) (hi : (s n : ℕ) → n ≤ length (sc .text) → Derives (sc .text) (ClosedE l) n (inner s n)) where
+  module _ (l : ℕ) (inner : ℕ → ℕ → Parsed Expression) (hi : (s n : ℕ) → n ≤ length (sc .text) → Derives (sc .text) (ClosedE l) n (inner s n)) where
     abbrev P : ℕ → Parsed Expression → Type 0
     P at p = Derives (sc .text) (SpellsE (sc .names) D.primary l) at p
 
-    primary-derives : (at : ℕ) → at ≤ length (sc .text) → P at (primary inner sc at)
+    pub primary-derives : (at : ℕ) → at ≤ length (sc .text) → P at (primary inner sc at)
     unfolding primary numberAt currentAt previousAt is kindNumber
     primary-derives at h =
         token-prop (P at) (tokenAt (sc .text) at) _ (λ k q. tt)
@@ -181,7 +178,7 @@ module _ (sc : Scope) (few : length (sc .names) ≤ 64) where
         before (sc .text) (ClosedE l) (SpellsE (sc .names) D.primary l) (bytes "(") (bracketed l) at n (sign-is (sc .text) openRound (bytes "(") (λ x q. q) refl at k s n h et e) (inner s n) (hi s n (mv .2)))
         (λ n4. tt)))))
 
-    factor-derives : (at : ℕ) → at ≤ length (sc .text) → Derives (sc .text) (SpellsE (sc .names) D.factor l) at (factor inner sc at)
+    pub factor-derives : (at : ℕ) → at ≤ length (sc .text) → Derives (sc .text) (SpellsE (sc .names) D.factor l) at (factor inner sc at)
     unfolding factor negative is kindNumber
     factor-derives at h =
         token-prop (Derives (sc .text) (SpellsE (sc .names) D.factor l) at) (tokenAt (sc .text) at) _ (λ k q. tt)
@@ -191,36 +188,35 @@ module _ (sc : Scope) (few : length (sc .names) ≤ 64) where
         (λ e. making (sc .text) (SpellsE (sc .names) D.primary l) (SpellsE (sc .names) D.factor l) (λ x. negate x) (bytes "-") (λ ts x d. opposite ts x d) at n (sign-is (sc .text) minus (bytes "-") (λ x q. q) refl at k s n h et e) (primary inner sc n) (primary-derives n (mv .2)))
         (λ e. weaker (sc .text) (SpellsE (sc .names) D.primary l) (SpellsE (sc .names) D.factor l) (λ ts x d. plain ts x d) at (primary inner sc at) (primary-derives at h)))
 
-    term-derives : (at : ℕ) → at ≤ length (sc .text) → Derives (sc .text) (SpellsE (sc .names) D.term l) at (term inner sc at)
+    pub term-derives : (at : ℕ) → at ≤ length (sc .text) → Derives (sc .text) (SpellsE (sc .names) D.term l) at (term inner sc at)
     unfolding term
     term-derives at h =
         chain-derives (sc .text) (SpellsE (sc .names) D.factor l) (SpellsE (sc .names) D.term l) operation productOf products-end (λ ts a d. one-factor ts a d)
-        (λ k w o ts us a b e sp d f. product w o ts us a b (product-sign k w sp o e) d f) (factor inner sc) factor-derives codeE (factor-grown sc few inner hg) at h
+        (λ k w o ts us a b e sp d f. product w o ts us a b (product-sign k w sp o e) d f) (factor inner sc) factor-derives at h
 
-    expression-derives : (at : ℕ) → at ≤ length (sc .text) → Derives (sc .text) (SpellsE (sc .names) D.expression l) at (expression inner sc at)
+    pub expression-derives : (at : ℕ) → at ≤ length (sc .text) → Derives (sc .text) (SpellsE (sc .names) D.expression l) at (expression inner sc at)
     unfolding expression
     expression-derives at h =
         chain-derives (sc .text) (SpellsE (sc .names) D.term l) (SpellsE (sc .names) D.expression l) operation sumOf sums-end (λ ts a d. one-term ts a d)
-        (λ k w o ts us a b e sp d f. sum w o ts us a b (sum-sign k w sp o e) d f) (term inner sc) term-derives codeE (term-grown sc few inner hg) at h
+        (λ k w o ts us a b e sp d f. sum w o ts us a b (sum-sign k w sp o e) d f) (term inner sc) term-derives at h
 
-  bracket-derives : (l s n : ℕ) → n ≤ length (sc .text) → Derives (sc .text) (ClosedE l) n (bracket l sc s n)
+  pub bracket-derives : (l s n : ℕ) → n ≤ length (sc .text) → Derives (sc .text) (ClosedE l) n (bracket l sc s n)
   unfolding bracket is kindNumber
   bracket-derives zero s n h = tt
   bracket-derives (suc l) s n h =
       then-prop (Derives (sc .text) (ClosedE (suc l)) n) (expression (λ s n. bracket l sc s n) sc n) _ (λ k q. tt)
       (λ e m es.
-      let d : Derived (sc .text) (SpellsE (sc .names) D.expression l) n m e = subst (Derives (sc .text) (SpellsE (sc .names) D.expression l) n) es (expression-derives l (λ s n. bracket l sc s n) (bracket-grown sc few l) (bracket-derives l) n h) in
-      let g = subst (Grown codeE (length (sc .text)) n) es (expression-grown sc few (λ s n. bracket l sc s n) (bracket-grown sc few l) n h) in
-      rw (one-sign (sc .text) closeRound e m) (sign-derives (sc .text) (SpellsE (sc .names) D.expression l) closeRound (bytes ")") (λ x q. q) refl n e m (g .1) d))
+      let d : Derived (sc .text) (SpellsE (sc .names) D.expression l) n m e = subst (Derives (sc .text) (SpellsE (sc .names) D.expression l) n) es (expression-derives l (λ s n. bracket l sc s n) (bracket-derives l) n h) in
+      rw (one-sign (sc .text) closeRound e m) (sign-derives (sc .text) (SpellsE (sc .names) D.expression l) closeRound (bytes ")") (λ x q. q) refl n e m (spells-in (sc .text) n m (d .tokens) h (d .spells) .1) d))
 
   -- an expression that is accepted is spelled by the tokens from where it starts to where it ends
   pub whole-expression-derives : (at : ℕ) → at ≤ length (sc .text) → Derives (sc .text) (SpellsE (sc .names) D.expression bracketLimit) at (wholeExpression sc at)
   unfolding wholeExpression
-  whole-expression-derives at h = expression-derives bracketLimit (λ s n. bracket bracketLimit sc s n) (bracket-grown sc few bracketLimit) (bracket-derives bracketLimit) at h
+  whole-expression-derives at h = expression-derives bracketLimit (λ s n. bracket bracketLimit sc s n) (bracket-derives bracketLimit) at h
 
   -- ---- conditions
 
-  abbrev ClosedC : ℕ → List (List ℕ) → Condition → Type 0
+  abbrev pub ClosedC : ℕ → List (List ℕ) → Condition → Type 0
   ClosedC zero ts c = ⊥
   ClosedC (suc l) ts c = Closed (sc .text) (SpellsC (sc .names) D.condition l) (bytes "]") ts c
 
@@ -241,7 +237,7 @@ module _ (sc : Scope) (few : length (sc .names) ≤ 64) where
   unfolding orOf connect
   or-derives l k w o ts us a b e sp d f = let r = only-sign k w sp bar orElse o e in rw (r .0, ← r .1) (disjoined ts us a b d f)
 
-  module _ (l : ℕ) (inner : ℕ → ℕ → Parsed Expression) (hg : Inside (sc .text) codeE inner) (hi : (s n : ℕ) → n ≤ length (sc .text) → Derives (sc .text) (ClosedE l) n (inner s n)) (inside : ℕ → ℕ → Parsed Condition) (hc : Inside (sc .text) codeC inside) (hd : (s n : ℕ) → n ≤ length (sc .text) → Derives (sc .text) (ClosedC l) n (inside s n)) where
+  module _ (l : ℕ) (inner : ℕ → ℕ → Parsed Expression) (hi : (s n : ℕ) → n ≤ length (sc .text) → Derives (sc .text) (ClosedE l) n (inner s n)) (inside : ℕ → ℕ → Parsed Condition) (hd : (s n : ℕ) → n ≤ length (sc .text) → Derives (sc .text) (ClosedC l) n (inside s n)) where
     abbrev A : ℕ → Parsed Condition → Type 0
     A at p = Derives (sc .text) (SpellsC (sc .names) D.atom l) at p
 
@@ -255,7 +251,7 @@ module _ (sc : Scope) (few : length (sc .names) ≤ 64) where
         let mv = token-at-moved (sc .text) n k s m h et in
         then-prop (A at) (expression inner sc m) _ (λ k q. tt)
         (λ b n2 es.
-        let f : Derived (sc .text) (SpellsE (sc .names) D.expression l) m n2 b = subst (Derives (sc .text) (SpellsE (sc .names) D.expression l) m) es (expression-derives l inner hg hi m (mv .2)) in
+        let f : Derived (sc .text) (SpellsE (sc .names) D.expression l) m n2 b = subst (Derives (sc .text) (SpellsE (sc .names) D.expression l) m) es (expression-derives l inner hi m (mv .2)) in
         let w = part (sc .text) s m in
         record {
           tokens = d .tokens ++ w ∷ f .tokens;
@@ -268,8 +264,8 @@ module _ (sc : Scope) (few : length (sc .names) ≤ 64) where
     comparison-derives at h =
         then-prop (A at) (expression inner sc at) _ (λ k q. tt)
         (λ a n es.
-        let g = subst (Grown codeE (length (sc .text)) at) es (expression-grown sc few inner hg at h) in
-        compared-derives at a n (g .1) (subst (Derives (sc .text) (SpellsE (sc .names) D.expression l) at) es (expression-derives l inner hg hi at h)))
+        let d : Derived (sc .text) (SpellsE (sc .names) D.expression l) at n a = subst (Derives (sc .text) (SpellsE (sc .names) D.expression l) at) es (expression-derives l inner hi at h) in
+        compared-derives at a n (spells-in (sc .text) at n (d .tokens) h (d .spells) .1) d)
 
     inverted-derives : (at n : ℕ) → n ≤ length (sc .text) → Stands (sc .text) at n (bytes "~") → A at (inverted inside sc n)
     unfolding inverted opposed is kindNumber
@@ -285,7 +281,7 @@ module _ (sc : Scope) (few : length (sc .names) ≤ 64) where
         inverse at n m st su (accepted c i) d = record { tokens = bytes "~" ∷ bytes "[" ∷ d .tokens; spells = (n, st, (m, su, d .spells)); derives = not-squared l (d .tokens) c (d .derives) }
         inverse at n m st su (refused k q) d = tt
 
-    atom-derives : (at : ℕ) → at ≤ length (sc .text) → A at (atom inner inside sc at)
+    pub atom-derives : (at : ℕ) → at ≤ length (sc .text) → A at (atom inner inside sc at)
     unfolding atom is kindNumber
     atom-derives at h =
         token-prop (A at) (tokenAt (sc .text) at) _ (λ k q. tt)
@@ -297,19 +293,19 @@ module _ (sc : Scope) (few : length (sc .names) ≤ 64) where
         (λ e2. before (sc .text) (ClosedC l) (SpellsC (sc .names) D.atom l) (bytes "[") (squared l) at n (sign-is (sc .text) openSquare (bytes "[") (λ x q. q) refl at k s n h et e2) (inside s n) (hd s n (mv .2)))
         (λ e2. comparison-derives at h)))
 
-    conjunction-derives : (at : ℕ) → at ≤ length (sc .text) → Derives (sc .text) (SpellsC (sc .names) D.conjunction l) at (conjunction inner inside sc at)
+    pub conjunction-derives : (at : ℕ) → at ≤ length (sc .text) → Derives (sc .text) (SpellsC (sc .names) D.conjunction l) at (conjunction inner inside sc at)
     unfolding conjunction
     conjunction-derives at h =
         chain-derives (sc .text) (SpellsC (sc .names) D.atom l) (SpellsC (sc .names) D.conjunction l) connect andOf ands-end (λ ts a d. one-atom ts a d) (and-derives l)
-        (atom inner inside sc) atom-derives codeC (atom-grown sc few inner hg inside hc) at h
+        (atom inner inside sc) atom-derives at h
 
     condition-derives : (at : ℕ) → at ≤ length (sc .text) → Derives (sc .text) (SpellsC (sc .names) D.condition l) at (condition inner inside sc at)
     unfolding condition
     condition-derives at h =
         chain-derives (sc .text) (SpellsC (sc .names) D.conjunction l) (SpellsC (sc .names) D.condition l) connect orOf ors-end (λ ts a d. one-conjunction ts a d) (or-derives l)
-        (conjunction inner inside sc) conjunction-derives codeC (conjunction-grown sc few inner hg inside hc) at h
+        (conjunction inner inside sc) conjunction-derives at h
 
-  square-derives : (l s n : ℕ) → n ≤ length (sc .text) → Derives (sc .text) (ClosedC l) n (square l sc s n)
+  pub square-derives : (l s n : ℕ) → n ≤ length (sc .text) → Derives (sc .text) (ClosedC l) n (square l sc s n)
   unfolding square is kindNumber
   square-derives zero s n h = tt
   square-derives (suc l) s n h =
@@ -317,9 +313,8 @@ module _ (sc : Scope) (few : length (sc .names) ≤ 64) where
       let inside : ℕ → ℕ → Parsed Condition = λ s n. square l sc s n in
       then-prop (Derives (sc .text) (ClosedC (suc l)) n) (condition inner inside sc n) _ (λ k q. tt)
       (λ c m es.
-      let d : Derived (sc .text) (SpellsC (sc .names) D.condition l) n m c = subst (Derives (sc .text) (SpellsC (sc .names) D.condition l) n) es (condition-derives l inner (bracket-grown sc few l) (bracket-derives l) inside (square-grown sc few l) (square-derives l) n h) in
-      let g = subst (Grown codeC (length (sc .text)) n) es (condition-grown sc few inner (bracket-grown sc few l) inside (square-grown sc few l) n h) in
-      rw (one-sign (sc .text) closeSquare c m) (sign-derives (sc .text) (SpellsC (sc .names) D.condition l) closeSquare (bytes "]") (λ x q. q) refl n c m (g .1) d))
+      let d : Derived (sc .text) (SpellsC (sc .names) D.condition l) n m c = subst (Derives (sc .text) (SpellsC (sc .names) D.condition l) n) es (condition-derives l inner (bracket-derives l) inside (square-derives l) n h) in
+      rw (one-sign (sc .text) closeSquare c m) (sign-derives (sc .text) (SpellsC (sc .names) D.condition l) closeSquare (bytes "]") (λ x q. q) refl n c m (spells-in (sc .text) n m (d .tokens) h (d .spells) .1) d))
 
   -- `[c]` of a rule form, after its bracket
   pub listed-derives : (at : ℕ) → at ≤ length (sc .text) → Derives (sc .text) (Closed (sc .text) (SpellsC (sc .names) D.condition bracketLimit) (bytes "]")) at (listed sc at)

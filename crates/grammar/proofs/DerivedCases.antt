@@ -24,54 +24,58 @@ use Rattle.grammar.proofs.Phrases.{signs, fixed-stands, phrase-spells}
 use Rattle.grammar.proofs.Listed.{Listed, last, next}
 use Rattle.grammar.proofs.Derived.{Derives, Closed, whole-expression-derives, listed-derives}
 
+-- the tokens of a case after its `[`
+abbrev pub caseRest : List ℕ → List (List ℕ) → List (List ℕ) → List (List ℕ)
+caseRest w ts us = (ts ++ bytes "]" ∷ []) ++ bytes "&" ∷ w ∷ bytes "=" ∷ bytes "(" ∷ us ++ bytes ")" ∷ []
+
 -- the list of the conditions of cases is one
 pub cases-list : (names : List (List ℕ)) (v : List ℕ) (ts ls : List (List ℕ)) (ks : List Case) → SpellsCases names v ts ls ks → SpellsList names ls (map (λ k. k .condition) ks)
 cases-list names v ts ls ks (one-case us vs k c e) = one-listed us (k .condition) c
 cases-list names v ts ls ks (more-cases us vs ws ms k js c e r) = more-listed us ms (k .condition) (map (λ k. k .condition) js) c (cases-list names v ws ms js r)
 
-module _ (sc : Scope) (few : length (sc .names) ≤ 64) where
-  pub record CaseRead (w : List ℕ) (at n : ℕ) (c : Spanned) : Type 0 where
+module _ (sc : Scope) where
+  -- a case after its `[`, which begins at `at` and ends at n
+  pub record CaseRead (w : List ℕ) (at n m : ℕ) (c : Spanned) : Type 0 where
     pub conditions : List (List ℕ)
     pub values : List (List ℕ)
-    pub spells : Spells (sc .text) at n (cased w conditions values)
-    pub lists : Spells (sc .text) (c .span .from) (c .span .to) (squared conditions)
-    pub within : c .span .from ≤ length (sc .text)
+    pub lists : Spells (sc .text) n (c .span .to) (conditions ++ bytes "]" ∷ [])
+    pub spells : Spells (sc .text) n m (caseRest w conditions values)
+    pub begins : c .span .from ≡ at
     pub condition : SpellsC (sc .names) D.condition bracketLimit conditions (c .case .condition)
     pub value : SpellsE (sc .names) D.expression bracketLimit values (c .case .value)
 
-  abbrev CaseReads : List ℕ → ℕ → Parsed Spanned → Type 0
-  CaseReads w at (accepted c n) = CaseRead w at n c
-  CaseReads w at (refused k q) = Unit {0}
+  abbrev pub CaseReads : List ℕ → ℕ → ℕ → Parsed Spanned → Type 0
+  CaseReads w at n (accepted c m) = CaseRead w at n m c
+  CaseReads w at n (refused k q) = Unit {0}
 
-  case-derives : (w : List ℕ) (at n : ℕ) → at ≤ length (sc .text) → Stands (sc .text) at n (bytes "[") → CaseReads w at (caseAt sc w at n)
+  pub case-derives : (w : List ℕ) (at n : ℕ) → n ≤ length (sc .text) → CaseReads w at n (caseAt sc w at n)
   unfolding caseAt followed signs isFixed kindNumber
-  case-derives w at n h st =
-      let i0 = stands-in (sc .text) at n (bytes "[") h st .1 in
-      then-prop (CaseReads w at) (listed sc n) _ (λ k q. tt)
+  case-derives w at n h =
+      then-prop (CaseReads w at n) (listed sc n) _ (λ k q. tt)
       (λ c n1 e1.
-      let d1 = subst (Derives (sc .text) (Closed (sc .text) (SpellsC (sc .names) D.condition bracketLimit) (bytes "]")) n) e1 (listed-derives sc few n i0) in
+      let d1 = subst (Derives (sc .text) (Closed (sc .text) (SpellsC (sc .names) D.condition bracketLimit) (bytes "]")) n) e1 (listed-derives sc n h) in
       let ts = d1 .derives .inner in
-      let s1 : Spells (sc .text) at n1 (squared ts) = (n, st, subst (Spells (sc .text) n n1) (d1 .derives .is-closed) (d1 .spells)) in
-      let i1 = spells-in (sc .text) at n1 (squared ts) h s1 .1 in
-      then-prop (CaseReads w at) (phrase (sc .text) (caseValueOpening w) n1) _ (λ k q. tt)
+      let s1 : Spells (sc .text) n n1 (ts ++ bytes "]" ∷ []) = subst (Spells (sc .text) n n1) (d1 .derives .is-closed) (d1 .spells) in
+      let i1 = spells-in (sc .text) n n1 (ts ++ bytes "]" ∷ []) h s1 .1 in
+      then-prop (CaseReads w at n) (phrase (sc .text) (caseValueOpening w) n1) _ (λ k q. tt)
       (λ u n2 e2.
       let s2 = phrase-spells (sc .text) (caseValueOpening w) refl n1 u n2 i1 e2 in
       let i2 = spells-in (sc .text) n1 n2 (bytes "&" ∷ w ∷ bytes "=" ∷ bytes "(" ∷ []) i1 s2 .1 in
-      then-prop (CaseReads w at) (wholeExpression sc n2) _ (λ k q. tt)
+      then-prop (CaseReads w at n) (wholeExpression sc n2) _ (λ k q. tt)
       (λ e n3 e3.
-      let d3 = subst (Derives (sc .text) (SpellsE (sc .names) D.expression bracketLimit) n2) e3 (whole-expression-derives sc few n2 i2) in
+      let d3 = subst (Derives (sc .text) (SpellsE (sc .names) D.expression bracketLimit) n2) e3 (whole-expression-derives sc n2 i2) in
       let i3 = spells-in (sc .text) n2 n3 (d3 .tokens) i2 (d3 .spells) .1 in
-      then-prop (CaseReads w at) (phrase (sc .text) (sign closeRound ∷ []) n3) _ (λ k q. tt)
+      then-prop (CaseReads w at n) (phrase (sc .text) (sign closeRound ∷ []) n3) _ (λ k q. tt)
       (λ u2 n4 e4.
       let s4 = phrase-spells (sc .text) (sign closeRound ∷ []) refl n3 u2 n4 i3 e4 in
       let s23 = spells-append (sc .text) n1 n2 n3 (bytes "&" ∷ w ∷ bytes "=" ∷ bytes "(" ∷ []) (d3 .tokens) s2 (d3 .spells) in
-      let s13 = spells-append (sc .text) at n1 n3 (squared ts) (bytes "&" ∷ w ∷ bytes "=" ∷ bytes "(" ∷ d3 .tokens) s1 s23 in
+      let s13 = spells-append (sc .text) n n1 n3 (ts ++ bytes "]" ∷ []) (bytes "&" ∷ w ∷ bytes "=" ∷ bytes "(" ∷ d3 .tokens) s1 s23 in
       record {
         conditions = ts;
         values = d3 .tokens;
-        spells = spells-append (sc .text) at n3 n4 (squared ts ++ bytes "&" ∷ w ∷ bytes "=" ∷ bytes "(" ∷ d3 .tokens) (bytes ")" ∷ []) s13 s4;
         lists = s1;
-        within = h;
+        spells = spells-append (sc .text) n n3 n4 ((ts ++ bytes "]" ∷ []) ++ bytes "&" ∷ w ∷ bytes "=" ∷ bytes "(" ∷ d3 .tokens) (bytes ")" ∷ []) s13 s4;
+        begins = refl;
         condition = d1 .derives .derives;
         value = d3 .derives;
       }))))
@@ -89,31 +93,41 @@ module _ (sc : Scope) (few : length (sc .names) ≤ 64) where
   CasesReads w done at (accepted cs n) = CasesRead w done at n cs
   CasesReads w done at (refused k q) = Unit {0}
 
-  -- the last case, and one before others
-  case-last : (w : List ℕ) (done : List Spanned) (at n : ℕ) (c : Spanned) → CaseRead w at n c → CasesRead w done at n (done ++ (c ∷ []))
-  case-last w done at n c r =
-      record {
-        more = c ∷ [];
-        is-more = refl;
-        tokens = cased w (r .conditions) (r .values);
-        list = squared (r .conditions);
-        spells = r .spells;
-        derives = one-case (r .conditions) (r .values) (c .case) (r .condition) (r .value);
-        lists = last c (squared (r .conditions)) (r .within) (r .lists);
-      }
+  -- the last case, and one before others, with their `[`
+  module _ (w : List ℕ) (done : List Spanned) (at n m : ℕ) (c : Spanned) (h : at ≤ length (sc .text)) (st : Stands (sc .text) at n (bytes "[")) (r : CaseRead w at n m c) where
+    abbrev tokens : List (List ℕ)
+    tokens = cased w (r .conditions) (r .values)
 
-  case-next : (w : List ℕ) (done : List Spanned) (at n m : ℕ) (c : Spanned) → CaseRead w at n c → Stands (sc .text) n m (bytes "|") → (p : Parsed (List Spanned)) → CasesReads w (done ++ (c ∷ [])) m p → CasesReads w done at p
-  case-next w done at n m c r st (accepted cs i) q =
-      record {
-        more = c ∷ q .more;
-        is-more = q .is-more ∙ append-assoc done (c ∷ []) (q .more);
-        tokens = cased w (r .conditions) (r .values) ++ bytes "|" ∷ q .tokens;
-        list = squared (r .conditions) ++ bytes "|" ∷ q .list;
-        spells = spells-append (sc .text) at n i (cased w (r .conditions) (r .values)) (bytes "|" ∷ q .tokens) (r .spells) (m, st, q .spells);
-        derives = more-cases (r .conditions) (r .values) (q .tokens) (q .list) (c .case) (casesOf (q .more)) (r .condition) (r .value) (q .derives);
-        lists = next c (q .more) (squared (r .conditions)) (q .list) (r .within) (r .lists) (q .lists);
-      }
-  case-next w done at n m c r st (refused k p) q = tt
+    span-within : c .span .from ≤ length (sc .text)
+    span-within = rw (r .begins) h
+
+    span-spells : Spells (sc .text) (c .span .from) (c .span .to) (squared (r .conditions))
+    span-spells = rw (r .begins) (n, st, r .lists)
+
+    case-last : CasesRead w done at m (done ++ (c ∷ []))
+    case-last =
+        record {
+          more = c ∷ [];
+          is-more = refl;
+          tokens = tokens;
+          list = squared (r .conditions);
+          spells = (n, st, r .spells);
+          derives = one-case (r .conditions) (r .values) (c .case) (r .condition) (r .value);
+          lists = last c (squared (r .conditions)) span-within span-spells;
+        }
+
+    case-next : (i : ℕ) → Stands (sc .text) m i (bytes "|") → (p : Parsed (List Spanned)) → CasesReads w (done ++ (c ∷ [])) i p → CasesReads w done at p
+    case-next i su (accepted cs j) q =
+        record {
+          more = c ∷ q .more;
+          is-more = q .is-more ∙ append-assoc done (c ∷ []) (q .more);
+          tokens = tokens ++ bytes "|" ∷ q .tokens;
+          list = squared (r .conditions) ++ bytes "|" ∷ q .list;
+          spells = spells-append (sc .text) at m j tokens (bytes "|" ∷ q .tokens) (n, st, r .spells) (i, su, q .spells);
+          derives = more-cases (r .conditions) (r .values) (q .tokens) (q .list) (c .case) (casesOf (q .more)) (r .condition) (r .value) (q .derives);
+          lists = next c (q .more) (squared (r .conditions)) (q .list) span-within span-spells (q .lists);
+        }
+    case-next i su (refused k p) q = tt
 
   pub cases-derive : (w : List ℕ) (left : ℕ) (done : List Spanned) (at : ℕ) → at ≤ length (sc .text) → CasesReads w done at (casesFrom left sc w done at)
   unfolding casesFrom isFixed kindNumber
@@ -125,12 +139,14 @@ module _ (sc : Scope) (few : length (sc .names) ≤ 64) where
       (λ k s n et. cond-prop (CasesReads w done at) (is k openSquare) _ _
       (λ eo. then-prop (CasesReads w done at) (caseAt sc w at n) _ (λ k q. tt)
       (λ c n1 e1.
-      let r = subst (CaseReads w at) e1 (case-derives w at n h (fixed-stands (sc .text) openSquare refl at k s n h et eo)) in
-      let i1 = spells-in (sc .text) at n1 (cased w (r .conditions) (r .values)) h (r .spells) .1 in
+      let st = fixed-stands (sc .text) openSquare refl at k s n h et eo in
+      let i0 = stands-in (sc .text) at n (bytes "[") h st .1 in
+      let r = subst (CaseReads w at n) e1 (case-derives w at n i0) in
+      let i1 = spells-in (sc .text) n n1 (caseRest w (r .conditions) (r .values)) i0 (r .spells) .1 in
       token-prop (CasesReads w done at) (tokenAt (sc .text) n1) _ (λ k q. tt)
       (λ k2 s2 n2 et2.
       let mw = token-at-moved (sc .text) n1 k2 s2 n2 i1 et2 in
       cond-prop (CasesReads w done at) (is k2 bar) _ _
-      (λ e. case-next w done at n1 n2 c r (fixed-stands (sc .text) bar refl n1 k2 s2 n2 i1 et2 e) (casesFrom left sc w (done ++ (c ∷ [])) n2) (cases-derive w left (done ++ (c ∷ [])) n2 (mw .2)))
-      (λ e. case-last w done at n1 c r))))
+      (λ e. case-next w done at n n1 c h st r n2 (fixed-stands (sc .text) bar refl n1 k2 s2 n2 i1 et2 e) (casesFrom left sc w (done ++ (c ∷ [])) n2) (cases-derive w left (done ++ (c ∷ [])) n2 (mw .2)))
+      (λ e. case-last w done at n n1 c h st r))))
       (λ e. tt))

@@ -98,10 +98,10 @@ module _ (text : List ℕ) where
       (λ e. tt))
 
   -- the rest of a declaration after its word
-  abbrev AfterWord : List ℕ → List (List ℕ) → Name → Type 0
+  abbrev pub AfterWord : List ℕ → List (List ℕ) → Name → Type 0
   AfterWord word ts x = NameFits x → Declares word (word ∷ ts) x
 
-  declaration-derives : (word : List ℕ) (names : List Name) (a : ℕ) → a ≤ length text → Derives text (AfterWord word) a (declaration text names a)
+  pub declaration-derives : (word : List ℕ) (names : List Name) (a : ℕ) → a ≤ length text → Derives text (AfterWord word) a (declaration text names a)
   unfolding declaration signs isFixed kindNumber
   declaration-derives word names a h =
       then-prop (Derives text (AfterWord word) a) (newName text names a) _ (λ k q. tt)

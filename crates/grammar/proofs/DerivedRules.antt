@@ -47,7 +47,7 @@ module _ (sc : Scope) (few : length (sc .names) ≤ 64) (lengths : length (sc .n
         let i1 = spells-in (sc .text) at n1 (w ∷ bytes "=" ∷ bytes "(" ∷ []) h s1 .1 in
         then-prop (Derives (sc .text) Ruling at) (wholeExpression sc n1) _ (λ k q. tt)
         (λ e n2 e2.
-        let d2 = subst (Derives (sc .text) (SpellsE (sc .names) D.expression bracketLimit) n1) e2 (whole-expression-derives sc few n1 i1) in
+        let d2 = subst (Derives (sc .text) (SpellsE (sc .names) D.expression bracketLimit) n1) e2 (whole-expression-derives sc n1 i1) in
         let i2 = spells-in (sc .text) n1 n2 (d2 .tokens) i1 (d2 .spells) .1 in
         then-prop (Derives (sc .text) Ruling at) (phrase (sc .text) functionClosing n2) _ (λ k q. tt)
         (λ u2 n3 e3.

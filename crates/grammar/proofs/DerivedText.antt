@@ -1,4 +1,4 @@
--- A text that is accepted spells its program. Assumes nothing.
+-- The tokens of an accepted text. Assumes nothing.
 use mathlib.Core.Path.{_≡_, refl, sym, _∙_, subst}
 use mathlib.Core.List.{List, [], _++_}
 use mathlib.Core.Bool.{Bool, true, false, cond}
@@ -18,14 +18,13 @@ use Rattle.grammar.specs.Declarations.{spellings, declarations}
 use Rattle.grammar.specs.Rules.{rulesFrom}
 use Rattle.grammar.specs.Parse.{program, parse}
 use Rattle.grammar.specs.Derivation.{TokensOf}
-use Rattle.grammar.specs.Spelled.{DeclareAll, SpellsRules, namesOf, Spelled}
+use Rattle.grammar.specs.Spelled.{DeclareAll, SpellsRules, namesOf}
 use Rattle.grammar.proofs.Combine.{then-prop, never}
 use Rattle.lexer.proofs.Spellings.{isFixed}
 use Rattle.grammar.proofs.Standing.{spells-append}
 use Rattle.grammar.proofs.Whole.{Ends, Names, declarations-fit, spellings-length, named}
 use Rattle.grammar.proofs.DerivedDeclarations.{DeclaredFrom, DeclaresFrom, declarations-derive}
 use Rattle.grammar.proofs.DerivedRules.{RulesRead, RulesReads, rules-derive}
-use Rattle.grammar.proofs.Accepted.{parse-short, parse-named, parse-few, parse-ordered}
 
 -- the declarations, the rules and the tokens of an accepted text
 pub record Read (text : List ℕ) (p : Program) : Type 0 where
@@ -82,32 +81,10 @@ program-reads text =
     let r = subst (RulesReads text (spellings names) [] n2) e3 (rules-derive itemBound sc (omega (arith, spellings-length names, g2 .0 .1)) (spellings-length names ∙ sym (length-known (length inputs) (length names))) (named names (g2 .0 .0) (g2 .0 .3)) [] n2 (g2 .1)) in
     read text inputs names rules n1 n2 d1 d2 r)))
 
-parsed : (text : List ℕ) (p : Program) (n : ℕ) → parse text ≡ accepted p n → program text ≡ accepted p n
+pub parse-reads : (text : List ℕ) (p : Program) (n : ℕ) → parse text ≡ accepted p n → Read text p
 unfolding parse
-parsed text p n e = go (ltb textLimit (length text)) e
+parse-reads text p n e = go (ltb textLimit (length text)) e
   where
-    go : (t : Bool) → cond t (refused 9 0) (program text) ≡ accepted p n → program text ≡ accepted p n
+    go : (t : Bool) → cond t (refused 9 0) (program text) ≡ accepted p n → Read text p
     go true q = never 9 0 n p q
-    go false q = q
-
--- what is accepted has document 01's grammar, limits, order and agreement
-pub parse-spelled : (text : List ℕ) (p : Program) (n : ℕ) → parse text ≡ accepted p n → Spelled text p
-parse-spelled text p n e =
-    let r : Read text p = subst (Reads text) (parsed text p n e) (program-reads text) in
-    record {
-      short = parse-short text p n e;
-      input-tokens = r .input-tokens;
-      variable-tokens = r .variable-tokens;
-      rule-tokens = r .rule-tokens;
-      tokens = r .tokens;
-      inputs = r .inputs;
-      variables = r .variables;
-      declares-inputs = r .declares-inputs;
-      declares-variables = r .declares-variables;
-      names = r .names;
-      input-count = r .input-count;
-      distinct = parse-named text p n e .distinct;
-      few = parse-few text p n e;
-      spells-rules = r .spells-rules;
-      ordered = parse-ordered text p n e;
-    }
+    go false q = subst (Reads text) q (program-reads text)

@@ -1,29 +1,27 @@
--- How far parsers read, and how much of an image what they accept makes. Assumes nothing.
-use mathlib.Core.Path.{_≡_, refl, ap, sym, _∙_, subst}
+-- How far parsers read, and how much of an image what they accept makes: by the tokens that spell it. Assumes nothing.
+use mathlib.Core.Path.{_≡_, refl, subst}
 use mathlib.Core.List.{List, [], _∷_, _++_}
-use mathlib.Core.Bool.{true, false}
-use mathlib.Core.Option.{Option, none, some}
 use Prim.Native.Nat.{ℕ, zero, suc, _+_, _-_, _*_, _≤_, _<_}
 use native.Mathlib.Omega.{arith}
-use lib.ListN.{length, getD, length-append}
-use lib.Dec.{ltb}
-use Rattle.lexer.specs.Bytes.{part}
-use Rattle.lexer.specs.Token.{Kind, kindNumber, ending, name, digits, openRound, closeRound, openSquare, closeSquare, tilde, minus, is}
-use Rattle.lexer.specs.Token as T
-use Rattle.lexer.specs.Lexer.{tokenAt, overLong, valueOf}
-use Rattle.lexer.specs.Names.{idOf}
-use Rattle.lexer.proofs.Laws.{cond-prop, apart, token-at-moved}
-use Rattle.arith.specs.Values.{Operation, Comparison}
-use Rattle.semantics.specs.Program.{Expression, previous, operation, Condition, comparison}
-use Rattle.grammar.specs.Parsed.{Parsed, accepted, refused, Wanted, sign, isWanted, expected, phrase, followed, rest, chain}
-use Rattle.grammar.specs.Expressions.{Scope, withId, currentAt, previousAt, numberAt, primary, negative, factor, productOf, sumOf, term, expression, bracket, wholeExpression}
-use Rattle.grammar.specs.Conditions.{comparisonOf, compared, comparisonAt, opposite, inverted, atom, Connective, andAlso, orElse, connect, connectiveCode, andOf, orOf, conjunction, condition, square, wholeCondition, listed}
-use Rattle.grammar.specs.Emitted.{codeE, codeC}
-use Rattle.grammar.proofs.Combine.{token-prop, then-prop, option-prop}
-use Rattle.grammar.proofs.Bytes.{digits-bytes, id-bytes, id-of, part-length}
+use lib.ListN.{length, length-append}
+use Rattle.limits.specs.Limits.{bracketLimit}
+use Rattle.lexer.specs.Bytes.{bytes}
+use Rattle.lexer.specs.Lexer.{tokenAt}
+use Rattle.lexer.proofs.Laws.{cond-prop, token-at-moved}
+use Rattle.semantics.specs.Program.{Expression, operation, negate, Condition, comparison, negated, both, either}
 use Rattle.bytecode.specs.Instructions.{operationCode, comparisonCode}
-use Rattle.leb128.specs.Numbers.{number}
-use Rattle.limits.specs.Limits.{bracketLimit, numberLimit}
+use Rattle.grammar.specs.Parsed.{Parsed, accepted, refused, Wanted, isWanted, expected, phrase}
+use Rattle.grammar.specs.Expressions.{Scope, primary, factor, term, expression, bracket, wholeExpression}
+use Rattle.grammar.specs.Conditions.{Connective, andAlso, orElse, connect, connectiveCode, atom, conjunction, square, listed}
+use Rattle.lexer.specs.Spelling.{IsDigits}
+use Rattle.grammar.specs.Derivation.{Stands, Spells, Level, SpellsE, a-number, a-current, a-previous, brackets, plain, opposite, one-factor, product, one-term, sum, LevelC, SpellsC, not-square, one-atom, conjoined, one-conjunction, disjoined}
+use Rattle.grammar.specs.Derivation as D
+use Rattle.grammar.specs.Emitted.{codeE, codeC}
+use Rattle.grammar.proofs.Combine.{token-prop, then-prop}
+use Rattle.grammar.proofs.Bytes.{digits-bytes, id-bytes, place-in, part-length}
+use Rattle.grammar.proofs.Standing.{is-read, stands-in, spells-in}
+use Rattle.grammar.proofs.Derived.{Derives, ClosedC, primary-derives, factor-derives, term-derives, expression-derives, bracket-derives, whole-expression-derives, atom-derives, conjunction-derives, square-derives, listed-derives}
+pub use Rattle.grammar.proofs.NotEnd.{operator-end, products-end, sums-end, ands-end, ors-end, comparisons-end, not-end}
 
 -- an accepted part that starts at `at` has a byte at least, ends within the text, and twice its code's bytes are at most three times
 -- its own, and one
@@ -40,24 +38,10 @@ pub kept-later : {A : Type 0} (len at n : ℕ) (p : Parsed A) → at ≤ n → K
 kept-later len at n (accepted e m) i g = (omega arith, g .1)
 kept-later len at n (refused r q) i g = tt
 
--- an operator is not the end
-pub operator-end : {O : Type 0} (operator : Kind → Option O) → operator ending ≡ none → (k : Kind) (o : O) → operator k ≡ some o → k ≡ ending → ⊥
-operator-end operator h k o e f = let g : operator ending ≡ some o = ap operator (sym f) ∙ e in let z : _≡_ {A = ℕ} 0 1 = cc in omega arith
-
--- two parts joined by an instruction
-pub join-grown : {A B C : Type 0} (ca : A → List ℕ) (cb : B → List ℕ) (cc' : C → List ℕ) (len at : ℕ) (x : A) (n s m : ℕ) (y : B) (l k : ℕ) (z : C) → cc' z ≡ ca x ++ (cb y ++ (k ∷ [])) → Grown ca len at (accepted x n) → n ≤ s → s < m → Grown cb len m (accepted y l) → Grown cc' len at (accepted z l)
-join-grown ca cb cc' len at x n s m y l k z hb h i j g = (omega arith, g .1, rw hb (simp length-append (omega arith)))
+-- ---- fixed tokens
 
 module _ (text : List ℕ) where
-  abbrev pub Reads : {A : Type 0} → (A → List ℕ) → (ℕ → Parsed A) → Type 0
-  Reads code p = (at : ℕ) → at ≤ length text → Grown code (length text) at (p at)
-
-  abbrev pub Inside : {A : Type 0} → (A → List ℕ) → (ℕ → ℕ → Parsed A) → Type 0
-  Inside code q = (s n : ℕ) → s < n → n ≤ length text → Grown code (length text) s (q s n)
-
-  -- ---- fixed tokens
-
-  pub expected-kept : (w : Wanted) (at : ℕ) → at ≤ length text → Kept (length text) at (expected text w at)
+  expected-kept : (w : Wanted) (at : ℕ) → at ≤ length text → Kept (length text) at (expected text w at)
   unfolding expected
   expected-kept w at h =
       token-prop (Kept (length text) at) (tokenAt text at) _ (λ r q. tt)
@@ -70,230 +54,148 @@ module _ (text : List ℕ) where
       then-prop (Kept (length text) at) (expected text w at) _ (λ r q. tt)
       (λ u n e. let g = subst (Kept (length text) at) e (expected-kept w at h) in kept-later (length text) at n (phrase text ws n) (g .0) (phrase-kept ws n (g .1)))
 
-  pub followed-grown : {A : Type 0} (code : A → List ℕ) (ws : List Wanted) (at m : ℕ) (e : A) (n : ℕ) → at ≤ m → Grown code (length text) m (accepted e n) → Grown code (length text) at (followed text ws e n)
-  unfolding followed
-  followed-grown code ws at m e n i g =
-      then-prop (Grown code (length text) at) (phrase text ws n) _ (λ r q. tt)
-      (λ u l es. let k = subst (Kept (length text) n) es (phrase-kept ws n (g .1)) in (omega arith, k .1, omega arith))
+-- ---- the bytes of tokens
 
-  -- ---- chains
+-- a token's bytes after its first
+unfoldable pub laterBytes : List ℕ → ℕ
+laterBytes [] = 0
+laterBytes (b ∷ l) = length l
 
-  module _ {O A : Type 0} (code : A → List ℕ) (join : O → A → A → A) (operator : Kind → Option O) (number : O → ℕ) (hb : (o : O) (a b : A) → code (join o a b) ≡ code a ++ (code b ++ (number o ∷ []))) (hc : operator ending ≡ none) where
-    rest-grown : (operand : ℕ → Parsed A) → Reads code operand → (f at : ℕ) (e : A) (n : ℕ) → Grown code (length text) at (accepted e n) → Grown code (length text) at (rest join operator operand text f e n)
-    unfolding rest
-    rest-grown operand ho zero at e n h = h
-    rest-grown operand ho (suc f) at e n h =
-        token-prop (Grown code (length text) at) (tokenAt text n) _ (λ r q. tt)
-        (λ k s m et. option-prop (Grown code (length text) at) (operator k) _ _ (λ z. h)
-        (λ o eo.
-        let mv = token-at-moved text n k s m (h .1) et in
-        then-prop (Grown code (length text) at) (operand m) _ (λ r q. tt)
-        (λ b l es. rest-grown operand ho f at (join o e b) l
-        (join-grown code code code (length text) at e n s m b l (number o) (join o e b) (hb o e b) h (mv .0)
-        (mv .3 (operator-end operator hc k o eo))
-        (subst (Grown code (length text) m) es (ho m (mv .2)))))))
+-- a token has a byte at least
+abbrev pub bytesOf : List (List ℕ) → ℕ
+bytesOf [] = 0
+bytesOf (w ∷ ws) = suc (laterBytes w + bytesOf ws)
 
-    pub chain-grown : (operand : ℕ → Parsed A) → Reads code operand → Reads code (λ at. chain join operator operand text at)
-    unfolding chain
-    chain-grown operand ho at h =
-        then-prop (Grown code (length text) at) (operand at) _ (λ r q. tt)
-        (λ e n es. rest-grown operand ho (suc (length text)) at e n (subst (Grown code (length text) at) es (ho at h)))
+pub bytes-append : (ts us : List (List ℕ)) → bytesOf (ts ++ us) ≡ bytesOf ts + bytesOf us
+bytes-append [] us = omega arith
+bytes-append (t ∷ ts) us = omega (arith, bytes-append ts us)
 
-  pub widen : {A : Type 0} (code : A → List ℕ) (at s : ℕ) (p : Parsed A) → at ≤ s → Grown code (length text) s p → Grown code (length text) at p
-  widen code at s (accepted e n) i g = (omega arith, g .1, omega arith)
-  widen code at s (refused r q) i g = tt
+pub token-bytes : (w : List ℕ) → 1 ≤ length w → suc (laterBytes w) ≡ length w
+unfolding laterBytes
+token-bytes [] h = absurd (omega arith)
+token-bytes (b ∷ l) h = refl
 
-operation-code : (o : Operation) (a b : Expression) → codeE (operation o a b) ≡ codeE a ++ (codeE b ++ (operationCode o ∷ []))
-unfolding codeE
-operation-code o a b = refl
+stands-bytes : (text : List ℕ) (a n : ℕ) (w : List ℕ) → a ≤ length text → Stands text a n w → suc (laterBytes w) + a ≤ n
+stands-bytes text a n w h st =
+    let mv = token-at-moved text a (st .kind) (st .start) n h (is-read st) in
+    let some = st .is-token .some-bytes in
+    let l : length w ≡ n - st .start = subst (λ (x : List ℕ). length x ≡ n - st .start) (st .spelled) (part-length text (st .start) n (mv .1) (mv .2)) in
+    omega (arith, l, mv .0, token-bytes w (omega (arith, l)))
+
+-- the tokens of a part of a text have no more bytes than it
+pub spells-bytes : (text : List ℕ) (a n : ℕ) (ts : List (List ℕ)) → a ≤ length text → Spells text a n ts → bytesOf ts + a ≤ n
+spells-bytes text a n [] h g = omega (arith, g)
+spells-bytes text a n (t ∷ ts) h g =
+    omega (arith, stands-bytes text a (g .0) t h (g .1), spells-bytes text (g .0) n ts (stands-in text a (g .0) t h (g .1) .1) (g .2))
+
+-- ---- expressions and conditions
+
+-- tokens have a byte at least, and twice the bytes of the code that they make are at most three times theirs, and one
+abbrev pub Makes : {A : Type 0} → (A → List ℕ) → List (List ℕ) → A → Type 0
+Makes code ts e = (1 ≤ bytesOf ts) × (2 * length (code e) ≤ 3 * bytesOf ts + 1)
+
+-- two parts joined by a token make their code and an instruction
+join-makes : {A B C : Type 0} (ca : A → List ℕ) (cb : B → List ℕ) (cc' : C → List ℕ) (x : A) (y : B) (z : C) (k : ℕ) (ts us : List (List ℕ)) (w : List ℕ) → cc' z ≡ ca x ++ (cb y ++ (k ∷ [])) → Makes ca ts x → Makes cb us y → Makes cc' (ts ++ w ∷ us) z
+join-makes ca cb cc' x y z k ts us w e h g = let b = bytes-append ts (w ∷ us) in (omega (arith, b), rw e (simp length-append (omega (arith, b))))
+
+-- a token before a part may make an instruction after it
+before-makes : {A B : Type 0} (ca : A → List ℕ) (cb : B → List ℕ) (x : A) (z : B) (k : ℕ) (ts : List (List ℕ)) (w : List ℕ) → cb z ≡ ca x ++ (k ∷ []) → Makes ca ts x → Makes cb (w ∷ ts) z
+before-makes ca cb x z k ts w e h = (omega arith, rw e (simp length-append (omega arith)))
+
+-- brackets make nothing
+bracket-makes : {A : Type 0} (code : A → List ℕ) (x : A) (ts : List (List ℕ)) (v w : List ℕ) → Makes code ts x → Makes code (v ∷ ts ++ w ∷ []) x
+bracket-makes code x ts v w h = let b = bytes-append ts (w ∷ []) in (omega (arith, b), omega (arith, b))
+
+pub digits-some : (w : List ℕ) → IsDigits w → 1 ≤ length w
+digits-some [] d = absurd d
+digits-some (b ∷ l) d = omega arith
 
 pub connect-code : (o : Connective) (a b : Condition) → codeC (connect o a b) ≡ codeC a ++ (codeC b ++ (connectiveCode o ∷ []))
 unfolding codeC connect
 connect-code andAlso a b = refl
 connect-code orElse a b = refl
 
-comparison-code : (o : Comparison) (a b : Expression) → codeC (comparison o a b) ≡ codeE a ++ (codeE b ++ (comparisonCode o ∷ []))
-unfolding codeC
-comparison-code o a b = refl
+module _ (names : List (List ℕ)) (few : length names ≤ 64) where
+  pub expression-makes : (v : Level) (l : ℕ) (ts : List (List ℕ)) (e : Expression) → SpellsE names v l ts e → Makes codeE ts e
+  unfolding codeE
+  expression-makes v l ts e (a-number w d h) = (omega arith, omega (arith, digits-bytes w (digits-some w d), token-bytes w (digits-some w d), digits-some w d))
+  expression-makes v l ts e (a-current w i ei) = (omega arith, omega (arith, id-bytes i (omega (arith, place-in names i w ei))))
+  expression-makes v l ts e (a-previous w i ei) = (omega arith, omega (arith, id-bytes i (omega (arith, place-in names i w ei))))
+  expression-makes v l ts e (brackets us x d) = bracket-makes codeE x us _ _ (expression-makes D.expression _ us x d)
+  expression-makes v l ts e (plain us x d) = expression-makes D.primary _ us x d
+  expression-makes v l ts e (opposite us x d) = before-makes codeE codeE x (negate x) 9 us _ refl (expression-makes D.primary _ us x d)
+  expression-makes v l ts e (one-factor us x d) = expression-makes D.factor _ us x d
+  expression-makes v l ts e (product w o us ws x y ps d f) = join-makes codeE codeE codeE x y (operation o x y) (operationCode o) us ws w refl (expression-makes D.term _ us x d) (expression-makes D.factor _ ws y f)
+  expression-makes v l ts e (one-term us x d) = expression-makes D.term _ us x d
+  expression-makes v l ts e (sum w o us ws x y ps d f) = join-makes codeE codeE codeE x y (operation o x y) (operationCode o) us ws w refl (expression-makes D.expression _ us x d) (expression-makes D.term _ ws y f)
 
-pub products-end : productOf ending ≡ none
-unfolding productOf is kindNumber
-products-end = refl
+  pub condition-makes : (v : LevelC) (l : ℕ) (ts : List (List ℕ)) (c : Condition) → SpellsC names v l ts c → Makes codeC ts c
+  unfolding codeC
+  condition-makes v l ts c (D.SpellsC.compared w o us ws x y ps d f) = join-makes codeE codeE codeC x y (comparison o x y) (comparisonCode o) us ws w refl (expression-makes D.expression _ us x d) (expression-makes D.expression _ ws y f)
+  condition-makes v l ts c (D.SpellsC.square us x d) = bracket-makes codeC x us _ _ (condition-makes D.condition _ us x d)
+  condition-makes v l ts c (not-square us x d) = before-makes codeC codeC x (negated x) 16 (bytes "[" ∷ us ++ bytes "]" ∷ []) (bytes "~") refl (bracket-makes codeC x us (bytes "[") (bytes "]") (condition-makes D.condition _ us x d))
+  condition-makes v l ts c (one-atom us x d) = condition-makes D.atom _ us x d
+  condition-makes v l ts c (conjoined us ws x y d f) = join-makes codeC codeC codeC x y (both x y) 17 us ws _ refl (condition-makes D.conjunction _ us x d) (condition-makes D.atom _ ws y f)
+  condition-makes v l ts c (one-conjunction us x d) = condition-makes D.conjunction _ us x d
+  condition-makes v l ts c (disjoined us ws x y d f) = join-makes codeC codeC codeC x y (either x y) 18 us ws _ refl (condition-makes D.condition _ us x d) (condition-makes D.conjunction _ ws y f)
 
-pub sums-end : sumOf ending ≡ none
-unfolding sumOf is kindNumber
-sums-end = refl
+-- ---- what is accepted
 
-pub ands-end : andOf ending ≡ none
-unfolding andOf is kindNumber
-ands-end = refl
-
-pub ors-end : orOf ending ≡ none
-unfolding orOf is kindNumber
-ors-end = refl
-
-pub comparisons-end : comparisonOf ending ≡ none
-unfolding comparisonOf is kindNumber
-comparisons-end = refl
-
--- a token that is told as one of these kinds is not the end
-pub not-end : (k w : Kind) → is ending w ≡ false → is k w ≡ true → k ≡ ending → ⊥
-not-end k w f e = apart k w e f
-
--- ---- expressions
+-- tokens from n on that make a part, with nothing before them from `at` on that is no token of the text
+grown-by : {A : Type 0} (R : List (List ℕ) → A → Type 0) (code : A → List ℕ) → ((ts : List (List ℕ)) (x : A) → R ts x → Makes code ts x) → (text : List ℕ) (at n : ℕ) → at ≤ n → n ≤ length text → (p : Parsed A) → Derives text R n p → Grown code (length text) at p
+grown-by R code f text at n i h (accepted x m) d =
+    let g = f (d .tokens) x (d .derives) in
+    let b = spells-bytes text n m (d .tokens) h (d .spells) in
+    (omega (arith, b, g .0), spells-in text n m (d .tokens) h (d .spells) .1, omega (arith, b, g .1))
+grown-by R code f text at n i h (refused k q) d = tt
 
 module _ (sc : Scope) (few : length (sc .names) ≤ 64) where
-  abbrev G : ℕ → Parsed Expression → Type 0
-  G at p = Grown codeE (length (sc .text)) at p
+  abbrev pub Reads : {A : Type 0} → (A → List ℕ) → (ℕ → Parsed A) → Type 0
+  Reads code p = (at : ℕ) → at ≤ length (sc .text) → Grown code (length (sc .text)) at (p at)
 
-  number-grown : (at s n : ℕ) → at ≤ s → s < n → n ≤ length (sc .text) → G at (numberAt sc s n)
-  unfolding numberAt codeE
-  number-grown at s n i j l =
-      let w = part (sc .text) s n in
-      let lw : length w ≡ n - s = part-length (sc .text) s n (omega arith) l in
-      cond-prop (Grown codeE (length (sc .text)) at) (ltb numberLimit (valueOf w)) _ _ (λ e. tt)
-      (λ e. (omega arith, l, omega (arith, digits-bytes w (omega arith))))
+  abbrev inner : ℕ → ℕ → ℕ → Parsed Expression
+  inner left s n = bracket left sc s n
 
-  id-grown : (at p s n : ℕ) (f : ℕ → Parsed Expression) → ((i : ℕ) → i < 64 → G at (f i)) → G at (withId sc p s n f)
-  unfolding withId
-  id-grown at p s n f h =
-      cond-prop (Grown codeE (length (sc .text)) at) (overLong s n) _ _ (λ e. tt)
-      (λ e. option-prop (Grown codeE (length (sc .text)) at) (idOf (sc .names) (part (sc .text) s n)) _ _ (λ z. tt)
-      (λ i ei. h i (omega (arith, id-of (sc .names) (part (sc .text) s n) i ei))))
+  abbrev inside : ℕ → ℕ → ℕ → Parsed Condition
+  inside left s n = square left sc s n
 
-  current-grown : (at s n : ℕ) → at ≤ s → s < n → n ≤ length (sc .text) → G at (currentAt sc s n)
-  unfolding currentAt codeE
-  current-grown at s n i j l =
-      id-grown at s s n _ (λ v hv. cond-prop (Grown codeE (length (sc .text)) at) (getD (sc .known) v false) _ _ (λ e. (omega arith, l, omega (arith, id-bytes v (omega arith)))) (λ e. tt))
+  grownE : (v : Level) (left at : ℕ) (p : Parsed Expression) → at ≤ length (sc .text) → Derives (sc .text) (SpellsE (sc .names) v left) at p → Grown codeE (length (sc .text)) at p
+  grownE v left at p h d = grown-by (SpellsE (sc .names) v left) codeE (expression-makes (sc .names) few v left) (sc .text) at at (omega arith) h p d
 
-  previous-grown : (at s n : ℕ) → at ≤ s → s < n → n ≤ length (sc .text) → G at (previousAt sc s n)
-  unfolding previousAt codeE
-  previous-grown at s n i j l = id-grown at s (s + 1) n _ (λ v hv. (omega arith, l, omega (arith, id-bytes v (omega arith))))
+  grownC : (v : LevelC) (left at : ℕ) (p : Parsed Condition) → at ≤ length (sc .text) → Derives (sc .text) (SpellsC (sc .names) v left) at p → Grown codeC (length (sc .text)) at p
+  grownC v left at p h d = grown-by (SpellsC (sc .names) v left) codeC (condition-makes (sc .names) few v left) (sc .text) at at (omega arith) h p d
 
-  negate-grown : (at m : ℕ) (p : Parsed Expression) → at < m → G m p → G at (negative p)
-  unfolding negative codeE
-  negate-grown at m (accepted e n) h g = (omega arith, g .1, simp length-append (omega arith))
-  negate-grown at m (refused r q) h g = tt
+  pub primary-grown : (left : ℕ) → Reads codeE (λ at. primary (inner left) sc at)
+  primary-grown left at h = grownE D.primary left at (primary (inner left) sc at) h (primary-derives sc left (inner left) (bracket-derives sc left) at h)
 
-  module _ (inner : ℕ → ℕ → Parsed Expression) (hi : Inside (sc .text) codeE inner) where
-    pub primary-grown : Reads (sc .text) codeE (λ at. primary inner sc at)
-    unfolding primary is kindNumber
-    primary-grown at h =
-        token-prop (Grown codeE (length (sc .text)) at) (tokenAt (sc .text) at) _ (λ r q. tt)
-        (λ k s n et.
-        let mv = token-at-moved (sc .text) at k s n h et in
-        cond-prop (Grown codeE (length (sc .text)) at) (is k digits) _ _ (λ e. number-grown at s n (mv .0) (mv .3 (not-end k digits refl e)) (mv .2))
-        (λ n1. cond-prop (Grown codeE (length (sc .text)) at) (is k name) _ _ (λ e. current-grown at s n (mv .0) (mv .3 (not-end k name refl e)) (mv .2))
-        (λ n2. cond-prop (Grown codeE (length (sc .text)) at) (is k T.previous) _ _ (λ e. previous-grown at s n (mv .0) (mv .3 (not-end k T.previous refl e)) (mv .2))
-        (λ n3. cond-prop (Grown codeE (length (sc .text)) at) (is k openRound) _ _
-        (λ e. widen (sc .text) codeE at s (inner s n) (mv .0) (hi s n (mv .3 (not-end k openRound refl e)) (mv .2)))
-        (λ n4. tt)))))
+  pub factor-grown : (left : ℕ) → Reads codeE (λ at. factor (inner left) sc at)
+  factor-grown left at h = grownE D.factor left at (factor (inner left) sc at) h (factor-derives sc left (inner left) (bracket-derives sc left) at h)
 
-    pub factor-grown : Reads (sc .text) codeE (λ at. factor inner sc at)
-    unfolding factor is kindNumber
-    factor-grown at h =
-        token-prop (Grown codeE (length (sc .text)) at) (tokenAt (sc .text) at) _ (λ r q. tt)
-        (λ k s n et.
-        let mv = token-at-moved (sc .text) at k s n h et in
-        cond-prop (Grown codeE (length (sc .text)) at) (is k minus) _ _
-        (λ e. negate-grown at n (primary inner sc n) (omega (arith, mv .3 (not-end k minus refl e))) (primary-grown n (mv .2)))
-        (λ ne. primary-grown at h))
+  pub term-grown : (left : ℕ) → Reads codeE (λ at. term (inner left) sc at)
+  term-grown left at h = grownE D.term left at (term (inner left) sc at) h (term-derives sc left (inner left) (bracket-derives sc left) at h)
 
-    pub term-grown : Reads (sc .text) codeE (λ at. term inner sc at)
-    unfolding term
-    term-grown at h = chain-grown (sc .text) codeE operation productOf operationCode operation-code products-end (factor inner sc) factor-grown at h
+  pub expression-grown : (left : ℕ) → Reads codeE (λ at. expression (inner left) sc at)
+  expression-grown left at h = grownE D.expression left at (expression (inner left) sc at) h (expression-derives sc left (inner left) (bracket-derives sc left) at h)
 
-    pub expression-grown : Reads (sc .text) codeE (λ at. expression inner sc at)
-    unfolding expression
-    expression-grown at h = chain-grown (sc .text) codeE operation sumOf operationCode operation-code sums-end (term inner sc) term-grown at h
+  pub whole-expression-grown : Reads codeE (λ at. wholeExpression sc at)
+  whole-expression-grown at h = grownE D.expression bracketLimit at (wholeExpression sc at) h (whole-expression-derives sc at h)
 
-  pub bracket-grown : (left : ℕ) → Inside (sc .text) codeE (λ s n. bracket left sc s n)
-  unfolding bracket
-  bracket-grown zero s n i j = tt
-  bracket-grown (suc left) s n i j =
-      then-prop (Grown codeE (length (sc .text)) s) (expression (λ s n. bracket left sc s n) sc n) _ (λ r q. tt)
-      (λ e m es. followed-grown (sc .text) codeE (sign closeRound ∷ []) s n e m (omega arith)
-      (subst (Grown codeE (length (sc .text)) n) es (expression-grown (λ s n. bracket left sc s n) (bracket-grown left) n j)))
+  pub atom-grown : (left : ℕ) → Reads codeC (λ at. atom (inner left) (inside left) sc at)
+  atom-grown left at h = grownC D.atom left at (atom (inner left) (inside left) sc at) h (atom-derives sc left (inner left) (bracket-derives sc left) (inside left) (square-derives sc left) at h)
 
-  pub whole-expression-grown : Reads (sc .text) codeE (λ at. wholeExpression sc at)
-  unfolding wholeExpression
-  whole-expression-grown at h = expression-grown (λ s n. bracket bracketLimit sc s n) (bracket-grown bracketLimit) at h
+  pub conjunction-grown : (left : ℕ) → Reads codeC (λ at. conjunction (inner left) (inside left) sc at)
+  conjunction-grown left at h = grownC D.conjunction left at (conjunction (inner left) (inside left) sc at) h (conjunction-derives sc left (inner left) (bracket-derives sc left) (inside left) (square-derives sc left) at h)
 
-  -- ---- conditions
+  -- the `]` after a condition makes nothing
+  closed-makes : (left : ℕ) (ts : List (List ℕ)) (c : Condition) → ClosedC sc left ts c → Makes codeC ts c
+  closed-makes zero ts c d = absurd d
+  closed-makes (suc left) ts c d =
+      let g = condition-makes (sc .names) few D.condition left (d .inner) c (d .derives) in
+      let b = bytes-append (d .inner) (bytes "]" ∷ []) in
+      rw (d .is-closed) (omega (arith, b, g .0), omega (arith, b, g .1))
 
-  abbrev C : ℕ → Parsed Condition → Type 0
-  C at p = Grown codeC (length (sc .text)) at p
+  pub square-grown : (left s n : ℕ) → s < n → n ≤ length (sc .text) → Grown codeC (length (sc .text)) s (square left sc s n)
+  square-grown left s n i h = grown-by (ClosedC sc left) codeC (closed-makes left) (sc .text) s n (omega arith) h (square left sc s n) (square-derives sc left s n h)
 
-  opposite-grown : (at m : ℕ) (p : Parsed Condition) → at < m → C m p → C at (opposite p)
-  unfolding opposite codeC
-  opposite-grown at m (accepted e n) h g = (omega arith, g .1, simp length-append (omega arith))
-  opposite-grown at m (refused r q) h g = tt
-
-  module _ (inner : ℕ → ℕ → Parsed Expression) (hi : Inside (sc .text) codeE inner) where
-    compared-grown : (at : ℕ) (a : Expression) (n : ℕ) → G at (accepted a n) → C at (compared inner sc a n)
-    unfolding compared
-    compared-grown at a n h =
-        token-prop (Grown codeC (length (sc .text)) at) (tokenAt (sc .text) n) _ (λ r q. tt)
-        (λ k s m et. option-prop (Grown codeC (length (sc .text)) at) (comparisonOf k) _ _ (λ z. tt)
-        (λ o eo.
-        let mv = token-at-moved (sc .text) n k s m (h .1) et in
-        then-prop (Grown codeC (length (sc .text)) at) (expression inner sc m) _ (λ r q. tt)
-        (λ b l es. join-grown codeE codeE codeC (length (sc .text)) at a n s m b l (comparisonCode o) (comparison o a b) (comparison-code o a b) h (mv .0)
-        (mv .3 (operator-end comparisonOf comparisons-end k o eo))
-        (subst (Grown codeE (length (sc .text)) m) es (expression-grown inner hi m (mv .2))))))
-
-    comparison-grown : Reads (sc .text) codeC (λ at. comparisonAt inner sc at)
-    unfolding comparisonAt
-    comparison-grown at h =
-        then-prop (Grown codeC (length (sc .text)) at) (expression inner sc at) _ (λ r q. tt)
-        (λ a n es. compared-grown at a n (subst (Grown codeE (length (sc .text)) at) es (expression-grown inner hi at h)))
-
-    module _ (inside : ℕ → ℕ → Parsed Condition) (hc : Inside (sc .text) codeC inside) where
-      pub inverted-grown : (at n : ℕ) → at < n → n ≤ length (sc .text) → C at (inverted inside sc n)
-      unfolding inverted is kindNumber
-      inverted-grown at n i j =
-          token-prop (Grown codeC (length (sc .text)) at) (tokenAt (sc .text) n) _ (λ r q. tt)
-          (λ k s m et.
-          let mv = token-at-moved (sc .text) n k s m j et in
-          cond-prop (Grown codeC (length (sc .text)) at) (is k openSquare) _ _
-          (λ e. opposite-grown at s (inside s m) (omega arith) (hc s m (mv .3 (not-end k openSquare refl e)) (mv .2)))
-          (λ e. tt))
-
-      pub atom-grown : Reads (sc .text) codeC (λ at. atom inner inside sc at)
-      unfolding atom is kindNumber
-      atom-grown at h =
-          token-prop (Grown codeC (length (sc .text)) at) (tokenAt (sc .text) at) _ (λ r q. tt)
-          (λ k s n et.
-          let mv = token-at-moved (sc .text) at k s n h et in
-          cond-prop (Grown codeC (length (sc .text)) at) (is k tilde) _ _
-          (λ e. inverted-grown at n (omega (arith, mv .3 (not-end k tilde refl e))) (mv .2))
-          (λ ne. cond-prop (Grown codeC (length (sc .text)) at) (is k openSquare) _ _
-          (λ e. widen (sc .text) codeC at s (inside s n) (mv .0) (hc s n (mv .3 (not-end k openSquare refl e)) (mv .2)))
-          (λ ne2. comparison-grown at h)))
-
-      pub conjunction-grown : Reads (sc .text) codeC (λ at. conjunction inner inside sc at)
-      unfolding conjunction
-      conjunction-grown at h = chain-grown (sc .text) codeC connect andOf connectiveCode connect-code ands-end (atom inner inside sc) atom-grown at h
-
-      pub condition-grown : Reads (sc .text) codeC (λ at. condition inner inside sc at)
-      unfolding condition
-      condition-grown at h = chain-grown (sc .text) codeC connect orOf connectiveCode connect-code ors-end (conjunction inner inside sc) conjunction-grown at h
-
-  pub square-grown : (left : ℕ) → Inside (sc .text) codeC (λ s n. square left sc s n)
-  unfolding square
-  square-grown zero s n i j = tt
-  square-grown (suc left) s n i j =
-      then-prop (Grown codeC (length (sc .text)) s) (condition (λ s n. bracket left sc s n) (λ s n. square left sc s n) sc n) _ (λ r q. tt)
-      (λ e m es. followed-grown (sc .text) codeC (sign closeSquare ∷ []) s n e m (omega arith)
-      (subst (Grown codeC (length (sc .text)) n) es (condition-grown (λ s n. bracket left sc s n) (bracket-grown left) (λ s n. square left sc s n) (square-grown left) n j)))
-
-  pub whole-condition-grown : Reads (sc .text) codeC (λ at. wholeCondition sc at)
-  unfolding wholeCondition
-  whole-condition-grown at h =
-      condition-grown (λ s n. bracket bracketLimit sc s n) (bracket-grown bracketLimit) (λ s n. square bracketLimit sc s n) (square-grown bracketLimit) at h
-
-  pub listed-grown : Reads (sc .text) codeC (λ at. listed sc at)
-  unfolding listed
-  listed-grown at h =
-      then-prop (Grown codeC (length (sc .text)) at) (wholeCondition sc at) _ (λ r q. tt)
-      (λ c m es. followed-grown (sc .text) codeC (sign closeSquare ∷ []) at at c m (omega arith) (subst (Grown codeC (length (sc .text)) at) es (whole-condition-grown at h)))
+  pub listed-grown : Reads codeC (λ at. listed sc at)
+  listed-grown at h = grown-by (ClosedC sc (suc bracketLimit)) codeC (closed-makes (suc bracketLimit)) (sc .text) at at (omega arith) h (listed sc at) (listed-derives sc at h)

@@ -53,7 +53,7 @@ module _ (sc : Scope) (few : length (sc .names) ≤ 64) (lengths : length (sc .n
 
   pub cases-in : (w : List ℕ) (at n : ℕ) (cs : List Spanned) → at ≤ length (sc .text) → casesFrom caseLimit sc w [] at ≡ accepted cs n → CasesIn w at n cs
   cases-in w at n cs h e =
-      let r : CasesRead sc few w [] at n cs = subst (CasesReads sc few w [] at) e (cases-derive sc few w caseLimit [] at h) in
+      let r : CasesRead sc w [] at n cs = subst (CasesReads sc w [] at) e (cases-derive sc w caseLimit [] at h) in
       record {
         fine = subst (Holds (λ (cs : List Spanned). Fine (sc .known) (casesOf cs))) e (cases-fit sc lengths w caseLimit [] at refl tt);
         within = spells-in (sc .text) at n (r .tokens) h (r .spells) .1;

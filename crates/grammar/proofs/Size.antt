@@ -1,38 +1,39 @@
--- The image of an accepted text: twice its bytes are at most three times the text's, and four. Assumes nothing.
-use mathlib.Core.Path.{_≡_, refl, sym, _∙_, subst}
+-- The image of an accepted text: twice its bytes are at most three times the text's, and four; by the tokens that spell it. Assumes
+-- nothing.
+use mathlib.Core.Path.{_≡_, refl, subst}
 use mathlib.Core.List.{List, [], _∷_, _++_}
-use mathlib.Core.Bool.{Bool, true, false, _&&_}
+use mathlib.Core.Bool.{true, false}
 use Prim.Native.Nat.{ℕ, zero, suc, _+_, _-_, _*_, _≤_, _<_}
-use native.Mathlib.Nat.{le-refl}
 use native.Mathlib.Omega.{arith}
-use lib.ListN.{length, getD, set, length-append, length-set}
-use lib.Dec.{ltb}
+use lib.ListN.{length, getD, length-append, length-map}
 use lib.IntN.{ℤ, pos, negℤ}
-use lib.Signed.{leZ}
-use Rattle.lexer.specs.Bytes.{part}
-use Rattle.lexer.specs.Token.{Kind, kindNumber, name, previous, digits, ending, openSquare, tilde, bar, minus, initWord, semicolon, dots, is}
+use Rattle.limits.specs.Limits.{caseLimit, bracketLimit}
+use Rattle.leb128.specs.Numbers.{number, zigzag}
+use Rattle.lexer.specs.Bytes.{bytes, part}
+use Rattle.lexer.specs.Token.{Kind, kindNumber, name, previous, ending, tilde, is}
 use Rattle.lexer.specs.Lexer.{tokenAt, overLong, valueOf, sameName}
 use Rattle.lexer.specs.Names.{idOf}
 use Rattle.lexer.proofs.Laws.{cond-prop, token-at-moved}
 use Rattle.lexer.proofs.Same.{both-true}
-use Rattle.semantics.specs.Program.{Name, Rule, function, change, Program, target, allTrue, knownFirst}
-use Rattle.semantics.proofs.Reference.{length-known}
-use Rattle.grammar.specs.Parsed.{Parsed, accepted, refused, Wanted, sign, own, ownPrevious, isWanted, expected, phrase, followed, itemBound}
+use Rattle.semantics.specs.Program.{Name, Case, Rule, function, change, Program}
+use Rattle.grammar.specs.Parsed.{Parsed, accepted, refused, Wanted, sign, own, ownPrevious, isWanted, expected, phrase, followed}
 use Rattle.grammar.specs.Expressions.{Scope, withId, wholeExpression}
-use Rattle.grammar.specs.Conditions.{listed}
-use Rattle.grammar.specs.Declarations.{inRange, signedAt, boundAt, spellings, newName, startAt, declaration, declarationsFrom, declarations}
-use Rattle.grammar.specs.Rules.{Spanned, caseAt, casesFrom, agreeingList, casesOf, functionAt, changeAt, formulas, ruleAt, ruled, rulesFrom}
-use Rattle.grammar.specs.Emitted.{codeE, codeC, codeK, codeR, header, image}
+use Rattle.grammar.specs.Declarations.{declaration, declarationsFrom}
+use Rattle.grammar.specs.Rules.{Spanned, caseAt, casesFrom, agreeingList, casesOf, functionAt, changeAt, formulas, ruleAt}
+use Rattle.grammar.specs.Derivation.{SpellsE, SpellsC}
+use Rattle.grammar.specs.Derivation as D
+use Rattle.grammar.specs.Spelled.{SpellsZ, positive, negative, SpellsStart, absent, given, Declares, declares, DeclareAll, cased, SpellsCases, one-case, more-cases, changeForm, SpellsR, a-change, a-function, SpellsRules, namesOf, Spelled}
+use Rattle.grammar.specs.Spelled as S
+use Rattle.grammar.specs.Emitted.{codeE, codeK, codeR, header, image}
 use Rattle.grammar.proofs.Combine.{token-prop, then-prop, option-prop}
-use Rattle.grammar.proofs.Bytes.{part-length, value-bytes, id-bytes}
-use Rattle.grammar.proofs.Growth.{Grown, Kept, phrase-kept, whole-expression-grown, listed-grown, not-end}
-use Rattle.grammar.proofs.Whole.{Ends, Names, agree-kept, declarations-fit, spellings-length}
-use Rattle.grammar.proofs.Bytes.{id-of}
-use Rattle.grammar.specs.Parse.{program, parse}
-use Rattle.lexer.specs.Token.{inputWord, varWord}
-use Rattle.leb128.specs.Numbers.{number, zigzag}
-use Rattle.limits.specs.Limits.{nameLimit, caseLimit, textLimit}
-use Rattle.arith.specs.Values.{isInt32}
+use Rattle.grammar.proofs.Bytes.{digits-bytes, value-bytes, id-bytes, id-of, place-in}
+use Rattle.grammar.proofs.Standing.{spells-in}
+use Rattle.grammar.proofs.Phrases.{headTokens, middleTokens}
+use Rattle.grammar.proofs.Derived.{Derives}
+use Rattle.grammar.proofs.Growth.{Grown, Kept, phrase-kept, whole-expression-grown, not-end, laterBytes, bytesOf, bytes-append, token-bytes, spells-bytes, digits-some, expression-makes, condition-makes}
+use Rattle.grammar.proofs.DerivedCases.{caseRest, CaseReads, case-derives, CasesReads, cases-derive}
+use Rattle.grammar.proofs.Whole.{Ends, Declared, declaration-fits, agree-kept}
+use Rattle.grammar.proofs.DerivedDeclarations.{AfterWord, declaration-derives}
 
 -- what is accepted ends within the text, and twice its code's bytes are at most three times its own
 abbrev pub Pays : {A : Type 0} → (A → ℕ) → ℕ → ℕ → Parsed A → Type 0
@@ -81,142 +82,102 @@ module _ (text : List ℕ) where
       (λ u n e. let g = subst (Long 1 (length text) at) e (wanted-long (ownPrevious w) at h (λ k s n t. not-end k previous refl (both-true (is k previous) (sameName w (part text (s + 1) n)) t .0))) in
       phrase-more (length ws) at n (phrase text ws n) (g .0) (phrase-long ws sol n (g .1)))
 
--- ---- rules
+-- ---- cases
 
-pub case-append : (v : ℕ) (cs : List Spanned) (c : Spanned) → length (codeK v (casesOf (cs ++ (c ∷ [])))) ≡ length (codeK v (casesOf cs)) + length (codeK v (casesOf (c ∷ [])))
+case-bytes : (w : List ℕ) (ts us : List (List ℕ)) → bytesOf ts + bytesOf us + 6 ≤ bytesOf (caseRest w ts us)
+case-bytes w ts us =
+    let front = (ts ++ bytes "]" ∷ []) ++ bytes "&" ∷ w ∷ bytes "=" ∷ bytes "(" ∷ us in
+    omega (arith, bytes-append front (bytes ")" ∷ []), bytes-append (ts ++ bytes "]" ∷ []) (bytes "&" ∷ w ∷ bytes "=" ∷ bytes "(" ∷ us), bytes-append ts (bytes "]" ∷ []))
+
+cases-code : (v : ℕ) (k : Case) (ks : List Case) → length (codeK v (k ∷ ks)) ≡ length (codeK v (k ∷ [])) + length (codeK v ks)
 unfolding codeK
-case-append v [] c = omega arith
-case-append v (d ∷ cs) c = simp length-append (omega (arith, simp length-append at (case-append v cs c)))
+cases-code v k ks = simp length-append (omega arith)
+
+cases-append : (v : ℕ) (cs ds : List Spanned) → length (codeK v (casesOf (cs ++ ds))) ≡ length (codeK v (casesOf cs)) + length (codeK v (casesOf ds))
+unfolding codeK
+cases-append v [] ds = omega arith
+cases-append v (c ∷ cs) ds = simp length-append (omega (arith, cases-append v cs ds))
+
+module _ (names : List (List ℕ)) (few : length names ≤ 64) (v : ℕ) (hv : v < 64) where
+  case-makes : (ts us : List (List ℕ)) (k : Case) → SpellsC names D.condition bracketLimit ts (k .condition) → SpellsE names D.expression bracketLimit us (k .value) → 2 * length (codeK v (k ∷ [])) ≤ 3 * (bytesOf ts + bytesOf us) + 8
+  unfolding codeK
+  case-makes ts us k c e =
+      let g = condition-makes names few D.condition bracketLimit ts (k .condition) c in
+      let f = expression-makes names few D.expression bracketLimit us (k .value) e in
+      simp length-append (omega (arith, g .1, f .1, id-bytes v (omega arith)))
+
+  cases-make : (w : List ℕ) (ts ls : List (List ℕ)) (ks : List Case) → SpellsCases names w ts ls ks → 2 * length (codeK v ks) ≤ 3 * bytesOf ts
+  cases-make w ts ls ks (one-case us vs k c e) = omega (arith, case-makes us vs k c e, case-bytes w us vs)
+  cases-make w ts ls ks (more-cases us vs cs ms k js c e r) =
+      omega (arith, case-makes us vs k c e, case-bytes w us vs, cases-code v k js, cases-make w cs ms js r, bytes-append (cased w us vs) (bytes "|" ∷ cs))
 
 module _ (sc : Scope) (few : length (sc .names) ≤ 64) (v : ℕ) (hv : v < 64) where
   pub case-pays : (w : List ℕ) (at n : ℕ) → n ≤ length (sc .text) → Pays (λ c. length (codeK v (casesOf (c ∷ [])))) (length (sc .text)) n (caseAt sc w at n)
-  unfolding caseAt followed codeK is kindNumber
-  case-pays w at n h =
-      then-prop (Pays (λ (c : Spanned). length (codeK v (casesOf (c ∷ [])))) (length (sc .text)) n) (listed sc n) _ (λ k q. tt)
-      (λ c n1 e1.
-      let g1 = subst (Grown codeC (length (sc .text)) n) e1 (listed-grown sc few n h) in
-      then-prop (Pays (λ (c : Spanned). length (codeK v (casesOf (c ∷ [])))) (length (sc .text)) n) (phrase (sc .text) _ n1) _ (λ k q. tt)
-      (λ u n2 e2.
-      let g2 = subst (Long 4 (length (sc .text)) n1) e2 (phrase-long (sc .text) _ (refl, (refl, (refl, tt))) n1 (g1 .1)) in
-      then-prop (Pays (λ (c : Spanned). length (codeK v (casesOf (c ∷ [])))) (length (sc .text)) n) (wholeExpression sc n2) _ (λ k q. tt)
-      (λ e n3 e3.
-      let g3 = subst (Grown codeE (length (sc .text)) n2) e3 (whole-expression-grown sc few n2 (g2 .1)) in
-      then-prop (Pays (λ (c : Spanned). length (codeK v (casesOf (c ∷ [])))) (length (sc .text)) n) (phrase (sc .text) _ n3) _ (λ k q. tt)
-      (λ u2 n4 e4.
-      let g4 = subst (Long 1 (length (sc .text)) n3) e4 (phrase-long (sc .text) _ (refl, tt) n3 (g3 .1)) in
-      (simp length-append (omega (arith, g1 .2, g2 .0, g3 .2, g4 .0, id-bytes v (omega arith))), g4 .1)))))
+  case-pays w at n h = pays (caseAt sc w at n) (case-derives sc w at n h)
+    where
+      pays : (p : Parsed Spanned) → CaseReads sc w at n p → Pays (λ c. length (codeK v (casesOf (c ∷ [])))) (length (sc .text)) n p
+      pays (accepted c m) r =
+          let ts = caseRest w (r .conditions) (r .values) in
+          (omega (arith, spells-bytes (sc .text) n m ts h (r .spells), case-bytes w (r .conditions) (r .values), case-makes (sc .names) few v hv (r .conditions) (r .values) (c .case) (r .condition) (r .value)), spells-in (sc .text) n m ts h (r .spells) .1)
+      pays (refused k q) r = tt
 
   pub cases-pay : (w : List ℕ) (left : ℕ) (done : List Spanned) (from at : ℕ) → at ≤ length (sc .text) → 2 * length (codeK v (casesOf done)) + 3 * from ≤ 3 * at → Pays (λ cs. length (codeK v (casesOf cs))) (length (sc .text)) from (casesFrom left sc w done at)
-  unfolding casesFrom
-  cases-pay w zero done from at h g =
-      token-prop (Pays (λ (cs : List Spanned). length (codeK v (casesOf cs))) (length (sc .text)) from) (tokenAt (sc .text) at) _ (λ k q. tt)
-      (λ k s n et. cond-prop (Pays (λ (cs : List Spanned). length (codeK v (casesOf cs))) (length (sc .text)) from) (is k openSquare) _ _ (λ e. tt) (λ e. tt))
-  cases-pay w (suc left) done from at h g =
-      token-prop (Pays (λ (cs : List Spanned). length (codeK v (casesOf cs))) (length (sc .text)) from) (tokenAt (sc .text) at) _ (λ k q. tt)
-      (λ k s n et.
-      let mv = token-at-moved (sc .text) at k s n h et in
-      cond-prop (Pays (λ (cs : List Spanned). length (codeK v (casesOf cs))) (length (sc .text)) from) (is k openSquare) _ _
-      (λ eo. then-prop (Pays (λ (cs : List Spanned). length (codeK v (casesOf cs))) (length (sc .text)) from) (caseAt sc w at n) _ (λ k q. tt)
-      (λ c n1 e1.
-      let p = subst (Pays (λ (c : Spanned). length (codeK v (casesOf (c ∷ [])))) (length (sc .text)) n) e1 (case-pays w at n (mv .2)) in
-      let l = case-append v done c in
-      token-prop (Pays (λ (cs : List Spanned). length (codeK v (casesOf cs))) (length (sc .text)) from) (tokenAt (sc .text) n1) _ (λ k q. tt)
-      (λ k2 s2 n2 et2.
-      let mw = token-at-moved (sc .text) n1 k2 s2 n2 (p .1) et2 in
-      cond-prop (Pays (λ (cs : List Spanned). length (codeK v (casesOf cs))) (length (sc .text)) from) (is k2 bar) _ _
-      (λ e. cases-pay w left (done ++ (c ∷ [])) from n2 (mw .2) (omega (arith, l, p .0, mv .0, mv .1, mw .0, mw .1)))
-      (λ e. (omega (arith, l, p .0, mv .0, mv .1), p .1)))))
-      (λ e. tt))
+  cases-pay w left done from at h g = pays (casesFrom left sc w done at) (cases-derive sc w left done at h)
+    where
+      pays : (p : Parsed (List Spanned)) → CasesReads sc w done at p → Pays (λ cs. length (codeK v (casesOf cs))) (length (sc .text)) from p
+      pays (accepted cs n) r =
+          (rw (r .is-more) (omega (arith, cases-append v done (r .more), cases-make (sc .names) few v hv w (r .tokens) (r .list) (casesOf (r .more)) (r .derives), spells-bytes (sc .text) at n (r .tokens) h (r .spells))), spells-in (sc .text) at n (r .tokens) h (r .spells) .1)
+      pays (refused k q) r = tt
 
 -- ---- declarations
 
 abbrev pub nameBytes : Name → ℕ
 nameBytes x = length (number (zigzag (x .range .low))) + (length (number (zigzag (x .range .high))) + length (number (zigzag (x .range .start))))
 
-pub header-append : (l : List Name) (x : Name) → length (header (l ++ (x ∷ []))) ≡ length (header l) + nameBytes x
+header-append : (k l : List Name) → length (header (k ++ l)) ≡ length (header k) + length (header l)
 unfolding header
-header-append [] x = simp length-append (omega arith)
-header-append (y ∷ l) x = simp length-append (omega (arith, header-append l x))
+header-append [] l = omega arith
+header-append (x ∷ k) l = simp length-append (omega (arith, header-append k l))
+
+header-code : (x : Name) (l : List Name) → length (header (x ∷ l)) ≡ nameBytes x + length (header l)
+unfolding header
+header-code x l = simp length-append (omega arith)
+
+header-none : length (header []) ≡ 0
+unfolding header
+header-none = refl
 
 signed-small : (v : ℕ) → zigzag (negℤ (pos v)) ≤ 2 * v
 unfolding zigzag
 signed-small zero = omega arith
 signed-small (suc v) = omega arith
 
+number-makes : (ts : List (List ℕ)) (z : ℤ) → SpellsZ ts z → length (number (zigzag z)) ≤ bytesOf ts
+number-makes ts z (positive w d) = omega (arith, digits-bytes w (digits-some w d), token-bytes w (digits-some w d))
+number-makes ts z (negative w d) = omega (arith, value-bytes w (zigzag (negℤ (pos (valueOf w)))) (signed-small (valueOf w)) (digits-some w d), token-bytes w (digits-some w d))
+
+start-makes : (ts : List (List ℕ)) (z : ℤ) → SpellsStart ts z → length (number (zigzag z)) ≤ bytesOf ts + 1
+unfolding zigzag
+start-makes ts z absent = omega (arith, id-bytes 0 (omega arith))
+start-makes ts z (given us x d) = omega (arith, number-makes us x d)
+
+declares-make : (word : List ℕ) (ts : List (List ℕ)) (x : Name) → Declares word ts x → 2 * nameBytes x + 3 * suc (laterBytes word) ≤ 3 * bytesOf ts
+declares-make word ts x (declares w ls hs ss r nm dl dh ds fits) =
+    let bounds = (word ∷ w ∷ ls) ++ bytes ".." ∷ hs in
+    omega (arith, number-makes ls (r .low) dl, number-makes hs (r .high) dh, start-makes ss (r .start) ds, bytes-append (bounds ++ ss) (bytes ";" ∷ []), bytes-append bounds ss, bytes-append (word ∷ w ∷ ls) (bytes ".." ∷ hs))
+
+all-make : (word : List ℕ) (ts : List (List ℕ)) (l : List Name) → DeclareAll word ts l → 2 * length (header l) ≤ 3 * bytesOf ts
+unfolding header
+all-make word ts l S.DeclareAll.none = omega arith
+all-make word ts l (S.DeclareAll.more us vs x k d r) = omega (arith, declares-make word us x d, all-make word vs k r, header-code x k, bytes-append us vs)
+
 module _ (text : List ℕ) where
-  abbrev numberBytes : ℤ → ℕ
-  numberBytes z = length (number (zigzag z))
-
-  signed-pays : (test : ℤ → Bool) (signed : ℤ → ℤ) → ((v : ℕ) → zigzag (signed (pos v)) ≤ 2 * v) → (at s n : ℕ) (k : Kind) → at ≤ s → s ≤ n → n ≤ length text → ((k ≡ ending → ⊥) → s < n) → Pays numberBytes (length text) at (signedAt test signed text k s n)
-  unfolding signedAt is kindNumber
-  signed-pays test signed small at s n k i j l f =
-      let z = signed (pos (valueOf (part text s n))) in
-      let lw = part-length text s n j l in
-      cond-prop (Pays numberBytes (length text) at) (is k digits) _ _
-      (λ e.
-      let lt = f (not-end k digits refl e) in
-      cond-prop (Pays numberBytes (length text) at) (isInt32 z && test z) _ _
-      (λ t. (omega (arith, lw, value-bytes (part text s n) (zigzag z) (small (valueOf (part text s n))) (omega arith)), l)) (λ t. tt))
-      (λ e. tt)
-
-  bound-pays : (test : ℤ → Bool) (at : ℕ) → at ≤ length text → Pays numberBytes (length text) at (boundAt test text at)
-  unfolding boundAt zigzag
-  bound-pays test at h =
-      token-prop (Pays numberBytes (length text) at) (tokenAt text at) _ (λ k q. tt)
-      (λ k s n et.
-      let mv = token-at-moved text at k s n h et in
-      cond-prop (Pays numberBytes (length text) at) (is k minus) _ _
-      (λ e. token-prop (Pays numberBytes (length text) at) (tokenAt text n) _ (λ k q. tt)
-      (λ k2 s2 n2 et2. let mw = token-at-moved text n k2 s2 n2 (mv .2) et2 in signed-pays test negℤ signed-small at s2 n2 k2 (omega (arith, mv .0, mv .1, mw .0)) (mw .1) (mw .2) (mw .3)))
-      (λ e. signed-pays test (λ z. z) (λ v. le-refl (2 * v)) at s n k (mv .0) (mv .1) (mv .2) (mv .3)))
-
-  start-pays : (low high : ℤ) (at : ℕ) → at ≤ length text → Pays numberBytes (length text) at (startAt text low high at)
-  unfolding startAt followed zigzag is kindNumber
-  start-pays low high at h =
-      token-prop (Pays numberBytes (length text) at) (tokenAt text at) _ (λ k q. tt)
-      (λ k s n et.
-      let mv = token-at-moved text at k s n h et in
-      cond-prop (Pays numberBytes (length text) at) (is k initWord) _ _
-      (λ e. then-prop (Pays numberBytes (length text) at) (boundAt (inRange low high) text n) _ (λ k q. tt)
-      (λ z m es.
-      let g = subst (Pays numberBytes (length text) n) es (bound-pays (inRange low high) n (mv .2)) in
-      then-prop (Pays numberBytes (length text) at) (phrase text _ m) _ (λ k q. tt)
-      (λ u m2 e2. let p = subst (Kept (length text) m) e2 (phrase-kept text _ m (g .1)) in (omega (arith, g .0, mv .0, mv .1, p .0), p .1))))
-      (λ e. cond-prop (Pays numberBytes (length text) at) (is k semicolon) _ _
-      (λ e. cond-prop (Pays numberBytes (length text) at) (inRange low high (pos 0)) _ _
-      (λ t. (omega (arith, id-bytes 0 (omega arith), mv .0, mv .3 (not-end k semicolon refl e)), mv .2)) (λ t. tt))
-      (λ e. tt)))
-
   declaration-pays : (names : List Name) (at : ℕ) → at ≤ length text → Pays nameBytes (length text) at (declaration text names at)
-  unfolding declaration newName
-  declaration-pays names at h =
-      then-prop (Pays nameBytes (length text) at) (newName text names at) _ (λ k q. tt)
-      (λ w n1 e1.
-      let g1 = subst (Kept (length text) at) e1 (name-kept names at h) in
-      then-prop (Pays nameBytes (length text) at) (boundAt (λ z. true) text n1) _ (λ k q. tt)
-      (λ low n2 e2.
-      let g2 = subst (Pays numberBytes (length text) n1) e2 (bound-pays (λ z. true) n1 (g1 .1)) in
-      then-prop (Pays nameBytes (length text) at) (phrase text (sign dots ∷ []) n2) _ (λ k q. tt)
-      (λ u n3 e3.
-      let g3 = subst (Kept (length text) n2) e3 (phrase-kept text (sign dots ∷ []) n2 (g2 .1)) in
-      then-prop (Pays nameBytes (length text) at) (boundAt (leZ low) text n3) _ (λ k q. tt)
-      (λ high n4 e4.
-      let g4 = subst (Pays numberBytes (length text) n3) e4 (bound-pays (leZ low) n3 (g3 .1)) in
-      then-prop (Pays nameBytes (length text) at) (startAt text low high n4) _ (λ k q. tt)
-      (λ start n5 e5.
-      let g5 = subst (Pays numberBytes (length text) n4) e5 (start-pays low high n4 (g4 .1)) in
-      (omega (arith, g1 .0, g2 .0, g3 .0, g4 .0, g5 .0), g5 .1))))))
+  declaration-pays names at h = pays (declaration text names at) (declaration-derives text [] names at h) (declaration-fits text names at h)
     where
-      name-kept : (names : List Name) (at : ℕ) → at ≤ length text → Kept (length text) at (newName text names at)
-      name-kept names at h =
-          token-prop (Kept (length text) at) (tokenAt text at) _ (λ k q. tt)
-          (λ k s n et.
-          let mv = token-at-moved text at k s n h et in
-          cond-prop (Kept (length text) at) (is k name) _ _
-          (λ e. option-prop (Kept (length text) at) (idOf (spellings names) (part text s n)) _ _
-          (λ z. cond-prop (Kept (length text) at) (overLong s n) _ _ (λ t. tt) (λ t. cond-prop (Kept (length text) at) (ltb (length names) nameLimit) _ _ (λ t2. (omega (arith, mv .0, mv .1), mv .2)) (λ t2. tt)))
-          (λ i ei. tt))
-          (λ e. tt))
+      pays : (p : Parsed Name) → Derives text (AfterWord text []) at p → Ends (length text) (Declared text names) p → Pays nameBytes (length text) at p
+      pays (accepted x n) d f = (omega (arith, declares-make [] ([] ∷ d .tokens) x (d .derives (f .0 .fits)), spells-bytes text at n (d .tokens) h (d .spells)), f .1)
+      pays (refused k q) d f = tt
 
   pub declarations-pay : (f : ℕ) (word : Kind) (names : List Name) (at : ℕ) → at ≤ length text → 2 * length (header names) ≤ 3 * at → Pays (λ l. length (header l)) (length text) 0 (declarationsFrom f word text names at)
   unfolding declarationsFrom
@@ -229,19 +190,18 @@ module _ (text : List ℕ) where
       (λ e. then-prop (Pays (λ (l : List Name). length (header l)) (length text) 0) (declaration text names n) _ (λ k q. tt)
       (λ x m es.
       let d = subst (Pays nameBytes (length text) n) es (declaration-pays names n (mv .2)) in
-      declarations-pay f word (names ++ (x ∷ [])) m (d .1) (omega (arith, header-append names x, d .0, mv .0, mv .1))))
+      declarations-pay f word (names ++ (x ∷ [])) m (d .1) (omega (arith, header-append names (x ∷ []), header-code x [], header-none, d .0, mv .0, mv .1))))
       (λ e. (omega arith, h)))
 
--- ---- the rules and the whole
-
-pub rules-append : (rs : List Rule) (r : Rule) → length (codeR (rs ++ (r ∷ []))) ≡ length (codeR rs) + length (codeR (r ∷ []))
-unfolding codeR
-rules-append [] r = omega arith
-rules-append (function v e ∷ rs) r = simp length-append (omega (arith, rules-append rs r))
-rules-append (change v ks cs ∷ rs) r = simp length-append (omega (arith, rules-append rs r))
+-- ---- rules
 
 abbrev pub ruleBytes : Rule → ℕ
 ruleBytes r = length (codeR (r ∷ []))
+
+rules-code : (r : Rule) (rs : List Rule) → length (codeR (r ∷ rs)) ≡ ruleBytes r + length (codeR rs)
+unfolding codeR
+rules-code (function v e) rs = simp length-append (omega arith)
+rules-code (change v ks cs) rs = simp length-append (omega arith)
 
 module _ (sc : Scope) (few : length (sc .names) ≤ 64) (lengths : length (sc .names) ≡ length (sc .known)) where
   module _ (v : ℕ) (hv : v < 64) where
@@ -304,47 +264,46 @@ module _ (sc : Scope) (few : length (sc .names) ≤ 64) (lengths : length (sc .n
       (λ v ev. cond-prop (Pays ruleBytes (length (sc .text)) n) (getD (sc .known) v false) _ _ (λ t. tt)
       (λ t. formulas-pay v (omega (arith, id-of (sc .names) (part (sc .text) s n) v ev)) (part (sc .text) s n) n h)))
 
-pub rules-pay : (f : ℕ) (sc : Scope) → length (sc .names) ≤ 64 → length (sc .names) ≡ length (sc .known) → (done : List Rule) (from at : ℕ) → at ≤ length (sc .text) → 2 * length (codeR done) + 3 * from ≤ 3 * at → Pays (λ rs. length (codeR rs)) (length (sc .text)) from (rulesFrom f sc done at)
-unfolding rulesFrom
-rules-pay zero sc few lengths done from at h g = tt
-rules-pay (suc f) sc few lengths done from at h g =
-    token-prop (Pays (λ (rs : List Rule). length (codeR rs)) (length (sc .text)) from) (tokenAt (sc .text) at) _ (λ k q. tt)
-    (λ k s n et.
-    let mv = token-at-moved (sc .text) at k s n h et in
-    cond-prop (Pays (λ (rs : List Rule). length (codeR rs)) (length (sc .text)) from) (is k name) _ _
-    (λ e. then-prop (Pays (λ (rs : List Rule). length (codeR rs)) (length (sc .text)) from) (ruleAt sc s n) _ (λ k q. tt)
-    (λ r m er.
-    let p = subst (Pays ruleBytes (length (sc .text)) n) er (rule-pays sc few lengths s n (mv .2)) in
-    let l : length (sc .names) ≡ length (set (sc .known) (target r) true) = lengths ∙ sym (length-set (sc .known) (target r) true) in
-    rules-pay f (ruled sc (target r)) few l (done ++ (r ∷ [])) from m (p .1) (omega (arith, rules-append done r, p .0, mv .0, mv .1))))
-    (λ e. cond-prop (Pays (λ (rs : List Rule). length (codeR rs)) (length (sc .text)) from) (is k ending) _ _
-    (λ e. cond-prop (Pays (λ (rs : List Rule). length (codeR rs)) (length (sc .text)) from) (allTrue (sc .known)) _ _ (λ a. (omega (arith, mv .0, mv .1), mv .2)) (λ a. tt))
-    (λ e. tt)))
+-- the same of tokens that spell a rule, and rules
+module _ (names : List (List ℕ)) (few : length names ≤ 64) where
+  change-form-bytes : (v : List ℕ) (ts ls : List (List ℕ)) → bytesOf ts + 2 ≤ bytesOf (changeForm v ts ls)
+  change-form-bytes v ts ls =
+      let opening = v ∷ bytes ":" ∷ bytes "GX" ∷ bytes "(" ∷ bytes "~" ∷ headTokens v in
+      let closing = bytes ")" ∷ bytes ")" ∷ bytes ";" ∷ [] in
+      omega (arith, bytes-append ((opening ++ ts) ++ (middleTokens v ++ ls)) closing, bytes-append (opening ++ ts) (middleTokens v ++ ls), bytes-append opening ts)
 
--- the image of an accepted text
-abbrev pub Small : ℕ → Parsed Program → Type 0
-Small len (accepted p n) = 2 * length (image p) ≤ 3 * len + 4
-Small len (refused k q) = Unit {0}
+  rule-makes : (ts : List (List ℕ)) (r : Rule) → SpellsR names ts r → 2 * ruleBytes r ≤ 3 * bytesOf ts
+  unfolding codeR
+  rule-makes ts r (a-change v i us ls ks cs ei d room e) =
+      let hi : i < 64 = omega (arith, place-in names i v ei) in
+      simp length-append (omega (arith, cases-make names few i hi v us ls ks d, change-form-bytes v us ls, id-bytes i (omega arith)))
+  rule-makes ts r (a-function v i us e ei d) =
+      let hi : i < 64 = omega (arith, place-in names i v ei) in
+      let g = expression-makes names few D.expression bracketLimit us e d in
+      let b = bytes-append (v ∷ bytes ":" ∷ bytes "GX" ∷ bytes "(" ∷ v ∷ bytes "=" ∷ bytes "(" ∷ us) (bytes ")" ∷ bytes ")" ∷ bytes ";" ∷ []) in
+      simp length-append (omega (arith, g .1, b, id-bytes i (omega arith)))
 
-pub program-small : (text : List ℕ) → Small (length text) (program text)
-unfolding program declarations image header codeR
-program-small text =
-    then-prop (Small (length text)) (declarations inputWord text [] 0) _ (λ k q. tt)
-    (λ inputs n1 e1.
-    let g1 = subst (Ends (length text) (Names text 0)) e1 (declarations-fit text itemBound inputWord [] 0 0 (omega arith) (tt, omega arith, omega arith, tt)) in
-    let p1 = subst (Pays (λ (l : List Name). length (header l)) (length text) 0) e1 (declarations-pay text itemBound inputWord [] 0 (omega arith) (omega arith)) in
-    then-prop (Small (length text)) (declarations varWord text inputs n1) _ (λ k q. tt)
-    (λ names n2 e2.
-    let g2 = subst (Ends (length text) (Names text (length inputs))) e2 (declarations-fit text itemBound varWord inputs n1 (length inputs) (g1 .1) (g1 .0 .0, g1 .0 .1, le-refl (length inputs), g1 .0 .3)) in
-    let p2 = subst (Pays (λ (l : List Name). length (header l)) (length text) 0) e2 (declarations-pay text itemBound varWord inputs n1 (g1 .1) (omega (arith, p1 .0))) in
-    let sc : Scope = record { text = text; names = spellings names; known = knownFirst (length inputs) (length names) } in
-    then-prop (Small (length text)) (rulesFrom itemBound sc [] n2) _ (λ k q. tt)
-    (λ rules n3 e3.
-    let p3 = subst (Pays (λ (rs : List Rule). length (codeR rs)) (length text) n2) e3
-    (rules-pay itemBound sc (omega (arith, spellings-length names, g2 .0 .1)) (spellings-length names ∙ sym (length-known (length inputs) (length names))) [] n2 n2 (g2 .1) (omega arith)) in
-    simp length-append (omega (arith, p2 .0, p3 .0, p3 .1, g2 .0 .1, g2 .0 .2, id-bytes (length inputs) (omega (arith, g2 .0 .1, g2 .0 .2)), id-bytes (length names - length inputs) (omega (arith, g2 .0 .1)))))))
+  rules-make : (ts : List (List ℕ)) (rs : List Rule) → SpellsRules names ts rs → 2 * length (codeR rs) ≤ 3 * bytesOf ts
+  unfolding codeR
+  rules-make ts rs S.SpellsRules.none = omega arith
+  rules-make ts rs (S.SpellsRules.more us vs r qs d q) = omega (arith, rule-makes us r d, rules-make vs qs q, rules-code r qs, bytes-append us vs)
 
--- twice the image's bytes are at most three times the text's, and four; so no image of a text within its limit is over its own
-pub parse-small : (text : List ℕ) → Small (length text) (parse text)
-unfolding parse
-parse-small text = cond-prop (Small (length text)) (ltb textLimit (length text)) _ _ (λ e. tt) (λ e. program-small text)
+-- ---- the image of a text that spells a program
+
+pub spelled-small : (text : List ℕ) (p : Program) → Spelled text p → 2 * length (image p) ≤ 3 * length text + 4
+unfolding image
+spelled-small text p s =
+    let t = s .tokens in
+    let front = s .input-tokens ++ s .variable-tokens in
+    let all = front ++ s .rule-tokens in
+    let few : length (namesOf p) ≤ 64 = omega (arith, s .few, length-map (p .names) (λ x. x .spelling)) in
+    let count : length (p .names) ≡ length (s .inputs) + length (s .variables) = rw (s .names) (length-append (s .inputs) (s .variables)) in
+    let heads : length (header (p .names)) ≡ length (header (s .inputs)) + length (header (s .variables)) = rw (s .names) (header-append (s .inputs) (s .variables)) in
+    let inputs = all-make (bytes "input") (s .input-tokens) (s .inputs) (s .declares-inputs) in
+    let variables = all-make (bytes "var") (s .variable-tokens) (s .variables) (s .declares-variables) in
+    let rules = rules-make (namesOf p) few (s .rule-tokens) (p .rules) (s .spells-rules) in
+    let tokens = spells-bytes text 0 (t .end) all (omega arith) (t .spells) in
+    let within = spells-in text 0 (t .end) all (omega arith) (t .spells) .1 in
+    let small = id-bytes (p .inputs) (omega (arith, s .few, s .input-count, count)) in
+    let small2 = id-bytes (length (p .names) - p .inputs) (omega (arith, s .few)) in
+    simp length-append (omega (arith, heads, inputs, variables, rules, tokens, within, small, small2, bytes-append front (s .rule-tokens), bytes-append (s .input-tokens) (s .variable-tokens)))
