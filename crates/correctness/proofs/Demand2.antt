@@ -18,6 +18,7 @@ use Rattle.grammar.proofs.ConverseText.{accepted-exactly, one-meaning}
 use Rattle.faults.proofs.TextPlaces.{fault-places}
 use Rattle.faults.proofs.FirstFound.{first-found}
 use Rattle.faults.proofs.ViableText.{allowed-before}
+use Rattle.faults.proofs.SoleText.{none-go-on}
 use Rattle.faults.proofs.NoneBegun.{none-begun}
 use Rattle.faults.proofs.ImagePlaces.{broken-images}
 use Rattle.translate.specs.Services.{AfterTranslation, translationOf}
@@ -80,6 +81,7 @@ demand-2 = record {
   fault-places = fault-places;
   first-found = first-found;
   allowed-before = allowed-before;
+  none-go-on = none-go-on;
   none-begun = none-begun;
   written = written;
   untouched = λ text buffer number place a. refusal-declines text buffer number place a .1;

@@ -14,7 +14,7 @@ use Rattle.bytecode.specs.Sound.{Sound}
 use Rattle.grammar.specs.Parse.{programOf}
 use Rattle.grammar.specs.Spelled.{Spelled}
 use Rattle.faults.specs.Texts.{FaultPlaces, FirstFound}
-use Rattle.faults.specs.Grammar.{AllowedBefore, NoneBegun}
+use Rattle.faults.specs.Grammar.{AllowedBefore, NoneGoOn, NoneBegun}
 use Rattle.faults.specs.Images.{BrokenImages}
 use Rattle.translate.specs.Services.{translationOf}
 
@@ -52,8 +52,10 @@ pub record Demand2 : Type 0 where
   pub fault-places : FaultPlaces
   -- It is the first found: what stands behind its token does not count.
   pub first-found : FirstFound
-  -- 2: what stands before its token begins a text of the grammar; what stands up to it, that token included, begins no accepted text.
+  -- 2: what stands before its token begins a text of the grammar, and no text of the grammar goes on with that token.
   pub allowed-before : AllowedBefore
+  pub none-go-on : NoneGoOn
+  -- What stands up to a refused token, that token included, begins no accepted text.
   pub none-begun : NoneBegun
   -- Success writes only the image's bytes: those of the program that the text spells, and what stood behind them stays.
   pub written : (text buffer : List ℕ) (n : ℕ) → translationOf text buffer .answer ≡ accepted n
