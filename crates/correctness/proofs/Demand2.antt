@@ -19,6 +19,7 @@ use Rattle.grammar.proofs.ConverseText.{accepted-exactly, one-meaning}
 use Rattle.faults.proofs.TextPlaces.{fault-places}
 use Rattle.faults.proofs.FirstFound.{first-found}
 use Rattle.faults.proofs.ViableText.{allowed-before}
+use Rattle.faults.proofs.SoleText.{none-go-on}
 use Rattle.faults.proofs.NoneBegun.{none-begun}
 use Rattle.faults.proofs.ImagePlaces.{broken-images}
 use Rattle.translate.specs.Services.{AfterTranslation, translationOf}
@@ -91,6 +92,7 @@ refusals = record {
   fault-places = fault-places;
   first-found = first-found;
   allowed-before = allowed-before;
+  none-go-on = none-go-on;
   none-begun = none-begun;
   broken-images = broken-images;
 }

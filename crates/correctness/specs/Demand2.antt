@@ -14,7 +14,7 @@ use Rattle.bytecode.specs.Sound.{Sound}
 use Rattle.grammar.specs.Parse as G
 use Rattle.grammar.specs.Spelled.{Spelled}
 use Rattle.faults.specs.Texts.{FaultPlaces, FirstFound}
-use Rattle.faults.specs.Grammar.{AllowedBefore, NoneBegun}
+use Rattle.faults.specs.Grammar.{AllowedBefore, NoneGoOn, NoneBegun}
 use Rattle.faults.specs.Images.{BrokenImages}
 use Rattle.translate.specs.Services.{AfterTranslation}
 use Rattle.translate.specs.Services as S
@@ -74,8 +74,10 @@ pub record Refusals : Type 0 where
   pub fault-places : FaultPlaces
   -- It is the first found: what stands behind its token does not count.
   pub first-found : FirstFound
-  -- 2: what stands before its token begins a text of the grammar; what stands up to it, that token included, begins no accepted text.
+  -- 2: what stands before its token begins a text of the grammar, and no text of the grammar goes on with that token.
   pub allowed-before : AllowedBefore
+  pub none-go-on : NoneGoOn
+  -- What stands up to a refused token, that token included, begins no accepted text.
   pub none-begun : NoneBegun
   -- Check answers 11 exactly with the place of the first header number or instruction that breaks soundness, or the image length.
   pub broken-images : BrokenImages

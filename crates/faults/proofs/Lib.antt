@@ -11,9 +11,16 @@ pub mod AlikeLists
 pub mod AlikeText
 pub mod FirstFound
 pub mod NoneBegun
+pub mod Languages
 pub mod Viable
 pub mod ViableParts
 pub mod ViableDeclarations
 pub mod ViableRules
 pub mod ViableText
 pub mod ImagePlaces
+pub mod Sole
+pub mod SoleParts
+pub mod SoleConditions
+pub mod SoleForms
+pub mod SoleRules
+pub mod SoleText

@@ -16,18 +16,17 @@ use Rattle.grammar.specs.Parse.{programOf}
 use Rattle.grammar.specs.Derivation as D
 use Rattle.grammar.specs.Derivation.{Tokens, Spells, SpellsE, SpellsC}
 use Rattle.grammar.specs.Spelled.{Spelled}
-use Rattle.grammar.specs.Internal.{Named}
 use Rattle.grammar.proofs.Combine.{never}
 use Rattle.grammar.proofs.Standing.{at-kind, split, spells-in}
 use Rattle.grammar.proofs.Converse.{spelled-expression, spelled-listed}
 use Rattle.grammar.proofs.ConverseText.{accepted-exactly}
 use Rattle.faults.specs.Texts.{SameThrough}
-use Rattle.faults.specs.Grammar.{NoneBegun}
+use Rattle.faults.specs.Grammar.{GoodNames, NoneBegun}
 use Rattle.faults.proofs.Readings.{whole-expression-reads, listed-reads}
 use Rattle.faults.proofs.AlikeParts.{scope, whole-expression-alike, listed-alike}
 use Rattle.faults.proofs.FirstFound.{twin-refused, first-found}
 
-expressions : (sc : Scope) (other : List ℕ) (at number place : ℕ) → Named (sc .names) → wholeExpression sc at ≡ refused number place → place < length (sc .text) → SameThrough (sc .text) other place
+expressions : (sc : Scope) (other : List ℕ) (at number place : ℕ) → GoodNames (sc .names) → wholeExpression sc at ≡ refused number place → place < length (sc .text) → SameThrough (sc .text) other place
     → (ts : Tokens) (e : Expression) (n : ℕ) → SpellsE (sc .names) D.expression bracketLimit ts e → UsableE (sc .known) e → Spells other at n (ts ++ bytes ")" ∷ []) → ⊥
 unfolding productOf sumOf is kindNumber
 expressions sc other at number place good e l x ts v n d u g =
@@ -36,15 +35,15 @@ expressions sc other at number place good e l x ts v n d u g =
     let p = split other at n ts (bytes ")" ∷ []) g in
     let i = spells-in other at (p .place) ts (t .1) (p .first) .1 in
     let c = at-kind other closeRound (bytes ")") refl (p .place) (p .second .0) i (p .second .1) in
-    let a = spelled-expression (scope (sc .names) (sc .known) other) good ts v d u at (p .place) (t .1) (p .first) closeRound (p .second .1 .start) (p .second .0) c (refl, refl) in
+    let a = spelled-expression (scope (sc .names) (sc .known) other) (record { distinct = good .0; each = good .1 }) ts v d u at (p .place) (t .1) (p .first) closeRound (p .second .1 .start) (p .second .0) c (refl, refl) in
     never number place (p .place) v (sym (t .0) ∙ a)
 
-conditions : (sc : Scope) (other : List ℕ) (at number place : ℕ) → Named (sc .names) → listed sc at ≡ refused number place → place < length (sc .text) → SameThrough (sc .text) other place
+conditions : (sc : Scope) (other : List ℕ) (at number place : ℕ) → GoodNames (sc .names) → listed sc at ≡ refused number place → place < length (sc .text) → SameThrough (sc .text) other place
     → (ts : Tokens) (c : Condition) (n : ℕ) → SpellsC (sc .names) D.condition bracketLimit ts c → UsableC (sc .known) c → Spells other at n (ts ++ bytes "]" ∷ []) → ⊥
 conditions sc other at number place good e l x ts v n d u g =
     let r = (rw e at (listed-reads sc at)) .found in
     let t = twin-refused (sc .text) other at number place (λ t. listed (scope (sc .names) (sc .known) t) at) (λ S. listed-alike S (sc .names) (sc .known) at) l x r e in
-    let a = spelled-listed (scope (sc .names) (sc .known) other) good ts v d u at n (t .1) g in
+    let a = spelled-listed (scope (sc .names) (sc .known) other) (record { distinct = good .0; each = good .1 }) ts v d u at n (t .1) g in
     never number place n v (sym (t .0) ∙ a)
 
 texts : (text other : List ℕ) (number place : ℕ) → programOf text ≡ A.refused number place → place < length text → length text ≤ textLimit → SameThrough text other place → (p : Program) → Spelled other p → ⊥

@@ -1,43 +1,35 @@
 -- What stands before a token refused by 2 begins a form of fixed tokens, or declarations. Assumes nothing.
 use mathlib.Core.Path.{_≡_, refl, ap, sym, _∙_, subst}
 use mathlib.Core.List.{List, [], _∷_, _++_, append-assoc}
-use mathlib.Core.Bool.{Bool, true, false, cond, _&&_}
+use mathlib.Core.Bool.{Bool, true, _&&_}
 use mathlib.Core.Option.{none}
 use Prim.Native.Nat.{ℕ, zero, suc, _+_, _≤_}
 use native.Mathlib.Omega.{arith}
-use lib.ListN.{length, getD}
+use lib.ListN.{length}
 use lib.Dec.{ltb}
 use lib.IntN.{ℤ, pos, negℤ}
 use Rattle.limits.specs.Limits.{nameLimit}
 use Rattle.arith.specs.Values.{isInt32}
 use Rattle.lexer.specs.Bytes.{bytes, part, sameBytes}
 use Rattle.lexer.specs.Token.{Kind, kindNumber, name, digits, minus, dots, initWord, semicolon, is, token, spellingOf}
-use Rattle.lexer.specs.Token as T
-use Rattle.lexer.specs.Lexer.{isDigit, isLetter, wordOf, sameName, tokenAt, overLong, valueOf}
+use Rattle.lexer.specs.Lexer.{isDigit, isLetter, wordOf, tokenAt, overLong, valueOf}
 use Rattle.lexer.specs.Names.{idOf}
-use Rattle.lexer.proofs.Laws.{token-at-moved, both-true}
-use Rattle.lexer.proofs.Same.{same-name}
-use Rattle.arith.proofs.Basics.{and-both}
+use Rattle.lexer.proofs.Laws.{token-at-moved}
 use Rattle.semantics.specs.Program.{Name}
-use Rattle.grammar.specs.Parsed.{Parsed, accepted, refused, andThen, Wanted, sign, own, ownPrevious, expected, phrase, followed}
+use Rattle.grammar.specs.Parsed.{Parsed, accepted, refused, andThen, Wanted, sign, isWanted, expected, phrase, followed}
 use Rattle.grammar.specs.Declarations.{inRange, signedAt, boundAt, spellings, newName, startAt, declaration, declarationsFrom, declarations}
 use Rattle.lexer.specs.Spelling.{IsDigits, SpellsName}
-use Rattle.grammar.specs.Derivation.{Tokens, Stands}
-use Rattle.grammar.specs.Spelled.{SpellsZ, positive, negative, SpellsStart, absent, given}
-use Rattle.grammar.proofs.Bytes.{part-cons, heads}
-use Rattle.grammar.proofs.Growth.{not-end}
+use Rattle.grammar.specs.Derivation.{Tokens}
+use Rattle.grammar.specs.Spelled.{SpellsZ, positive, negative, absent, given}
 use Rattle.lexer.proofs.Spellings.{isFixed, name-word}
-use Rattle.grammar.proofs.Phrases.{fixed-stands, wantedToken, wantedTokens, signs}
+use Rattle.grammar.proofs.Phrases.{fixed-stands, wanted-stands, signs-more, wantedToken, wantedTokens, signs}
 use Rattle.grammar.proofs.Derived.{sign-stands}
 use Rattle.faults.specs.Grammar as G
 use Rattle.faults.specs.Grammar.{IsDeclaration, AreDeclarations}
+use Rattle.faults.proofs.Languages.{Joins, These, OneOf, Bound, Start, High, Dots, Low, Declared}
 use Rattle.faults.proofs.Viable.{Viable, by-other, refused-here, one-token, wider, with-value, behind, then-viable, cond-viable, option-viable, token-viable}
 
--- one language behind another
-abbrev pub Cat : (Tokens → Type 0) → (Tokens → Type 0) → Tokens → Type 0
-Cat L M us = (ts : Tokens) × (vs : Tokens) × (us ≡ ts ++ vs) × L ts × M vs
-
-pub cat-viable : {A B : Type 0} {L M : Tokens → Type 0} {text : List ℕ} {at : ℕ} {p : Parsed A} {f : A → ℕ → Parsed B} → at ≤ length text → (z : Tokens) → M z → Viable L text at p → ((a : A) (n : ℕ) → n ≤ length text → Viable M text n (f a n)) → Viable (Cat L M) text at (andThen p f)
+pub cat-viable : {A B : Type 0} {L M : Tokens → Type 0} {text : List ℕ} {at : ℕ} {p : Parsed A} {f : A → ℕ → Parsed B} → at ≤ length text → (z : Tokens) → M z → Viable L text at p → ((a : A) (n : ℕ) → n ≤ length text → Viable M text n (f a n)) → Viable (Joins L M) text at (andThen p f)
 cat-viable h z w x g = then-viable h (λ ts us l m. (ts, us, refl, l, m)) z w x g
 
 pub nothing-more : {A : Type 0} {L : Tokens → Type 0} {text : List ℕ} {at : ℕ} (a : A) → L [] → Viable L text at (accepted a at)
@@ -46,64 +38,23 @@ nothing-more a h = record { shown = record { tokens = []; spells = refl; is-in =
 module _ (text : List ℕ) where
   -- ---- fixed tokens
 
-  abbrev pub Just : Tokens → Tokens → Type 0
-  Just v us = us ≡ v
+  expected-viable : (w : Wanted) (ws : List Wanted) → signs (w ∷ ws) ≡ true → (at : ℕ) → at ≤ length text → Viable (These (wantedToken w ∷ [])) text at (expected text w at)
+  unfolding expected
+  expected-viable w ws f at h = token-viable text at (λ k s n e. cond-viable (isWanted text w k s n) (λ t. one-token tt (wanted-stands text w ws f at k s n h e t) refl) (λ t. refused-here (wantedToken w ∷ []) refl e))
 
-  expected-viable : (w : Wanted) → signs (w ∷ []) ≡ true → (at : ℕ) → at ≤ length text → Viable (Just (wantedToken w ∷ [])) text at (expected text w at)
-  unfolding expected signs is kindNumber
-  expected-viable (sign v) f at h =
-      token-viable text at (λ k s n e. cond-viable (is k v) (λ t. one-token tt (fixed-stands text v (fixed v f) at k s n h e t) refl) (λ t. refused-here (spellingOf v ∷ []) refl e))
-    where
-      fixed : (v : Kind) → signs (sign v ∷ []) ≡ true → isFixed v ≡ true
-      fixed v f = and-both (isFixed v) true f .0
-  expected-viable (own v) f at h =
-      token-viable text at
-      (λ k s n e. cond-viable (cond (is k name) (sameName v (part text s n)) false)
-      (λ t.
-      let b = both-true (is k name) (sameName v (part text s n)) t in
-      one-token tt (subst (Stands text at n) (sym (same-name v (part text s n) (b .1))) (sign-stands text name refl at k s n h e (b .0) .0)) refl)
-      (λ t. refused-here (v ∷ []) refl e))
-  expected-viable (ownPrevious v) f at h =
-      token-viable text at
-      (λ k s n e. cond-viable (cond (is k T.previous) (sameName v (part text (s + 1) n)) false)
-      (λ t.
-      let b = both-true (is k T.previous) (sameName v (part text (s + 1) n)) t in
-      let r = sign-stands text T.previous refl at k s n h e (b .0) in
-      let mv = token-at-moved text at k s n h e in
-      let c = part-cons text s n (mv .3 (not-end k T.previous refl (b .0))) (mv .2) in
-      let d : getD text s 0 ≡ 95 = heads (sym c ∙ r .1 .is-cons) in
-      let q : part text s n ≡ bytes "_" ++ v = c ∙ (ap (λ (x : ℕ). x ∷ part text (s + 1) n) d ∙ ap (λ (x : List ℕ). 95 ∷ x) (sym (same-name v (part text (s + 1) n) (b .1)))) in
-      one-token tt (subst (Stands text at n) q (r .0)) refl)
-      (λ t. refused-here ((bytes "_" ++ v) ∷ []) refl e))
-
-  pub phrase-viable : (ws : List Wanted) → signs ws ≡ true → (at : ℕ) → at ≤ length text → Viable (Just (wantedTokens ws)) text at (phrase text ws at)
+  pub phrase-viable : (ws : List Wanted) → signs ws ≡ true → (at : ℕ) → at ≤ length text → Viable (These (wantedTokens ws)) text at (phrase text ws at)
   unfolding phrase signs
   phrase-viable [] f at h = nothing-more tt refl
   phrase-viable (w ∷ ws) f at h =
-      let g = split-signs w ws f in
-      then-viable h (λ ts us l m. ap (λ (x : Tokens). x ++ us) l ∙ ap (λ (x : Tokens). wantedToken w ∷ x) m) (wantedTokens ws) refl (expected-viable w (g .0) at h) (λ u n i. phrase-viable ws (g .1) n i)
-    where
-      split-signs : (w : Wanted) (ws : List Wanted) → signs (w ∷ ws) ≡ true → (signs (w ∷ []) ≡ true) × (signs ws ≡ true)
-      split-signs (sign k) ws f = let b = and-both (isFixed k) (signs ws) f in (rw (b .0) refl, b .1)
-      split-signs (own v) ws f = (refl, f)
-      split-signs (ownPrevious v) ws f = (refl, f)
+      then-viable h (λ ts us l m. ap (λ (x : Tokens). x ++ us) l ∙ ap (λ (x : Tokens). wantedToken w ∷ x) m) (wantedTokens ws) refl (expected-viable w ws f at h) (λ u n i. phrase-viable ws (signs-more text w ws f) n i)
 
-  pub followed-by : {A : Type 0} (ws : List Wanted) → signs ws ≡ true → (x : A) (at : ℕ) → at ≤ length text → Viable (Just (wantedTokens ws)) text at (followed text ws x at)
+  pub followed-by : {A : Type 0} (ws : List Wanted) → signs ws ≡ true → (x : A) (at : ℕ) → at ≤ length text → Viable (These (wantedTokens ws)) text at (followed text ws x at)
   unfolding followed
   followed-by ws f x at h = with-value (λ u. x) (phrase-viable ws f at h)
 
   -- ---- declarations
 
-  abbrev Name1 : Tokens → Type 0
-  Name1 us = (w : List ℕ) × (us ≡ w ∷ []) × SpellsName w
-
-  abbrev Digits1 : Tokens → Type 0
-  Digits1 us = (w : List ℕ) × (us ≡ w ∷ []) × IsDigits w
-
-  abbrev Bound : Tokens → Type 0
-  Bound us = (z : ℤ) × SpellsZ us z
-
-  zero-digits : Digits1 (bytes "0" ∷ [])
+  zero-digits : (OneOf IsDigits) (bytes "0" ∷ [])
   unfolding isDigit
   zero-digits = (bytes "0", refl, (refl, tt))
 
@@ -111,11 +62,11 @@ module _ (text : List ℕ) where
   unfolding isDigit
   zero-bound = (pos (valueOf (bytes "0")), positive (bytes "0") (refl, tt))
 
-  a-name : Name1 (bytes "a" ∷ [])
+  a-name : (OneOf SpellsName) (bytes "a" ∷ [])
   unfolding isLetter wordOf sameBytes
   a-name = (bytes "a", refl, record { is-word = (refl, tt); no-word = name-word (bytes "a") refl })
 
-  signed-viable : (test : ℤ → Bool) (signed : ℤ → ℤ) (at : ℕ) (k : Kind) (s n : ℕ) → at ≤ length text → tokenAt text at ≡ token k s n → Viable Digits1 text at (signedAt test signed text k s n)
+  signed-viable : (test : ℤ → Bool) (signed : ℤ → ℤ) (at : ℕ) (k : Kind) (s n : ℕ) → at ≤ length text → tokenAt text at ≡ token k s n → Viable (OneOf IsDigits) text at (signedAt test signed text k s n)
   unfolding signedAt is kindNumber
   signed-viable test signed at k s n h e =
       let z = signed (pos (valueOf (part text s n))) in
@@ -136,7 +87,7 @@ module _ (text : List ℕ) where
       (token-viable text n (λ k2 s2 n2 e2. signed-viable test negℤ n k2 s2 n2 i e2)))
       (λ t. wider (λ us g. (pos (valueOf (g .0)), subst (λ (x : Tokens). SpellsZ x (pos (valueOf (g .0)))) (sym (g .1)) (positive (g .0) (g .2)))) (signed-viable test (λ z. z) at k s n h e)))
 
-  name-viable : (names : List Name) (at : ℕ) → at ≤ length text → Viable Name1 text at (newName text names at)
+  name-viable : (names : List Name) (at : ℕ) → at ≤ length text → Viable (OneOf SpellsName) text at (newName text names at)
   unfolding newName is kindNumber
   name-viable names at h =
       token-viable text at
@@ -147,10 +98,6 @@ module _ (text : List ℕ) where
       (λ z. cond-viable (overLong s n) (λ x. by-other 8 (λ q. omega (arith, q))) (λ x. cond-viable (ltb (length names) nameLimit) (λ y. one-token _ (r .0) (part text s n, refl, r .1)) (λ y. by-other 8 (λ q. omega (arith, q)))))
       (λ i z. by-other 4 (λ q. omega (arith, q))))
       (λ t. refused-here (bytes "a" ∷ []) a-name e))
-
-  -- the start and the `;`
-  abbrev Start : Tokens → Type 0
-  Start us = (ss : Tokens) × (z : ℤ) × (us ≡ ss ++ bytes ";" ∷ []) × SpellsStart ss z
 
   start-viable : (low high : ℤ) (at : ℕ) → at ≤ length text → Viable Start text at (startAt text low high at)
   unfolding startAt isFixed kindNumber signs
@@ -169,15 +116,6 @@ module _ (text : List ℕ) where
   no-start : Start (bytes ";" ∷ [])
   no-start = ([], pos 0, refl, absent)
 
-  abbrev High : Tokens → Type 0
-  High = Cat Bound Start
-
-  abbrev Dots : Tokens → Type 0
-  Dots = Cat (Just (bytes ".." ∷ [])) High
-
-  abbrev Low : Tokens → Type 0
-  Low = Cat Bound Dots
-
   some-high : High (bytes "0" ∷ bytes ";" ∷ [])
   some-high = (bytes "0" ∷ [], bytes ";" ∷ [], refl, zero-bound, no-start)
 
@@ -187,7 +125,7 @@ module _ (text : List ℕ) where
   some-low : Low (bytes "0" ∷ bytes ".." ∷ bytes "0" ∷ bytes ";" ∷ [])
   some-low = (bytes "0" ∷ [], bytes ".." ∷ bytes "0" ∷ bytes ";" ∷ [], refl, zero-bound, some-dots)
 
-  declaration-viable : (names : List Name) (at : ℕ) → at ≤ length text → Viable (Cat Name1 Low) text at (declaration text names at)
+  declaration-viable : (names : List Name) (at : ℕ) → at ≤ length text → Viable Declared text at (declaration text names at)
   unfolding declaration signs isFixed kindNumber
   declaration-viable names at h =
       cat-viable h _ some-low (name-viable names at h)
@@ -195,7 +133,7 @@ module _ (text : List ℕ) where
       (λ low n2 h2. cat-viable h2 _ some-high (phrase-viable (sign dots ∷ []) refl n2 h2)
       (λ u n3 h3. cat-viable h3 _ no-start (bound-viable _ n3 h3) (λ high n4 h4. with-value _ (start-viable low high n4 h4)))))
 
-  declares-in : (word : List ℕ) (us : Tokens) → Cat Name1 Low us → IsDeclaration word (word ∷ us)
+  declares-in : (word : List ℕ) (us : Tokens) → Declared us → IsDeclaration word (word ∷ us)
   declares-in word us (ts, vs, q, (w, q1, nw), (ls, vs2, q2, (l, sl), (ds, vs3, q3, q4, (hs, vs4, q5, (h, sh), (ss, z, q6, sz))))) = subst (IsDeclaration word) (rw (q, q1, q2, q3, q4, q5, q6) (simp append-assoc)) (G.IsDeclaration.declares w ls hs ss l h z nw sl sh sz)
 
   pub declarations-viable : (f : ℕ) (word : Kind) → isFixed word ≡ true → (names : List Name) (at : ℕ) → at ≤ length text → Viable (AreDeclarations (spellingOf word)) text at (declarationsFrom f word text names at)
@@ -207,6 +145,6 @@ module _ (text : List ℕ) where
       (λ t.
       let i = token-at-moved text at k s n h e .2 in
       behind {M = λ us. AreDeclarations (spellingOf word) (spellingOf word ∷ us)} (spellingOf word ∷ []) (n, fixed-stands text word fx at k s n h e t, refl) (λ us g. g)
-      (then-viable {L = Cat Name1 Low} {M = AreDeclarations (spellingOf word)} i (λ ts us x y. G.AreDeclarations.more (spellingOf word ∷ ts) us (declares-in (spellingOf word) ts x) y) [] G.AreDeclarations.none (declaration-viable names n i)
+      (then-viable {L = Declared} {M = AreDeclarations (spellingOf word)} i (λ ts us x y. G.AreDeclarations.more (spellingOf word ∷ ts) us (declares-in (spellingOf word) ts x) y) [] G.AreDeclarations.none (declaration-viable names n i)
       (λ x m j. declarations-viable f word fx (names ++ (x ∷ [])) m j)))
       (λ t. nothing-more names G.AreDeclarations.none))

@@ -26,9 +26,10 @@ use Rattle.grammar.proofs.Phrases.{fixed-stands, wantedTokens, signs}
 use Rattle.grammar.proofs.Derived.{sign-stands}
 use Rattle.faults.specs.Grammar as G
 use Rattle.faults.specs.Grammar.{IsExpression, IsCondition, AreCases, AreConditions, IsRule}
+use Rattle.faults.proofs.Languages.{These, InRound, InSquare, CaseRest, InList, NoChange, ThenNoChange, Changes, Computes}
 use Rattle.faults.proofs.Viable.{Viable, by-other, refused-here, wider, behind, then-viable, cond-viable, token-viable}
 use Rattle.faults.proofs.ViableParts.{zeros, equal-zeros, zero-in-expression, zero-in-condition, id-viable, whole-expression-viable, whole-condition-viable}
-use Rattle.faults.proofs.ViableDeclarations.{Cat, cat-viable, nothing-more, Just, phrase-viable, followed-by}
+use Rattle.faults.proofs.ViableDeclarations.{cat-viable, nothing-more, phrase-viable, followed-by}
 
 module _ (sc : Scope) where
   abbrev E : Tokens → Type 0
@@ -37,29 +38,15 @@ module _ (sc : Scope) where
   abbrev K : Tokens → Type 0
   K = IsCondition (sc .names) D.condition
 
-  -- what follows the `[` of a condition
-  abbrev Listed1 : Tokens → Type 0
-  Listed1 = Cat K (Just (sc .text) (bytes "]" ∷ []))
-
-  listed-viable : (at : ℕ) → at ≤ length (sc .text) → Viable Listed1 (sc .text) at (listed sc at)
+  listed-viable : (at : ℕ) → at ≤ length (sc .text) → Viable (InSquare (sc .names)) (sc .text) at (listed sc at)
   unfolding listed signs isFixed kindNumber
   listed-viable at h = cat-viable h (bytes "]" ∷ []) refl (whole-condition-viable sc at h) (λ c m i. followed-by (sc .text) (sign closeSquare ∷ []) refl c m i)
 
   module _ (w : List ℕ) where
-    abbrev Value : Tokens → Type 0
-    Value = Cat E (Just (sc .text) (bytes ")" ∷ []))
-
-    some-value : Value (zeros (sc .names) ++ bytes ")" ∷ [])
+    some-value : InRound (sc .names) (zeros (sc .names) ++ bytes ")" ∷ [])
     some-value = (zeros (sc .names), bytes ")" ∷ [], refl, zero-in-expression (sc .names), refl)
 
-    abbrev AndValue : Tokens → Type 0
-    AndValue = Cat (Just (sc .text) (wantedTokens (caseValueOpening w))) Value
-
-    -- what follows the `[` of a case
-    abbrev CaseRest : Tokens → Type 0
-    CaseRest = Cat Listed1 AndValue
-
-    case-viable : (at n : ℕ) → n ≤ length (sc .text) → Viable CaseRest (sc .text) n (caseAt sc w at n)
+    case-viable : (at n : ℕ) → n ≤ length (sc .text) → Viable (CaseRest (sc .names) w) (sc .text) n (caseAt sc w at n)
     unfolding caseAt signs isFixed kindNumber
     case-viable at n h =
         cat-viable h _ (wantedTokens (caseValueOpening w), zeros (sc .names) ++ bytes ")" ∷ [], refl, refl, some-value) (listed-viable n h)
@@ -73,7 +60,7 @@ module _ (sc : Scope) where
     no-case : MoreCases []
     no-case ts es x y = rw (append-nil (cased w ts es)) (G.AreCases.one ts es x y)
 
-    case-in : (vs us : Tokens) → CaseRest vs → MoreCases us → AreCases (sc .names) w (bytes "[" ∷ vs ++ us)
+    case-in : (vs us : Tokens) → (CaseRest (sc .names) w) vs → MoreCases us → AreCases (sc .names) w (bytes "[" ∷ vs ++ us)
     case-in vs us (ps, bs, q, (ts, cs, q1, x, q2), (ds, es, q3, q4, (fs, gs, q5, y, q6))) m =
         rw (q, q1, q2, q3, q4, q5, q6)
         (subst (AreCases (sc .names) w) (ap (λ (l : Tokens). bytes "[" ∷ (l ++ us)) (append-assoc (ts ++ bytes "]" ∷ []) (bytes "&" ∷ w ∷ bytes "=" ∷ bytes "(" ∷ fs) (bytes ")" ∷ []))) (m ts fs x y))
@@ -90,7 +77,7 @@ module _ (sc : Scope) where
         (λ t.
         let i = token-at-moved (sc .text) at k s n h e .2 in
         behind {M = λ us. AreCases (sc .names) w (bytes "[" ∷ us)} (bytes "[" ∷ []) (n, fixed-stands (sc .text) openSquare refl at k s n h e t, refl) (λ us g. g)
-        (then-viable {L = CaseRest} {M = MoreCases} i case-in [] no-case (case-viable at n i)
+        (then-viable {L = (CaseRest (sc .names) w)} {M = MoreCases} i case-in [] no-case (case-viable at n i)
         (λ c n1 h1. token-viable (sc .text) n1
         (λ k2 s2 n2 e2. cond-viable (is k2 bar)
         (λ t2. behind (bytes "|" ∷ []) (n2, fixed-stands (sc .text) bar refl n1 k2 s2 n2 h1 e2 t2, refl) (λ us g ts es x y. G.AreCases.more ts es us x y g) (cases-viable left (done ++ (c ∷ [])) n2 (token-at-moved (sc .text) n1 k2 s2 n2 h1 e2 .2)))
@@ -104,7 +91,7 @@ module _ (sc : Scope) where
   no-condition : MoreConditions []
   no-condition ts x = rw (append-nil (squared ts)) (G.AreConditions.one ts x)
 
-  condition-in : (vs us : Tokens) → Listed1 vs → MoreConditions us → AreConditions (sc .names) (bytes "[" ∷ vs ++ us)
+  condition-in : (vs us : Tokens) → (InSquare (sc .names)) vs → MoreConditions us → AreConditions (sc .names) (bytes "[" ∷ vs ++ us)
   condition-in vs us (ts, cs, q1, x, q2) m = rw (q1, q2) (m ts x)
 
   some-conditions : AreConditions (sc .names) (squared (equal-zeros (sc .names)))
@@ -119,17 +106,14 @@ module _ (sc : Scope) where
       (λ t.
       let i = token-at-moved (sc .text) at k s n h e .2 in
       behind {M = λ us. AreConditions (sc .names) (bytes "[" ∷ us)} (bytes "[" ∷ []) (n, fixed-stands (sc .text) openSquare refl at k s n h e t, refl) (λ us g. g)
-      (then-viable {L = Listed1} {M = MoreConditions} i condition-in [] no-condition (listed-viable n i)
+      (then-viable {L = (InSquare (sc .names))} {M = MoreConditions} i condition-in [] no-condition (listed-viable n i)
       (λ c n1 h1. token-viable (sc .text) n1
       (λ k2 s2 n2 e2. cond-viable (is k2 bar)
       (λ t2. behind (bytes "|" ∷ []) (n2, fixed-stands (sc .text) bar refl n1 k2 s2 n2 h1 e2 t2, refl) (λ us g ts x. G.AreConditions.more ts us x g) (list-viable left (done ++ (c ∷ [])) n2 (token-at-moved (sc .text) n1 k2 s2 n2 h1 e2 .2)))
       (λ t2. nothing-more _ no-condition)))))
       (λ t. refused-here _ some-conditions e))
 
-  abbrev Closed1 : Tokens → Type 0
-  Closed1 = Cat (AreConditions (sc .names)) (Just (sc .text) (bytes ")" ∷ []))
-
-  plain-viable : (at : ℕ) → at ≤ length (sc .text) → Viable Closed1 (sc .text) at (plainList sc at)
+  plain-viable : (at : ℕ) → at ≤ length (sc .text) → Viable (InList (sc .names)) (sc .text) at (plainList sc at)
   unfolding plainList signs isFixed kindNumber
   plain-viable at h = cat-viable h (bytes ")" ∷ []) refl (list-viable caseLimit [] at h) (λ cs n i. followed-by (sc .text) (sign closeRound ∷ []) refl cs n i)
 
@@ -140,36 +124,24 @@ module _ (sc : Scope) where
   first-viable at (refused k q) (differs m) x =
       cond-viable (ltb q m) (λ t. x) (λ t. cond-viable (eqb q m) (λ u. cond-viable (leb k 5) (λ v. x) (λ v. by-other 7 (λ q. omega (arith, q)))) (λ u. by-other 7 (λ q. omega (arith, q))))
 
-  agreeing-viable : (cases : List Spanned) (at : ℕ) → at ≤ length (sc .text) → Viable Closed1 (sc .text) at (agreeingList sc cases at)
+  agreeing-viable : (cases : List Spanned) (at : ℕ) → at ≤ length (sc .text) → Viable (InList (sc .names)) (sc .text) at (agreeingList sc cases at)
   unfolding agreeingList
   agreeing-viable cases at h = first-viable at (plainList sc at) (partsFrom (sc .text) cases at) (plain-viable at h)
 
   module _ (w : List ℕ) (is-name : SpellsName w) where
-    abbrev Computes : Tokens → Type 0
-    Computes = Cat (Just (sc .text) (wantedTokens (valueOpening w))) (Cat E (Just (sc .text) (wantedTokens functionClosing)))
-
-    function-viable : (v at : ℕ) → at ≤ length (sc .text) → Viable Computes (sc .text) at (functionAt sc w v at)
+    function-viable : (v at : ℕ) → at ≤ length (sc .text) → Viable (Computes (sc .names) w) (sc .text) at (functionAt sc w v at)
     unfolding functionAt signs isFixed kindNumber
     function-viable v at h =
         cat-viable h _ (zeros (sc .names), wantedTokens functionClosing, refl, zero-in-expression (sc .names), refl) (phrase-viable (sc .text) (valueOpening w) refl at h)
         (λ u n1 h1. cat-viable h1 (wantedTokens functionClosing) refl (whole-expression-viable sc n1 h1) (λ e n2 h2. followed-by (sc .text) functionClosing refl _ n2 h2))
 
-    abbrev NoChange : Tokens → Type 0
-    NoChange = Cat Closed1 (Just (sc .text) (wantedTokens formulaClosing))
-
-    abbrev Then : Tokens → Type 0
-    Then = Cat (Just (sc .text) (wantedTokens (noChangeOpening w))) NoChange
-
-    abbrev Changes : Tokens → Type 0
-    Changes = Cat (Just (sc .text) (wantedTokens (changeOpening w))) (Cat (AreCases (sc .names) w) Then)
-
-    some-no-change : NoChange ((squared (equal-zeros (sc .names)) ++ bytes ")" ∷ []) ++ wantedTokens formulaClosing)
+    some-no-change : (NoChange (sc .names)) ((squared (equal-zeros (sc .names)) ++ bytes ")" ∷ []) ++ wantedTokens formulaClosing)
     some-no-change = (squared (equal-zeros (sc .names)) ++ bytes ")" ∷ [], wantedTokens formulaClosing, refl, (squared (equal-zeros (sc .names)), bytes ")" ∷ [], refl, some-conditions, refl), refl)
 
-    some-then : Then (wantedTokens (noChangeOpening w) ++ (squared (equal-zeros (sc .names)) ++ bytes ")" ∷ []) ++ wantedTokens formulaClosing)
+    some-then : (ThenNoChange (sc .names) w) (wantedTokens (noChangeOpening w) ++ (squared (equal-zeros (sc .names)) ++ bytes ")" ∷ []) ++ wantedTokens formulaClosing)
     some-then = (wantedTokens (noChangeOpening w), (squared (equal-zeros (sc .names)) ++ bytes ")" ∷ []) ++ wantedTokens formulaClosing, refl, refl, some-no-change)
 
-    change-viable : (v at : ℕ) → at ≤ length (sc .text) → Viable Changes (sc .text) at (changeAt sc w v at)
+    change-viable : (v at : ℕ) → at ≤ length (sc .text) → Viable (Changes (sc .names) w) (sc .text) at (changeAt sc w v at)
     unfolding changeAt signs isFixed kindNumber
     change-viable v at h =
         cat-viable h _ (cased w (equal-zeros (sc .names)) (zeros (sc .names)), _, refl, some-cases w, some-then) (phrase-viable (sc .text) (changeOpening w) refl at h)
@@ -181,17 +153,17 @@ module _ (sc : Scope) where
     abbrev Body : Tokens → Type 0
     Body us = IsRule (sc .names) (w ∷ wantedTokens ruleOpening ++ us)
 
-    function-in : (us : Tokens) → Computes us → Body us
+    function-in : (us : Tokens) → (Computes (sc .names) w) us → Body us
     function-in us (a, b, q1, q2, (ts, c, q3, x, q4)) = rw (q1, q2, q3, q4) (G.IsRule.a-function w ts is-name x)
 
-    change-in : (us : Tokens) → Changes us → Body (bytes "~" ∷ us)
+    change-in : (us : Tokens) → (Changes (sc .names) w) us → Body (bytes "~" ∷ us)
     change-in us (a, b, q1, q2, (cs, c, q3, x, (d, e, q4, q5, (f, g, q6, (ls, i, q7, y, q8), q9)))) =
         subst (IsRule (sc .names)) (rw (q1, q2, q3, q4, q5, q6, q7, q8, q9) (simp append-assoc)) (G.IsRule.a-change w cs ls is-name x y)
 
     formulas-viable : (v at : ℕ) → at ≤ length (sc .text) → Viable (λ us. IsRule (sc .names) (w ∷ us)) (sc .text) at (formulas sc w v at)
     unfolding formulas signs isFixed kindNumber
     formulas-viable v at h =
-        then-viable {L = Just (sc .text) (wantedTokens ruleOpening)} {M = Body} h (λ ts us q x. rw q x)
+        then-viable {L = These (wantedTokens ruleOpening)} {M = Body} h (λ ts us q x. rw q x)
         (wantedTokens (valueOpening w) ++ zeros (sc .names) ++ wantedTokens functionClosing)
         (function-in _ (wantedTokens (valueOpening w), _, refl, refl, (zeros (sc .names), _, refl, zero-in-expression (sc .names), refl)))
         (phrase-viable (sc .text) ruleOpening refl at h)

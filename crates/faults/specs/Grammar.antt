@@ -9,17 +9,16 @@ use lib.IntN.{ℤ}
 use Rattle.limits.specs.Limits.{textLimit, bracketLimit, notAllowed}
 use Rattle.limits.specs.Answer as A
 use Rattle.semantics.specs.Program.{Expression, Condition, Program, UsableE, UsableC}
-use Rattle.lexer.specs.Bytes.{bytes}
-use Rattle.lexer.specs.Token.{Kind, token}
+use Rattle.lexer.specs.Bytes.{bytes, part}
+use Rattle.lexer.specs.Token.{Kind, ending, token}
 use Rattle.lexer.specs.Lexer.{tokenAt}
 use Rattle.grammar.specs.Parsed.{refused}
 use Rattle.grammar.specs.Expressions.{Scope, wholeExpression}
 use Rattle.grammar.specs.Conditions.{wholeCondition, listed}
 use Rattle.grammar.specs.Parse.{programOf}
 use Rattle.lexer.specs.Spelling.{SpellsName}
-use Rattle.grammar.specs.Derivation.{Tokens, Spells, Level, SpellsE, expression, LevelC, SpellsC, condition}
-use Rattle.grammar.specs.Spelled.{SpellsZ, SpellsStart, declarationForm, squared, cased, changeForm, functionForm, Spelled}
-use Rattle.grammar.specs.Internal.{Named}
+use Rattle.grammar.specs.Derivation.{Tokens, Spells, IsName, Level, SpellsE, expression, LevelC, SpellsC, condition}
+use Rattle.grammar.specs.Spelled.{SpellsZ, SpellsStart, declarationForm, squared, cased, Distinct, changeForm, functionForm, Spelled}
 use Rattle.faults.specs.Texts.{SameThrough}
 
 -- the tokens spell an expression of the names, however many brackets are open at the same time (8, not 2, limits these)
@@ -94,11 +93,33 @@ pub record AllowedBefore : Type 0 where
   pub conditions : (sc : Scope) (at place : ℕ) → at ≤ length (sc .text) → wholeCondition sc at ≡ refused notAllowed place → BegunBefore (IsCondition (sc .names) condition) (sc .text) at place
   pub texts : (text : List ℕ) (place : ℕ) → programOf text ≡ A.refused notAllowed place → BegunBefore IsText text 0 place
 
+-- from `at` on stand the tokens `before`, then the token at the place; no token list of the language goes on from them with that token. At the
+-- end of the text: they are none of the language
+pub record BeginsNone (Language : Tokens → Type 0) (text : List ℕ) (at place : ℕ) : Type 0 where
+  pub before : Tokens
+  pub end : ℕ
+  pub spells : Spells text at end before
+  pub kind : Kind
+  pub next : ℕ
+  pub stands : tokenAt text end ≡ token kind place next
+  pub none-begun : (kind ≡ ending → ⊥) → (more : Tokens) → Language (before ++ part text place next ∷ more) → ⊥
+  pub none-ended : kind ≡ ending → Language before → ⊥
+
+-- With a token refused by 2 no expression, no condition and no text goes on, whatever names there are.
+pub record NoneGoOn : Type 0 where
+  pub expressions : (sc : Scope) (names : List (List ℕ)) (at place : ℕ) → AreNames names → at ≤ length (sc .text) → wholeExpression sc at ≡ refused notAllowed place → BeginsNone (IsExpression names expression) (sc .text) at place
+  pub conditions : (sc : Scope) (names : List (List ℕ)) (at place : ℕ) → AreNames names → at ≤ length (sc .text) → wholeCondition sc at ≡ refused notAllowed place → BeginsNone (IsCondition names condition) (sc .text) at place
+  pub texts : (text : List ℕ) (place : ℕ) → programOf text ≡ A.refused notAllowed place → BeginsNone IsText text 0 place
+
+-- the names of a text: no two the same, each of them a name
+abbrev pub GoodNames : List (List ℕ) → Type 0
+GoodNames names = Distinct names × ((i : ℕ) (w : List ℕ) → getElem? names i ≡ some w → IsName w)
+
 -- What ends with a refused token begins nothing: in no text that is the same up to and including that token (and that ends it there) stands an
 -- expression before a `)`, or a condition before a `]`, or a program. (Whatever the number of the refusal is.)
 pub record NoneBegun : Type 0 where
-  pub expressions : (sc : Scope) (other : List ℕ) (at number place : ℕ) → Named (sc .names) → wholeExpression sc at ≡ refused number place → place < length (sc .text) → SameThrough (sc .text) other place
+  pub expressions : (sc : Scope) (other : List ℕ) (at number place : ℕ) → GoodNames (sc .names) → wholeExpression sc at ≡ refused number place → place < length (sc .text) → SameThrough (sc .text) other place
       → (ts : Tokens) (e : Expression) (n : ℕ) → SpellsE (sc .names) expression bracketLimit ts e → UsableE (sc .known) e → Spells other at n (ts ++ bytes ")" ∷ []) → ⊥
-  pub conditions : (sc : Scope) (other : List ℕ) (at number place : ℕ) → Named (sc .names) → listed sc at ≡ refused number place → place < length (sc .text) → SameThrough (sc .text) other place
+  pub conditions : (sc : Scope) (other : List ℕ) (at number place : ℕ) → GoodNames (sc .names) → listed sc at ≡ refused number place → place < length (sc .text) → SameThrough (sc .text) other place
       → (ts : Tokens) (c : Condition) (n : ℕ) → SpellsC (sc .names) condition bracketLimit ts c → UsableC (sc .known) c → Spells other at n (ts ++ bytes "]" ∷ []) → ⊥
   pub texts : (text other : List ℕ) (number place : ℕ) → programOf text ≡ A.refused number place → place < length text → length text ≤ textLimit → SameThrough text other place → (p : Program) → Spelled other p → ⊥

@@ -85,14 +85,14 @@ chain-joins join operator operand text p w o ts us x y c a n h g first second =
     let et = at-kind text (c .kind) w (c .spelling) i m (sp .1) st in
     loops-goes join operator operand text p x a i (sp .1) (first i (st .start) m (q .first) et) (c .kind) (st .start) m o y n (omega (arith, mv .0, sq .0)) et (c .is-operator) (second m (mv .1) (q .second .2))
 
-product-kind : (w : List ℕ) (o : Operation) → ProductSign w o → SignKind productOf w o
+pub product-kind : (w : List ℕ) (o : Operation) → ProductSign w o → SignKind productOf w o
 unfolding productOf is kindNumber
 product-kind w o D.times = record { kind = star; spelling = refl; is-operator = refl }
 product-kind w o D.over = record { kind = slash; spelling = refl; is-operator = refl }
 product-kind w o D.modulus = record { kind = modWord; spelling = refl; is-operator = refl }
 
 -- a sum's sign does not go on with a product
-sum-kind : (w : List ℕ) (o : Operation) → SumSign w o → (k : SignKind sumOf w o) × (productOf (k .kind) ≡ none)
+pub sum-kind : (w : List ℕ) (o : Operation) → SumSign w o → (k : SignKind sumOf w o) × (productOf (k .kind) ≡ none)
 unfolding sumOf productOf is kindNumber
 sum-kind w o D.plus = (record { kind = plus; spelling = refl; is-operator = refl }, refl)
 sum-kind w o D.minus = (record { kind = minus; spelling = refl; is-operator = refl }, refl)
@@ -101,7 +101,7 @@ sum-kind w o D.minus = (record { kind = minus; spelling = refl; is-operator = re
 abbrev pub Stop : Kind → Type 0
 Stop k = (productOf k ≡ none) × (sumOf k ≡ none)
 
-comparison-kind : (w : List ℕ) (o : Comparison) → ComparisonSign w o → (k : SignKind comparisonOf w o) × Stop (k .kind)
+pub comparison-kind : (w : List ℕ) (o : Comparison) → ComparisonSign w o → (k : SignKind comparisonOf w o) × Stop (k .kind)
 unfolding comparisonOf sumOf productOf is kindNumber
 comparison-kind w o D.equals = (record { kind = T.equals; spelling = refl; is-operator = refl }, (refl, refl))
 comparison-kind w o D.differs = (record { kind = T.notEqual; spelling = refl; is-operator = refl }, (refl, refl))

@@ -81,7 +81,7 @@ module _ (text : List ℕ) where
       subst (Stands text a n) r (stands text a k s n h ne et)
 
   -- a token that is wanted
-  wanted-stands : (w : Wanted) (ws : List Wanted) → signs (w ∷ ws) ≡ true → (a : ℕ) (k : Kind) (s n : ℕ) → a ≤ length text → tokenAt text a ≡ token k s n → isWanted text w k s n ≡ true → Stands text a n (wantedToken w)
+  pub wanted-stands : (w : Wanted) (ws : List Wanted) → signs (w ∷ ws) ≡ true → (a : ℕ) (k : Kind) (s n : ℕ) → a ≤ length text → tokenAt text a ≡ token k s n → isWanted text w k s n ≡ true → Stands text a n (wantedToken w)
   unfolding signs
   wanted-stands (sign v) ws f a k s n h et t = fixed-stands v (and-both (isFixed v) (signs ws) f .0) a k s n h et t
   wanted-stands (own v) ws f a k s n h et t = own-stands v a k s n h et t
@@ -99,7 +99,7 @@ module _ (text : List ℕ) where
           test true t z = let i : m ≡ n = cc in subst (λ (x : ℕ). Stands text a x (wantedToken w)) i (wanted-stands w ws f a k s m h et t)
           test false t z = never 2 s n u z
 
-  signs-more : (w : Wanted) (ws : List Wanted) → signs (w ∷ ws) ≡ true → signs ws ≡ true
+  pub signs-more : (w : Wanted) (ws : List Wanted) → signs (w ∷ ws) ≡ true → signs ws ≡ true
   unfolding signs
   signs-more (sign v) ws f = and-both (isFixed v) (signs ws) f .1
   signs-more (own v) ws f = f
@@ -136,7 +136,7 @@ module _ (text : List ℕ) where
   unfolding is
   is-itself k = eq-eqb (kindNumber k) (kindNumber k) refl
 
-  expected-reads : (w : Wanted) (ws : List Wanted) → signs (w ∷ ws) ≡ true → Owns (w ∷ ws) → (a n : ℕ) → a ≤ length text → Stands text a n (wantedToken w) → expected text w a ≡ accepted tt n
+  pub expected-reads : (w : Wanted) (ws : List Wanted) → signs (w ∷ ws) ≡ true → Owns (w ∷ ws) → (a n : ℕ) → a ≤ length text → Stands text a n (wantedToken w) → expected text w a ≡ accepted tt n
   unfolding expected signs is kindNumber
   expected-reads (sign k) ws f o a n h st = rw (fixed-at k (and-both (isFixed k) (signs ws) f .0) a n h st, is-itself k)
   expected-reads (own w) ws f o a n h st = rw (name-at w (o .0) a n h st, st .spelled, same-itself w)
@@ -144,7 +144,7 @@ module _ (text : List ℕ) where
       let t : part text (st .start + 1) n ≡ w = tails (sym (part-cons text (st .start) n (st .is-token .some-bytes) (st .is-token .within)) ∙ st .spelled) in
       rw (at-kind text previous (bytes "_" ++ w) (record { rest = w; is-cons = refl; is-name = record { is-word = o .0 .is-word; no-word = o .0 .no-word } }) a n h st, t, same-itself w)
 
-  owns-more : (w : Wanted) (ws : List Wanted) → Owns (w ∷ ws) → Owns ws
+  pub owns-more : (w : Wanted) (ws : List Wanted) → Owns (w ∷ ws) → Owns ws
   owns-more (sign k) ws o = o
   owns-more (own w) ws o = o .1
   owns-more (ownPrevious w) ws o = o .1

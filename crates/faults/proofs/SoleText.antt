@@ -1,0 +1,237 @@
+-- A token refused by 2 begins no text of the bare grammar: the record `NoneGoOn`. Assumes nothing.
+use mathlib.Core.Path.{_≡_, refl, ap, sym, _∙_, subst}
+use mathlib.Core.List.{List, [], _∷_, _++_, append-assoc, append-nil}
+use mathlib.Core.Bool.{cond, true, false}
+use Prim.Native.Nat.{ℕ, zero, suc, _-_, _≤_, _<_}
+use native.Mathlib.Omega.{arith}
+use lib.ListN.{length, getD}
+use lib.Dec.{ltb}
+use borrow.Author.Tests.{ltb-false}
+use Rattle.limits.specs.Limits.{textLimit}
+use Rattle.lexer.specs.Bytes.{bytes, part}
+use Rattle.lexer.specs.Token.{Kind, kindNumber, ending, name, inputWord, varWord, is, Read, token, fault, spellingOf}
+use Rattle.lexer.specs.Lexer.{overLong, tokenAt}
+use Rattle.lexer.proofs.Laws.{cond-prop, token-at-moved}
+use Rattle.semantics.specs.Program.{Rule, target, allTrue, knownFirst}
+use Rattle.grammar.specs.Parsed.{Parsed, accepted, refused, andThen, onToken}
+use Rattle.grammar.specs.Expressions.{Scope}
+use Rattle.grammar.specs.Declarations.{spellings, declarations}
+use Rattle.grammar.specs.Rules.{ruleAt, ruled, rulesFrom}
+use Rattle.grammar.specs.Parse.{program, parse}
+use Rattle.grammar.specs.Derivation.{Tokens, Stands, Spells}
+use Rattle.grammar.proofs.Bytes.{part-length, heads}
+use Rattle.lexer.specs.Spelling.{Spelling}
+use Rattle.lexer.proofs.Spellings.{isFixed}
+use Rattle.grammar.proofs.Standing.{stands-in, spells-in, is-read}
+use Rattle.grammar.proofs.Derived.{sign-stands}
+use Rattle.grammar.proofs.Whole.{Ends, Names, declarations-fit}
+use Rattle.faults.specs.Grammar as G
+use Rattle.faults.specs.Grammar.{AreNames, AreDeclarations, IsRule, AreRules, IsText, BeginsNone, NoneGoOn}
+use Rattle.faults.proofs.TextPlaces.{refused-parse}
+use Rattle.faults.proofs.ViableText.{allowed-before}
+use Rattle.faults.proofs.Languages.{Joins}
+use Rattle.faults.proofs.Sole.{Ahead, AheadAt, BlockedAt, Sole, by-other, behind, narrow, second, then-sole, cond-sole, NoSign, not-sign, first-ahead}
+use Rattle.faults.proofs.SoleParts.{Anything, apart, id-sole, whole-expression-sole}
+use Rattle.faults.proofs.SoleConditions.{whole-condition-sole}
+use Rattle.faults.proofs.SoleForms.{Word, declared-of, declarations-sole}
+use Rattle.faults.proofs.SoleRules.{RuleRest, rule-of, formulas-sole}
+
+-- ---- of what is accepted nothing is said
+
+abbrev Empty : Tokens → Type 0
+Empty ys = ys ≡ []
+
+abbrev Failing : {A : Type 0} → (Tokens → Type 0) → (Tokens → Type 0) → List ℕ → ℕ → Parsed A → Type 0
+Failing L S text at (accepted a n) = Unit {0}
+Failing L S text at (refused number place) = number ≡ 2 → BlockedAt L S text at place
+
+narrow-failing : {A : Type 0} (L M S : Tokens → Type 0) (text : List ℕ) (at : ℕ) (r : Parsed A) → at ≤ length text → ((us xs ys : Tokens) → AheadAt text at us → us ≡ xs ++ ys → M xs → S ys → L xs) → Failing L S text at r → Failing M S text at r
+narrow-failing {A} L M S text at (accepted a n) h f x = tt
+narrow-failing {A} L M S text at (refused k q) h f x = narrow {A = A} {L = L} {M = M} {S = S} {r = refused k q} h f (record { says = x }) .says
+
+module _ {A B : Type 0} (L M N S S2 : Tokens → Type 0) (text : List ℕ) (at : ℕ) (h : at ≤ length text) (inv : (zs : Tokens) → N zs → Joins L M zs) (follow : (xs ys : Tokens) → M xs → S2 ys → S (xs ++ ys)) where
+  then-failing : (p : Parsed A) (f : A → ℕ → Parsed B) → Sole L S text at p → ((a : A) (n : ℕ) → n ≤ length text → p ≡ accepted a n → Failing M S2 text n (f a n)) → Failing N S2 text at (andThen p f)
+  then-failing (accepted a n) f x g = let i = spells-in text at n (x .says .tokens) h (x .says .spells) in go (f a n) (g a n (i .1) refl) (i .1)
+    where
+      go : (r : Parsed B) → Failing M S2 text n r → n ≤ length text → Failing N S2 text at r
+      go (accepted b m) y i = tt
+      go (refused k q) y i = second {B = B} {L = L} {M = M} {N = N} {S = S} {S2 = S2} h inv follow n (x .says) i (refused k q) (record { says = y }) .says
+  then-failing (refused k q) f x g = then-sole {B = B} {L = L} {M = M} {N = N} {S = S} {S2 = S2} h inv follow {A = A} {p = refused k q} {f = λ a n. refused 0 0} x (λ a n i j e. by-other 0 (λ z. omega (arith, z))) .says
+
+same-failing : {A B : Type 0} (L S : Tokens → Type 0) (text : List ℕ) (at : ℕ) (r : Parsed A) (f : A → ℕ → B) → Failing L S text at r → Failing L S text at (andThen r (λ a n. accepted (f a n) n))
+same-failing L S text at (accepted a n) f x = tt
+same-failing L S text at (refused k q) f x = x
+
+-- ---- rules
+
+module _ (names : List (List ℕ)) (good : AreNames names) where
+  rule-sole : (sc : Scope) (at : ℕ) (k : Kind) (s n : ℕ) → at ≤ length (sc .text) → tokenAt (sc .text) at ≡ token k s n → is k name ≡ true → Sole (IsRule names) Anything (sc .text) at (ruleAt sc s n)
+  unfolding ruleAt overLong is kindNumber
+  rule-sole sc at k s n h e t =
+      let r = sign-stands (sc .text) name refl at k s n h e t in
+      let mv = token-at-moved (sc .text) at k s n h e in
+      id-sole names good sc at s s n _
+      (λ v o. cond-sole (getD (sc .known) v false) (λ x. by-other 6 (λ q. omega (arith, q)))
+      (λ x.
+      let short = ltb-false 16 (n - s) o in
+      let l = part-length (sc .text) s n (mv .1) (mv .2) in
+      behind (part (sc .text) s n) (r .0) goes (formulas-sole names good sc (part (sc .text) s n) (record { is-word = r .1 .is-word; short = omega arith; no-word = r .1 .no-word }) v n (mv .2))))
+    where
+      goes : (us xs ys : Tokens) → part (sc .text) s n ∷ us ≡ xs ++ ys → IsRule names xs → Anything ys → (zs : Tokens) × (xs ≡ part (sc .text) s n ∷ zs) × RuleRest names good (part (sc .text) s n) zs
+      goes us xs ys q l z =
+          let x = rule-of names good xs l in
+          let i : part (sc .text) s n ≡ x .0 = heads (q ∙ ap (λ (y : Tokens). y ++ ys) (x .2)) in
+          (x .1, x .2 ∙ ap (λ (v : List ℕ). v ∷ x .1) (sym i), subst (λ (v : List ℕ). RuleRest names good v (x .1)) (sym i) (x .4))
+
+  -- the rules that begin with a token that is there
+  some-rules : (text : List ℕ) (at : ℕ) (k : Kind) (s n : ℕ) → tokenAt text at ≡ token k s n → (k ≡ ending → ⊥) → (us xs ys : Tokens) → AheadAt text at us → us ≡ xs ++ ys → AreRules names xs → Empty ys → Joins (IsRule names) (AreRules names) xs
+  some-rules text at k s n e ne us xs ys ah q G.AreRules.none z =
+      let y = ah k s n e .1 ne in
+      let r : part text s n ∷ y .0 ≡ [] = sym (y .1) ∙ (q ∙ z) in
+      let w : _≡_ {A = ℕ} 0 1 = cc in
+      absurd (omega arith)
+  some-rules text at k s n e ne us xs ys ah q (G.AreRules.more ts vs x r) z = (ts, vs, refl, x, r)
+
+  rules-failing : (f : ℕ) (sc : Scope) (done : List Rule) (at : ℕ) → at ≤ length (sc .text) → Failing (AreRules names) Empty (sc .text) at (rulesFrom f sc done at)
+  unfolding rulesFrom is kindNumber
+  rules-failing zero sc done at h = λ e. absurd (omega (arith, e))
+  rules-failing (suc f) sc done at h = go (tokenAt (sc .text) at) refl (λ r m i. rules-failing f (ruled sc (target r)) (done ++ (r ∷ [])) m i)
+    where
+      P : Parsed (List Rule) → Type 0
+      P r = Failing (AreRules names) Empty (sc .text) at r
+
+      Ih : Type 0
+      Ih = (r : Rule) (m : ℕ) → m ≤ length (sc .text) → Failing (AreRules names) Empty (sc .text) m (rulesFrom f (ruled sc (target r)) (done ++ (r ∷ [])) m)
+
+      blocks : (k : Kind) (s n : ℕ) → tokenAt (sc .text) at ≡ token k s n → is k name ≡ false → (k ≡ ending → ⊥) → (us xs ys : Tokens) → Ahead k (part (sc .text) s n) us → us ≡ xs ++ ys → AreRules names xs → Empty ys → ⊥
+      blocks k s n e t ne us xs ys ah q G.AreRules.none z = let y = ah .1 ne in let r : part (sc .text) s n ∷ y .0 ≡ [] = sym (y .1) ∙ (q ∙ z) in let w : _≡_ {A = ℕ} 0 1 = cc in omega arith
+      blocks k s n e t ne us xs ys ah q (G.AreRules.more ts vs x r) z =
+          let y = rule-of names good ts x in
+          first-ahead (sc .text) at k s n h e us ((y .1 ++ vs) ++ ys) (y .0) ah (q ∙ ap (λ (l : Tokens). (l ++ vs) ++ ys) (y .2)) name (y .3) (apart k name refl t)
+
+      go : (x : Read) → tokenAt (sc .text) at ≡ x → Ih → P (onToken x (λ k s n. cond (is k name) (andThen (ruleAt sc s n) (λ r m. rulesFrom f (ruled sc (target r)) (done ++ (r ∷ [])) m)) (cond (is k ending) (cond (allTrue (sc .known)) (accepted done n) (refused 6 s)) (refused 2 s))))
+      go (fault p) e ih = λ q. absurd (omega (arith, q))
+      go (token k s n) e ih =
+          cond-prop P (is k name) _ _
+          (λ t. narrow-failing (Joins (IsRule names) (AreRules names)) (AreRules names) Empty (sc .text) at (andThen (ruleAt sc s n) (λ r m. rulesFrom f (ruled sc (target r)) (done ++ (r ∷ [])) m)) h (some-rules (sc .text) at k s n e (name-end t))
+          (then-failing (IsRule names) (AreRules names) (Joins (IsRule names) (AreRules names)) Anything Empty (sc .text) at h (λ zs j. j) (λ xs ys l z. tt) (ruleAt sc s n) _ (rule-sole sc at k s n h e t) (λ r m i q. ih r m i)))
+          (λ t. cond-prop P (is k ending) _ _ (λ u. cond-prop P (allTrue (sc .known)) _ _ (λ v. tt) (λ v q. absurd (omega (arith, q))))
+          (λ u q. record { before = []; end = at; spells = refl; kind = k; next = n; stands = e; blocked = blocks k s n e t (apart k ending refl u) }))
+        where
+          name-end : is k name ≡ true → k ≡ ending → ⊥
+          name-end t z = let r : true ≡ false = sym t ∙ ap (λ (x : Kind). is x name) z in let w : _≡_ {A = ℕ} 0 1 = cc in omega arith
+
+  -- ---- the whole text
+
+  abbrev Variables : Tokens → Type 0
+  Variables = Joins (AreDeclarations (bytes "var")) (AreRules names)
+
+  abbrev TextOf : Tokens → Type 0
+  TextOf = Joins (AreDeclarations (bytes "input")) Variables
+
+  -- rules begin with a name
+  rules-ends : (k : Kind) → Spelling k (spellingOf k) → (name ≡ k → ⊥) → (xs ys : Tokens) → AreRules names xs → Empty ys → NoSign (Word k) (xs ++ ys)
+  rules-ends k sp un xs ys G.AreRules.none z = subst (NoSign (Word k)) (sym z) tt
+  rules-ends k sp un xs ys (G.AreRules.more ts vs x r) z =
+      let y = rule-of names good ts x in
+      subst (λ (l : Tokens). NoSign (Word k) ((l ++ vs) ++ ys)) (sym (y .2)) (λ e. not-sign name k (y .0) (spellingOf k) (y .3) sp un e)
+
+  variables-end : (xs ys : Tokens) → Variables xs → Empty ys → NoSign (Word inputWord) (xs ++ ys)
+  unfolding is kindNumber
+  variables-end xs ys (vs, rs, q, G.AreDeclarations.none, r) z = subst (λ (l : Tokens). NoSign (Word inputWord) (l ++ ys)) (sym q) (rules-ends inputWord refl (apart name inputWord refl refl) rs ys r z)
+  variables-end xs ys (vs, rs, q, G.AreDeclarations.more ts us d m, r) z =
+      let y = declared-of [] (bytes "var") ts d in
+      subst (λ (l : Tokens). NoSign (Word inputWord) (l ++ ys)) (sym (q ∙ ap (λ (l : Tokens). (l ++ us) ++ rs) (y .1))) (λ e. not-sign varWord inputWord (bytes "var") (bytes "input") refl refl (apart varWord inputWord refl refl) e)
+
+  program-failing : (text : List ℕ) → Failing TextOf Empty text 0 (program text)
+  unfolding program declarations isFixed is kindNumber
+  program-failing text =
+      then-failing (AreDeclarations (bytes "input")) Variables TextOf (NoSign (Word inputWord)) Empty text 0 (omega arith) (λ zs j. j) variables-end (declarations inputWord text [] 0) _ (declarations-sole text 65 inputWord refl refl [] (omega arith) (omega arith) 0 (omega arith))
+      (λ inputs n1 h1 e1.
+      let g1 = subst (Ends (length text) (Names text 0)) e1 (declarations-fit text 65 inputWord [] 0 0 (omega arith) (tt, omega arith, omega arith, tt)) in
+      then-failing (AreDeclarations (bytes "var")) (AreRules names) Variables (NoSign (Word varWord)) Empty text n1 h1 (λ zs j. j) (rules-ends varWord refl (apart name varWord refl refl)) (declarations varWord text inputs n1) _
+      (declarations-sole text 65 varWord refl refl inputs (g1 .0 .1) (omega arith) n1 h1)
+      (λ declared n2 h2 e2.
+      let sc : Scope = record { text = text; names = spellings declared; known = knownFirst (length inputs) (length declared) } in
+      same-failing (AreRules names) Empty text n2 (rulesFrom 65 sc [] n2) _ (rules-failing 65 sc [] n2 h2)))
+
+  parse-failing : (text : List ℕ) → Failing TextOf Empty text 0 (parse text)
+  unfolding parse
+  parse-failing text = cond-prop (Failing TextOf Empty text 0) (ltb textLimit (length text)) _ _ (λ t q. absurd (omega (arith, q))) (λ t. program-failing text)
+
+-- ---- the tokens before a place are the same, however they were found
+
+begins-after : (text : List ℕ) (at n e : ℕ) (w : List ℕ) (ts : Tokens) (k : Kind) (place next : ℕ) → at ≤ length text → (st : Stands text at n w) → Spells text n e ts → tokenAt text e ≡ token k place next → st .start < place
+begins-after text at n e w ts k place next h st sp q =
+    let i = stands-in text at n w h st .1 in
+    let j = spells-in text n e ts i sp in
+    let m = token-at-moved text e k place next (j .1) q in
+    let b = st .is-token .some-bytes in
+    omega (arith, j .0, m .0)
+
+same-before : (text : List ℕ) (place : ℕ) (k : Kind) (next end : ℕ) (k2 : Kind) (next2 end2 : ℕ) (at : ℕ) (ts us : Tokens) → at ≤ length text → Spells text at end ts → tokenAt text end ≡ token k place next → Spells text at end2 us → tokenAt text end2 ≡ token k2 place next2 → (ts ≡ us) × (end ≡ end2)
+same-before text place k next end k2 next2 end2 at [] [] h g e g2 e2 = (refl, sym g ∙ g2)
+same-before text place k next end k2 next2 end2 at [] (u ∷ us) h g e (n, st, g2) e2 =
+    let l = begins-after text at n end2 u us k2 place next2 h st g2 e2 in
+    let q : token (st .kind) (st .start) n ≡ token k place next = sym (is-read st) ∙ (ap (tokenAt text) g ∙ e) in
+    let r : st .start ≡ place = cc in
+    absurd (omega arith)
+same-before text place k next end k2 next2 end2 at (t ∷ ts) [] h (n, st, g) e g2 e2 =
+    let l = begins-after text at n end t ts k place next h st g e in
+    let q : token (st .kind) (st .start) n ≡ token k2 place next2 = sym (is-read st) ∙ (ap (tokenAt text) g2 ∙ e2) in
+    let r : st .start ≡ place = cc in
+    absurd (omega arith)
+same-before text place k next end k2 next2 end2 at (t ∷ ts) (u ∷ us) h (n, st, g) e (m, su, g2) e2 =
+    let q : token (st .kind) (st .start) n ≡ token (su .kind) (su .start) m = sym (is-read st) ∙ is-read su in
+    let i : n ≡ m = cc in
+    let j : st .start ≡ su .start = cc in
+    let w : t ≡ u = sym (st .spelled) ∙ (rw (i, j) (su .spelled)) in
+    let x = same-before text place k next end k2 next2 end2 n ts us (stands-in text at n t h st .1) g e (subst (λ (y : ℕ). Spells text y end2 us) (sym i) g2) e2 in
+    (ap (λ (v : List ℕ). v ∷ ts) w ∙ ap (λ (l : Tokens). u ∷ l) (x .0), x .1)
+
+-- ---- the claims
+
+begins-none : (L S : Tokens → Type 0) (text : List ℕ) (at place : ℕ) → S [] → BlockedAt L S text at place → BeginsNone L text at place
+begins-none L S text at place s b =
+    record {
+      before = b .before;
+      end = b .end;
+      spells = b .spells;
+      kind = b .kind;
+      next = b .next;
+      stands = b .stands;
+      none-begun = λ ne more l. b .blocked (part text place (b .next) ∷ more) (b .before ++ part text place (b .next) ∷ more) [] (λ z. absurd (ne z), λ z. (more, refl)) (sym (append-nil (b .before ++ part text place (b .next) ∷ more))) l s;
+      none-ended = λ z l. b .blocked [] (b .before) [] (λ q. refl, λ ne. absurd (ne z)) refl l s;
+    }
+
+text-of : (ts : Tokens) (x : IsText ts) → TextOf (x .names) (x .are-names) ts
+text-of ts x = (x .inputs, x .variables ++ x .rules, x .in-order ∙ append-assoc (x .inputs) (x .variables) (x .rules), x .are-inputs, (x .variables, x .rules, refl, x .are-variables, x .are-rules))
+
+texts : (text : List ℕ) (place : ℕ) → parse text ≡ refused 2 place → (before : Tokens) (end : ℕ) → Spells text 0 end before → (kind : Kind) (next : ℕ) → tokenAt text end ≡ token kind place next → (us : Tokens) → Ahead kind (part text place next) us → IsText (before ++ us) → ⊥
+texts text place e before end sp kind next st us ah x =
+    let b = (rw e at (parse-failing (x .names) (x .are-names) text)) refl in
+    let s = same-before text place (b .kind) (b .next) (b .end) kind next end 0 (b .before) before (omega arith) (b .spells) (b .stands) sp st in
+    let q : token (b .kind) place (b .next) ≡ token kind place next = sym (b .stands) ∙ (ap (tokenAt text) (s .1) ∙ st) in
+    let i : kind ≡ b .kind = cc in
+    let j : next ≡ b .next = cc in
+    let ah2 : Ahead (b .kind) (part text place (b .next)) us = rw (← i, ← j) ah in
+    b .blocked us (before ++ us) [] ah2 (ap (λ (l : Tokens). l ++ us) (s .0) ∙ sym (append-nil (before ++ us))) (text-of (before ++ us) x) refl
+
+pub none-go-on : NoneGoOn
+none-go-on = record {
+  expressions = λ sc names at place good h e. begins-none _ _ (sc .text) at place ((tt, tt), tt) ((rw e at (whole-expression-sole names good sc at h)) .says refl);
+  conditions = λ sc names at place good h e. begins-none _ _ (sc .text) at place ((((tt, tt), tt), tt), tt) ((rw e at (whole-condition-sole names good sc at h)) .says refl);
+  texts = λ text place e.
+      let b = allowed-before .texts text place e in
+      let p = refused-parse text 2 place e in
+      record {
+        before = b .before;
+        end = b .end;
+        spells = b .spells;
+        kind = b .kind;
+        next = b .next;
+        stands = b .stands;
+        none-begun = λ ne more l. texts text place p (b .before) (b .end) (b .spells) (b .kind) (b .next) (b .stands) (part text place (b .next) ∷ more) (λ z. absurd (ne z), λ z. (more, refl)) l;
+        none-ended = λ z l. texts text place p (b .before) (b .end) (b .spells) (b .kind) (b .next) (b .stands) [] (λ q. refl, λ ne. absurd (ne z)) (subst IsText (sym (append-nil (b .before))) l);
+      };
+}
