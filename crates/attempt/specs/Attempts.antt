@@ -12,8 +12,8 @@ use Rattle.semantics.specs.Formula.{State}
 use Rattle.semantics.specs.ReferenceScan.{allWithin, withInputs}
 use Rattle.machine.specs.Step.{machine}
 use Rattle.machine.specs.Runs.{Ran, ran, run}
-use Rattle.fused.specs.declared.Attempt.{Attempt}
-use Rattle.fused.specs.declared.Attempt.the-variants as A
+use Rattle.attempt.specs.declared.Attempt.{Attempt}
+use Rattle.attempt.specs.declared.Attempt.the-variants as A
 use Rattle.fused.specs.Together.{SoundCode}
 
 -- The memory of a scan: a low, a high and a copy for each value of the state, no more inputs than names.

@@ -1,5 +1,5 @@
 // The code of an image on a copy of the state, checked and run in one pass; the state is written once, at success.
-use fused::Attempt;
+use fused::Ended;
 use machine::lists;
 ghost use mathlib.Core.List.{List};
 ghost use Prim.Native.Nat.{_≤_};
@@ -8,6 +8,13 @@ ghost use Rattle.limits.specs.Limits.{nameLimit};
 ghost use Rattle.semantics.specs.Program.{Range};
 ghost use Rattle.machine.specs.Memory.{RangesIn};
 ghost use Rattle.attempt.specs.Attempts.{Fitting, TriedCode, SoundCodeBy, AttemptWithin};
+
+// The steps of a scan to the end of sound code, or the number of its refusal and the steps.
+pub enum Attempt {
+    Done(usize),
+    Refused(u8, usize),
+    Doubt,
+}
 
 // A value out of range is left to the plain way, since the code is tested before it.
 pub fn scan_fused(
@@ -34,11 +41,11 @@ pub fn scan_fused(
     lists::take_row(copy, state, row);
     let ran = fused::run(code, low, high, state, copy, row.len());
     match ran {
-        Attempt::Done(n) => {
+        Ended::Done(n) => {
             lists::fill(state, copy);
             Attempt::Done(n)
         }
-        Attempt::Refused(number, n) => Attempt::Refused(number, n),
-        Attempt::Doubt => Attempt::Doubt,
+        Ended::Refused(number, n) => Attempt::Refused(number, n),
+        Ended::Broken(_) => Attempt::Doubt,
     }
 }

@@ -40,7 +40,7 @@ one-nothing number k = refl
 one-nothing truth k = refl
 
 -- whatever follows, it breaks
-one-none : (s : Sort) (vs : List Sort) → one s vs (λ vs₁. none) ≡ none
+pub one-none : (s : Sort) (vs : List Sort) → one s vs (λ vs₁. none) ≡ none
 one-none number [] = refl
 one-none number (number ∷ vs) = refl
 one-none number (truth ∷ vs) = refl
@@ -156,7 +156,7 @@ fresh-is (suc p) v h = sym (same-suc p v)
 
 -- ---- the instructions
 
-two-none : (s : Sort) (vs : List Sort) → (one s vs λ vs₁. one s vs₁ λ vs₂. none) ≡ none
+pub two-none : (s : Sort) (vs : List Sort) → (one s vs λ vs₁. one s vs₁ λ vs₂. none) ≡ none
 two-none number [] = refl
 two-none number (number ∷ vs) = one-none number vs
 two-none number (truth ∷ vs) = refl

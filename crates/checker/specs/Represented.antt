@@ -1,5 +1,5 @@
 -- The walk's numbers, and what they stand for in the definition of soundness: auxiliary definitions for proofs. Assumes nothing.
-use Prim.Native.Nat.{ℕ, zero, suc, _/_, _%_, _^_, _≤_, _<_}
+use Prim.Native.Nat.{ℕ, zero, suc, _-_, _/_, _%_, _^_, _≤_, _<_}
 use mathlib.Core.Bool.{Bool, true, false}
 use mathlib.Core.List.{List, [], _∷_}
 use mathlib.Core.Option.{Option, none, some}
@@ -41,6 +41,10 @@ knownOf w = known (sortsOf (w .held) (w .sorts)) (openOf (w .gate)) (picksOf (w 
 abbrev pub advancedKnown : Advanced → Option Known
 advancedKnown (Kept w) = some (knownOf w)
 advancedKnown Broken = none
+
+-- before the first instruction: nothing held, no gate, no picks; the inputs known
+abbrev pub initialWalk : ℕ → ℕ → Walk
+initialWalk inputs names = record { held = 0; sorts = 0; gate = 0; picking = 0; known = 2 ^ inputs - 1; names = names }
 
 -- ---- what holds of the numbers
 

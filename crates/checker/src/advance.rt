@@ -14,9 +14,9 @@ ghost use Rattle.checker.specs.Represented.{advanceBy, pushed, kept, joi
 use arith::bits;
 
 // The sort of a value held.
-const NUMBER: u64 = 0;
+pub const NUMBER: u64 = 0;
 
-const TRUTH: u64 = 1;
+pub const TRUTH: u64 = 1;
 
 // What is known before an instruction: how many values are held, and their sorts as bits (the lowest that of the last held); 1 if
 // a gate awaits its pick, else 0 (a number, so that the struct has no padding to copy); the id whose picks await their settle plus
@@ -36,7 +36,7 @@ pub enum Advanced {
 }
 
 // A number more is held, never over 40.
-fn push(w: Walk) -> Advanced
+pub fn push(w: Walk) -> Advanced
     requires { ⌜ Small w ⌝ }
     ensures { λ r. ⌜ advancedKnown r ≡ pushed (knownOf w) ⌝ }
     ensures { λ r. ⌜ SmallAfter r ⌝ }
@@ -60,7 +60,7 @@ fn is_known(w: Walk, id: u64) -> bool
     bits::bit(w.known, id)
 }
 
-fn current(w: Walk, id: u64) -> Advanced
+pub fn current(w: Walk, id: u64) -> Advanced
     requires { ⌜ Small w ⌝ }
     ensures { λ r. ⌜ advancedKnown r ≡ advanceOf (currentOf id) (knownOf w) ⌝ }
     ensures { λ r. ⌜ SmallAfter r ⌝ }
@@ -71,7 +71,7 @@ fn current(w: Walk, id: u64) -> Advanced
     Advanced::Broken
 }
 
-fn previous(w: Walk, id: u64) -> Advanced
+pub fn previous(w: Walk, id: u64) -> Advanced
     requires { ⌜ Small w ⌝ }
     ensures { λ r. ⌜ advancedKnown r ≡ advanceOf (previousOf id) (knownOf w) ⌝ }
     ensures { λ r. ⌜ SmallAfter r ⌝ }
@@ -83,7 +83,7 @@ fn previous(w: Walk, id: u64) -> Advanced
 }
 
 // The value on top has this sort.
-fn keep(w: Walk, sort: u64) -> Advanced
+pub fn keep(w: Walk, sort: u64) -> Advanced
     requires { ⌜ (Small w) × (sort < 2) ⌝ }
     ensures { λ r. ⌜ advancedKnown r ≡ kept (sortOf sort) (knownOf w) ⌝ }
     ensures { λ r. ⌜ SmallAfter r ⌝ }
@@ -98,7 +98,7 @@ fn keep(w: Walk, sort: u64) -> Advanced
 }
 
 // Two values of a sort give way to one of the sort `result`.
-fn join(w: Walk, sort: u64, result: u64) -> Advanced
+pub fn join(w: Walk, sort: u64, result: u64) -> Advanced
     requires { ⌜ (Small w) × (sort < 2) × (result < 2) ⌝ }
     ensures { λ r. ⌜ advancedKnown r ≡ joined (sortOf sort) (sortOf result) (knownOf w) ⌝ }
     ensures { λ r. ⌜ SmallAfter r ⌝ }
@@ -120,7 +120,7 @@ fn join(w: Walk, sort: u64, result: u64) -> Advanced
 }
 
 // Codes 10 to 18 do not stand between a gate and its pick.
-fn test(w: Walk, sort: u64) -> Advanced
+pub fn test(w: Walk, sort: u64) -> Advanced
     requires { ⌜ (Small w) × (sort < 2) ⌝ }
     ensures { λ r. ⌜ advancedKnown r ≡ outside (openOf (w .gate)) (joined (sortOf sort) truth (knownOf w)) ⌝ }
     ensures { λ r. ⌜ SmallAfter r ⌝ }
@@ -131,7 +131,7 @@ fn test(w: Walk, sort: u64) -> Advanced
     join(w, sort, TRUTH)
 }
 
-fn invert(w: Walk) -> Advanced
+pub fn invert(w: Walk) -> Advanced
     requires { ⌜ Small w ⌝ }
     ensures { λ r. ⌜ advancedKnown r ≡ outside (openOf (w .gate)) (kept truth (knownOf w)) ⌝ }
     ensures { λ r. ⌜ SmallAfter r ⌝ }
@@ -153,7 +153,7 @@ fn holds_only(w: Walk, sort: u64) -> bool
     w.sorts % 2 == sort
 }
 
-fn gate(w: Walk) -> Advanced
+pub fn gate(w: Walk) -> Advanced
     requires { ⌜ Small w ⌝ }
     ensures { λ r. ⌜ advancedKnown r ≡ advanceOf gateOf (knownOf w) ⌝ }
     ensures { λ r. ⌜ SmallAfter r ⌝ }
@@ -196,7 +196,7 @@ fn may_pick(w: Walk, id: u64) -> bool
     w.picking == id + 1
 }
 
-fn pick(w: Walk, id: u64) -> Advanced
+pub fn pick(w: Walk, id: u64) -> Advanced
     requires { ⌜ (Small w) × (id < 2 ^ 32) ⌝ }
     ensures { λ r. ⌜ advancedKnown r ≡ advanceOf (pickOf id) (knownOf w) ⌝ }
     ensures { λ r. ⌜ SmallAfter r ⌝ }
@@ -239,7 +239,7 @@ fn ruled(w: Walk, id: u64) -> Walk
     }
 }
 
-fn assign(w: Walk, id: u64) -> Advanced
+pub fn assign(w: Walk, id: u64) -> Advanced
     requires { ⌜ Small w ⌝ }
     ensures { λ r. ⌜ advancedKnown r ≡ advanceOf (assignOf id) (knownOf w) ⌝ }
     ensures { λ r. ⌜ SmallAfter r ⌝ }
@@ -259,7 +259,7 @@ fn assign(w: Walk, id: u64) -> Advanced
     Advanced::Kept(ruled(w, id))
 }
 
-fn settle(w: Walk, id: u64) -> Advanced
+pub fn settle(w: Walk, id: u64) -> Advanced
     requires { ⌜ (Small w) × (id < 2 ^ 32) ⌝ }
     ensures { λ r. ⌜ advancedKnown r ≡ advanceOf (settleOf id) (knownOf w) ⌝ }
     ensures { λ r. ⌜ SmallAfter r ⌝ }
@@ -300,39 +300,6 @@ pub fn advance(code: u8, n: u64, w: Walk) -> Advanced
         20 => pick(w, n),
         21 => assign(w, n),
         22 => settle(w, n),
-        _ => Advanced::Broken,
-    }
-}
-
-// The same with a fixed code in each arm, so that each call is compiled for its code.
-pub fn advance_fixed(code: u8, n: u64, w: Walk) -> Advanced
-    requires { ⌜ (Small w) × (n < 2 ^ 32) ⌝ }
-    ensures { λ r. ⌜ advancedKnown r ≡ advanceBy (instructionOf code n) (knownOf w) ⌝ }
-    ensures { λ r. ⌜ SmallAfter r ⌝ }
-{
-    match code {
-        1 => advance(1, n, w),
-        2 => advance(2, n, w),
-        3 => advance(3, n, w),
-        4 => advance(4, n, w),
-        5 => advance(5, n, w),
-        6 => advance(6, n, w),
-        7 => advance(7, n, w),
-        8 => advance(8, n, w),
-        9 => advance(9, n, w),
-        10 => advance(10, n, w),
-        11 => advance(11, n, w),
-        12 => advance(12, n, w),
-        13 => advance(13, n, w),
-        14 => advance(14, n, w),
-        15 => advance(15, n, w),
-        16 => advance(16, n, w),
-        17 => advance(17, n, w),
-        18 => advance(18, n, w),
-        19 => advance(19, n, w),
-        20 => advance(20, n, w),
-        21 => advance(21, n, w),
-        22 => advance(22, n, w),
         _ => Advanced::Broken,
     }
 }

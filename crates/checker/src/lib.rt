@@ -8,8 +8,8 @@ ghost use lib.ListN.{length};
 ghost use Rattle.limits.specs.Limits.{imageLimit, nameLimit};
 ghost use Rattle.semantics.specs.Program.{knownFirst};
 ghost use Rattle.bytecode.specs.Check.{known as knownAs, complete as completeOf, checkCode, checkOf};
-ghost use Rattle.checker.specs.Represented.{knownOf, Small};
-ghost use Rattle.checker.specs.Results.{checkedAnswer, CheckedWithin};
+ghost use Rattle.checker.specs.Represented.{knownOf, Small, initialWalk};
+ghost use Rattle.checker.specs.Results.{checkedAnswer, CheckedWithin, Judges, VerdictWithin};
 use advance::Advanced;
 use advance::Walk;
 
@@ -38,36 +38,61 @@ pub fn complete(w: Walk) -> bool
     w.known == arith::bits::ones(w.names)
 }
 
-// The walk over the code, which begins at `base` of the image.
-fn check_code(code: &[u8], base: usize, inputs: usize, names: usize) -> Checked
-    requires { ⌜ (inputs ≤ names) × (names ≤ nameLimit) × (base + length (now code) ≤ imageLimit) ⌝ }
-    ensures { λ r. ⌜ checkedAnswer r ≡ checkCode base (now (code .entry)) (length (now (code .entry))) 0 (knownAs [] false none (knownFirst inputs names)) ⌝ }
-    ensures { λ r. ⌜ CheckedWithin r ⌝ }
+// Before the first instruction: nothing held, no gate, no picks; the inputs known.
+pub fn initial(inputs: usize, names: usize) -> Walk
+    requires { ⌜ inputs ≤ nameLimit ⌝ }
+    ensures { λ r. ⌜ r ≡ initialWalk inputs names ⌝ }
 {
-    let mut at = 0;
-    let mut w = Walk {
+    Walk {
         held: 0,
         sorts: 0,
         gate: 0,
         picking: 0,
         known: arith::bits::ones(inputs as u64),
         names: names as u64,
-    };
+    }
+}
+
+// Sound, or the place in the code of the instruction that breaks soundness; its length where something is only missing there.
+pub enum Verdict {
+    Sound,
+    Broken(usize),
+}
+
+// The walk alone, from a place of the code on.
+pub fn walk_from(code: &[u8], from: usize, first: Walk) -> Verdict
+    requires { ⌜ Small first ⌝ }
+    ensures { λ r. ⌜ Judges (now (code .entry)) from (knownOf first) r ⌝ }
+    ensures { λ r. ⌜ VerdictWithin (length (now (code .entry))) r ⌝ }
+{
+    let mut at = from;
+    let mut w = first;
     while at < code.len() {
-        let place = base + at;
         let bytecode::Fetched::Instruction(byte, n, next) = bytecode::fetch(code, at) else {
-            return Checked::Refused(limits::BROKEN_IMAGE, place);
+            return Verdict::Broken(at);
         };
-        let Advanced::Kept(k) = advance::advance_fixed(byte, n, w) else {
-            return Checked::Refused(limits::BROKEN_IMAGE, place);
+        let Advanced::Kept(k) = advance::advance(byte, n, w) else {
+            return Verdict::Broken(at);
         };
         w = k;
         at = next;
     }
     if complete(w) {
-        return Checked::Sound;
+        return Verdict::Sound;
     }
-    Checked::Refused(limits::BROKEN_IMAGE, base + code.len())
+    Verdict::Broken(code.len())
+}
+
+// The walk over the whole code, which begins at `base` of the image.
+fn check_code(code: &[u8], base: usize, inputs: usize, names: usize) -> Checked
+    requires { ⌜ (inputs ≤ names) × (names ≤ nameLimit) × (base + length (now code) ≤ imageLimit) ⌝ }
+    ensures { λ r. ⌜ checkedAnswer r ≡ checkCode base (now (code .entry)) (length (now (code .entry))) 0 (knownAs [] false none (knownFirst inputs names)) ⌝ }
+    ensures { λ r. ⌜ CheckedWithin r ⌝ }
+{
+    match walk_from(code, 0, initial(inputs, names)) {
+        Verdict::Sound => Checked::Sound,
+        Verdict::Broken(at) => Checked::Refused(limits::BROKEN_IMAGE, base + at),
+    }
 }
 
 pub fn check(image: &[u8]) -> Checked

@@ -4,17 +4,22 @@ use Prim.Native.Nat.{ℕ, _+_, _-_, _≤_, _<_}
 use native.Mathlib.Omega.{arith}
 use mathlib.Core.Path.{_≡_, refl, sym, subst, _∙_}
 use mathlib.Core.Bool.{Bool, true, false, cond, false≢true}
-use mathlib.Core.List.{List}
-use mathlib.Core.Option.{some}
+use mathlib.Core.List.{List, []}
+use mathlib.Core.Option.{none, some}
 use lib.IntN.{ℤ}
 use lib.ListN.{length}
-use Rattle.bytecode.specs.Check.{complete}
+use Rattle.semantics.specs.Program.{knownFirst}
+use Rattle.bytecode.specs.Check.{complete, known, checkCode}
 use Rattle.bytecode.proofs.RoundTrip.{fetch-next}
 use Rattle.bytecode.proofs.Soundness.{advance-small}
 use Rattle.arith.specs.Flags.{flagsOf}
 use Rattle.arith.proofs.Flags.{length-flags}
 use Rattle.checker.specs.Represented.{knownOf}
-use Rattle.checker.proofs.Walking.{Walking, walking-begins, walking-goes, walking-ends}
+use Rattle.checker.specs.declared.Verdict.{Verdict}
+use Rattle.checker.specs.declared.Verdict.the-variants as J
+use Rattle.checker.specs.Represented.{initialWalk}
+use Rattle.checker.specs.Results.{verdictAnswer, Judges}
+use Rattle.checker.proofs.Walking.{WalksTo, walks-here, walks-on, walks-step, judges-on, judges-end, judges-whole, initial-small}
 use Rattle.machine.specs.declared.Registers.{Registers}
 use Rattle.machine.specs.declared.Stepped.the-variants.{Next, Refused}
 use Rattle.machine.specs.Memory.{heldOf, Named}
@@ -22,27 +27,31 @@ use Rattle.machine.proofs.Loop.{Going, ended, again, refused}
 use Rattle.fused.specs.declared.Progress.{Progress}
 use Rattle.fused.specs.declared.Moved.{Moved}
 use Rattle.fused.specs.declared.Moved.the-variants as M
-use Rattle.fused.specs.declared.Attempt.{Attempt}
-use Rattle.fused.specs.declared.Attempt.the-variants as A
-use Rattle.fused.specs.Together.{registersOf, Ready, Moves, Refuses, MovesBy, SoundFrom, freshOf, RefusedBy, Succeeds, Fails, RunBy}
+use Rattle.fused.specs.declared.Ended.{Ended}
+use Rattle.fused.specs.declared.Ended.the-variants as E
+use Rattle.fused.specs.Together.{registersOf, Ready, BreaksAt, Moves, Refuses, MovesBy, RefusedBy, SoundCode, BrokenCode, Succeeds, Fails, RunBy}
 
 -- nothing held, nothing picked, nothing passed over
 abbrev idle : Registers
 idle = record { held = 0; picked = false; passing = false }
 
+-- before the first instruction
+abbrev pub fresh : ℕ → ℕ → Progress
+fresh inputs names = record { walk = initialWalk inputs names; at = 0; picked = false; passing = false }
+
 pub record Fusing (code : List ℕ) (low high prev : List ℤ) (inputs : ℕ) (cur₀ vals₀ cur vals : List ℤ) (b : Progress) (steps : ℕ) : Type 0 where
   pub ready : Ready low high prev cur vals b
-  pub walking : (base : ℕ) → Walking code base inputs (length low) (b .at) (b .walk)
+  pub walks : WalksTo code 0 (knownOf (initialWalk inputs (length low))) (b .at) (knownOf (b .walk))
   pub going : Going code low high prev cur₀ vals₀ 0 (length code) idle cur vals (registersOf b) (b .at) steps
   pub few : steps ≤ b .at
 
 pub fusing-begins : (code : List ℕ) (low high prev : List ℤ) (inputs : ℕ) (cur vals : List ℤ) → Named low high prev cur → inputs ≤ length low → length low ≤ 64 → 40 ≤ length vals
-    → Fusing code low high prev inputs cur vals cur vals (freshOf inputs (length low)) 0
+    → Fusing code low high prev inputs cur vals cur vals (fresh inputs (length low)) 0
 fusing-begins code low high prev inputs cur vals named l m room =
     let e : length code - 0 ≡ length code = omega arith in
     record {
-      ready = record { small = walking-begins code 0 inputs (length low) l m .small; sized = refl; room = room; named = named; opened = λ ns q t. absurd (false≢true t) };
-      walking = λ base. walking-begins code base inputs (length low) l m;
+      ready = record { small = initial-small inputs (length low) l m; sized = refl; room = room; named = named; opened = λ t. absurd (false≢true t) };
+      walks = walks-here code 0 _;
       going = record { stack = record { few = omega arith; room = room }; named = named; wide = refl; deep = refl; within = omega arith; goes = λ ns r. rw e };
       few = omega arith;
     }
@@ -60,6 +69,9 @@ module _ {code : List ℕ} {low high prev : List ℤ} {inputs : ℕ} {cur₀ val
   pub moved : (vals₁ cur₁ : List ℤ) (r : Moved) (k : Progress) → MovesBy code low high prev b vals cur vals₁ cur₁ r → r ≡ M.On k → Moves code low high prev b vals cur vals₁ cur₁ k
   moved vals₁ cur₁ r k m e = subst (λ x. MovesBy code low high prev b vals cur vals₁ cur₁ x) e m
 
+  pub moved-broken : (vals₁ cur₁ : List ℤ) (r : Moved) → MovesBy code low high prev b vals cur vals₁ cur₁ r → r ≡ M.Broken → BreaksAt code b
+  moved-broken vals₁ cur₁ r m e = subst (λ x. MovesBy code low high prev b vals cur vals₁ cur₁ x) e m
+
   pub fusing-goes : (vals₁ cur₁ : List ℤ) (k : Progress) → b .at < length code → Moves code low high prev b vals cur vals₁ cur₁ k → length vals₁ ≡ length vals → length cur₁ ≡ length cur
       → Fusing code low high prev inputs cur₀ vals₀ cur₁ vals₁ k (steps + 1)
   fusing-goes vals₁ cur₁ k l m deeper wider =
@@ -74,43 +86,58 @@ module _ {code : List ℕ} {low high prev : List ℤ} {inputs : ℕ} {cur₀ val
           named = record { highs = f .ready .named .highs; previous = f .ready .named .previous; current = wider ∙ f .ready .named .current };
           opened = m .opened;
         };
-        walking = λ base. walking-goes (f .walking base) (some i) (k .at) l (m .fetched) (k .walk) (m .advanced) (m .small) behind (m .inside);
+        walks = walks-on code 0 _ _ _ _ _ (f .walks) (walks-step code (b .at) _ l (some i) (k .at) (m .fetched) _ (m .advanced) behind);
         going = again (f .going) (omega (arith, f .few)) l (some i) (k .at) (sym (m .fetched)) (Next (registersOf k)) vals₁ cur₁ (λ ns q. sym (m .acted ns q))
             (registersOf k) refl (few-held (k .passing) (k .walk .held) (m .small .few-held)) deeper wider;
         few = omega (arith, f .few);
       }
 
-  fusing-refused : (k : Progress) (number : ℕ) → b .at < length code → Refuses code low high prev b vals cur k number → SoundFrom code (k .at) (k .walk)
-      → Fails code low high prev inputs cur₀ number (steps + 1)
-  unfolding heldOf
-  fusing-refused k number l m rest =
-      let i = m .instruction in
-      let behind : b .at < k .at = fetch-next code (b .at) i (k .at) (m .fetched) .1 in
-      let on : (base : ℕ) → Walking code base inputs (length low) (k .at) (k .walk) = λ base.
-      walking-goes (f .walking base) (some i) (k .at) l (m .fetched) (k .walk) (m .advanced) (m .small) behind (m .inside) in
-      record {
-        sound = λ base. on base .goes ∙ rest base (on base .fuel) (on base .enough);
-        place = b .at;
-        went = λ ns q. sym (refused (f .going) (omega (arith, f .few)) l (some i) (k .at) (sym (m .fetched)) (Refused number) vals cur (λ ns₁ q₁. sym (m .acted ns₁ q₁)) number refl ns q);
-        within = omega (arith, f .few);
-      }
+  -- what the walk finds from here on
+  module _ (r : Verdict) (j : Judges code (b .at) (knownOf (b .walk)) r) where
+    whole : (base : ℕ) → verdictAnswer base r ≡ checkCode base code (length code) 0 (known [] false none (knownFirst inputs (length low)))
+    whole = judges-whole code inputs (length low) (initialWalk inputs (length low)) r refl (judges-on code 0 _ (b .at) (knownOf (b .walk)) r (f .walks) j)
+
+  pub fusing-breaks : (at : ℕ) → Judges code (b .at) (knownOf (b .walk)) (J.Broken at) → BrokenCode code inputs (length low) at
+  fusing-breaks at j base = sym (whole (J.Broken at) j base)
+
+  fusing-sound : Judges code (b .at) (knownOf (b .walk)) J.Sound → SoundCode code inputs (length low)
+  fusing-sound j base = sym (whole J.Sound j base)
 
   -- with what is answered of the rest of the code
-  pub fusing-stops : (k : Progress) (number : ℕ) → b .at < length code → Refuses code low high prev b vals cur k number → (cur₁ : List ℤ) (r : Attempt) → RefusedBy code (k .at) (k .walk) number (steps + 1) r
-      → RunBy code low high prev inputs cur₀ cur₁ r
-  fusing-stops k number l m cur₁ (A.Done n) h = absurd h
-  fusing-stops k number l m cur₁ (A.Refused j n) h = rw (h .0, h .1) (fusing-refused k number l m (h .2))
-  fusing-stops k number l m cur₁ A.Doubt h = tt
+  module _ (k : Progress) (number : ℕ) (l : b .at < length code) (m : Refuses code low high prev b vals cur k number) where
+    behind : (r : Verdict) → Judges code (k .at) (knownOf (k .walk)) r → Judges code (b .at) (knownOf (b .walk)) r
+    behind r j =
+        judges-on code (b .at) (knownOf (b .walk)) (k .at) (knownOf (k .walk)) r
+        (walks-step code (b .at) (knownOf (b .walk)) l (some (m .instruction)) (k .at) (m .fetched) (knownOf (k .walk)) (m .advanced) (fetch-next code (b .at) (m .instruction) (k .at) (m .fetched) .1)) j
 
-  pub fusing-ends : length code ≤ b .at → true ≡ complete (knownOf (b .walk)) → Succeeds code low high prev inputs cur₀ cur steps
-  unfolding heldOf
-  fusing-ends l done =
-      record {
-        sound = λ base. walking-ends (f .walking base) l ∙ rw (← done);
-        place = b .at;
-        passing = b .passing;
-        picked = b .picked;
-        held = heldOf vals (registersOf b .held);
-        went = λ ns q. sym (ended (f .going) l ns q);
-        within = f .going .within;
-      }
+    fusing-refused : Judges code (k .at) (knownOf (k .walk)) J.Sound → Fails code low high prev inputs cur₀ number (steps + 1)
+    unfolding heldOf
+    fusing-refused rest =
+        record {
+          sound = fusing-sound (behind J.Sound rest);
+          place = b .at;
+          went = λ ns q. sym (refused (f .going) (omega (arith, f .few)) l (some (m .instruction)) (k .at) (sym (m .fetched)) (Refused number) vals cur (λ ns₁ q₁. sym (m .acted ns₁ q₁)) number refl ns q);
+          within = omega (arith, f .few);
+        }
+
+    pub fusing-stops : (cur₁ : List ℤ) (r : Ended) → RefusedBy code (k .at) (k .walk) number (steps + 1) r → RunBy code low high prev inputs cur₀ cur₁ r
+    fusing-stops cur₁ (E.Done n) h = absurd h
+    fusing-stops cur₁ (E.Refused j n) h = rw (h .0, h .1) (fusing-refused (h .2))
+    fusing-stops cur₁ (E.Broken at) h = (fusing-breaks at (behind (J.Broken at) (h .0)), h .1)
+
+  module _ (l : length code ≤ b .at) where
+    pub fusing-ends : true ≡ complete (knownOf (b .walk)) → Succeeds code low high prev inputs cur₀ cur steps
+    unfolding heldOf
+    fusing-ends done =
+        record {
+          sound = fusing-sound (judges-end code (b .at) _ J.Sound l (λ base. rw (← done)));
+          place = b .at;
+          passing = b .passing;
+          picked = b .picked;
+          held = heldOf vals (registersOf b .held);
+          went = λ ns q. sym (ended (f .going) l ns q);
+          within = f .going .within;
+        }
+
+    pub fusing-misses : false ≡ complete (knownOf (b .walk)) → BrokenCode code inputs (length low) (length code)
+    fusing-misses missing = fusing-breaks (length code) (judges-end code (b .at) _ (J.Broken (length code)) l (λ base. rw (← missing)))

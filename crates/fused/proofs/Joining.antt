@@ -1,33 +1,55 @@
 -- The walk and the machine hold as many values; what one instruction does to both. Assumes nothing.
-use Prim.Native.Nat.{ℕ, _+_, _≤_}
+use Prim.Native.Nat.{ℕ, _+_, _≤_, _<_}
 use native.Mathlib.Omega.{arith}
 use mathlib.Core.Path.{_≡_, refl, sym, ap, subst, _∙_}
 use mathlib.Core.Bool.{Bool, true, false, cond, false≢true}
-use mathlib.Core.List.{List, []}
+use mathlib.Core.List.{List, [], _∷_, map}
 use mathlib.Core.Option.{Option, none, some}
-use lib.IntN.{ℤ}
-use lib.ListN.{length}
+use lib.IntN.{ℤ, pos}
+use lib.ListN.{length, getD}
+use borrow.Author.Tests.{le-leb, lt-leb}
 use Rattle.arith.specs.Values.{ok, refusal}
 use Rattle.semantics.specs.Program.{Range}
-use Rattle.leb128.specs.Numbers.{got, numberAt}
-use Rattle.bytecode.specs.Instructions.{Instruction, instructionOf, hasOperand, decoded, fetch}
+use Rattle.leb128.specs.Numbers.{Read, got, nothing, numberAt}
+use Rattle.bytecode.specs.Instructions.{Instruction, operation, operationOf, instructionOf, hasOperand, decoded, fetch}
 use Rattle.bytecode.specs.Check.{advance}
 use Rattle.bytecode.proofs.Soundness.{none≢some, idsOf}
-use Rattle.bytecode.proofs.Fetching.{fetch-alone, fetch-number, number-within}
+use Rattle.bytecode.proofs.Codes.{operation-of, comparison-of}
+use Rattle.bytecode.proofs.Fetching.{fetch-alone, fetch-number, fetch-malformed, number-within}
 use Rattle.checker.specs.declared.advance.Walk.{Walk}
+use Rattle.checker.specs.declared.advance.Advanced.{Advanced}
+use Rattle.checker.specs.declared.advance.Advanced.the-variants.{Kept, Broken}
 use Rattle.arith.proofs.Flags.{length-flags}
-use Rattle.checker.specs.Represented.{knownOf, openOf, advanceBy, Small}
+use Rattle.checker.specs.Represented.{knownOf, openOf, advancedKnown, advanceBy, Small, SmallAfter}
 use Rattle.checker.proofs.Bits.{length-sorts}
+use Rattle.checker.proofs.Walking.{judges-malformed, judges-broken}
 use Rattle.machine.specs.declared.Registers.{Registers}
+use Rattle.machine.specs.declared.Stepped.{Stepped}
+use Rattle.machine.specs.declared.Stepped.the-variants as S
 use Rattle.machine.specs.Step.{Machine, machine, step}
-use Rattle.machine.specs.Memory.{heldOf, machineOf, stepped, RangesIn}
-use Rattle.machine.proofs.Refusals.{Matches, Kept, step-keeps}
+use Rattle.machine.specs.Memory.{heldOf, machineOf, stepOutcome, stepped, RangesIn}
+use Rattle.machine.specs.Internal.{OnStack, truthOf, related}
+use Rattle.machine.proofs.Refusals.{Matches, Kept as KeptBy, step-keeps}
 use Rattle.machine.proofs.Changes.{names-length}
+use Rattle.machine.proofs.Codes.{truth-comparison, related-same}
 use Rattle.machine.proofs.Stack.{length-held}
 use Rattle.fused.specs.declared.Progress.{Progress}
 use Rattle.fused.specs.declared.Moved.{Moved}
 use Rattle.fused.specs.declared.Moved.the-variants as M
-use Rattle.fused.specs.Together.{registersOf, Ready, AtByte, Takes, Stops, TakesBy, Moves, Refuses, MovesBy}
+use Rattle.fused.specs.Together.{registersOf, movedOf, Ready, BreaksAt, Moves, Refuses, MovesBy}
+
+-- ---- ranges of which only lows and highs are known
+
+abbrev pub rangesBy : List ℤ → List ℤ → List Range
+rangesBy [] high = []
+rangesBy (l ∷ low) [] = []
+rangesBy (l ∷ low) (h ∷ high) = record { low = l; high = h; start = pos 0 } ∷ rangesBy low high
+
+ranges-by : (low high : List ℤ) → length high ≡ length low → RangesIn (rangesBy low high) low high
+ranges-by [] [] e = record { lows = refl; highs = refl }
+ranges-by [] (h ∷ high) e = let b : ⊥ = omega arith in absurd b
+ranges-by (l ∷ low) [] e = let b : ⊥ = omega arith in absurd b
+ranges-by (l ∷ low) (h ∷ high) e = let r = ranges-by low high (omega arith) in record { lows = ap (λ (ls : List ℤ). l ∷ ls) (r .lows); highs = ap (λ (hs : List ℤ). h ∷ hs) (r .highs) }
 
 -- ---- as many values are held
 
@@ -48,75 +70,99 @@ opens w false c n vals cur m e = absurd (false≢true e)
 opens w true c n vals cur m e = m .0
 
 module _ {low high prev cur vals : List ℤ} {b : Progress} (r : Ready low high prev cur vals b) where
+  -- the ranges that the memory stands for, with any starts
+  pub here : RangesIn (rangesBy low high) low high
+  here = ranges-by low high (r .named .highs)
+
   -- the machine goes on as the walk does
-  pub kept : (i : Instruction) (k : Walk) (ns : List Range) → RangesIn ns low high → advance i (knownOf (b .walk)) ≡ some (knownOf k) → Kept (knownOf k) (step ns prev i (machineOf (registersOf b) vals cur))
+  pub kept : (i : Instruction) (k : Walk) (ns : List Range) → RangesIn ns low high → advance i (knownOf (b .walk)) ≡ some (knownOf k) → KeptBy (knownOf k) (step ns prev i (machineOf (registersOf b) vals cur))
   kept i k ns q e =
       let size : length (idsOf (knownOf (b .walk))) ≡ length ns = length-flags (b .walk .names) (b .walk .known) ∙ r .sized ∙ sym (names-length ns low high q) in
-      step-keeps ns prev i (knownOf (b .walk)) (knownOf k) (machineOf (registersOf b) vals cur) size e (matches (b .walk) (b .passing) (b .picked) vals cur (r .opened ns q))
+      step-keeps ns prev i (knownOf (b .walk)) (knownOf k) (machineOf (registersOf b) vals cur) size e (matches (b .walk) (b .passing) (b .picked) vals cur (r .opened))
 
   -- ---- an instruction that is not passed over
 
-  module _ (go : b .passing ≡ false) (next : ℕ) (k : Walk) where
-    not-passing : machineOf (record { held = b .walk .held; picked = b .picked; passing = false }) vals cur ≡ machineOf (registersOf b) vals cur
+  module _ (go : b .passing ≡ false) (code : List ℕ) (next : ℕ) (k : Walk) (vals₁ cur₁ : List ℤ) where
+    abbrev doing : Registers
+    doing = record { held = b .walk .held; picked = b .picked; passing = false }
+
+    not-passing : machineOf doing vals cur ≡ machineOf (registersOf b) vals cur
     not-passing = rw go
 
-    pub takes : (t : Registers) (vals₁ cur₁ : List ℤ) (o : Option Instruction) → advanceBy o (knownOf (b .walk)) ≡ some (knownOf k) → Small k
-        → ((ns : List Range) → RangesIn ns low high → ok (machineOf t vals₁ cur₁) ≡ stepped ns prev o (machineOf (record { held = b .walk .held; picked = b .picked; passing = false }) vals cur))
-        → Takes low high prev o next b vals cur vals₁ cur₁ (record { walk = k; at = next; picked = t .picked; passing = t .passing })
-    takes t vals₁ cur₁ none e s a = none≢some _ e
-    takes t vals₁ cur₁ (some i) e s a =
-        record {
-          placed = refl;
-          advanced = e;
-          small = s;
-          acted = λ ns q. sym (acts ns q) ∙ ap (λ (vs : List ℤ). ok (machine (t .passing) (t .picked) vs cur₁)) (aligned k (t .passing) (t .picked) (t .held) vals₁ cur₁ (matched ns q));
-          opened = λ ns q. opens k (t .passing) (t .picked) (t .held) vals₁ cur₁ (matched ns q);
-        }
-      where
-        acts : (ns : List Range) → RangesIn ns low high → ok (machineOf t vals₁ cur₁) ≡ step ns prev i (machineOf (registersOf b) vals cur)
-        acts ns q = a ns q ∙ ap (λ (m : Machine). step ns prev i m) not-passing
+    module _ (i : Instruction) (f : fetch code (b .at) ≡ got i next) (inside : next ≤ length code) (e : advance i (knownOf (b .walk)) ≡ some (knownOf k)) (small : Small k) where
+      takes : (t : Registers) → ((ns : List Range) → RangesIn ns low high → ok (machineOf t vals₁ cur₁) ≡ step ns prev i (machineOf doing vals cur))
+          → Moves code low high prev b vals cur vals₁ cur₁ (record { walk = k; at = next; picked = t .picked; passing = t .passing })
+      takes t a =
+          record {
+            instruction = i;
+            fetched = f;
+            inside = inside;
+            advanced = e;
+            small = small;
+            acted = λ ns q. sym (acts ns q) ∙ ap (λ (vs : List ℤ). ok (machine (t .passing) (t .picked) vs cur₁)) (aligned k (t .passing) (t .picked) (t .held) vals₁ cur₁ (matched ns q));
+            opened = opens k (t .passing) (t .picked) (t .held) vals₁ cur₁ (matched (rangesBy low high) here);
+          }
+        where
+          acts : (ns : List Range) → RangesIn ns low high → ok (machineOf t vals₁ cur₁) ≡ step ns prev i (machineOf (registersOf b) vals cur)
+          acts ns q = a ns q ∙ ap (λ (m : Machine). step ns prev i m) not-passing
 
-        matched : (ns : List Range) → RangesIn ns low high → Matches (knownOf k) (machineOf t vals₁ cur₁)
-        matched ns q = subst (λ o. Kept (knownOf k) o) (sym (acts ns q)) (kept i k ns q e)
+          matched : (ns : List Range) → RangesIn ns low high → Matches (knownOf k) (machineOf t vals₁ cur₁)
+          matched ns q = subst (λ o. KeptBy (knownOf k) o) (sym (acts ns q)) (kept i k ns q e)
 
-    pub stops : (o : Option Instruction) (number : ℕ) → advanceBy o (knownOf (b .walk)) ≡ some (knownOf k) → Small k
-        → ((ns : List Range) → RangesIn ns low high → refusal number ≡ stepped ns prev o (machineOf (record { held = b .walk .held; picked = b .picked; passing = false }) vals cur))
-        → Stops low high prev o next b vals cur (record { walk = k; at = next; picked = false; passing = false }) number
-    stops o number e s a = record { placed = refl; advanced = e; small = s; acted = λ ns q. sym (a ns q ∙ ap (λ (m : Machine). stepped ns prev o m) not-passing) }
+      done : (s : Stepped) → ((ns : List Range) → RangesIn ns low high → stepOutcome s vals₁ cur₁ ≡ step ns prev i (machineOf doing vals cur))
+          → MovesBy code low high prev b vals cur vals₁ cur₁ (movedOf k next s)
+      done (S.Next t) a = takes t a
+      done (S.Refused number) a =
+          record { instruction = i; fetched = f; inside = inside; advanced = e; small = small; acted = λ ns q. sym (a ns q ∙ ap (λ (m : Machine). step ns prev i m) not-passing) }
+
+    -- read as this instruction, with this place behind it
+    pub arrives : (o : Option Instruction) → fetch code (b .at) ≡ decoded o next → next ≤ length code → (a : Advanced) → a ≡ Kept k → advancedKnown a ≡ advanceBy o (knownOf (b .walk)) → SmallAfter a
+        → (s : Stepped) → ((ns : List Range) → RangesIn ns low high → stepOutcome s vals₁ cur₁ ≡ stepped ns prev o (machineOf doing vals cur))
+        → (m : Moved) → m ≡ movedOf k next s → MovesBy code low high prev b vals cur vals₁ cur₁ m
+    arrives none f inside a is e small s acts m q = none≢some _ (sym e ∙ ap advancedKnown is)
+    arrives (some i) f inside a is e small s acts m q =
+        subst (λ x. MovesBy code low high prev b vals cur vals₁ cur₁ x) (sym q) (done i f inside (sym e ∙ ap advancedKnown is) (subst SmallAfter is small) s acts)
 
 -- ---- the instruction at hand
 
-module _ (code : List ℕ) (b : Progress) (byte : ℕ) where
-  pub at-alone : AtByte code b byte false → fetch code (b .at) ≡ decoded (instructionOf byte 0) (b .at + 1)
-  at-alone h = fetch-alone code (b .at) (h .inside) (ap hasOperand (h .is) ∙ h .has) ∙ rw (h .is)
+module _ (code : List ℕ) (b : Progress) (inside : b .at < length code) where
+  pub breaks : (o : Option Instruction) (next : ℕ) → fetch code (b .at) ≡ decoded o next → (a : Advanced) → a ≡ Broken → advancedKnown a ≡ advanceBy o (knownOf (b .walk)) → BreaksAt code b
+  breaks o next f a is e = judges-broken code (b .at) (knownOf (b .walk)) inside o next f (sym e ∙ ap advancedKnown is)
 
-  pub at-operand : AtByte code b byte true → (n next : ℕ) → numberAt code (b .at + 1) ≡ got n next → fetch code (b .at) ≡ decoded (instructionOf byte n) next
-  at-operand h n next e = fetch-number code (b .at) n next (h .inside) (ap hasOperand (h .is) ∙ h .has) e ∙ rw (h .is)
+  -- whatever its operand, the code byte breaks
+  pub breaks-otherwise : ((n : ℕ) → advanceBy (instructionOf (getD code (b .at) 0) n) (knownOf (b .walk)) ≡ none) → BreaksAt code b
+  breaks-otherwise h = by (hasOperand (getD code (b .at) 0)) refl
+    where
+      read : hasOperand (getD code (b .at) 0) ≡ true → (r : Read ℕ) → numberAt code (b .at + 1) ≡ r → BreaksAt code b
+      read t nothing e = judges-malformed code (b .at) (knownOf (b .walk)) inside (fetch-malformed code (b .at) inside t e)
+      read t (got n next) e = judges-broken code (b .at) (knownOf (b .walk)) inside (instructionOf (getD code (b .at) 0) n) next (fetch-number code (b .at) n next inside t e) (h n)
 
-module _ (code : List ℕ) (low high prev : List ℤ) (b : Progress) (vals cur vals₁ cur₁ : List ℤ) where
-  from-takes : (o : Option Instruction) (next : ℕ) (k : Progress) → fetch code (b .at) ≡ decoded o next → next ≤ length code → Takes low high prev o next b vals cur vals₁ cur₁ k
-      → Moves code low high prev b vals cur vals₁ cur₁ k
-  from-takes none next k f i t = none≢some _ (t .advanced)
-  from-takes (some x) next k f i t =
-      record { instruction = x; fetched = rw (t .placed) f; inside = rw (t .placed) i; advanced = t .advanced; small = t .small; acted = t .acted; opened = t .opened }
+      by : (t : Bool) → hasOperand (getD code (b .at) 0) ≡ t → BreaksAt code b
+      by true t = read t (numberAt code (b .at + 1)) refl
+      by false t = judges-broken code (b .at) (knownOf (b .walk)) inside (instructionOf (getD code (b .at) 0) 0) (b .at + 1) (fetch-alone code (b .at) inside t) (h 0)
 
-  from-stops : (o : Option Instruction) (next : ℕ) (k : Progress) (number : ℕ) → fetch code (b .at) ≡ decoded o next → next ≤ length code → Stops low high prev o next b vals cur k number
-      → Refuses code low high prev b vals cur k number
-  from-stops none next k number f i t = none≢some _ (t .advanced)
-  from-stops (some x) next k number f i t =
-      record { instruction = x; fetched = rw (t .placed) f; inside = rw (t .placed) i; advanced = t .advanced; small = t .small; acted = t .acted }
+  module _ (byte : ℕ) (is : getD code (b .at) 0 ≡ byte) where
+    pub alone : hasOperand byte ≡ false → fetch code (b .at) ≡ decoded (instructionOf byte 0) (b .at + 1)
+    alone has = fetch-alone code (b .at) inside (ap hasOperand is ∙ has) ∙ rw is
 
-  -- read as this instruction, with this place behind it
-  from-read : (o : Option Instruction) (next : ℕ) → fetch code (b .at) ≡ decoded o next → next ≤ length code → (r : Moved) → TakesBy low high prev o next b vals cur vals₁ cur₁ r
-      → MovesBy code low high prev b vals cur vals₁ cur₁ r
-  from-read o next f i M.Doubt t = tt
-  from-read o next f i (M.On k) t = from-takes o next k f i t
-  from-read o next f i (M.Refused k number) t = from-stops o next k number f i t
+    module _ (has : hasOperand byte ≡ true) where
+      pub with-operand : (n next : ℕ) → numberAt code (b .at + 1) ≡ got n next → fetch code (b .at) ≡ decoded (instructionOf byte n) next
+      with-operand n next e = fetch-number code (b .at) n next inside (ap hasOperand is ∙ has) e ∙ rw is
 
-  module _ (byte : ℕ) where
-    pub moves-alone : AtByte code b byte false → (r : Moved) → TakesBy low high prev (instructionOf byte 0) (b .at + 1) b vals cur vals₁ cur₁ r → MovesBy code low high prev b vals cur vals₁ cur₁ r
-    moves-alone h r t = from-read (instructionOf byte 0) (b .at + 1) (at-alone code b byte h) (omega (arith, h .inside)) r t
+      pub malformed : numberAt code (b .at + 1) ≡ nothing → BreaksAt code b
+      malformed e = judges-malformed code (b .at) (knownOf (b .walk)) inside (fetch-malformed code (b .at) inside (ap hasOperand is ∙ has) e)
 
-    pub moves-operand : AtByte code b byte true → (n next : ℕ) → numberAt code (b .at + 1) ≡ got n next → (r : Moved)
-        → TakesBy low high prev (instructionOf byte n) next b vals cur vals₁ cur₁ r → MovesBy code low high prev b vals cur vals₁ cur₁ r
-    moves-operand h n next e r t = from-read (instructionOf byte n) next (at-operand code b byte h n next e) (number-within code (b .at + 1) n next e .inside) r t
+-- ---- arithmetic and comparisons
+
+pub no-operand : (code : ℕ) → 4 ≤ code → code < 20 → hasOperand code ≡ false
+unfolding hasOperand
+no-operand code l h = rw (le-leb 1 code (omega arith), lt-leb code 3 (omega arith), lt-leb 20 code h)
+
+module _ (code : ℕ) (m : Registers) (vals left : List ℤ) (r : Stepped) (go : m .passing ≡ false) where
+  pub calculated-is : 4 ≤ code → code ≤ 8 → OnStack (operation (operationOf code)) m vals r left
+      → (ns : List Range) (s t : List ℤ) → stepOutcome r left t ≡ stepped ns s (instructionOf code 0) (machineOf m vals t)
+  calculated-is l h e ns s t = e ns s t ∙ rw (operation-of code 0 l h, go)
+
+  pub related-is : 10 ≤ code → code ≤ 15 → ((t : List ℤ) → stepOutcome r left t ≡ related (truthOf code) (m .picked) (heldOf vals (m .held)) t)
+      → (ns : List Range) (s t : List ℤ) → stepOutcome r left t ≡ stepped ns s (instructionOf code 0) (machineOf m vals t)
+  related-is l h e ns s t = e t ∙ related-same _ _ _ (heldOf vals (m .held)) t (λ x y. truth-comparison code x y (omega arith)) ∙ rw (comparison-of code 0 l h, go)

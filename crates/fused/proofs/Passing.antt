@@ -1,52 +1,87 @@
 -- Instructions that are passed over. Assumes nothing.
-use Prim.Native.Nat.{ℕ, _+_, _≤_}
+use Prim.Native.Nat.{ℕ, _+_, _≤_, _<_}
 use native.Mathlib.Omega.{arith}
-use mathlib.Core.Path.{_≡_, ap, subst, _∙_}
+use mathlib.Core.Path.{_≡_, refl, sym, ap, subst, _∙_}
 use mathlib.Core.Bool.{Bool, true, false, not}
 use mathlib.Core.List.{List}
 use mathlib.Core.Option.{Option, none, some}
+use lib.Dec.{eqb, ltb}
 use lib.IntN.{ℤ}
 use lib.ListN.{length}
+use borrow.Author.Tests.{eqb-true, eqb-false, ltb-true, ltb-false}
+use Rattle.arith.specs.Flags.{flagsOf}
 use Rattle.arith.specs.Values.{ok}
 use Rattle.semantics.specs.Program.{Range}
-use Rattle.leb128.specs.Numbers.{got, numberAt}
 use Rattle.bytecode.specs.Instructions.{Instruction, instructionOf, decoded, fetch}
+use Rattle.bytecode.specs.Check.{Sort, known}
 use Rattle.bytecode.proofs.Soundness.{none≢some}
-use Rattle.bytecode.proofs.Fetching.{number-within}
-use Rattle.checker.specs.Represented.{knownOf}
+use Rattle.bytecode.proofs.Codes.{comparison-of, none-above, past}
+use Rattle.checker.specs.declared.advance.Advanced.{Advanced}
+use Rattle.checker.specs.declared.advance.Advanced.the-variants.{Kept, Broken}
+use Rattle.checker.specs.declared.advance.Walk.{Walk}
+use Rattle.checker.specs.Represented.{sortsOf, openOf, picksOf, knownOf, advancedKnown, advanceBy, SmallAfter}
+use Rattle.checker.proofs.Steps.{one-none, two-none}
+use Rattle.checker.proofs.Walking.{judges-broken}
 use Rattle.machine.specs.Step.{machine, isPick, step}
 use Rattle.machine.specs.Memory.{heldOf, machineOf, RangesIn}
-use Rattle.machine.proofs.Refusals.{Matches, Kept}
+use Rattle.machine.proofs.Refusals.{Matches, Kept as KeptBy}
 use Rattle.fused.specs.declared.Progress.{Progress}
 use Rattle.fused.specs.declared.Moved.{Moved}
 use Rattle.fused.specs.declared.Moved.the-variants as M
-use Rattle.fused.specs.Together.{registersOf, Ready, Over, OverBy, AtByte, Passes, PassesBy, Moves, MovesBy}
-use Rattle.fused.proofs.Joining.{at-alone, at-operand, aligned, opens, kept}
+use Rattle.fused.specs.Together.{registersOf, passedOver, Ready, Passes, PassesBy, Moves, MovesBy}
+use Rattle.fused.proofs.Joining.{rangesBy, aligned, opens, here, kept}
 
 -- whether passing over goes on behind an instruction
 abbrev pub GoesOn : Option Instruction → Bool → Type 0
 GoesOn none p = Unit {0}
 GoesOn (some i) p = p ≡ not (isPick i)
 
-module _ (code : List ℕ) (b : Progress) where
-  from-over : (o : Option Instruction) (next : ℕ) (p : Bool) (k : Progress) → fetch code (b .at) ≡ decoded o next → next ≤ length code → GoesOn o p → Over b o next p k → Passes code b k
-  from-over none next p k f i g t = none≢some _ (t .advanced)
-  from-over (some x) next p k f i g t =
-      record { instruction = x; fetched = rw (t .placed) f; inside = rw (t .placed) i; advanced = t .advanced; small = t .small; same-picked = t .same-picked; passing-is = t .passing-is ∙ g }
+module _ (code : List ℕ) (b : Progress) (within : b .at < length code) where
+  -- read as this instruction, with this place behind it
+  by-walk : (o : Option Instruction) (next : ℕ) (p : Bool) → fetch code (b .at) ≡ decoded o next → next ≤ length code → GoesOn o p → (a : Advanced)
+      → advancedKnown a ≡ advanceBy o (knownOf (b .walk)) → SmallAfter a → PassesBy code b (passedOver b next p a)
+  by-walk o next p f i g Broken e s = judges-broken code (b .at) (knownOf (b .walk)) within o next f (sym e)
+  by-walk none next p f i g (Kept k) e s = none≢some _ (sym e)
+  by-walk (some x) next p f i g (Kept k) e s = record { instruction = x; fetched = f; inside = i; advanced = sym e; small = s; same-picked = refl; passing-is = g }
 
-  from-over-by : (o : Option Instruction) (next : ℕ) (p : Bool) → fetch code (b .at) ≡ decoded o next → next ≤ length code → GoesOn o p → (r : Moved) → OverBy b o next p r → PassesBy code b r
-  from-over-by o next p f i g M.Doubt t = tt
-  from-over-by o next p f i g (M.Refused k number) t = absurd t
-  from-over-by o next p f i g (M.On k) t = from-over o next p k f i g t
+  pub passes : (o : Option Instruction) (next : ℕ) (p : Bool) → fetch code (b .at) ≡ decoded o next → next ≤ length code → GoesOn o p → (a : Advanced)
+      → advancedKnown a ≡ advanceBy o (knownOf (b .walk)) → SmallAfter a → (m : Moved) → m ≡ passedOver b next p a → PassesBy code b m
+  passes o next p f i g a e s m q = subst (λ x. PassesBy code b x) (sym q) (by-walk o next p f i g a e s)
 
-  pub passes-alone : (byte : ℕ) (p : Bool) → AtByte code b byte false → GoesOn (instructionOf byte 0) p → (r : Moved) → OverBy b (instructionOf byte 0) (b .at + 1) p r → PassesBy code b r
-  passes-alone byte p h on r t = from-over-by (instructionOf byte 0) (b .at + 1) p (at-alone code b byte h) (omega (arith, h .inside)) on r t
+-- ---- between a gate and its pick only codes 1 to 9 stand
 
-  pub passes-operand : (byte : ℕ) (p : Bool) → AtByte code b byte true → (n next : ℕ) → GoesOn (instructionOf byte n) p → numberAt code (b .at + 1) ≡ got n next → (r : Moved)
-      → OverBy b (instructionOf byte n) next p r → PassesBy code b r
-  passes-operand byte p h n next on e r t = from-over-by (instructionOf byte n) next p (at-operand code b byte h n next e) (number-within code (b .at + 1) n next e .inside) on r t
+at-each : {P : Type 0} (k code : ℕ) → k ≤ code → (code ≡ k → P) → (k + 1 ≤ code → P) → P
+at-each {P} k code l y n = by (eqb code k) (eqb-true code k) (eqb-false code k)
+  where
+    by : (t : Bool) → (t ≡ true → code ≡ k) → (t ≡ false → code ≡ k → ⊥) → P
+    by true a b = y (a refl)
+    by false a b = n (past k code l (b refl))
 
--- what is passed over leaves the memory as it is
+module _ (vs : List Sort) (o : Option ℕ) (ids : List Bool) (code n : ℕ) where
+  open-above : 16 ≤ code → (code ≡ 20 → ⊥) → advanceBy (instructionOf code n) (known vs true o ids) ≡ none
+  unfolding instructionOf
+  open-above l no-pick =
+      at-each 16 code l (λ e. rw e (one-none Sort.truth vs)) λ l₁.
+      at-each 17 code l₁ (λ e. rw e (two-none Sort.truth vs)) λ l₂.
+      at-each 18 code l₂ (λ e. rw e (two-none Sort.truth vs)) λ l₃.
+      at-each 19 code l₃ (λ e. rw e (one-none Sort.truth vs)) λ l₄.
+      at-each 20 code l₄ (λ e. absurd (no-pick e)) λ l₅.
+      at-each 21 code l₅ (λ e. rw e (one-none Sort.number vs)) λ l₆.
+      at-each 22 code l₆ (λ e. rw e refl) λ l₇. rw (none-above code n l₇)
+
+  open-none : 10 ≤ code → (code ≡ 20 → ⊥) → advanceBy (instructionOf code n) (known vs true o ids) ≡ none
+  open-none l no-pick = by (ltb code 16) (ltb-true code 16) (ltb-false code 16)
+    where
+      by : (t : Bool) → (t ≡ true → code < 16) → (t ≡ false → 16 ≤ code) → advanceBy (instructionOf code n) (known vs true o ids) ≡ none
+      by true y m = let h = y refl in rw (comparison-of code n l (omega arith)) (two-none Sort.number vs)
+      by false y m = open-above (m refl) no-pick
+
+pub open-breaks : (w : Walk) → openOf (w .gate) ≡ true → (code n : ℕ) → 10 ≤ code → (code ≡ 20 → ⊥) → advanceBy (instructionOf code n) (knownOf w) ≡ none
+open-breaks w g code n l no-pick =
+    subst (λ (t : Bool). advanceBy (instructionOf code n) (known (sortsOf (w .held) (w .sorts)) t (picksOf (w .picking)) (flagsOf (w .names) (w .known))) ≡ none) (sym g) (open-none (sortsOf (w .held) (w .sorts)) (picksOf (w .picking)) (flagsOf (w .names) (w .known)) code n l no-pick)
+
+-- ---- what is passed over leaves the memory as it is
+
 module _ (code : List ℕ) {low high prev cur vals : List ℤ} {b : Progress} (r : Ready low high prev cur vals b) (go : b .passing ≡ true) where
   over-moves : (k : Progress) → Passes code b k → Moves code low high prev b vals cur vals cur k
   over-moves k p =
@@ -57,7 +92,7 @@ module _ (code : List ℕ) {low high prev cur vals : List ℤ} {b : Progress} (r
         advanced = p .advanced;
         small = p .small;
         acted = λ ns q. acts ns ∙ rw (p .passing-is, p .same-picked) (ap (λ (vs : List ℤ). ok (machine on (b .picked) vs cur)) (aligned (k .walk) on (b .picked) 0 vals cur (matched ns q)));
-        opened = λ ns q. rw (p .passing-is) (opens (k .walk) on (b .picked) 0 vals cur (matched ns q));
+        opened = rw (p .passing-is) (opens (k .walk) on (b .picked) 0 vals cur (matched (rangesBy low high) (here r)));
       }
     where
       on : Bool
@@ -67,9 +102,9 @@ module _ (code : List ℕ) {low high prev cur vals : List ℤ} {b : Progress} (r
       acts ns = rw go
 
       matched : (ns : List Range) → RangesIn ns low high → Matches (knownOf (k .walk)) (machine (not (isPick (p .instruction))) (b .picked) (heldOf vals 0) cur)
-      matched ns q = subst (λ o. Kept (knownOf (k .walk)) o) (acts ns) (kept r (p .instruction) (k .walk) ns q (p .advanced))
+      matched ns q = subst (λ o. KeptBy (knownOf (k .walk)) o) (acts ns) (kept r (p .instruction) (k .walk) ns q (p .advanced))
 
   pub over-moves-by : (m : Moved) → PassesBy code b m → MovesBy code low high prev b vals cur vals cur m
-  over-moves-by M.Doubt p = tt
+  over-moves-by M.Broken p = p
   over-moves-by (M.Refused k number) p = absurd p
   over-moves-by (M.On k) p = over-moves k p

@@ -12,8 +12,8 @@ use Rattle.bytecode.specs.Check.{checkCounts, checkRanges, withInputs as withCo
 use Rattle.bytecode.specs.Counting.{extentOf}
 use Rattle.bytecode.specs.Results.{Extends}
 use Rattle.checker.proofs.Checking.{whole-header}
-use Rattle.fused.specs.declared.Attempt.{Attempt}
-use Rattle.fused.specs.declared.Attempt.the-variants as A
+use Rattle.attempt.specs.declared.Attempt.{Attempt}
+use Rattle.attempt.specs.declared.Attempt.the-variants as A
 use Rattle.fused.specs.declared.header.Placed.{Placed}
 use Rattle.fused.specs.declared.header.Placed.the-variants as P
 use Rattle.fused.specs.Header.{Stands, PlacedBy}

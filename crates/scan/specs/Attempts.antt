@@ -10,8 +10,8 @@ use Rattle.limits.specs.Answer.{accepted, _andThen_}
 use Rattle.semantics.specs.Formula.{State}
 use Rattle.bytecode.specs.Check.{checkRanges, withInputs}
 use Rattle.bytecode.specs.Counting.{extentOf}
-use Rattle.fused.specs.declared.Attempt.{Attempt}
-use Rattle.fused.specs.declared.Attempt.the-variants as A
+use Rattle.attempt.specs.declared.Attempt.{Attempt}
+use Rattle.attempt.specs.declared.Attempt.the-variants as A
 use Rattle.fused.specs.Together.{SoundCode}
 use Rattle.scan.specs.Services.{AfterScan}
 use Rattle.scan.specs.Results.{afterScan}

@@ -1,7 +1,7 @@
 // Starting and scanning an image: the services start and scan.
+use attempt::Attempt;
 use bytecode::Counted;
 use checker::Checked;
-use fused::Attempt;
 use machine::Registers;
 use machine::Stepped;
 use machine::lists;

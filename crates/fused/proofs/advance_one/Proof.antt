@@ -1,83 +1,255 @@
 -- `fused::advance_one` meets its contract: each arm is the instruction of its code byte. Assumes nothing.
-use Prim.Native.Nat.{ℕ, _+_}
-use mathlib.Core.Path.{_≡_, refl}
-use mathlib.Core.Bool.{Bool, true, false}
+use Prim.Native.Nat.{_+_, _≤_}
+use mathlib.Core.Path.{refl, sym, ap, _∙_}
+use native.Mathlib.Omega.{arith}
 use lib.ListN.{getD}
-use Rattle.leb128.specs.declared.Unsigned.{Unsigned}
-use Rattle.leb128.specs.Numbers.{numberAt}
 use Rattle.leb128.specs.Results.{unsignedRead}
-use Rattle.bytecode.specs.Instructions.{hasOperand}
-use Rattle.fused.specs.Together.{Ready, AtByte}
+use Rattle.bytecode.specs.Instructions.{instructionOf, operationOf, comparisonOf, hasOperand}
+use Rattle.bytecode.proofs.Codes.{operation-of, comparison-of, none-below, none-above, from-four, above}
+use Rattle.bytecode.proofs.Fetching.{number-within}
+use Rattle.checker.specs.Represented.{knownOf}
+use Rattle.checker.proofs.Steps.{operation-is, comparison-is, both-is, either-is, negate-is, negated-is, constant-is}
+use Rattle.fused.proofs.Joining.{arrives, breaks, breaks-otherwise, alone, with-operand, malformed, no-operand, calculated-is, related-is}
 use Rattle.fused.proofs.Passing.{over-moves-by}
 use borrow.Author.Needs.{needs}
 use Rattle.fused.proofs.advance_one.Statement.{statement}
 use Rattle.fused.proofs.advance_one.Tie as tie
 
+pass-requires : tie.Need-pass-requires
+pass-requires c κs = (c .before .before .pre .0 .small, c .before .before .pre .1, c .before .before .pre .0 .opened (c .if1 .taken))
+
 returns : tie.Need-returns
-returns c =
-    let start = c .before .before .before in
-    over-moves-by (start .args .code .now) (start .pre .0) (c .before .if1 .taken) (c .pass .result) (c .pass .ensures)
+returns c = over-moves-by (c .before .before .before .args .code .now) (c .before .before .before .pre .0) (c .before .if1 .taken) (c .pass .result) (c .pass .ensures)
 
--- what the arm of a code byte may assume
-at-byte : (c : tie.After-shared-slice-known2) (byte : ℕ) (operand : Bool) → let a = c .before .before .before .args in
-    getD (a .code .now) (a .b .at) 0 ≡ byte → hasOperand byte ≡ operand
-    → Ready (a .low .now) (a .high .now) (a .prev .now) (a .cur .now) (a .vals .now) (a .b) × (AtByte (a .code .now) (a .b) byte operand × (a .b .passing ≡ false))
-at-byte c byte operand is has = let pre = c .before .before .before .pre in (pre .0, (record { inside = pre .1; is = is; has = has }, c .before .if1 .left))
+-- code 1
+returns-2 : tie.Need-returns-2
+unfolding hasOperand
+returns-2 c = malformed (c .before .before .before .before .before .before .before .before .args .code .now) (c .before .before .before .before .before .before .before .before .args .b) (c .before .before .before .before .before .before .before .before .pre .1) 1 (c .before .before .before .match .keys1) refl (sym (c .before .before .operand .ensures) ∙ ap unsignedRead (c .enum-told .given .1))
 
--- and of one with an operand, once that is read
-with-operand : (c : tie.After-shared-slice-known2) (byte : ℕ) → let a = c .before .before .before .args in
-    getD (a .code .now) (a .b .at) 0 ≡ byte → hasOperand byte ≡ true → (read : Unsigned) → unsignedRead read ≡ numberAt (a .code .now) (a .b .at + 1)
-    → Ready (a .low .now) (a .high .now) (a .prev .now) (a .cur .now) (a .vals .now) (a .b)
-    × ((AtByte (a .code .now) (a .b) byte true × (a .b .passing ≡ false)) × (unsignedRead read ≡ numberAt (a .code .now) (a .b .at + 1)))
-with-operand c byte is has read e = let h = at-byte c byte true is has in (h .0, (h .1, e))
+returns-3 : tie.Need-returns-3
+unfolding instructionOf hasOperand
+returns-3 c =
+    let num = (sym (c .before .before .before .before .before .before .operand .ensures) ∙ ap unsignedRead (c .before .before .before .before .n .given .1)) in
+    breaks (c .before .before .before .before .before .before .before .before .before .before .before .before .args .code .now) (c .before .before .before .before .before .before .before .before .before .before .before .before .args .b) (c .before .before .before .before .before .before .before .before .before .before .before .before .pre .1) (instructionOf 1 (c .before .before .before .before .n .given .0 .0)) (c .before .before .before .before .n .given .0 .1 .0) (with-operand (c .before .before .before .before .before .before .before .before .before .before .before .before .args .code .now) (c .before .before .before .before .before .before .before .before .before .before .before .before .args .b) (c .before .before .before .before .before .before .before .before .before .before .before .before .pre .1) 1 (c .before .before .before .before .before .before .before .match .keys1) refl (c .before .before .before .before .n .given .0 .0) (c .before .before .before .before .n .given .0 .1 .0) num) (c .before .before .push .result) (c .enum-told2 .given .1) (c .before .before .push .ensures .0 ∙ sym (constant-is (c .before .before .before .before .n .given .0 .0) (knownOf (c .before .before .before .before .before .before .before .before .before .before .before .before .args .b .walk)) (number-within _ _ _ _ num .operand)))
+
+step-requires : tie.Need-step-requires
+step-requires c κs = (record { few = c .before .before .before .before .before .before .before .before .before .before .before .before .before .before .before .pre .0 .small .few-held; room = c .before .before .before .before .before .before .before .before .before .before .before .before .before .before .before .pre .0 .room }, (c .before .before .before .before .before .before .before .before .before .before .before .before .before .before .before .pre .0 .named, number-within _ _ _ _ (sym (c .before .before .before .before .before .before .before .before .before .operand .ensures) ∙ ap unsignedRead (c .before .before .before .before .before .before .before .n .given .1)) .operand))
+
+-- code 2
+returns-4 : tie.Need-returns-4
+unfolding hasOperand
+returns-4 c = malformed (c .before .before .before .before .before .before .before .before .args .code .now) (c .before .before .before .before .before .before .before .before .args .b) (c .before .before .before .before .before .before .before .before .pre .1) 2 (c .before .before .before .match .keys2) refl (sym (c .before .before .operand2 .ensures) ∙ ap unsignedRead (c .enum-told3 .given .1))
+
+returns-5 : tie.Need-returns-5
+unfolding instructionOf hasOperand
+returns-5 c =
+    let num = (sym (c .before .before .before .before .before .before .operand2 .ensures) ∙ ap unsignedRead (c .before .before .before .before .n2 .given .1)) in
+    breaks (c .before .before .before .before .before .before .before .before .before .before .before .before .args .code .now) (c .before .before .before .before .before .before .before .before .before .before .before .before .args .b) (c .before .before .before .before .before .before .before .before .before .before .before .before .pre .1) (instructionOf 2 (c .before .before .before .before .n2 .given .0 .0)) (c .before .before .before .before .n2 .given .0 .1 .0) (with-operand (c .before .before .before .before .before .before .before .before .before .before .before .before .args .code .now) (c .before .before .before .before .before .before .before .before .before .before .before .before .args .b) (c .before .before .before .before .before .before .before .before .before .before .before .before .pre .1) 2 (c .before .before .before .before .before .before .before .match .keys2) refl (c .before .before .before .before .n2 .given .0 .0) (c .before .before .before .before .n2 .given .0 .1 .0) num) (c .before .before .current .result) (c .enum-told4 .given .1) (c .before .before .current .ensures .0)
+
+step-requires-2 : tie.Need-step-requires-2
+step-requires-2 c κs = (record { few = c .before .before .before .before .before .before .before .before .before .before .before .before .before .before .before .pre .0 .small .few-held; room = c .before .before .before .before .before .before .before .before .before .before .before .before .before .before .before .pre .0 .room }, (c .before .before .before .before .before .before .before .before .before .before .before .before .before .before .before .pre .0 .named, number-within _ _ _ _ (sym (c .before .before .before .before .before .before .before .before .before .operand2 .ensures) ∙ ap unsignedRead (c .before .before .before .before .before .before .before .n2 .given .1)) .operand))
+
+-- code 3
+returns-6 : tie.Need-returns-6
+unfolding hasOperand
+returns-6 c = malformed (c .before .before .before .before .before .before .before .before .args .code .now) (c .before .before .before .before .before .before .before .before .args .b) (c .before .before .before .before .before .before .before .before .pre .1) 3 (c .before .before .before .match .keys3) refl (sym (c .before .before .operand3 .ensures) ∙ ap unsignedRead (c .enum-told5 .given .1))
+
+returns-7 : tie.Need-returns-7
+unfolding instructionOf hasOperand
+returns-7 c =
+    let num = (sym (c .before .before .before .before .before .before .operand3 .ensures) ∙ ap unsignedRead (c .before .before .before .before .n3 .given .1)) in
+    breaks (c .before .before .before .before .before .before .before .before .before .before .before .before .args .code .now) (c .before .before .before .before .before .before .before .before .before .before .before .before .args .b) (c .before .before .before .before .before .before .before .before .before .before .before .before .pre .1) (instructionOf 3 (c .before .before .before .before .n3 .given .0 .0)) (c .before .before .before .before .n3 .given .0 .1 .0) (with-operand (c .before .before .before .before .before .before .before .before .before .before .before .before .args .code .now) (c .before .before .before .before .before .before .before .before .before .before .before .before .args .b) (c .before .before .before .before .before .before .before .before .before .before .before .before .pre .1) 3 (c .before .before .before .before .before .before .before .match .keys3) refl (c .before .before .before .before .n3 .given .0 .0) (c .before .before .before .before .n3 .given .0 .1 .0) num) (c .before .before .previous .result) (c .enum-told6 .given .1) (c .before .before .previous .ensures .0)
+
+step-requires-3 : tie.Need-step-requires-3
+step-requires-3 c κs = (record { few = c .before .before .before .before .before .before .before .before .before .before .before .before .before .before .before .pre .0 .small .few-held; room = c .before .before .before .before .before .before .before .before .before .before .before .before .before .before .before .pre .0 .room }, (c .before .before .before .before .before .before .before .before .before .before .before .before .before .before .before .pre .0 .named, number-within _ _ _ _ (sym (c .before .before .before .before .before .before .before .before .before .operand3 .ensures) ∙ ap unsignedRead (c .before .before .before .before .before .before .before .n3 .given .1)) .operand))
+
+returns-8 : tie.Need-returns-8
+unfolding instructionOf hasOperand
+returns-8 c = breaks (c .before .before .before .before .before .before .before .before .args .code .now) (c .before .before .before .before .before .before .before .before .args .b) (c .before .before .before .before .before .before .before .before .pre .1) (instructionOf 9 0) (c .before .before .before .before .before .before .before .before .args .b .at + 1) (alone (c .before .before .before .before .before .before .before .before .args .code .now) (c .before .before .before .before .before .before .before .before .args .b) (c .before .before .before .before .before .before .before .before .pre .1) 9 (c .before .before .before .match .keys4) refl) (c .before .before .keep .result) (c .enum-told7 .given .1) (c .before .before .keep .ensures .0 ∙ sym (negate-is (knownOf (c .before .before .before .before .before .before .before .before .args .b .walk))))
+
+returns-9 : tie.Need-returns-9
+unfolding instructionOf hasOperand
+returns-9 c = breaks (c .before .before .before .before .before .before .before .before .args .code .now) (c .before .before .before .before .before .before .before .before .args .b) (c .before .before .before .before .before .before .before .before .pre .1) (instructionOf 16 0) (c .before .before .before .before .before .before .before .before .args .b .at + 1) (alone (c .before .before .before .before .before .before .before .before .args .code .now) (c .before .before .before .before .before .before .before .before .args .b) (c .before .before .before .before .before .before .before .before .pre .1) 16 (c .before .before .before .match .keys5) refl) (c .before .before .invert .result) (c .enum-told8 .given .1) (c .before .before .invert .ensures .0 ∙ sym (negated-is (knownOf (c .before .before .before .before .before .before .before .before .args .b .walk))))
+
+returns-10 : tie.Need-returns-10
+unfolding instructionOf hasOperand
+returns-10 c = breaks (c .before .before .before .before .before .before .before .before .args .code .now) (c .before .before .before .before .before .before .before .before .args .b) (c .before .before .before .before .before .before .before .before .pre .1) (instructionOf 17 0) (c .before .before .before .before .before .before .before .before .args .b .at + 1) (alone (c .before .before .before .before .before .before .before .before .args .code .now) (c .before .before .before .before .before .before .before .before .args .b) (c .before .before .before .before .before .before .before .before .pre .1) 17 (c .before .before .before .match .keys6) refl) (c .before .before .test .result) (c .enum-told9 .given .1) (c .before .before .test .ensures .0 ∙ sym (both-is (knownOf (c .before .before .before .before .before .before .before .before .args .b .walk))))
+
+returns-11 : tie.Need-returns-11
+unfolding instructionOf hasOperand
+returns-11 c = breaks (c .before .before .before .before .before .before .before .before .args .code .now) (c .before .before .before .before .before .before .before .before .args .b) (c .before .before .before .before .before .before .before .before .pre .1) (instructionOf 18 0) (c .before .before .before .before .before .before .before .before .args .b .at + 1) (alone (c .before .before .before .before .before .before .before .before .args .code .now) (c .before .before .before .before .before .before .before .before .args .b) (c .before .before .before .before .before .before .before .before .pre .1) 18 (c .before .before .before .match .keys7) refl) (c .before .before .test2 .result) (c .enum-told10 .given .1) (c .before .before .test2 .ensures .0 ∙ sym (either-is (knownOf (c .before .before .before .before .before .before .before .before .args .b .walk))))
+
+returns-12 : tie.Need-returns-12
+unfolding instructionOf hasOperand
+returns-12 c = breaks (c .before .before .before .before .before .before .before .before .args .code .now) (c .before .before .before .before .before .before .before .before .args .b) (c .before .before .before .before .before .before .before .before .pre .1) (instructionOf 19 0) (c .before .before .before .before .before .before .before .before .args .b .at + 1) (alone (c .before .before .before .before .before .before .before .before .args .code .now) (c .before .before .before .before .before .before .before .before .args .b) (c .before .before .before .before .before .before .before .before .pre .1) 19 (c .before .before .before .match .keys8) refl) (c .before .before .gate .result) (c .enum-told11 .given .1) (c .before .before .gate .ensures .0)
+
+-- code 20
+returns-13 : tie.Need-returns-13
+unfolding hasOperand
+returns-13 c = malformed (c .before .before .before .before .before .before .before .before .args .code .now) (c .before .before .before .before .before .before .before .before .args .b) (c .before .before .before .before .before .before .before .before .pre .1) 20 (c .before .before .before .match .keys9) refl (sym (c .before .before .operand4 .ensures) ∙ ap unsignedRead (c .enum-told12 .given .1))
+
+pick-requires : tie.Need-pick-requires
+pick-requires c κs = (c .before .before .before .before .before .before .before .before .before .pre .0 .small, number-within _ _ _ _ (sym (c .before .before .before .operand4 .ensures) ∙ ap unsignedRead (c .before .n4 .given .1)) .operand)
+
+returns-14 : tie.Need-returns-14
+unfolding instructionOf hasOperand
+returns-14 c =
+    let num = (sym (c .before .before .before .before .before .before .operand4 .ensures) ∙ ap unsignedRead (c .before .before .before .before .n4 .given .1)) in
+    breaks (c .before .before .before .before .before .before .before .before .before .before .before .before .args .code .now) (c .before .before .before .before .before .before .before .before .before .before .before .before .args .b) (c .before .before .before .before .before .before .before .before .before .before .before .before .pre .1) (instructionOf 20 (c .before .before .before .before .n4 .given .0 .0)) (c .before .before .before .before .n4 .given .0 .1 .0) (with-operand (c .before .before .before .before .before .before .before .before .before .before .before .before .args .code .now) (c .before .before .before .before .before .before .before .before .before .before .before .before .args .b) (c .before .before .before .before .before .before .before .before .before .before .before .before .pre .1) 20 (c .before .before .before .before .before .before .before .match .keys9) refl (c .before .before .before .before .n4 .given .0 .0) (c .before .before .before .before .n4 .given .0 .1 .0) num) (c .before .before .pick .result) (c .enum-told13 .given .1) (c .before .before .pick .ensures .0)
+
+step-requires-9 : tie.Need-step-requires-9
+step-requires-9 c κs = (record { few = c .before .before .before .before .before .before .before .before .before .before .before .before .before .before .before .pre .0 .small .few-held; room = c .before .before .before .before .before .before .before .before .before .before .before .before .before .before .before .pre .0 .room }, (c .before .before .before .before .before .before .before .before .before .before .before .before .before .before .before .pre .0 .named, number-within _ _ _ _ (sym (c .before .before .before .before .before .before .before .before .before .operand4 .ensures) ∙ ap unsignedRead (c .before .before .before .before .before .before .before .n4 .given .1)) .operand))
+
+-- code 21
+returns-15 : tie.Need-returns-15
+unfolding hasOperand
+returns-15 c = malformed (c .before .before .before .before .before .before .before .before .args .code .now) (c .before .before .before .before .before .before .before .before .args .b) (c .before .before .before .before .before .before .before .before .pre .1) 21 (c .before .before .before .match .keys10) refl (sym (c .before .before .operand5 .ensures) ∙ ap unsignedRead (c .enum-told14 .given .1))
+
+returns-16 : tie.Need-returns-16
+unfolding instructionOf hasOperand
+returns-16 c =
+    let num = (sym (c .before .before .before .before .before .before .operand5 .ensures) ∙ ap unsignedRead (c .before .before .before .before .n5 .given .1)) in
+    breaks (c .before .before .before .before .before .before .before .before .before .before .before .before .args .code .now) (c .before .before .before .before .before .before .before .before .before .before .before .before .args .b) (c .before .before .before .before .before .before .before .before .before .before .before .before .pre .1) (instructionOf 21 (c .before .before .before .before .n5 .given .0 .0)) (c .before .before .before .before .n5 .given .0 .1 .0) (with-operand (c .before .before .before .before .before .before .before .before .before .before .before .before .args .code .now) (c .before .before .before .before .before .before .before .before .before .before .before .before .args .b) (c .before .before .before .before .before .before .before .before .before .before .before .before .pre .1) 21 (c .before .before .before .before .before .before .before .match .keys10) refl (c .before .before .before .before .n5 .given .0 .0) (c .before .before .before .before .n5 .given .0 .1 .0) num) (c .before .before .assign .result) (c .enum-told15 .given .1) (c .before .before .assign .ensures .0)
+
+step-requires-10 : tie.Need-step-requires-10
+step-requires-10 c κs = (record { few = c .before .before .before .before .before .before .before .before .before .before .before .before .before .before .before .pre .0 .small .few-held; room = c .before .before .before .before .before .before .before .before .before .before .before .before .before .before .before .pre .0 .room }, (c .before .before .before .before .before .before .before .before .before .before .before .before .before .before .before .pre .0 .named, number-within _ _ _ _ (sym (c .before .before .before .before .before .before .before .before .before .operand5 .ensures) ∙ ap unsignedRead (c .before .before .before .before .before .before .before .n5 .given .1)) .operand))
+
+-- code 22
+returns-17 : tie.Need-returns-17
+unfolding hasOperand
+returns-17 c = malformed (c .before .before .before .before .before .before .before .before .args .code .now) (c .before .before .before .before .before .before .before .before .args .b) (c .before .before .before .before .before .before .before .before .pre .1) 22 (c .before .before .before .match .keys11) refl (sym (c .before .before .operand6 .ensures) ∙ ap unsignedRead (c .enum-told16 .given .1))
+
+settle-requires : tie.Need-settle-requires
+settle-requires c κs = (c .before .before .before .before .before .before .before .before .before .pre .0 .small, number-within _ _ _ _ (sym (c .before .before .before .operand6 .ensures) ∙ ap unsignedRead (c .before .n6 .given .1)) .operand)
+
+returns-18 : tie.Need-returns-18
+unfolding instructionOf hasOperand
+returns-18 c =
+    let num = (sym (c .before .before .before .before .before .before .operand6 .ensures) ∙ ap unsignedRead (c .before .before .before .before .n6 .given .1)) in
+    breaks (c .before .before .before .before .before .before .before .before .before .before .before .before .args .code .now) (c .before .before .before .before .before .before .before .before .before .before .before .before .args .b) (c .before .before .before .before .before .before .before .before .before .before .before .before .pre .1) (instructionOf 22 (c .before .before .before .before .n6 .given .0 .0)) (c .before .before .before .before .n6 .given .0 .1 .0) (with-operand (c .before .before .before .before .before .before .before .before .before .before .before .before .args .code .now) (c .before .before .before .before .before .before .before .before .before .before .before .before .args .b) (c .before .before .before .before .before .before .before .before .before .before .before .before .pre .1) 22 (c .before .before .before .before .before .before .before .match .keys11) refl (c .before .before .before .before .n6 .given .0 .0) (c .before .before .before .before .n6 .given .0 .1 .0) num) (c .before .before .settle .result) (c .enum-told17 .given .1) (c .before .before .settle .ensures .0)
+
+step-requires-11 : tie.Need-step-requires-11
+step-requires-11 c κs = (record { few = c .before .before .before .before .before .before .before .before .before .before .before .before .before .before .before .pre .0 .small .few-held; room = c .before .before .before .before .before .before .before .before .before .before .before .before .before .before .before .pre .0 .room }, (c .before .before .before .before .before .before .before .before .before .before .before .before .before .before .before .pre .0 .named, number-within _ _ _ _ (sym (c .before .before .before .before .before .before .before .before .before .operand6 .ensures) ∙ ap unsignedRead (c .before .before .before .before .before .before .before .n6 .given .1)) .operand))
+
+returns-19 : tie.Need-returns-19
+returns-19 c =
+    let least : 4 ≤ (getD (c .before .before .before .before .before .before .before .before .before .before .args .code .now) (c .before .before .before .before .before .before .before .before .before .before .args .b .at) 0) = (from-four (getD (c .before .before .before .before .before .before .before .before .before .before .args .code .now) (c .before .before .before .before .before .before .before .before .before .before .args .b .at) 0) (c .before .before .before .before .if2 .left) (c .before .before .before .before .before .match .rest .0 .0 .0 .0 .0 .0 .0 .0 .0 .0 .1) (c .before .before .before .before .before .match .rest .0 .0 .0 .0 .0 .0 .0 .0 .0 .1) (c .before .before .before .before .before .match .rest .0 .0 .0 .0 .0 .0 .0 .0 .1)) in
+    let most : (getD (c .before .before .before .before .before .before .before .before .before .before .args .code .now) (c .before .before .before .before .before .before .before .before .before .before .args .b .at) 0) ≤ 8 = (omega (arith, c .before .before .before .if3 .taken)) in
+    breaks (c .before .before .before .before .before .before .before .before .before .before .args .code .now) (c .before .before .before .before .before .before .before .before .before .before .args .b) (c .before .before .before .before .before .before .before .before .before .before .pre .1) (instructionOf (getD (c .before .before .before .before .before .before .before .before .before .before .args .code .now) (c .before .before .before .before .before .before .before .before .before .before .args .b .at) 0) 0) (c .before .before .before .before .before .before .before .before .before .before .args .b .at + 1) (alone (c .before .before .before .before .before .before .before .before .before .before .args .code .now) (c .before .before .before .before .before .before .before .before .before .before .args .b) (c .before .before .before .before .before .before .before .before .before .before .pre .1) (getD (c .before .before .before .before .before .before .before .before .before .before .args .code .now) (c .before .before .before .before .before .before .before .before .before .before .args .b .at) 0) refl (no-operand (getD (c .before .before .before .before .before .before .before .before .before .before .args .code .now) (c .before .before .before .before .before .before .before .before .before .before .args .b .at) 0) least (omega arith))) (c .before .before .join .result) (c .enum-told18 .given .1) (rw (operation-of (getD (c .before .before .before .before .before .before .before .before .before .before .args .code .now) (c .before .before .before .before .before .before .before .before .before .before .args .b .at) 0) 0 least most) (c .before .before .join .ensures .0 ∙ sym (operation-is (operationOf (getD (c .before .before .before .before .before .before .before .before .before .before .args .code .now) (c .before .before .before .before .before .before .before .before .before .before .args .b .at) 0)) (knownOf (c .before .before .before .before .before .before .before .before .before .before .args .b .walk)))))
+
+returns-20 : tie.Need-returns-20
+returns-20 c =
+    let least : 10 ≤ (getD (c .before .before .before .before .before .before .before .before .before .before .before .args .code .now) (c .before .before .before .before .before .before .before .before .before .before .before .args .b .at) 0) = (omega (arith, c .before .before .before .before .if3 .left, (c .before .before .before .before .before .before .match .rest .0 .0 .0 .0 .0 .0 .0 .1))) in
+    let most : (getD (c .before .before .before .before .before .before .before .before .before .before .before .args .code .now) (c .before .before .before .before .before .before .before .before .before .before .before .args .b .at) 0) ≤ 15 = (omega (arith, c .before .before .before .if4 .taken)) in
+    breaks (c .before .before .before .before .before .before .before .before .before .before .before .args .code .now) (c .before .before .before .before .before .before .before .before .before .before .before .args .b) (c .before .before .before .before .before .before .before .before .before .before .before .pre .1) (instructionOf (getD (c .before .before .before .before .before .before .before .before .before .before .before .args .code .now) (c .before .before .before .before .before .before .before .before .before .before .before .args .b .at) 0) 0) (c .before .before .before .before .before .before .before .before .before .before .before .args .b .at + 1) (alone (c .before .before .before .before .before .before .before .before .before .before .before .args .code .now) (c .before .before .before .before .before .before .before .before .before .before .before .args .b) (c .before .before .before .before .before .before .before .before .before .before .before .pre .1) (getD (c .before .before .before .before .before .before .before .before .before .before .before .args .code .now) (c .before .before .before .before .before .before .before .before .before .before .before .args .b .at) 0) refl (no-operand (getD (c .before .before .before .before .before .before .before .before .before .before .before .args .code .now) (c .before .before .before .before .before .before .before .before .before .before .before .args .b .at) 0) (omega arith) (omega arith))) (c .before .before .test3 .result) (c .enum-told19 .given .1) (rw (comparison-of (getD (c .before .before .before .before .before .before .before .before .before .before .before .args .code .now) (c .before .before .before .before .before .before .before .before .before .before .before .args .b .at) 0) 0 least most) (c .before .before .test3 .ensures .0 ∙ sym (comparison-is (comparisonOf (getD (c .before .before .before .before .before .before .before .before .before .before .before .args .code .now) (c .before .before .before .before .before .before .before .before .before .before .before .args .b .at) 0)) (knownOf (c .before .before .before .before .before .before .before .before .before .before .before .args .b .walk)))))
+
+-- code 1
+returns-21 : tie.Need-returns-21
+unfolding instructionOf hasOperand
+returns-21 c =
+    let num = (sym (c .before .before .before .before .before .before .before .before .before .before .before .before .before .operand .ensures) ∙ ap unsignedRead (c .before .before .before .before .before .before .before .before .before .before .before .n .given .1)) in
+    arrives (c .before .before .before .before .before .before .before .before .before .before .before .before .before .before .before .before .before .before .before .pre .0) (c .before .before .before .before .before .before .before .before .before .before .before .before .before .before .before .before .before .if1 .left) (c .before .before .before .before .before .before .before .before .before .before .before .before .before .before .before .before .before .before .before .args .code .now) (c .before .before .before .before .before .before .before .before .before .before .before .n .given .0 .1 .0) (c .before .before .before .before .before .before .before .k .given .0 .0) _ _ (instructionOf 1 (c .before .before .before .before .before .before .before .before .before .before .before .n .given .0 .0)) (with-operand (c .before .before .before .before .before .before .before .before .before .before .before .before .before .before .before .before .before .before .before .args .code .now) (c .before .before .before .before .before .before .before .before .before .before .before .before .before .before .before .before .before .before .before .args .b) (c .before .before .before .before .before .before .before .before .before .before .before .before .before .before .before .before .before .before .before .pre .1) 1 (c .before .before .before .before .before .before .before .before .before .before .before .before .before .before .match .keys1) refl (c .before .before .before .before .before .before .before .before .before .before .before .n .given .0 .0) (c .before .before .before .before .before .before .before .before .before .before .before .n .given .0 .1 .0) num) (number-within _ _ _ _ num .inside) (c .before .before .before .before .before .before .before .before .before .push .result) (c .before .before .before .before .before .before .before .k .given .1) (c .before .before .before .before .before .before .before .before .before .push .ensures .0 ∙ sym (constant-is (c .before .before .before .before .before .before .before .before .before .before .before .n .given .0 .0) (knownOf (c .before .before .before .before .before .before .before .before .before .before .before .before .before .before .before .before .before .before .before .args .b .walk)) (number-within _ _ _ _ num .operand))) (c .before .before .before .before .before .before .before .before .before .push .ensures .1) (c .before .before .before .step .result) (λ ns q. c .before .before .before .step .ensures .0 ns q) (c .onward .result) (c .onward .ensures)
+
+-- code 2
+returns-22 : tie.Need-returns-22
+unfolding instructionOf hasOperand
+returns-22 c =
+    let num = (sym (c .before .before .before .before .before .before .before .before .before .before .before .before .before .operand2 .ensures) ∙ ap unsignedRead (c .before .before .before .before .before .before .before .before .before .before .before .n2 .given .1)) in
+    arrives (c .before .before .before .before .before .before .before .before .before .before .before .before .before .before .before .before .before .before .before .pre .0) (c .before .before .before .before .before .before .before .before .before .before .before .before .before .before .before .before .before .if1 .left) (c .before .before .before .before .before .before .before .before .before .before .before .before .before .before .before .before .before .before .before .args .code .now) (c .before .before .before .before .before .before .before .before .before .before .before .n2 .given .0 .1 .0) (c .before .before .before .before .before .before .before .k2 .given .0 .0) _ _ (instructionOf 2 (c .before .before .before .before .before .before .before .before .before .before .before .n2 .given .0 .0)) (with-operand (c .before .before .before .before .before .before .before .before .before .before .before .before .before .before .before .before .before .before .before .args .code .now) (c .before .before .before .before .before .before .before .before .before .before .before .before .before .before .before .before .before .before .before .args .b) (c .before .before .before .before .before .before .before .before .before .before .before .before .before .before .before .before .before .before .before .pre .1) 2 (c .before .before .before .before .before .before .before .before .before .before .before .before .before .before .match .keys2) refl (c .before .before .before .before .before .before .before .before .before .before .before .n2 .given .0 .0) (c .before .before .before .before .before .before .before .before .before .before .before .n2 .given .0 .1 .0) num) (number-within _ _ _ _ num .inside) (c .before .before .before .before .before .before .before .before .before .current .result) (c .before .before .before .before .before .before .before .k2 .given .1) (c .before .before .before .before .before .before .before .before .before .current .ensures .0) (c .before .before .before .before .before .before .before .before .before .current .ensures .1) (c .before .before .before .step2 .result) (λ ns q. c .before .before .before .step2 .ensures .0 ns q) (c .onward2 .result) (c .onward2 .ensures)
+
+-- code 3
+returns-23 : tie.Need-returns-23
+unfolding instructionOf hasOperand
+returns-23 c =
+    let num = (sym (c .before .before .before .before .before .before .before .before .before .before .before .before .before .operand3 .ensures) ∙ ap unsignedRead (c .before .before .before .before .before .before .before .before .before .before .before .n3 .given .1)) in
+    arrives (c .before .before .before .before .before .before .before .before .before .before .before .before .before .before .before .before .before .before .before .pre .0) (c .before .before .before .before .before .before .before .before .before .before .before .before .before .before .before .before .before .if1 .left) (c .before .before .before .before .before .before .before .before .before .before .before .before .before .before .before .before .before .before .before .args .code .now) (c .before .before .before .before .before .before .before .before .before .before .before .n3 .given .0 .1 .0) (c .before .before .before .before .before .before .before .k3 .given .0 .0) _ _ (instructionOf 3 (c .before .before .before .before .before .before .before .before .before .before .before .n3 .given .0 .0)) (with-operand (c .before .before .before .before .before .before .before .before .before .before .before .before .before .before .before .before .before .before .before .args .code .now) (c .before .before .before .before .before .before .before .before .before .before .before .before .before .before .before .before .before .before .before .args .b) (c .before .before .before .before .before .before .before .before .before .before .before .before .before .before .before .before .before .before .before .pre .1) 3 (c .before .before .before .before .before .before .before .before .before .before .before .before .before .before .match .keys3) refl (c .before .before .before .before .before .before .before .before .before .before .before .n3 .given .0 .0) (c .before .before .before .before .before .before .before .before .before .before .before .n3 .given .0 .1 .0) num) (number-within _ _ _ _ num .inside) (c .before .before .before .before .before .before .before .before .before .previous .result) (c .before .before .before .before .before .before .before .k3 .given .1) (c .before .before .before .before .before .before .before .before .before .previous .ensures .0) (c .before .before .before .before .before .before .before .before .before .previous .ensures .1) (c .before .before .before .step3 .result) (λ ns q. c .before .before .before .step3 .ensures .0 ns q) (c .onward3 .result) (c .onward3 .ensures)
+
+-- code 9
+returns-24 : tie.Need-returns-24
+unfolding instructionOf hasOperand
+returns-24 c = arrives (c .before .before .before .before .before .before .before .before .before .before .before .before .before .before .before .pre .0) (c .before .before .before .before .before .before .before .before .before .before .before .before .before .if1 .left) (c .before .before .before .before .before .before .before .before .before .before .before .before .before .before .before .args .code .now) (c .before .before .before .before .before .before .before .before .before .before .before .before .before .before .before .args .b .at + 1) (c .before .before .before .before .before .before .before .k4 .given .0 .0) _ _ (instructionOf 9 0) (alone (c .before .before .before .before .before .before .before .before .before .before .before .before .before .before .before .args .code .now) (c .before .before .before .before .before .before .before .before .before .before .before .before .before .before .before .args .b) (c .before .before .before .before .before .before .before .before .before .before .before .before .before .before .before .pre .1) 9 (c .before .before .before .before .before .before .before .before .before .before .match .keys4) refl) (omega (arith, c .before .before .before .before .before .before .before .before .before .before .before .before .before .before .before .pre .1)) (c .before .before .before .before .before .before .before .before .before .keep .result) (c .before .before .before .before .before .before .before .k4 .given .1) (c .before .before .before .before .before .before .before .before .before .keep .ensures .0 ∙ sym (negate-is (knownOf (c .before .before .before .before .before .before .before .before .before .before .before .before .before .before .before .args .b .walk)))) (c .before .before .before .before .before .before .before .before .before .keep .ensures .1) (c .before .before .before .step4 .result) (λ ns q. c .before .before .before .step4 .ensures .0 ns q) (c .onward4 .result) (c .onward4 .ensures)
+
+-- code 16
+returns-25 : tie.Need-returns-25
+unfolding instructionOf hasOperand
+returns-25 c = arrives (c .before .before .before .before .before .before .before .before .before .before .before .before .before .before .before .pre .0) (c .before .before .before .before .before .before .before .before .before .before .before .before .before .if1 .left) (c .before .before .before .before .before .before .before .before .before .before .before .before .before .before .before .args .code .now) (c .before .before .before .before .before .before .before .before .before .before .before .before .before .before .before .args .b .at + 1) (c .before .before .before .before .before .before .before .k5 .given .0 .0) _ _ (instructionOf 16 0) (alone (c .before .before .before .before .before .before .before .before .before .before .before .before .before .before .before .args .code .now) (c .before .before .before .before .before .before .before .before .before .before .before .before .before .before .before .args .b) (c .before .before .before .before .before .before .before .before .before .before .before .before .before .before .before .pre .1) 16 (c .before .before .before .before .before .before .before .before .before .before .match .keys5) refl) (omega (arith, c .before .before .before .before .before .before .before .before .before .before .before .before .before .before .before .pre .1)) (c .before .before .before .before .before .before .before .before .before .invert .result) (c .before .before .before .before .before .before .before .k5 .given .1) (c .before .before .before .before .before .before .before .before .before .invert .ensures .0 ∙ sym (negated-is (knownOf (c .before .before .before .before .before .before .before .before .before .before .before .before .before .before .before .args .b .walk)))) (c .before .before .before .before .before .before .before .before .before .invert .ensures .1) (c .before .before .before .step5 .result) (λ ns q. c .before .before .before .step5 .ensures .0 ns q) (c .onward5 .result) (c .onward5 .ensures)
+
+-- code 17
+returns-26 : tie.Need-returns-26
+unfolding instructionOf hasOperand
+returns-26 c = arrives (c .before .before .before .before .before .before .before .before .before .before .before .before .before .before .before .pre .0) (c .before .before .before .before .before .before .before .before .before .before .before .before .before .if1 .left) (c .before .before .before .before .before .before .before .before .before .before .before .before .before .before .before .args .code .now) (c .before .before .before .before .before .before .before .before .before .before .before .before .before .before .before .args .b .at + 1) (c .before .before .before .before .before .before .before .k6 .given .0 .0) _ _ (instructionOf 17 0) (alone (c .before .before .before .before .before .before .before .before .before .before .before .before .before .before .before .args .code .now) (c .before .before .before .before .before .before .before .before .before .before .before .before .before .before .before .args .b) (c .before .before .before .before .before .before .before .before .before .before .before .before .before .before .before .pre .1) 17 (c .before .before .before .before .before .before .before .before .before .before .match .keys6) refl) (omega (arith, c .before .before .before .before .before .before .before .before .before .before .before .before .before .before .before .pre .1)) (c .before .before .before .before .before .before .before .before .before .test .result) (c .before .before .before .before .before .before .before .k6 .given .1) (c .before .before .before .before .before .before .before .before .before .test .ensures .0 ∙ sym (both-is (knownOf (c .before .before .before .before .before .before .before .before .before .before .before .before .before .before .before .args .b .walk)))) (c .before .before .before .before .before .before .before .before .before .test .ensures .1) (c .before .before .before .step6 .result) (λ ns q. c .before .before .before .step6 .ensures .0 ns q) (c .onward6 .result) (c .onward6 .ensures)
+
+-- code 18
+returns-27 : tie.Need-returns-27
+unfolding instructionOf hasOperand
+returns-27 c = arrives (c .before .before .before .before .before .before .before .before .before .before .before .before .before .before .before .pre .0) (c .before .before .before .before .before .before .before .before .before .before .before .before .before .if1 .left) (c .before .before .before .before .before .before .before .before .before .before .before .before .before .before .before .args .code .now) (c .before .before .before .before .before .before .before .before .before .before .before .before .before .before .before .args .b .at + 1) (c .before .before .before .before .before .before .before .k7 .given .0 .0) _ _ (instructionOf 18 0) (alone (c .before .before .before .before .before .before .before .before .before .before .before .before .before .before .before .args .code .now) (c .before .before .before .before .before .before .before .before .before .before .before .before .before .before .before .args .b) (c .before .before .before .before .before .before .before .before .before .before .before .before .before .before .before .pre .1) 18 (c .before .before .before .before .before .before .before .before .before .before .match .keys7) refl) (omega (arith, c .before .before .before .before .before .before .before .before .before .before .before .before .before .before .before .pre .1)) (c .before .before .before .before .before .before .before .before .before .test2 .result) (c .before .before .before .before .before .before .before .k7 .given .1) (c .before .before .before .before .before .before .before .before .before .test2 .ensures .0 ∙ sym (either-is (knownOf (c .before .before .before .before .before .before .before .before .before .before .before .before .before .before .before .args .b .walk)))) (c .before .before .before .before .before .before .before .before .before .test2 .ensures .1) (c .before .before .before .step7 .result) (λ ns q. c .before .before .before .step7 .ensures .0 ns q) (c .onward7 .result) (c .onward7 .ensures)
+
+-- code 19
+returns-28 : tie.Need-returns-28
+unfolding instructionOf hasOperand
+returns-28 c = arrives (c .before .before .before .before .before .before .before .before .before .before .before .before .before .before .before .pre .0) (c .before .before .before .before .before .before .before .before .before .before .before .before .before .if1 .left) (c .before .before .before .before .before .before .before .before .before .before .before .before .before .before .before .args .code .now) (c .before .before .before .before .before .before .before .before .before .before .before .before .before .before .before .args .b .at + 1) (c .before .before .before .before .before .before .before .k8 .given .0 .0) _ _ (instructionOf 19 0) (alone (c .before .before .before .before .before .before .before .before .before .before .before .before .before .before .before .args .code .now) (c .before .before .before .before .before .before .before .before .before .before .before .before .before .before .before .args .b) (c .before .before .before .before .before .before .before .before .before .before .before .before .before .before .before .pre .1) 19 (c .before .before .before .before .before .before .before .before .before .before .match .keys8) refl) (omega (arith, c .before .before .before .before .before .before .before .before .before .before .before .before .before .before .before .pre .1)) (c .before .before .before .before .before .before .before .before .before .gate .result) (c .before .before .before .before .before .before .before .k8 .given .1) (c .before .before .before .before .before .before .before .before .before .gate .ensures .0) (c .before .before .before .before .before .before .before .before .before .gate .ensures .1) (c .before .before .before .step8 .result) (λ ns q. c .before .before .before .step8 .ensures .0 ns q) (c .onward8 .result) (c .onward8 .ensures)
+
+-- code 20
+returns-29 : tie.Need-returns-29
+unfolding instructionOf hasOperand
+returns-29 c =
+    let num = (sym (c .before .before .before .before .before .before .before .before .before .before .before .before .before .operand4 .ensures) ∙ ap unsignedRead (c .before .before .before .before .before .before .before .before .before .before .before .n4 .given .1)) in
+    arrives (c .before .before .before .before .before .before .before .before .before .before .before .before .before .before .before .before .before .before .before .pre .0) (c .before .before .before .before .before .before .before .before .before .before .before .before .before .before .before .before .before .if1 .left) (c .before .before .before .before .before .before .before .before .before .before .before .before .before .before .before .before .before .before .before .args .code .now) (c .before .before .before .before .before .before .before .before .before .before .before .n4 .given .0 .1 .0) (c .before .before .before .before .before .before .before .k9 .given .0 .0) _ _ (instructionOf 20 (c .before .before .before .before .before .before .before .before .before .before .before .n4 .given .0 .0)) (with-operand (c .before .before .before .before .before .before .before .before .before .before .before .before .before .before .before .before .before .before .before .args .code .now) (c .before .before .before .before .before .before .before .before .before .before .before .before .before .before .before .before .before .before .before .args .b) (c .before .before .before .before .before .before .before .before .before .before .before .before .before .before .before .before .before .before .before .pre .1) 20 (c .before .before .before .before .before .before .before .before .before .before .before .before .before .before .match .keys9) refl (c .before .before .before .before .before .before .before .before .before .before .before .n4 .given .0 .0) (c .before .before .before .before .before .before .before .before .before .before .before .n4 .given .0 .1 .0) num) (number-within _ _ _ _ num .inside) (c .before .before .before .before .before .before .before .before .before .pick .result) (c .before .before .before .before .before .before .before .k9 .given .1) (c .before .before .before .before .before .before .before .before .before .pick .ensures .0) (c .before .before .before .before .before .before .before .before .before .pick .ensures .1) (c .before .before .before .step9 .result) (λ ns q. c .before .before .before .step9 .ensures .0 ns q) (c .onward9 .result) (c .onward9 .ensures)
+
+-- code 21
+returns-30 : tie.Need-returns-30
+unfolding instructionOf hasOperand
+returns-30 c =
+    let num = (sym (c .before .before .before .before .before .before .before .before .before .before .before .before .before .operand5 .ensures) ∙ ap unsignedRead (c .before .before .before .before .before .before .before .before .before .before .before .n5 .given .1)) in
+    arrives (c .before .before .before .before .before .before .before .before .before .before .before .before .before .before .before .before .before .before .before .pre .0) (c .before .before .before .before .before .before .before .before .before .before .before .before .before .before .before .before .before .if1 .left) (c .before .before .before .before .before .before .before .before .before .before .before .before .before .before .before .before .before .before .before .args .code .now) (c .before .before .before .before .before .before .before .before .before .before .before .n5 .given .0 .1 .0) (c .before .before .before .before .before .before .before .k10 .given .0 .0) _ _ (instructionOf 21 (c .before .before .before .before .before .before .before .before .before .before .before .n5 .given .0 .0)) (with-operand (c .before .before .before .before .before .before .before .before .before .before .before .before .before .before .before .before .before .before .before .args .code .now) (c .before .before .before .before .before .before .before .before .before .before .before .before .before .before .before .before .before .before .before .args .b) (c .before .before .before .before .before .before .before .before .before .before .before .before .before .before .before .before .before .before .before .pre .1) 21 (c .before .before .before .before .before .before .before .before .before .before .before .before .before .before .match .keys10) refl (c .before .before .before .before .before .before .before .before .before .before .before .n5 .given .0 .0) (c .before .before .before .before .before .before .before .before .before .before .before .n5 .given .0 .1 .0) num) (number-within _ _ _ _ num .inside) (c .before .before .before .before .before .before .before .before .before .assign .result) (c .before .before .before .before .before .before .before .k10 .given .1) (c .before .before .before .before .before .before .before .before .before .assign .ensures .0) (c .before .before .before .before .before .before .before .before .before .assign .ensures .1) (c .before .before .before .step10 .result) (λ ns q. c .before .before .before .step10 .ensures .0 ns q) (c .onward10 .result) (c .onward10 .ensures)
+
+-- code 22
+returns-31 : tie.Need-returns-31
+unfolding instructionOf hasOperand
+returns-31 c =
+    let num = (sym (c .before .before .before .before .before .before .before .before .before .before .before .before .before .operand6 .ensures) ∙ ap unsignedRead (c .before .before .before .before .before .before .before .before .before .before .before .n6 .given .1)) in
+    arrives (c .before .before .before .before .before .before .before .before .before .before .before .before .before .before .before .before .before .before .before .pre .0) (c .before .before .before .before .before .before .before .before .before .before .before .before .before .before .before .before .before .if1 .left) (c .before .before .before .before .before .before .before .before .before .before .before .before .before .before .before .before .before .before .before .args .code .now) (c .before .before .before .before .before .before .before .before .before .before .before .n6 .given .0 .1 .0) (c .before .before .before .before .before .before .before .k11 .given .0 .0) _ _ (instructionOf 22 (c .before .before .before .before .before .before .before .before .before .before .before .n6 .given .0 .0)) (with-operand (c .before .before .before .before .before .before .before .before .before .before .before .before .before .before .before .before .before .before .before .args .code .now) (c .before .before .before .before .before .before .before .before .before .before .before .before .before .before .before .before .before .before .before .args .b) (c .before .before .before .before .before .before .before .before .before .before .before .before .before .before .before .before .before .before .before .pre .1) 22 (c .before .before .before .before .before .before .before .before .before .before .before .before .before .before .match .keys11) refl (c .before .before .before .before .before .before .before .before .before .before .before .n6 .given .0 .0) (c .before .before .before .before .before .before .before .before .before .before .before .n6 .given .0 .1 .0) num) (number-within _ _ _ _ num .inside) (c .before .before .before .before .before .before .before .before .before .settle .result) (c .before .before .before .before .before .before .before .k11 .given .1) (c .before .before .before .before .before .before .before .before .before .settle .ensures .0) (c .before .before .before .before .before .before .before .before .before .settle .ensures .1) (c .before .before .before .step11 .result) (λ ns q. c .before .before .before .step11 .ensures .0 ns q) (c .onward11 .result) (c .onward11 .ensures)
+
+-- code 4 to 8
+returns-32 : tie.Need-returns-32
+returns-32 c =
+    let least : 4 ≤ (getD (c .before .before .before .before .before .before .before .before .before .before .before .before .before .before .before .args .code .now) (c .before .before .before .before .before .before .before .before .before .before .before .before .before .before .before .args .b .at) 0) = (from-four (getD (c .before .before .before .before .before .before .before .before .before .before .before .before .before .before .before .args .code .now) (c .before .before .before .before .before .before .before .before .before .before .before .before .before .before .before .args .b .at) 0) (c .before .before .before .before .before .before .before .before .before .if2 .left) (c .before .before .before .before .before .before .before .before .before .before .match .rest .0 .0 .0 .0 .0 .0 .0 .0 .0 .0 .1) (c .before .before .before .before .before .before .before .before .before .before .match .rest .0 .0 .0 .0 .0 .0 .0 .0 .0 .1) (c .before .before .before .before .before .before .before .before .before .before .match .rest .0 .0 .0 .0 .0 .0 .0 .0 .1)) in
+    let most : (getD (c .before .before .before .before .before .before .before .before .before .before .before .before .before .before .before .args .code .now) (c .before .before .before .before .before .before .before .before .before .before .before .before .before .before .before .args .b .at) 0) ≤ 8 = (omega (arith, c .before .before .before .before .before .before .before .before .if3 .taken)) in
+    arrives (c .before .before .before .before .before .before .before .before .before .before .before .before .before .before .before .pre .0) (c .before .before .before .before .before .before .before .before .before .before .before .before .before .if1 .left) (c .before .before .before .before .before .before .before .before .before .before .before .before .before .before .before .args .code .now) (c .before .before .before .before .before .before .before .before .before .before .before .before .before .before .before .args .b .at + 1) (c .before .before .before .before .before .k12 .given .0 .0) _ _ (instructionOf (getD (c .before .before .before .before .before .before .before .before .before .before .before .before .before .before .before .args .code .now) (c .before .before .before .before .before .before .before .before .before .before .before .before .before .before .before .args .b .at) 0) 0) (alone (c .before .before .before .before .before .before .before .before .before .before .before .before .before .before .before .args .code .now) (c .before .before .before .before .before .before .before .before .before .before .before .before .before .before .before .args .b) (c .before .before .before .before .before .before .before .before .before .before .before .before .before .before .before .pre .1) (getD (c .before .before .before .before .before .before .before .before .before .before .before .before .before .before .before .args .code .now) (c .before .before .before .before .before .before .before .before .before .before .before .before .before .before .before .args .b .at) 0) refl (no-operand (getD (c .before .before .before .before .before .before .before .before .before .before .before .before .before .before .before .args .code .now) (c .before .before .before .before .before .before .before .before .before .before .before .before .before .before .before .args .b .at) 0) least (omega arith))) (omega (arith, c .before .before .before .before .before .before .before .before .before .before .before .before .before .before .before .pre .1)) (c .before .before .before .before .before .before .before .join .result) (c .before .before .before .before .before .k12 .given .1) (rw (operation-of (getD (c .before .before .before .before .before .before .before .before .before .before .before .before .before .before .before .args .code .now) (c .before .before .before .before .before .before .before .before .before .before .before .before .before .before .before .args .b .at) 0) 0 least most) (c .before .before .before .before .before .before .before .join .ensures .0 ∙ sym (operation-is (operationOf (getD (c .before .before .before .before .before .before .before .before .before .before .before .before .before .before .before .args .code .now) (c .before .before .before .before .before .before .before .before .before .before .before .before .before .before .before .args .b .at) 0)) (knownOf (c .before .before .before .before .before .before .before .before .before .before .before .before .before .before .before .args .b .walk))))) (c .before .before .before .before .before .before .before .join .ensures .1) (c .before .before .calculate .result) (λ ns q. calculated-is (getD (c .before .before .before .before .before .before .before .before .before .before .before .before .before .before .before .args .code .now) (c .before .before .before .before .before .before .before .before .before .before .before .before .before .before .before .args .b .at) 0) _ _ _ (c .before .before .calculate .result) refl least most (c .before .before .calculate .ensures .0) ns (c .before .before .before .before .before .before .before .before .before .before .before .before .before .before .before .args .prev .now) (c .before .before .before .before .before .before .before .before .before .before .before .before .before .before .before .args .cur .now)) (c .onward12 .result) (c .onward12 .ensures)
+
+-- code 10 to 15
+returns-33 : tie.Need-returns-33
+returns-33 c =
+    let least : 10 ≤ (getD (c .before .before .before .before .before .before .before .before .before .before .before .before .before .before .before .before .args .code .now) (c .before .before .before .before .before .before .before .before .before .before .before .before .before .before .before .before .args .b .at) 0) = (omega (arith, c .before .before .before .before .before .before .before .before .before .if3 .left, (c .before .before .before .before .before .before .before .before .before .before .before .match .rest .0 .0 .0 .0 .0 .0 .0 .1))) in
+    let most : (getD (c .before .before .before .before .before .before .before .before .before .before .before .before .before .before .before .before .args .code .now) (c .before .before .before .before .before .before .before .before .before .before .before .before .before .before .before .before .args .b .at) 0) ≤ 15 = (omega (arith, c .before .before .before .before .before .before .before .before .if4 .taken)) in
+    arrives (c .before .before .before .before .before .before .before .before .before .before .before .before .before .before .before .before .pre .0) (c .before .before .before .before .before .before .before .before .before .before .before .before .before .before .if1 .left) (c .before .before .before .before .before .before .before .before .before .before .before .before .before .before .before .before .args .code .now) (c .before .before .before .before .before .before .before .before .before .before .before .before .before .before .before .before .args .b .at + 1) (c .before .before .before .before .before .k13 .given .0 .0) _ _ (instructionOf (getD (c .before .before .before .before .before .before .before .before .before .before .before .before .before .before .before .before .args .code .now) (c .before .before .before .before .before .before .before .before .before .before .before .before .before .before .before .before .args .b .at) 0) 0) (alone (c .before .before .before .before .before .before .before .before .before .before .before .before .before .before .before .before .args .code .now) (c .before .before .before .before .before .before .before .before .before .before .before .before .before .before .before .before .args .b) (c .before .before .before .before .before .before .before .before .before .before .before .before .before .before .before .before .pre .1) (getD (c .before .before .before .before .before .before .before .before .before .before .before .before .before .before .before .before .args .code .now) (c .before .before .before .before .before .before .before .before .before .before .before .before .before .before .before .before .args .b .at) 0) refl (no-operand (getD (c .before .before .before .before .before .before .before .before .before .before .before .before .before .before .before .before .args .code .now) (c .before .before .before .before .before .before .before .before .before .before .before .before .before .before .before .before .args .b .at) 0) (omega arith) (omega arith))) (omega (arith, c .before .before .before .before .before .before .before .before .before .before .before .before .before .before .before .before .pre .1)) (c .before .before .before .before .before .before .before .test3 .result) (c .before .before .before .before .before .k13 .given .1) (rw (comparison-of (getD (c .before .before .before .before .before .before .before .before .before .before .before .before .before .before .before .before .args .code .now) (c .before .before .before .before .before .before .before .before .before .before .before .before .before .before .before .before .args .b .at) 0) 0 least most) (c .before .before .before .before .before .before .before .test3 .ensures .0 ∙ sym (comparison-is (comparisonOf (getD (c .before .before .before .before .before .before .before .before .before .before .before .before .before .before .before .before .args .code .now) (c .before .before .before .before .before .before .before .before .before .before .before .before .before .before .before .before .args .b .at) 0)) (knownOf (c .before .before .before .before .before .before .before .before .before .before .before .before .before .before .before .before .args .b .walk))))) (c .before .before .before .before .before .before .before .test3 .ensures .1) (c .before .before .relate .result) (λ ns q. related-is (getD (c .before .before .before .before .before .before .before .before .before .before .before .before .before .before .before .before .args .code .now) (c .before .before .before .before .before .before .before .before .before .before .before .before .before .before .before .before .args .b .at) 0) _ _ _ (c .before .before .relate .result) refl least most (c .before .before .relate .ensures .0) ns (c .before .before .before .before .before .before .before .before .before .before .before .before .before .before .before .before .args .prev .now) (c .before .before .before .before .before .before .before .before .before .before .before .before .before .before .before .before .args .cur .now)) (c .onward13 .result) (c .onward13 .ensures)
+
+returns-34 : tie.Need-returns-34
+returns-34 c = breaks-otherwise (c .before .before .before .before .before .before .args .code .now) (c .before .before .before .before .before .before .args .b) (c .before .before .before .before .before .before .pre .1) (λ n. rw (none-below (getD (c .before .before .before .before .before .before .args .code .now) (c .before .before .before .before .before .before .args .b .at) 0) n (c .if2 .taken)))
+
+returns-35 : tie.Need-returns-35
+returns-35 c = breaks-otherwise (c .before .before .before .before .before .before .before .before .args .code .now) (c .before .before .before .before .before .before .before .before .args .b) (c .before .before .before .before .before .before .before .before .pre .1) (λ n. rw (none-above (getD (c .before .before .before .before .before .before .before .before .args .code .now) (c .before .before .before .before .before .before .before .before .args .b .at) 0) n (above (getD (c .before .before .before .before .before .before .before .before .args .code .now) (c .before .before .before .before .before .before .before .before .args .b .at) 0) (c .if4 .left) (c .before .before .before .match .rest .0 .0 .0 .0 .0 .0 .1) (c .before .before .before .match .rest .0 .0 .0 .0 .0 .1) (c .before .before .before .match .rest .0 .0 .0 .0 .1) (c .before .before .before .match .rest .0 .0 .0 .1) (c .before .before .before .match .rest .0 .0 .1) (c .before .before .before .match .rest .0 .1) (c .before .before .before .match .rest .1))))
 
 pub advance-one-spec : {M : Type 1} → statement M
-unfolding hasOperand
 advance-one-spec =
     tie.close
-    (tie.spec (λ c κs. search needs) returns (λ c. search needs)
-    (λ c κs. search needs) (λ c κs. with-operand (c .before .before .before .before) 1 (c .before .before .before .match .keys1) refl (c .operand .result) (c .operand .ensures))
-    (λ c κs. search needs) (λ c κs. with-operand (c .before .before .before .before) 2 (c .before .before .before .match .keys2) refl (c .operand2 .result) (c .operand2 .ensures))
-    (λ c κs. search needs) (λ c κs. with-operand (c .before .before .before .before) 3 (c .before .before .before .match .keys3) refl (c .operand3 .result) (c .operand3 .ensures))
-    (λ c κs. at-byte (c .before .before .before) 4 false (c .before .before .match .keys4) refl)
-    (λ c κs. at-byte (c .before .before .before) 5 false (c .before .before .match .keys5) refl)
-    (λ c κs. at-byte (c .before .before .before) 6 false (c .before .before .match .keys6) refl)
-    (λ c κs. at-byte (c .before .before .before) 7 false (c .before .before .match .keys7) refl)
-    (λ c κs. at-byte (c .before .before .before) 8 false (c .before .before .match .keys8) refl)
-    (λ c κs. at-byte (c .before .before .before) 9 false (c .before .before .match .keys9) refl)
-    (λ c κs. at-byte (c .before .before .before) 10 false (c .before .before .match .keys10) refl)
-    (λ c κs. at-byte (c .before .before .before) 11 false (c .before .before .match .keys11) refl)
-    (λ c κs. at-byte (c .before .before .before) 12 false (c .before .before .match .keys12) refl)
-    (λ c κs. at-byte (c .before .before .before) 13 false (c .before .before .match .keys13) refl)
-    (λ c κs. at-byte (c .before .before .before) 14 false (c .before .before .match .keys14) refl)
-    (λ c κs. at-byte (c .before .before .before) 15 false (c .before .before .match .keys15) refl)
-    (λ c κs. at-byte (c .before .before .before) 16 false (c .before .before .match .keys16) refl)
-    (λ c κs. at-byte (c .before .before .before) 17 false (c .before .before .match .keys17) refl)
-    (λ c κs. at-byte (c .before .before .before) 18 false (c .before .before .match .keys18) refl)
-    (λ c κs. at-byte (c .before .before .before) 19 false (c .before .before .match .keys19) refl)
-    (λ c κs. search needs) (λ c κs. with-operand (c .before .before .before .before) 20 (c .before .before .before .match .keys20) refl (c .operand4 .result) (c .operand4 .ensures))
-    (λ c κs. search needs) (λ c κs. with-operand (c .before .before .before .before) 21 (c .before .before .before .match .keys21) refl (c .operand5 .result) (c .operand5 .ensures))
-    (λ c κs. search needs) (λ c κs. with-operand (c .before .before .before .before) 22 (c .before .before .before .match .keys22) refl (c .operand6 .result) (c .operand6 .ensures))
-    (λ c. search needs) (λ c. search needs) (λ c. search needs)
-    (λ c. search needs) (λ c. search needs) (λ c. search needs)
-    (λ c. search needs) (λ c. search needs) (λ c. search needs)
-    (λ c. search needs) (λ c. search needs) (λ c. search needs)
-    (λ c. search needs) (λ c. search needs) (λ c. search needs)
-    (λ c. search needs) (λ c. search needs) (λ c. search needs)
-    (λ c. search needs) (λ c. search needs) (λ c. search needs)
-    (λ c. search needs) (λ c. search needs) (λ c. search needs)
-    (λ c. search needs) (λ c. search needs) (λ c. search needs)
-    (λ c. search needs) (λ c. search needs) (λ c. search needs)
-    (λ c. search needs) (λ c. search needs) (λ c. search needs)
-    (λ c. search needs) (λ c. search needs) (λ c. search needs)
-    (λ c. search needs) (λ c. search needs) (λ c. search needs)
-    (λ c. search needs) (λ c. search needs) (λ c. search needs)
-    (λ c. search needs) (λ c. search needs) (λ c. search needs)
-    (λ c. search needs) (λ c. search needs) (λ c. search needs)
-    (λ c. search needs) (λ c. search needs) (λ c. search needs)
-    (λ c. search needs) (λ c. search needs) (λ c. search needs)
-    (λ c. search needs) (λ c. search needs) (λ c. search needs)
-    (λ c. search needs) (λ c. search needs) (λ c. search needs)
-    (λ c. search needs) (λ c. search needs) (λ c. search needs)
-    (λ c. search needs) (λ c. search needs) (λ c. search needs)
-    (λ c. search needs))
+    (tie.spec pass-requires returns (λ c. search needs) (λ c. search needs) (λ c κs. search needs) (λ c. search needs) (λ c. search needs) returns-2
+    (λ c κs. search needs) (λ c. search needs) (λ c. search needs) returns-3 step-requires (λ c κs. search needs) (λ c κs. search needs)
+    (λ c. search needs) (λ c. search needs) returns-4 (λ c κs. search needs) (λ c. search needs) (λ c. search needs) returns-5 step-requires-2
+    (λ c κs. search needs) (λ c κs. search needs) (λ c. search needs) (λ c. search needs) returns-6 (λ c κs. search needs) (λ c. search needs)
+    (λ c. search needs) returns-7 step-requires-3 (λ c κs. search needs) (λ c κs. search needs) (λ c. search needs) (λ c. search needs) returns-8
+    (λ c κs. search needs) (λ c κs. search needs) (λ c κs. search needs) (λ c. search needs) (λ c. search needs) returns-9 (λ c κs. search needs)
+    (λ c κs. search needs) (λ c κs. search needs) (λ c. search needs) (λ c. search needs) returns-10 (λ c κs. search needs) (λ c κs. search needs)
+    (λ c κs. search needs) (λ c. search needs) (λ c. search needs) returns-11 (λ c κs. search needs) (λ c κs. search needs) (λ c κs. search needs)
+    (λ c. search needs) (λ c. search needs) returns-12 (λ c κs. search needs) (λ c κs. search needs) (λ c κs. search needs) (λ c. search needs)
+    (λ c. search needs) returns-13 pick-requires (λ c. search needs) (λ c. search needs) returns-14 step-requires-9 (λ c κs. search needs)
+    (λ c κs. search needs) (λ c. search needs) (λ c. search needs) returns-15 (λ c κs. search needs) (λ c. search needs) (λ c. search needs)
+    returns-16 step-requires-10 (λ c κs. search needs) (λ c κs. search needs) (λ c. search needs) (λ c. search needs) returns-17 settle-requires
+    (λ c. search needs) (λ c. search needs) returns-18 step-requires-11 (λ c κs. search needs) (λ c κs. search needs) (λ c. search needs)
+    (λ c. search needs) returns-19 (λ c κs. search needs) (λ c κs. search needs) (λ c κs. search needs) (λ c. search needs) (λ c. search needs)
+    returns-20 (λ c κs. search needs) (λ c κs. search needs) (λ c. search needs) (λ c. search needs) returns-21 (λ c. search needs)
+    (λ c. search needs) returns-22 (λ c. search needs) (λ c. search needs) returns-23 (λ c. search needs) (λ c. search needs) returns-24
+    (λ c. search needs) (λ c. search needs) returns-25 (λ c. search needs) (λ c. search needs) returns-26 (λ c. search needs) (λ c. search needs)
+    returns-27 (λ c. search needs) (λ c. search needs) returns-28 (λ c. search needs) (λ c. search needs) returns-29 (λ c. search needs)
+    (λ c. search needs) returns-30 (λ c. search needs) (λ c. search needs) returns-31 (λ c. search needs) returns-32 (λ c. search needs) returns-33
+    returns-34 returns-35)

@@ -1,54 +1,95 @@
 -- `fused::pass` meets its contract: each arm is the instruction of its code byte. Assumes nothing.
-use Prim.Native.Nat.{ℕ, _+_}
-use mathlib.Core.Path.{_≡_, refl, sym, ap, _∙_}
-use mathlib.Core.Bool.{Bool, true, false}
+use Prim.Native.Nat.{_+_, _≤_}
+use mathlib.Core.Path.{refl, sym, ap, _∙_}
+use mathlib.Core.Bool.{true, false}
+use native.Mathlib.Omega.{arith}
 use lib.ListN.{getD}
-use Rattle.leb128.specs.Numbers.{numberAt, got}
 use Rattle.leb128.specs.Results.{unsignedRead}
-use Rattle.bytecode.specs.Instructions.{instructionOf, hasOperand}
+use Rattle.bytecode.specs.Instructions.{instructionOf, operationOf, hasOperand}
+use Rattle.bytecode.proofs.Codes.{operation-of, none-below, from-four, past}
 use Rattle.bytecode.proofs.Fetching.{number-within}
-use Rattle.fused.specs.declared.Moved.{Moved}
-use Rattle.fused.specs.Together.{OverBy, PassesBy}
-use Rattle.fused.proofs.Passing.{GoesOn, passes-alone, passes-operand}
+use Rattle.checker.specs.Represented.{knownOf}
+use Rattle.checker.proofs.Steps.{operation-is, negate-is, constant-is}
+use Rattle.fused.proofs.Joining.{breaks-otherwise, alone, with-operand, malformed, no-operand}
+use Rattle.fused.proofs.Passing.{passes, open-breaks}
 use borrow.Author.Needs.{needs}
 use Rattle.fused.proofs.pass.Statement.{statement}
 use Rattle.fused.proofs.pass.Tie as tie
 
--- the arm of a code byte without an operand
-alone : (c : tie.After-shared-slice-known2) (byte : ℕ) → let a = c .before .before .args in
-    getD (a .code .now) (a .b .at) 0 ≡ byte → hasOperand byte ≡ false → GoesOn (instructionOf byte 0) true
-    → (r : Moved) → OverBy (a .b) (instructionOf byte 0) (a .b .at + 1) true r → PassesBy (a .code .now) (a .b) r
-alone c byte is has on r t = passes-alone _ _ byte true (record { inside = c .before .before .pre .1; is = is; has = has }) on r t
+returns : tie.Need-returns
+unfolding hasOperand
+returns c = malformed (c .before .before .before .before .before .before .before .args .code .now) (c .before .before .before .before .before .before .before .args .b) (c .before .before .before .before .before .before .before .pre .1) 1 (c .before .before .before .match .keys1) refl (sym (c .before .before .operand .ensures) ∙ ap unsignedRead (c .enum-told .given .1))
 
--- and with one
-operand : (c : tie.After-shared-slice-known2) (byte : ℕ) (p : Bool) {n next : ℕ} → let a = c .before .before .args in
-    getD (a .code .now) (a .b .at) 0 ≡ byte → hasOperand byte ≡ true → numberAt (a .code .now) (a .b .at + 1) ≡ got n next → GoesOn (instructionOf byte n) p
-    → (r : Moved) → OverBy (a .b) (instructionOf byte n) next p r → PassesBy (a .code .now) (a .b) r
-operand c byte p is has e on r t = passes-operand _ _ byte p (record { inside = c .before .before .pre .1; is = is; has = has }) _ _ on e r t
+returns-2 : tie.Need-returns-2
+unfolding hasOperand
+returns-2 c = malformed (c .before .before .before .before .before .before .before .args .code .now) (c .before .before .before .before .before .before .before .args .b) (c .before .before .before .before .before .before .before .pre .1) 2 (c .before .before .before .match .keys2) refl (sym (c .before .before .operand2 .ensures) ∙ ap unsignedRead (c .enum-told2 .given .1))
+
+returns-3 : tie.Need-returns-3
+unfolding hasOperand
+returns-3 c = malformed (c .before .before .before .before .before .before .before .args .code .now) (c .before .before .before .before .before .before .before .args .b) (c .before .before .before .before .before .before .before .pre .1) 3 (c .before .before .before .match .keys3) refl (sym (c .before .before .operand3 .ensures) ∙ ap unsignedRead (c .enum-told3 .given .1))
+
+returns-4 : tie.Need-returns-4
+unfolding hasOperand
+returns-4 c = malformed (c .before .before .before .before .before .before .before .args .code .now) (c .before .before .before .before .before .before .before .args .b) (c .before .before .before .before .before .before .before .pre .1) 20 (c .before .before .before .match .keys5) refl (sym (c .before .before .operand4 .ensures) ∙ ap unsignedRead (c .enum-told4 .given .1))
+
+pick-requires : tie.Need-pick-requires
+pick-requires c κs = (c .before .before .before .before .before .before .before .before .pre .0, number-within _ _ _ _ (sym (c .before .before .before .operand4 .ensures) ∙ ap unsignedRead (c .before .n3 .given .1)) .operand)
+
+-- code 1
+returns-5 : tie.Need-returns-5
+unfolding instructionOf hasOperand
+returns-5 c =
+    let num = (sym (c .before .before .before .before .before .operand .ensures) ∙ ap unsignedRead (c .before .before .before .next .given .1)) in
+    passes (c .before .before .before .before .before .before .before .before .before .before .args .code .now) (c .before .before .before .before .before .before .before .before .before .before .args .b) (c .before .before .before .before .before .before .before .before .before .before .pre .1) (instructionOf 1 (c .before .before .before .next .given .0 .0)) (c .before .before .before .next .given .0 .1 .0) true (with-operand (c .before .before .before .before .before .before .before .before .before .before .args .code .now) (c .before .before .before .before .before .before .before .before .before .before .args .b) (c .before .before .before .before .before .before .before .before .before .before .pre .1) 1 (c .before .before .before .before .before .before .match .keys1) refl (c .before .before .before .next .given .0 .0) (c .before .before .before .next .given .0 .1 .0) num) (number-within _ _ _ _ num .inside) refl (c .before .push .result) (c .before .push .ensures .0 ∙ sym (constant-is (c .before .before .before .next .given .0 .0) (knownOf (c .before .before .before .before .before .before .before .before .before .before .args .b .walk)) (number-within _ _ _ _ num .operand))) (c .before .push .ensures .1) (c .over .result) (c .over .ensures)
+
+-- code 2
+returns-6 : tie.Need-returns-6
+unfolding instructionOf hasOperand
+returns-6 c =
+    let num = (sym (c .before .before .before .before .before .operand2 .ensures) ∙ ap unsignedRead (c .before .before .before .n .given .1)) in
+    passes (c .before .before .before .before .before .before .before .before .before .before .args .code .now) (c .before .before .before .before .before .before .before .before .before .before .args .b) (c .before .before .before .before .before .before .before .before .before .before .pre .1) (instructionOf 2 (c .before .before .before .n .given .0 .0)) (c .before .before .before .n .given .0 .1 .0) true (with-operand (c .before .before .before .before .before .before .before .before .before .before .args .code .now) (c .before .before .before .before .before .before .before .before .before .before .args .b) (c .before .before .before .before .before .before .before .before .before .before .pre .1) 2 (c .before .before .before .before .before .before .match .keys2) refl (c .before .before .before .n .given .0 .0) (c .before .before .before .n .given .0 .1 .0) num) (number-within _ _ _ _ num .inside) refl (c .before .current .result) (c .before .current .ensures .0) (c .before .current .ensures .1) (c .over2 .result) (c .over2 .ensures)
+
+-- code 3
+returns-7 : tie.Need-returns-7
+unfolding instructionOf hasOperand
+returns-7 c =
+    let num = (sym (c .before .before .before .before .before .operand3 .ensures) ∙ ap unsignedRead (c .before .before .before .n2 .given .1)) in
+    passes (c .before .before .before .before .before .before .before .before .before .before .args .code .now) (c .before .before .before .before .before .before .before .before .before .before .args .b) (c .before .before .before .before .before .before .before .before .before .before .pre .1) (instructionOf 3 (c .before .before .before .n2 .given .0 .0)) (c .before .before .before .n2 .given .0 .1 .0) true (with-operand (c .before .before .before .before .before .before .before .before .before .before .args .code .now) (c .before .before .before .before .before .before .before .before .before .before .args .b) (c .before .before .before .before .before .before .before .before .before .before .pre .1) 3 (c .before .before .before .before .before .before .match .keys3) refl (c .before .before .before .n2 .given .0 .0) (c .before .before .before .n2 .given .0 .1 .0) num) (number-within _ _ _ _ num .inside) refl (c .before .previous .result) (c .before .previous .ensures .0) (c .before .previous .ensures .1) (c .over3 .result) (c .over3 .ensures)
+
+-- code 9
+returns-8 : tie.Need-returns-8
+unfolding instructionOf hasOperand
+returns-8 c = passes (c .before .before .before .before .before .before .args .code .now) (c .before .before .before .before .before .before .args .b) (c .before .before .before .before .before .before .pre .1) (instructionOf 9 0) (c .before .before .before .before .before .before .args .b .at + 1) true (alone (c .before .before .before .before .before .before .args .code .now) (c .before .before .before .before .before .before .args .b) (c .before .before .before .before .before .before .pre .1) 9 (c .before .before .match .keys4) refl) (omega (arith, c .before .before .before .before .before .before .pre .1)) refl (c .before .keep .result) (c .before .keep .ensures .0 ∙ sym (negate-is (knownOf (c .before .before .before .before .before .before .args .b .walk)))) (c .before .keep .ensures .1) (c .over4 .result) (c .over4 .ensures)
+
+-- code 20
+returns-9 : tie.Need-returns-9
+unfolding instructionOf hasOperand
+returns-9 c =
+    let num = (sym (c .before .before .before .before .before .operand4 .ensures) ∙ ap unsignedRead (c .before .before .before .n3 .given .1)) in
+    passes (c .before .before .before .before .before .before .before .before .before .before .args .code .now) (c .before .before .before .before .before .before .before .before .before .before .args .b) (c .before .before .before .before .before .before .before .before .before .before .pre .1) (instructionOf 20 (c .before .before .before .n3 .given .0 .0)) (c .before .before .before .n3 .given .0 .1 .0) false (with-operand (c .before .before .before .before .before .before .before .before .before .before .args .code .now) (c .before .before .before .before .before .before .before .before .before .before .args .b) (c .before .before .before .before .before .before .before .before .before .before .pre .1) 20 (c .before .before .before .before .before .before .match .keys5) refl (c .before .before .before .n3 .given .0 .0) (c .before .before .before .n3 .given .0 .1 .0) num) (number-within _ _ _ _ num .inside) refl (c .before .pick .result) (c .before .pick .ensures .0) (c .before .pick .ensures .1) (c .over5 .result) (c .over5 .ensures)
+
+-- codes 4 to 8
+returns-10 : tie.Need-returns-10
+returns-10 c =
+    let least : 4 ≤ (getD (c .before .before .before .before .before .before .before .before .args .code .now) (c .before .before .before .before .before .before .before .before .args .b .at) 0) = from-four (getD (c .before .before .before .before .before .before .before .before .args .code .now) (c .before .before .before .before .before .before .before .before .args .b .at) 0) (c .before .before .before .if1 .left) (c .before .before .before .before .match .rest .0 .0 .0 .0 .1) (c .before .before .before .before .match .rest .0 .0 .0 .1) (c .before .before .before .before .match .rest .0 .0 .1) in
+    let most : (getD (c .before .before .before .before .before .before .before .before .args .code .now) (c .before .before .before .before .before .before .before .before .args .b .at) 0) ≤ 8 = omega (arith, c .before .before .if2 .taken) in
+    passes (c .before .before .before .before .before .before .before .before .args .code .now) (c .before .before .before .before .before .before .before .before .args .b) (c .before .before .before .before .before .before .before .before .pre .1) (instructionOf (getD (c .before .before .before .before .before .before .before .before .args .code .now) (c .before .before .before .before .before .before .before .before .args .b .at) 0) 0) (c .before .before .before .before .before .before .before .before .args .b .at + 1) true (alone (c .before .before .before .before .before .before .before .before .args .code .now) (c .before .before .before .before .before .before .before .before .args .b) (c .before .before .before .before .before .before .before .before .pre .1) (getD (c .before .before .before .before .before .before .before .before .args .code .now) (c .before .before .before .before .before .before .before .before .args .b .at) 0) refl (no-operand (getD (c .before .before .before .before .before .before .before .before .args .code .now) (c .before .before .before .before .before .before .before .before .args .b .at) 0) least (omega arith))) (omega (arith, c .before .before .before .before .before .before .before .before .pre .1)) (rw (operation-of (getD (c .before .before .before .before .before .before .before .before .args .code .now) (c .before .before .before .before .before .before .before .before .args .b .at) 0) 0 least most) refl) (c .before .join .result)
+    (rw (operation-of (getD (c .before .before .before .before .before .before .before .before .args .code .now) (c .before .before .before .before .before .before .before .before .args .b .at) 0) 0 least most) (c .before .join .ensures .0 ∙ sym (operation-is (operationOf (getD (c .before .before .before .before .before .before .before .before .args .code .now) (c .before .before .before .before .before .before .before .before .args .b .at) 0)) (knownOf (c .before .before .before .before .before .before .before .before .args .b .walk))))) (c .before .join .ensures .1) (c .over6 .result) (c .over6 .ensures)
+
+-- no code between a gate and its pick
+returns-11 : tie.Need-returns-11
+returns-11 c = breaks-otherwise (c .before .before .before .before .before .args .code .now) (c .before .before .before .before .before .args .b) (c .before .before .before .before .before .pre .1) (λ n. rw (none-below (getD (c .before .before .before .before .before .args .code .now) (c .before .before .before .before .before .args .b .at) 0) n (c .if1 .taken)))
+
+returns-12 : tie.Need-returns-12
+returns-12 c = breaks-otherwise (c .before .before .before .before .before .before .args .code .now) (c .before .before .before .before .before .before .args .b) (c .before .before .before .before .before .before .pre .1) (λ n. open-breaks (c .before .before .before .before .before .before .args .b .walk) (c .before .before .before .before .before .before .pre .2) (getD (c .before .before .before .before .before .before .args .code .now) (c .before .before .before .before .before .before .args .b .at) 0) n (past 9 (getD (c .before .before .before .before .before .before .args .code .now) (c .before .before .before .before .before .before .args .b .at) 0) (c .if2 .left) (c .before .before .match .rest .0 .1)) (c .before .before .match .rest .1))
 
 pub pass-spec : {M : Type 1} → statement M
-unfolding instructionOf hasOperand
 pass-spec =
     tie.close
-    (tie.spec
-    (λ c. search needs) (λ c. search needs)
-    (λ c κs. search needs) (λ c. search needs) (λ c. search needs) (λ c. search needs)
-    (λ c κs. (c .before .before .before .before .before .before .before .pre .0, number-within _ _ _ _ (sym (c .before .before .before .operand .ensures) ∙ ap unsignedRead (c .before .n .given .1)) .operand))
-    (λ c κs. search needs) (λ c. search needs) (λ c. search needs) (λ c. search needs)
-    (λ c κs. (c .before .before .before .before .before .before .before .pre .0, number-within _ _ _ _ (sym (c .before .before .before .operand2 .ensures) ∙ ap unsignedRead (c .before .n2 .given .1)) .operand))
-    (λ c κs. search needs) (λ c. search needs) (λ c. search needs) (λ c. search needs)
-    (λ c κs. (c .before .before .before .before .before .before .before .pre .0, number-within _ _ _ _ (sym (c .before .before .before .operand3 .ensures) ∙ ap unsignedRead (c .before .n3 .given .1)) .operand))
-    (λ c κs. search needs) (λ c κs. search needs) (λ c κs. search needs) (λ c κs. search needs) (λ c κs. search needs) (λ c κs. search needs)
-    (λ c κs. search needs) (λ c. search needs) (λ c. search needs) (λ c. search needs)
-    (λ c κs. (c .before .before .before .before .before .before .before .pre .0, number-within _ _ _ _ (sym (c .before .before .before .operand4 .ensures) ∙ ap unsignedRead (c .before .n4 .given .1)) .operand))
-    (λ c. operand (c .before .before .before .before .before .before) 1 true (c .before .before .before .before .before .match .keys1) refl (sym (c .before .before .before .before .operand .ensures) ∙ ap unsignedRead (c .before .before .n .given .1)) refl (c .over .result) (c .over .ensures))
-    (λ c. operand (c .before .before .before .before .before .before) 2 true (c .before .before .before .before .before .match .keys2) refl (sym (c .before .before .before .before .operand2 .ensures) ∙ ap unsignedRead (c .before .before .n2 .given .1)) refl (c .over2 .result) (c .over2 .ensures))
-    (λ c. operand (c .before .before .before .before .before .before) 3 true (c .before .before .before .before .before .match .keys3) refl (sym (c .before .before .before .before .operand3 .ensures) ∙ ap unsignedRead (c .before .before .n3 .given .1)) refl (c .over3 .result) (c .over3 .ensures))
-    (λ c. alone (c .before .before) 4 (c .before .match .keys4) refl refl (c .over4 .result) (c .over4 .ensures))
-    (λ c. alone (c .before .before) 5 (c .before .match .keys5) refl refl (c .over5 .result) (c .over5 .ensures))
-    (λ c. alone (c .before .before) 6 (c .before .match .keys6) refl refl (c .over6 .result) (c .over6 .ensures))
-    (λ c. alone (c .before .before) 7 (c .before .match .keys7) refl refl (c .over7 .result) (c .over7 .ensures))
-    (λ c. alone (c .before .before) 8 (c .before .match .keys8) refl refl (c .over8 .result) (c .over8 .ensures))
-    (λ c. alone (c .before .before) 9 (c .before .match .keys9) refl refl (c .over9 .result) (c .over9 .ensures))
-    (λ c. operand (c .before .before .before .before .before .before) 20 false (c .before .before .before .before .before .match .keys10) refl (sym (c .before .before .before .before .operand4 .ensures) ∙ ap unsignedRead (c .before .before .n4 .given .1)) refl (c .over10 .result) (c .over10 .ensures))
-    (λ c. search needs))
+    (tie.spec (λ c. search needs) (λ c. search needs)
+    (λ c κs. search needs) (λ c. search needs) (λ c. search needs) returns (λ c κs. search needs) (λ c κs. search needs)
+    (λ c κs. search needs) (λ c. search needs) (λ c. search needs) returns-2 (λ c κs. search needs) (λ c κs. search needs)
+    (λ c κs. search needs) (λ c. search needs) (λ c. search needs) returns-3 (λ c κs. search needs) (λ c κs. search needs)
+    (λ c κs. search needs) (λ c κs. search needs)
+    (λ c κs. search needs) (λ c. search needs) (λ c. search needs) returns-4 pick-requires (λ c κs. search needs)
+    (λ c κs. search needs) (λ c κs. search needs) returns-5 returns-6 returns-7 returns-8 returns-9 returns-10 returns-11 returns-12)

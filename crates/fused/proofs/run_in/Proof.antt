@@ -5,7 +5,7 @@ use native.Mathlib.Omega.{arith}
 use borrow.Author.Needs.{needs}
 use lib.ListN.{length}
 use Rattle.bytecode.proofs.RoundTrip.{fetch-next}
-use Rattle.fused.proofs.Fusing.{Fusing, moved, moved-refused, fusing-begins, fusing-goes, fusing-stops, fusing-ends}
+use Rattle.fused.proofs.Fusing.{Fusing, moved, moved-refused, moved-broken, fusing-begins, fusing-goes, fusing-breaks, fusing-stops, fusing-ends, fusing-misses}
 use Rattle.fused.proofs.run_in.Statement.{statement}
 use Rattle.fused.proofs.run_in.Tie as tie
 
@@ -15,13 +15,11 @@ Inv-loop code low high prev cur₀ vals₀ inputs b₀ steps₀ cur vals b steps
 abbrev μ-loop : tie.MeasureT-loop
 μ-loop code low high prev cur₀ vals₀ inputs b₀ steps₀ cur vals b steps = length code - b .at
 
-fresh-requires : tie.Need-fresh-requires Inv-loop μ-loop
-fresh-requires c κs = omega (arith, c .before .pre .1 .0, c .before .pre .1 .1)
+initial-requires : tie.Need-initial-requires Inv-loop μ-loop
+initial-requires c κs = omega (arith, c .before .pre .1 .0, c .before .pre .1 .1)
 
 loop-holds : tie.Need-loop-holds Inv-loop μ-loop
-loop-holds c =
-    let pre = c .before .before .pre in
-    rw (c .fresh .ensures) (fusing-begins _ _ _ _ _ _ _ (pre .0) (pre .1 .0) (pre .1 .1) (pre .1 .2))
+loop-holds c = rw (c .initial .ensures) (fusing-begins _ _ _ _ _ _ _ (c .before .before .pre .0) (c .before .before .pre .1 .0) (c .before .before .pre .1 .1) (c .before .before .pre .1 .2))
 
 advance-one-requires : tie.Need-advance-one-requires Inv-loop μ-loop
 advance-one-requires c κs = (c .before .before .before .before .loop .inv .ready, c .before .before .if1 .taken)
@@ -73,17 +71,25 @@ returns c =
     fusing-stops inv _ _ (at-if1 .if1 .taken) (moved-refused inv _ _ (at-one .advance-one .result) _ _ (at-one .advance-one .ensures) (c .before .before .before .m2 .given .1)) _
     (c .refused .result) (c .refused .ensures)
 
+returns-2 : tie.Need-returns-2 Inv-loop μ-loop
+returns-2 c =
+    let inv = c .before .before .before .before .before .before .before .before .before .loop .inv in
+    (fusing-breaks inv _ (moved-broken inv _ _ (c .before .before .before .before .advance-one .result) (c .before .before .before .before .advance-one .ensures) (c .enum-told .given .1)), omega (arith, c .before .before .before .before .before .before .before .if1 .taken))
+
 complete-requires : tie.Need-complete-requires Inv-loop μ-loop
 complete-requires c κs = c .before .before .before .loop .inv .ready .small
 
 returns-3 : tie.Need-returns-3 Inv-loop μ-loop
 returns-3 c = fusing-ends (c .before .before .before .before .before .loop .inv) (c .before .before .before .if1 .left) (sym (c .if2 .taken) ∙ c .before .complete .ensures)
 
+returns-4 : tie.Need-returns-4 Inv-loop μ-loop
+returns-4 c = (fusing-misses (c .before .before .before .before .before .loop .inv) (c .before .before .before .if1 .left) (sym (c .if2 .left) ∙ c .before .complete .ensures), omega arith)
+
 pub run-in-spec : {M : Type 1} → statement M
 run-in-spec =
     tie.close
     (tie.spec Inv-loop μ-loop
-    fresh-requires loop-holds advance-one-requires (λ c. search needs) add-steps loop-less loop-again
+    initial-requires loop-holds advance-one-requires (λ c. search needs) add-steps loop-less loop-again
     (λ c. search needs) add-refused refused-requires (λ c. search needs) (λ c. search needs) returns
-    (λ c. search needs) (λ c. search needs) (λ c. search needs) (λ c. tt)
-    complete-requires (λ c. search needs) (λ c. search needs) returns-3 (λ c. search needs) (λ c. search needs) (λ c. tt))
+    (λ c. search needs) (λ c. search needs) (λ c. search needs) returns-2
+    complete-requires (λ c. search needs) (λ c. search needs) returns-3 (λ c. search needs) (λ c. search needs) returns-4)
