@@ -13,7 +13,8 @@ use Rattle.arith.specs.Flags.{flagsOf}
 use Rattle.arith.specs.Values.{ok}
 use Rattle.semantics.specs.Program.{Range}
 use Rattle.bytecode.specs.Instructions.{Instruction, instructionOf, decoded, fetch}
-use Rattle.bytecode.specs.Check.{Sort, known}
+use Rattle.bytecode.specs.Signature.{Sort}
+use Rattle.bytecode.specs.Check.{known}
 use Rattle.bytecode.proofs.Soundness.{none≢some}
 use Rattle.bytecode.proofs.Codes.{comparison-of, none-above, past}
 use Rattle.checker.specs.declared.advance.Advanced.{Advanced}
