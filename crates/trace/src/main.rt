@@ -4,7 +4,10 @@ use libc::STDIN_FILENO;
 use libc::STDOUT_FILENO;
 use tracer::Tracer;
 ghost use Prim.Native.Nat.{_≤_};
+ghost use mathlib.Core.Path.{_≡_};
+ghost use mathlib.Core.Bool.{true};
 ghost use lib.ListN.{length};
+ghost use Rattle.tracer.specs.Session.{sessionOf, fedOver};
 
 // Behind a part of the input, and whether all output was written.
 struct Progress {
@@ -32,7 +35,10 @@ fn trace_part(
     first: Tracer,
     part: &[u8],
     out: &mut [u8; tracer::OUTPUT_ROOM],
-) -> Progress {
+) -> Progress
+    ensures { λ r. ⌜ (r .«is_written» ≡ true → sessionOf (r .tracer) (now (text .exit)) (now (image .exit)) (now (state .exit)) (now (cells .exit))
+        ≡ fedOver (sessionOf first (now (text .entry)) (now (image .entry)) (now (state .entry)) (now (cells .entry))) (now (part .entry))) ⌝ }
+{
     let mut s = first;
     let mut at = 0;
     while at < part.len() {

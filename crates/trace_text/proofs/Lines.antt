@@ -1,13 +1,33 @@
 -- A line read byte by byte. Assumes nothing.
 use mathlib.Core.Path.{_≡_, refl}
-use mathlib.Core.Bool.{Bool, true, false, _&&_, false≢true}
+use mathlib.Core.Bool.{Bool, true, false, _&&_, cond, false≢true}
 use mathlib.Core.List.{List, [], _∷_, _++_}
-use Prim.Native.Nat.{ℕ, _<_}
-use lib.Dec.{ltb}
+use Prim.Native.Nat.{ℕ, suc, _<_}
+use lib.Dec.{eqb, ltb}
 use lib.IntN.{ℤ}
 use borrow.Author.Tests.{ltb-true}
 use Rattle.trace_text.specs.declared.Line.{Line}
-use Rattle.trace_text.specs.Internal.{lineAfter, cellsAfter, lineOver, cellsOver, inRange, counts, cellsEnd}
+use Rattle.trace_text.specs.Internal.{lineAfter, cellsAfter, inRange, counts, cellsEnd}
+
+-- ---- the bytes of a line, and of one that may go on
+
+unfoldable pub lineOver : Line → List ℕ → Line
+lineOver s [] = s
+lineOver s (b ∷ line) = lineOver (lineAfter s b) line
+
+unfoldable pub cellsOver : Line → List ℤ → List ℕ → List ℤ
+cellsOver s cells [] = cells
+cellsOver s cells (b ∷ line) = cellsOver (lineAfter s b) (cellsAfter s cells b) line
+
+-- the bytes of the line, its LF included
+unfoldable pub bytesIn : List ℕ → ℕ
+bytesIn [] = 0
+bytesIn (b ∷ line) = let more = suc (bytesIn line) in cond (eqb b 10) 1 more
+
+-- LF ends it
+unfoldable pub isEnded : List ℕ → Bool
+isEnded [] = false
+isEnded (b ∷ line) = let more = isEnded line in cond (eqb b 10) true more
 
 -- ---- bytes read one after the other: what a ++ b comes to is what b comes to after a
 

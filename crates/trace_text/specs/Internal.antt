@@ -96,14 +96,6 @@ cellsAfter (Minus n) cells b = cells
 cellsAfter (Number n negative v) cells b = cond (eqb b 32) (cellsEnd n negative v cells) cells
 cellsAfter NoRow cells b = cells
 
-unfoldable pub lineOver : Line → List ℕ → Line
-lineOver s [] = s
-lineOver s (b ∷ line) = lineOver (lineAfter s b) line
-
-unfoldable pub cellsOver : Line → List ℤ → List ℕ → List ℤ
-cellsOver s cells [] = cells
-cellsOver s cells (b ∷ line) = cellsOver (lineAfter s b) (cellsAfter s cells b) line
-
 -- where the line ends: how many numbers scan is handed, and the cells that hold them
 unfoldable pub countOf : Line → ℕ
 countOf Start = 0
@@ -130,15 +122,3 @@ isBegun (Wanted n) = true
 isBegun (Minus n) = true
 isBegun (Number n negative v) = true
 isBegun NoRow = true
-
--- ---- a line in a chunk
-
--- the bytes of the line, its LF included
-unfoldable pub bytesIn : List ℕ → ℕ
-bytesIn [] = 0
-bytesIn (b ∷ line) = let more = suc (bytesIn line) in cond (eqb b 10) 1 more
-
--- LF ends it
-unfoldable pub isEnded : List ℕ → Bool
-isEnded [] = false
-isEnded (b ∷ line) = let more = isEnded line in cond (eqb b 10) true more

@@ -1,12 +1,12 @@
 -- Any sequence of calls comes to `printed`. Assumes nothing.
 use mathlib.Core.Path.{_≡_, refl, sym, ap, _∙_}
 use mathlib.Core.Bool.{Bool, true, false}
-use mathlib.Core.List.{List, [], _++_, map}
+use mathlib.Core.List.{List, [], _++_, map, append-assoc}
 use Prim.Native.Nat.{ℕ, _+_, _≤_, _<_}
 use native.Mathlib.Omega.{arith}
 use lib.Dec.{leb, ltb}
 use lib.IntN.{ℤ}
-use lib.ListN.{length, take, drop, length-map}
+use lib.ListN.{length, take, drop, length-map, take-append-drop}
 use borrow.Author.Tests.{leb-true, leb-false, lt-ltb}
 use Rattle.limits.specs.Limits.{textLimit, tooLong}
 use Rattle.limits.specs.Answer.{Answer, accepted, refused}
@@ -25,8 +25,9 @@ use Rattle.trace_text.specs.Internal.{textOver, bytesBefore}
 use Rattle.trace_text.proofs.Splitting.{text-split, text-seen, text-over}
 use Rattle.trace_text.proofs.Handed.{rows-handed}
 use Rattle.tracer.specs.Printed.{opening, closing, replyLines, printed}
-use Rattle.tracer.specs.Session.{textRoom, inText, behindText}
-use Rattle.tracer.specs.Calls.{Calls}
+use Rattle.tracer.specs.Session.{textRoom, Session, inText, behindText}
+use Rattle.tracer.specs.Post.{Takes}
+use Rattle.tracer.specs.Calls.{Calls, call}
 use Rattle.tracer.proofs.Feeding.{total, scanLines, calls-total, rows-total, lines-replies, passed-total, text-total}
 
 -- ---- a text that is cut is over its limit as it was
@@ -42,6 +43,14 @@ cut-program text = by (leb (length text) textLimit) refl where
   by false e =
       let h : textLimit < length text = leb-false _ _ e in
       over-limit (take textRoom text) (text-over text h) ∙ sym (over-limit text h)
+
+-- ---- a call as its contract says it: of a part it takes some bytes, and the rest is left for the next
+
+pub taken-call : {room : ℕ} {s : Session} (part : List ℕ) {n : ℕ} {t : Session} {out : List ℕ} {put : ℕ} → Takes room s part n t out put
+    → (left : List ℕ) {more : List ℕ} → Calls t (drop n part ++ left) more → Calls s (part ++ left) (take put out ++ more)
+taken-call part {n} h left c =
+    let e : take n part ++ (drop n part ++ left) ≡ part ++ left = sym (append-assoc (take n part) (drop n part) left) ∙ ap (λ (x : List ℕ). x ++ left) (take-append-drop n part) in
+    rw (h .output, ← e) (call (take n part) (rw (h .session) at c))
 
 -- ---- behind the text
 

@@ -1,10 +1,9 @@
 // The trace program without its input and output: it is fed standard input in parts, and puts out the bytes to print.
-use scan::Scanned;
 use trace_text::Line;
 use trace_text::Split;
 use trace_text::Stage;
 use translate::Analysis;
-ghost use Prim.Native.Nat.{_+_, _≤_};
+ghost use Prim.Native.Nat.{_≤_};
 ghost use mathlib.Core.Path.{_≡_};
 ghost use mathlib.Core.Bool.{false};
 ghost use mathlib.Core.List.{List};
@@ -14,21 +13,16 @@ ghost use Rattle.limits.specs.Answer.{accepted};
 ghost use Rattle.declarations.specs.Post.{Room};
 ghost use Rattle.semantics.specs.Program.{Program};
 ghost use Rattle.grammar.specs.Parse.{programOf};
-ghost use Rattle.scan.specs.Services.{scanOf};
-ghost use Rattle.scan.specs.Results.{scanAnswer};
-ghost use Rattle.correctness.specs.TraceCorrect.{verdictOf};
-ghost use Rattle.trace_text.specs.Internal.{isRows, handedRow, cellsOf};
-ghost use Rattle.tracer.specs.Printed.{refusalOf};
-ghost use Rattle.tracer.specs.Session.{Session, textRoom, lineRoom, sessionOf, nextNumber, scanLine, after, putBy, atEnd};
-ghost use Rattle.tracer.specs.Post.{Memory, PutWhole, Accepts, Begins, Opens, Takes};
+ghost use Rattle.trace_text.specs.Internal.{isRows};
+ghost use Rattle.tracer.specs.Session.{Session, textRoom, lineRoom, sessionOf, atEnd};
+ghost use Rattle.tracer.specs.Post.{Memory, Accepts, Begins, Opens, Takes};
+
+mod rows;
 
 // One byte more than a text may have, so that a longer one is refused.
 pub const TEXT_ROOM: usize = 32769;
 
 pub const OUTPUT_ROOM: usize = 65536;
-
-// Room for a line, and for the head with the start's line.
-const LINE_ROOM: usize = 2048;
 
 // Where the program stands between two parts of its input.
 pub enum Tracer {
@@ -49,135 +43,6 @@ pub struct Fed {
 struct Opened {
     tracer: Tracer,
     put: usize,
-}
-
-// Behind a byte of the rows, with the end of the bytes put out.
-struct Traced {
-    line: Line,
-    number: u64,
-    put: usize,
-}
-
-// The same behind a part of them.
-struct FedRows {
-    line: Line,
-    number: u64,
-    taken: usize,
-    put: usize,
-}
-
-fn scan_number(r: Scanned) -> u64
-    ensures { λ n. ⌜ n ≡ refusalOf (verdictOf (scanAnswer r)) ⌝ }
-{
-    match r {
-        Scanned::Done(_) => 0,
-        Scanned::Refused(number, _, _) => number as u64,
-    }
-}
-
-// Every line is a row, and counts.
-fn next_number(number: u64) -> u64
-    ensures { λ r. ⌜ r ≡ nextNumber number ⌝ }
-{
-    if number < u64::MAX {
-        return number + 1;
-    }
-    number
-}
-
-// A line that has ended: its row is scanned, and the state it leaves printed.
-fn trace_row(
-    image: &[u8],
-    state: &mut [i32],
-    cells: &mut [i32],
-    line: Line,
-    number: u64,
-    out: &mut [u8],
-    at: usize,
-) -> usize
-    requires { ⌜ (65 ≤ length (now cells)) × (length (now state) ≤ 64) × (at + lineRoom ≤ length (now out)) ⌝ }
-    ensures { λ r. ⌜ now (state .exit) ≡ scanOf (now (image .entry)) (now (state .entry)) (handedRow line (now (cells .entry))) .state ⌝ }
-    ensures { λ r. ⌜ now (cells .exit) ≡ cellsOf line (now (cells .entry)) ⌝ }
-    ensures { λ r. ⌜ PutWhole (now (out .entry)) at (scanLine number (scanOf (now (image .entry)) (now (state .entry)) (handedRow line (now (cells .entry))))) (now (out .exit)) r ⌝ }
-{
-    let count = trace_text::line_end(cells, line);
-    let scanned = scan::scan(image, state, &cells[..count]);
-    trace_text::print::put_row(out, at, number, state, scan_number(scanned))
-}
-
-// One byte of the rows.
-fn trace_byte(
-    image: &[u8],
-    state: &mut [i32],
-    cells: &mut [i32],
-    line: Line,
-    number: u64,
-    b: u8,
-    out: &mut [u8],
-    at: usize,
-) -> Traced
-    requires { ⌜ (65 ≤ length (now cells)) × (length (now state) ≤ 64) × (at + lineRoom ≤ length (now out)) ⌝ }
-    ensures { λ r. ⌜ Session.inRows (now (image .entry)) (now (state .exit)) (r .line) (now (cells .exit)) (r .number)
-        ≡ after (Session.inRows (now (image .entry)) (now (state .entry)) line (now (cells .entry)) number) b ⌝ }
-    ensures { λ r. ⌜ PutWhole (now (out .entry)) at (putBy (Session.inRows (now (image .entry)) (now (state .entry)) line (now (cells .entry)) number) b) (now (out .exit)) (r .put) ⌝ }
-{
-    if b != 10 {
-        let more = trace_text::line_byte(cells, line, b);
-        return Traced {
-            line: more,
-            number,
-            put: at,
-        };
-    }
-    let next = next_number(number);
-    let put = trace_row(image, state, cells, line, next, out, at);
-    Traced {
-        line: Line::Start,
-        number: next,
-        put,
-    }
-}
-
-// The bytes of a part that lie in the rows, as far as there is room for another line.
-fn feed_rows(
-    image: &[u8],
-    state: &mut [i32],
-    cells: &mut [i32],
-    begun: Line,
-    last: u64,
-    part: &[u8],
-    out: &mut [u8],
-) -> FedRows
-    requires { ⌜ (65 ≤ length (now cells)) × (length (now state) ≤ 64) × (lineRoom ≤ length (now out)) ⌝ }
-    ensures { λ r. ⌜ Takes (length (now (out .entry)))
-        (Session.inRows (now (image .entry)) (now (state .entry)) begun (now (cells .entry)) last) (now (part .entry)) (r .taken)
-        (Session.inRows (now (image .entry)) (now (state .exit)) (r .line) (now (cells .exit)) (r .number)) (now (out .exit)) (r .put) ⌝ }
-{
-    let mut line = begun;
-    let mut number = last;
-    let mut taken = 0;
-    let mut put = 0;
-    while taken < part.len() {
-        if out.len() - put < LINE_ROOM {
-            return FedRows {
-                line,
-                number,
-                taken,
-                put,
-            };
-        }
-        let traced = trace_byte(image, state, cells, line, number, part[taken], out, put);
-        line = traced.line;
-        number = traced.number;
-        put = traced.put;
-        taken += 1;
-    }
-    FedRows {
-        line,
-        number,
-        taken,
-        put,
-    }
 }
 
 // An accepted text: its image, the start, and their lines put out.
@@ -309,7 +174,7 @@ fn feed_in(
         Tracer::Rows(size, names, line, number) => {
             let end = trace_text::print::clip(image.len(), size);
             let n = trace_text::print::clip(state.len(), names);
-            let fed = feed_rows(
+            let fed = rows::feed_rows(
                 &image[..end],
                 &mut state[..n],
                 cells,
@@ -355,8 +220,8 @@ fn finish_in(
             }
             let end = trace_text::print::clip(image.len(), size);
             let n = trace_text::print::clip(state.len(), names);
-            let next = next_number(number);
-            trace_row(&image[..end], &mut state[..n], cells, line, next, out, 0)
+            let next = rows::next_number(number);
+            rows::trace_row(&image[..end], &mut state[..n], cells, line, next, out, 0)
         }
     }
 }

@@ -1,11 +1,11 @@
--- `tracer::trace_row` meets its contract: its line is that of the scan. Assumes nothing.
+-- `tracer::rows::trace_row` meets its contract: its line is that of the scan. Assumes nothing.
 use native.Mathlib.Omega.{arith}
 use mathlib.Core.Path.{sym}
 use lib.Seq.{length-take-le}
 use Rattle.tracer.proofs.Lines.{count-inside, row-traced}
 use borrow.Author.Needs.{needs}
-use Rattle.tracer.proofs.trace_row.Statement.{statement}
-use Rattle.tracer.proofs.trace_row.Tie as tie
+use Rattle.tracer.proofs.rows.trace_row.Statement.{statement}
+use Rattle.tracer.proofs.rows.trace_row.Tie as tie
 
 slice-reshare-prefix-scan : tie.Need-slice-reshare-prefix-scan
 slice-reshare-prefix-scan c = count-inside _ (c .before .before .line-end .ensures .0) (c .before .cells .given) (c .before .before .before .before .before .before .pre .0)

@@ -1,9 +1,9 @@
--- `tracer::next_number` meets its contract. Assumes nothing.
+-- `tracer::rows::next_number` meets its contract. Assumes nothing.
 use borrow.Author.Tests.{lt-ltb, le-ltb}
 use Rattle.tracer.specs.Session.{nextNumber}
 use borrow.Author.Needs.{needs}
-use Rattle.tracer.proofs.next_number.Statement.{statement}
-use Rattle.tracer.proofs.next_number.Tie as tie
+use Rattle.tracer.proofs.rows.next_number.Statement.{statement}
+use Rattle.tracer.proofs.rows.next_number.Tie as tie
 
 returns : tie.Need-returns
 unfolding nextNumber

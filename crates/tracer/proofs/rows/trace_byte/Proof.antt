@@ -1,9 +1,9 @@
--- `tracer::trace_byte` meets its contract: one law for LF, one for the other bytes. Assumes nothing.
+-- `tracer::rows::trace_byte` meets its contract: one law for LF, one for the other bytes. Assumes nothing.
 use native.Mathlib.Omega.{arith}
 use Rattle.tracer.proofs.Lines.{byte-ends, byte-more}
 use borrow.Author.Needs.{needs}
-use Rattle.tracer.proofs.trace_byte.Statement.{statement}
-use Rattle.tracer.proofs.trace_byte.Tie as tie
+use Rattle.tracer.proofs.rows.trace_byte.Statement.{statement}
+use Rattle.tracer.proofs.rows.trace_byte.Tie as tie
 
 returns : tie.Need-returns
 returns c = byte-more _ _ _ _ _ _ (c .before .before .before .if1 .taken) _ (omega (arith, c .before .before .before .before .before .before .pre .2)) (c .before .line-byte .ensures .0) (c .before .line-byte .ensures .1)

@@ -1,4 +1,4 @@
--- `tracer::feed_rows` meets its contract: what is left of the part makes the whole. Assumes nothing.
+-- `tracer::rows::feed_rows` meets its contract: what is left of the part makes the whole. Assumes nothing.
 use Prim.Native.Nat.{_-_}
 use native.Mathlib.Omega.{arith}
 use mathlib.Core.Path.{_≡_, refl, _∙_}
@@ -7,8 +7,8 @@ use Rattle.trace_text.proofs.Lengths.{turn-less}
 use Rattle.tracer.specs.Session.{inRows}
 use Rattle.tracer.proofs.Taking.{Taking, taking, taking-byte, taking-all, taking-full, rows-taken}
 use borrow.Author.Needs.{needs}
-use Rattle.tracer.proofs.feed_rows.Statement.{statement}
-use Rattle.tracer.proofs.feed_rows.Tie as tie
+use Rattle.tracer.proofs.rows.feed_rows.Statement.{statement}
+use Rattle.tracer.proofs.rows.feed_rows.Tie as tie
 
 abbrev Inv-loop : tie.InvT-loop
 Inv-loop image state₀ cells₀ last part out₀ line₀ number₀ taken₀ put₀ state cells out line number taken put =
