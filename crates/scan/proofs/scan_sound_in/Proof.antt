@@ -1,9 +1,9 @@
--- `scan::scan_code_in` meets its contract. The run works on a copy; the laws are those of Scanning. Assumes nothing.
+-- `scan::scan_sound_in` meets its contract. The run works on a copy; the laws are those of Scanning. Assumes nothing.
 use native.Mathlib.Omega.{arith}
 use borrow.Author.Needs.{needs}
 use Rattle.scan.proofs.Scanning.{code-done, code-refused}
-use Rattle.scan.proofs.scan_code_in.Statement.{statement}
-use Rattle.scan.proofs.scan_code_in.Tie as tie
+use Rattle.scan.proofs.scan_sound_in.Statement.{statement}
+use Rattle.scan.proofs.scan_sound_in.Tie as tie
 
 returns : tie.Need-returns
 returns c =
@@ -31,7 +31,7 @@ returns-2 c =
       (omega arith, ran .ensures .1),
     )
 
-pub scan-code-in-spec : {M : Type 1} → statement M
-scan-code-in-spec =
+pub scan-sound-in-spec : {M : Type 1} → statement M
+scan-sound-in-spec =
     tie.close
     (tie.spec (λ c κs. search needs) (λ c κs. search needs) (λ c. search needs) (λ c κs. search needs) (λ c. search needs) (λ c. search needs) (λ c. search needs) (λ c. search needs) returns (λ c. search needs) (λ c. search needs) (λ c. search needs) returns-2)
