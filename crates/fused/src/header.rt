@@ -1,31 +1,44 @@
 // The ranges of a header, checked and stored in one pass.
-ghost use mathlib.Core.Path.{_≡_};
-ghost use mathlib.Core.Bool.{true, false};
 ghost use Prim.Native.Nat.{_≤_};
 ghost use lib.ListN.{length};
-ghost use lib.Signed.{ltZ};
-ghost use Rattle.fused.specs.Header.{PlacedBy};
+ghost use Rattle.fused.specs.Header.{FittedBy, PlacedBy};
 
-// The place where the code begins.
-pub enum Placed {
-    Code(usize),
-    Doubt,
+// Low, high and start of a name, and the place behind them; or the place of the number that breaks the range.
+pub enum Fitted {
+    Range(i32, i32, i32, usize),
+    Broken(usize),
 }
 
-// low ≤ start ≤ high.
-fn is_range(low: i32, high: i32, start: i32) -> bool
-    ensures { λ r. ⌜ (r ≡ true → (ltZ high low ≡ false) × (ltZ start low ≡ false) × (ltZ high start ≡ false)) ⌝ }
+// Low over high breaks at high, a start outside at start.
+fn fitting(image: &[u8], at: usize) -> Fitted
+    requires { ⌜ at ≤ length (now image) ⌝ }
+    ensures { λ r. ⌜ FittedBy (now (image .entry)) at r ⌝ }
 {
+    let leb128::Signed::Number(low, second) = leb128::signed_at(image, at) else {
+        return Fitted::Broken(at);
+    };
+    let leb128::Signed::Number(high, third) = leb128::signed_at(image, second) else {
+        return Fitted::Broken(second);
+    };
     if high < low {
-        return false;
+        return Fitted::Broken(second);
     }
+    let leb128::Signed::Number(start, next) = leb128::signed_at(image, third) else {
+        return Fitted::Broken(third);
+    };
     if start < low {
-        return false;
+        return Fitted::Broken(third);
     }
     if high < start {
-        return false;
+        return Fitted::Broken(third);
     }
-    true
+    Fitted::Range(low, high, start, next)
+}
+
+// The place where the code begins, or that of the first number that breaks a range.
+pub enum Placed {
+    Code(usize),
+    Broken(usize),
 }
 
 // Lows and highs of so many names from a place on.
@@ -36,16 +49,17 @@ pub fn ranges(image: &[u8], first: usize, names: usize, low: &mut [i32], high: &
     let mut i = 0;
     let mut place = first;
     while i < names {
-        let bytecode::RangeRead::Range(l, h, z, next) = bytecode::range_at(image, place) else {
-            return Placed::Doubt;
-        };
-        if !is_range(l, h, z) {
-            return Placed::Doubt;
+        match fitting(image, place) {
+            Fitted::Broken(at) => {
+                return Placed::Broken(at);
+            }
+            Fitted::Range(l, h, _, next) => {
+                low[i] = l;
+                high[i] = h;
+                place = next;
+                i += 1;
+            }
         }
-        low[i] = l;
-        high[i] = h;
-        place = next;
-        i += 1;
     }
     Placed::Code(place)
 }

@@ -17,7 +17,7 @@ use Rattle.bytecode.proofs.SoundHeader.{SoundCounts}
 use Rattle.machine.specs.Memory.{RangesIn}
 use Rattle.scan.specs.Services.{startOf, scanCode, scanOf}
 use Rattle.scan.specs.Results.{afterStart, afterScan}
-use Rattle.scan.specs.Internal.{scannedFrom, Announced}
+use Rattle.scan.specs.Internal.{scannedFrom}
 use Rattle.scan.specs.declared.Started.the-variants as S
 use Rattle.scan.specs.declared.Scanned.the-variants as R
 
@@ -76,15 +76,6 @@ module _ (image : List ℕ) (found : State) (row : List ℤ) (sound : checkOf im
   scan-wrong-row h n = rw (sound, k .names-are, eq-eqb (length found) names h, k .inputs-are, ne-eqb (length row) inputs n)
 
   module _ (h : length found ≡ names) (n : length row ≡ inputs) where
-    pub announced : Announced image first found row
-    announced =
-        record {
-          few = omega (arith, k .few);
-          rows = omega (arith, k .among);
-          ranges = rw (h, k .ranges-are) (k .names-are);
-          inside = rw h (k .inside);
-        }
-
     pub scan-from : scannedFrom image first found row ≡ scanOf image found row
     unfolding scanOf scanCode codeOf
     scan-from = rw (sound, k .names-are, k .inputs-are, eq-eqb (length found) names h, eq-eqb (length row) inputs n, h, k .ranges-are, k .place-is)

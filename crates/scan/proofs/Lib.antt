@@ -1,4 +1,4 @@
 pub mod Scanning
 pub mod Images
-pub mod Attempting
+pub mod Joined
 pub mod SoundScans

@@ -14,10 +14,9 @@ use Rattle.machine.specs.declared.Stepped.the-variants.{Next, Refused}
 use Rattle.machine.specs.Runs.{run}
 use Rattle.machine.specs.Memory.{heldOf, machineOf, ranOf, RangesIn}
 use Rattle.machine.proofs.Copies.{over-all, length-over}
-use Rattle.attempt.specs.Attempts.{ranOn}
 use Rattle.scan.specs.declared.Scanned.{Scanned}
 use Rattle.scan.specs.Results.{afterScan, ScannedWithin}
-use Rattle.scan.specs.Internal.{scannedCode, Scratch}
+use Rattle.scan.specs.Internal.{ranOn, scannedCode}
 use Rattle.scan.specs.declared.Scanned.the-variants as R
 
 -- nothing held, nothing picked, nothing passed over
@@ -39,19 +38,3 @@ module _ (code : List ℕ) (low high found row w vals vs ws : List ℤ) (e : Exe
 
   pub code-refused : (k : ℕ) → e .last ≡ Refused k → (ns : List Range) → RangesIn ns low high → afterScan (R.Refused k 0 (e .steps)) found ≡ scannedCode ns code found row
   code-refused k l ns r = rw (← run-was ns r, l)
-
--- ---- the memory lent
-
--- lent memory keeps its lengths
-pub scratch-kept : (s l h w s₁ l₁ h₁ w₁ : List ℤ) → length s₁ ≡ length s → length l₁ ≡ length l → length h₁ ≡ length h → length w₁ ≡ length w → Scratch s l h w → Scratch s₁ l₁ h₁ w₁
-scratch-kept s l h w s₁ l₁ h₁ w₁ es el eh ew room = record {
-  lows = λ few. omega (arith, es, el, room .lows (omega (arith, es, few)));
-  highs = λ few. omega (arith, es, eh, room .highs (omega (arith, es, few)));
-  copies = λ few. omega (arith, es, ew, room .copies (omega (arith, es, few)));
-}
-
--- ---- how large the numbers are
-
-pub within-more : (a b : ℕ) (r : Scanned) → a ≤ b → ScannedWithin a r → ScannedWithin b r
-within-more a b (R.Done n) h w = omega arith
-within-more a b (R.Refused number place n) h w = (omega arith, omega arith)

@@ -1,16 +1,43 @@
 -- The parts of a scan as the running code works them: auxiliary definitions for proofs. Assumes nothing.
 use mathlib.Core.Path.{_≡_}
-use mathlib.Core.List.{List}
+use mathlib.Core.Bool.{false}
+use mathlib.Core.List.{List, []}
+use mathlib.Core.Option.{none}
 use Prim.Native.Nat.{ℕ, _≤_}
 use lib.IntN.{ℤ}
 use lib.ListN.{length, drop}
-use Rattle.limits.specs.Limits.{nameLimit, stateOutOfRange, inputOutOfRange}
-use Rattle.semantics.specs.Program.{Range}
+use Rattle.limits.specs.Limits.{nameLimit, imageLimit, stateOutOfRange, inputOutOfRange}
+use Rattle.limits.specs.Answer.{Answer, accepted, refused, _andThen_}
+use Rattle.semantics.specs.Program.{Range, knownFirst}
 use Rattle.semantics.specs.Formula.{State}
-use Rattle.semantics.specs.ReferenceScan.{allWithin}
-use Rattle.bytecode.specs.Counting.{rangesFrom, rangesEnd}
-use Rattle.attempt.specs.Attempts.{ranOn}
-use Rattle.scan.specs.Services.{AfterScan, finished, testedScan}
+use Rattle.semantics.specs.ReferenceScan.{allWithin, withInputs}
+use Rattle.bytecode.specs.Check.{known, checkCounts, checkHeader, checkCode}
+use Rattle.bytecode.specs.Counting.{extentOf, rangesFrom, rangesEnd}
+use Rattle.bytecode.specs.Results.{Extends}
+use Rattle.machine.specs.Step.{machine}
+use Rattle.machine.specs.Runs.{Ran, run}
+use Rattle.scan.specs.Services.{AfterScan, refusedScan, finished, testedScan}
+
+-- ---- the memory
+
+-- A low, a high and a copy for each value of the state, no more inputs than names.
+pub record Fitting (state row low high copy : List ℤ) : Type 0 where
+  pub rows : length row ≤ length state
+  pub lows : length low ≡ length state
+  pub highs : length high ≡ length state
+  pub copies : length copy ≡ length state
+
+-- A low, a high and a copy for each value of a state of at most 64; of a longer state the names differ, and nothing is stored.
+pub record Scratch (state low high work : List ℤ) : Type 0 where
+  pub lows : length state ≤ nameLimit → length state ≤ length low
+  pub highs : length state ≤ nameLimit → length state ≤ length high
+  pub copies : length state ≤ nameLimit → length state ≤ length work
+
+-- ---- the code
+
+-- the run of a code with the ranges of its names
+abbrev pub ranOn : List Range → List ℕ → State → List ℤ → Ran
+ranOn ns code found row = run ns found code (length code) 0 0 (machine false false [] (withInputs found row))
 
 abbrev pub scannedCode : List Range → List ℕ → State → List ℤ → AfterScan
 scannedCode ns code found row = finished found (ranOn ns code found row .steps) (ranOn ns code found row .last)
@@ -20,20 +47,32 @@ abbrev pub scannedIn : List Range → List ℕ → State → List ℤ → AfterS
 scannedIn ns code found row =
     testedScan (allWithin ns found) stateOutOfRange found (testedScan (allWithin ns row) inputOutOfRange found (scannedCode ns code found row))
 
--- A low, a high and a copy for each value of a state of at most 64; of a longer state the names differ, and nothing is stored.
-pub record Scratch (state low high work : List ℤ) : Type 0 where
-  pub lows : length state ≤ nameLimit → length state ≤ length low
-  pub highs : length state ≤ nameLimit → length state ≤ length high
-  pub copies : length state ≤ nameLimit → length state ≤ length work
+-- what a check refuses comes first
+abbrev pub scannedBy : Answer (Unit {0}) → State → AfterScan → AfterScan
+scannedBy (refused number place) found r = refusedScan number place 0 found
+scannedBy (accepted u) found r = r
+
+-- a code that begins at `base` of the image, checked and run
+abbrev pub scannedAt : ℕ → List Range → List ℕ → State → List ℤ → AfterScan
+scannedAt base ns code found row =
+    scannedBy (checkCode base code (length code) 0 (known [] false none (knownFirst (length row) (length found)))) found (scannedCode ns code found row)
 
 -- the ranges of as many names as the state has values, from a place on; behind them the code
 abbrev pub scannedFrom : List ℕ → ℕ → State → List ℤ → AfterScan
 scannedFrom image first found row =
     scannedIn (rangesFrom image (length found) first) (drop (rangesEnd image (length found) first) image) found row
 
--- there are as many ranges, at most 64, and no fewer names than inputs
-pub record Announced (image : List ℕ) (first : ℕ) (state row : List ℤ) : Type 0 where
-  pub few : length state ≤ nameLimit
-  pub rows : length row ≤ length state
-  pub ranges : length (rangesFrom image (length state) first) ≡ length state
-  pub inside : rangesEnd image (length state) first ≤ length image
+-- ---- the header
+
+-- so many inputs and names were read, and the place behind the counts
+pub record KnownCounts (image : List ℕ) (first inputs names : ℕ) : Type 0 where
+  pub short : length image ≤ imageLimit
+  pub counted : accepted (record { inputs = inputs; names = names; place = first }) ≡ checkCounts image
+  pub extends : Extends (length image) inputs names first
+
+-- the whole header was read, and the code begins at a place
+pub record KnownHeader (image : List ℕ) (place inputs names : ℕ) : Type 0 where
+  pub short : length image ≤ imageLimit
+  pub headed : accepted (record { inputs = inputs; names = names; place = place }) ≡ (checkHeader image andThen extentOf)
+  pub inside : place ≤ length image
+  pub few : names ≤ nameLimit

@@ -1,22 +1,23 @@
 // Starting and scanning an image: the services start and scan.
-use attempt::Attempt;
 use bytecode::Counted;
 use checker::Checked;
+use fused::Ended;
+use fused::header::Placed;
 use machine::Registers;
 use machine::Stepped;
 use machine::lists;
 ghost use mathlib.Core.Path.{_≡_};
 ghost use mathlib.Core.List.{List};
-ghost use Prim.Native.Nat.{_≤_};
-ghost use lib.ListN.{length};
-ghost use Rattle.limits.specs.Limits.{imageLimit, stackLimit};
+ghost use Prim.Native.Nat.{_+_, _≤_};
+ghost use lib.ListN.{length, drop};
+ghost use Rattle.limits.specs.Limits.{imageLimit, nameLimit, stackLimit};
 ghost use Rattle.semantics.specs.Program.{Range};
+ghost use Rattle.semantics.specs.Formula.{State};
+ghost use Rattle.bytecode.specs.Check.{checkOf};
 ghost use Rattle.machine.specs.Memory.{RangesIn};
-ghost use Rattle.attempt.specs.Attempts.{Fitting, AttemptWithin};
-ghost use Rattle.scan.specs.Services.{startOf, scanOf};
+ghost use Rattle.scan.specs.Services.{startOf, refusedScan, scanOf};
 ghost use Rattle.scan.specs.Results.{afterStart, StartedWithin, afterScan, ScannedWithin};
-ghost use Rattle.scan.specs.Internal.{scannedCode, scannedIn, scannedFrom, Scratch, Announced};
-ghost use Rattle.scan.specs.Attempts.{Tried, SoundFromBy, Beginning};
+ghost use Rattle.scan.specs.Internal.{Fitting, scannedCode, scannedIn, scannedBy, scannedAt, KnownHeader, KnownCounts, Scratch};
 
 // Done, or the number of a refusal and its place.
 pub enum Started {
@@ -30,8 +31,8 @@ pub enum Scanned {
     Refused(u8, usize, usize),
 }
 
-// The code on a copy of the state, in lent memory; the state is written once, at success.
-fn scan_code_in(
+// The run of an image known to be sound, on a copy of the state in lent memory; the state is written once, at success.
+fn scan_sound_in(
     code: &[u8],
     state: &mut [i32],
     row: &[i32],
@@ -64,7 +65,7 @@ fn scan_code_in(
 }
 
 // The same, with a stack of its own for the values held.
-fn scan_code(
+pub fn scan_sound(
     code: &[u8],
     state: &mut [i32],
     row: &[i32],
@@ -78,30 +79,72 @@ fn scan_code(
     ensures { λ r. ⌜ ScannedWithin (length (now (code .entry))) r ⌝ }
 {
     let mut vals = [0i32; limits::STACK_LIMIT];
-    scan_code_in(code, state, row, low, high, work, &mut vals)
+    scan_sound_in(code, state, row, low, high, work, &mut vals)
 }
 
-// The state, then the row, then the code.
-fn scan_ranges(
+// What the check of the image answers; where it is sound, this refusal.
+fn after_check(image: &[u8], number: u8) -> Scanned
+    ensures { λ r. ⌜ ((found : State) → afterScan r found ≡ scannedBy (checkOf (now (image .entry))) found (refusedScan number 0 0 found)) ⌝ }
+    ensures { λ r. ⌜ ScannedWithin imageLimit r ⌝ }
+{
+    match checker::check(image) {
+        Checked::Refused(broken, place) => Scanned::Refused(broken, place, 0),
+        Checked::Sound => Scanned::Refused(number, 0, 0),
+    }
+}
+
+// The code, which begins at `base` of the image, checked and run in one pass on a copy of the state, which is written once, at success.
+fn scan_code(
     code: &[u8],
+    base: usize,
     state: &mut [i32],
     row: &[i32],
     low: &[i32],
     high: &[i32],
-    work: &mut [i32],
+    copy: &mut [i32],
 ) -> Scanned
-    requires { ⌜ Fitting (now state) (now row) (now low) (now high) (now work) ⌝ }
+    requires { ⌜ Fitting (now state) (now row) (now low) (now high) (now copy) ⌝ }
+    requires { ⌜ (length (now low) ≤ nameLimit) × (base + length (now code) ≤ imageLimit) ⌝ }
     ensures { λ r. ⌜ ((ns : List Range) → RangesIn ns (now (low .entry)) (now (high .entry))
-        → afterScan r (now (state .exit)) ≡ scannedIn ns (now (code .entry)) (now (state .entry)) (now (row .entry))) ⌝ }
-    ensures { λ r. ⌜ ScannedWithin (length (now (code .entry))) r ⌝ }
+        → afterScan r (now (state .exit)) ≡ scannedAt base ns (now (code .entry)) (now (state .entry)) (now (row .entry))) ⌝ }
+    ensures { λ r. ⌜ ScannedWithin imageLimit r ⌝ }
+{
+    lists::take_row(copy, state, row);
+    let ran = fused::run(code, low, high, state, copy, row.len());
+    match ran {
+        Ended::Done(n) => {
+            lists::fill(state, copy);
+            Scanned::Done(n)
+        }
+        Ended::Refused(number, n) => Scanned::Refused(number, 0, n),
+        Ended::Broken(at) => Scanned::Refused(limits::BROKEN_IMAGE, base + at, 0),
+    }
+}
+
+// The state, then the row, then the code; an image that is not sound comes first.
+fn scan_values(
+    image: &[u8],
+    place: usize,
+    state: &mut [i32],
+    row: &[i32],
+    low: &[i32],
+    high: &[i32],
+    copy: &mut [i32],
+) -> Scanned
+    requires { ⌜ Fitting (now state) (now row) (now low) (now high) (now copy) ⌝ }
+    requires { ⌜ KnownHeader (now image) place (length (now row)) (length (now state)) ⌝ }
+    ensures { λ r. ⌜ ((ns : List Range) → RangesIn ns (now (low .entry)) (now (high .entry))
+        → afterScan r (now (state .exit))
+        ≡ scannedBy (checkOf (now (image .entry))) (now (state .entry)) (scannedIn ns (drop place (now (image .entry))) (now (state .entry)) (now (row .entry)))) ⌝ }
+    ensures { λ r. ⌜ ScannedWithin imageLimit r ⌝ }
 {
     if !lists::all_in_range(low, high, state) {
-        return Scanned::Refused(limits::STATE_OUT_OF_RANGE, 0, 0);
+        return after_check(image, limits::STATE_OUT_OF_RANGE);
     }
     if !lists::all_in_range(low, high, row) {
-        return Scanned::Refused(limits::INPUT_OUT_OF_RANGE, 0, 0);
+        return after_check(image, limits::INPUT_OUT_OF_RANGE);
     }
-    scan_code(code, state, row, low, high, work)
+    scan_code(&image[place..], place, state, row, low, high, copy)
 }
 
 // The ranges of as many names as the state has values, from a place of the image on; then the values and the code behind them.
@@ -114,116 +157,27 @@ fn scan_names(
     high: &mut [i32],
     work: &mut [i32],
 ) -> Scanned
-    requires { ⌜ Announced (now image) first (now state) (now row) ⌝ }
-    requires { ⌜ Scratch (now state) (now low) (now high) (now work) ⌝ }
-    ensures { λ r. ⌜ afterScan r (now (state .exit)) ≡ scannedFrom (now (image .entry)) first (now (state .entry)) (now (row .entry)) ⌝ }
-    ensures { λ r. ⌜ ScannedWithin (length (now (image .entry))) r ⌝ }
-{
-    let names = state.len();
-    let place = bytecode::ranges(image, first, names, low, high, work);
-    scan_ranges(
-        &image[place..],
-        state,
-        row,
-        &low[..names],
-        &high[..names],
-        &mut work[..names],
-    )
-}
-
-// The plain way: the image, the lengths of state and row, then their values and the code. A sound image always has its counts.
-fn scan_plain(
-    image: &[u8],
-    state: &mut [i32],
-    row: &[i32],
-    low: &mut [i32],
-    high: &mut [i32],
-    work: &mut [i32],
-) -> Scanned
+    requires { ⌜ KnownCounts (now image) first (length (now row)) (length (now state)) ⌝ }
     requires { ⌜ Scratch (now state) (now low) (now high) (now work) ⌝ }
     ensures { λ r. ⌜ afterScan r (now (state .exit)) ≡ scanOf (now (image .entry)) (now (state .entry)) (now (row .entry)) ⌝ }
     ensures { λ r. ⌜ ScannedWithin imageLimit r ⌝ }
 {
-    let checked = checker::check(image);
-    match checked {
-        Checked::Refused(number, place) => Scanned::Refused(number, place, 0),
-        Checked::Sound => {
-            let counted = bytecode::counts(image);
-            let Counted::Counts(inputs, names, first) = counted else {
-                return Scanned::Refused(limits::BROKEN_IMAGE, 0, 0);
-            };
-            if state.len() != names {
-                return Scanned::Refused(limits::WRONG_LENGTH, 0, 0);
-            }
-            if row.len() != inputs {
-                return Scanned::Refused(limits::WRONG_LENGTH, 0, 0);
-            }
-            scan_names(image, first, state, row, low, high, work)
-        }
-    }
-}
-
-// The ranges of as many names as the state has values, from a place of the image on; then the values and the code behind them.
-fn scan_from_fused(
-    image: &[u8],
-    first: usize,
-    state: &mut [i32],
-    row: &[i32],
-    low: &mut [i32],
-    high: &mut [i32],
-    work: &mut [i32],
-) -> Attempt
-    requires { ⌜ Beginning (now image) first (now state) (now row) ⌝ }
-    requires { ⌜ Scratch (now state) (now low) (now high) (now work) ⌝ }
-    ensures { λ r. ⌜ Tried (now (state .entry)) (now (state .exit)) (scannedFrom (now (image .entry)) first (now (state .entry)) (now (row .entry))) r ⌝ }
-    ensures { λ r. ⌜ SoundFromBy (now (image .entry)) first (length (now (row .entry))) (length (now (state .entry))) r ⌝ }
-    ensures { λ r. ⌜ AttemptWithin (length (now (image .entry))) r ⌝ }
-{
     let names = state.len();
-    let fused::header::Placed::Code(place) = fused::header::ranges(image, first, names, low, high)
-    else {
-        return Attempt::Doubt;
-    };
-    attempt::scan_fused(
-        &image[place..],
-        state,
-        row,
-        &low[..names],
-        &high[..names],
-        &mut work[..names],
-    )
+    match fused::header::ranges(image, first, names, low, high) {
+        Placed::Broken(place) => Scanned::Refused(limits::BROKEN_IMAGE, place, 0),
+        Placed::Code(place) => scan_values(
+            image,
+            place,
+            state,
+            row,
+            &low[..names],
+            &high[..names],
+            &mut work[..names],
+        ),
+    }
 }
 
-// The fast way: each number and each instruction is read once.
-fn scan_once(
-    image: &[u8],
-    state: &mut [i32],
-    row: &[i32],
-    low: &mut [i32],
-    high: &mut [i32],
-    work: &mut [i32],
-) -> Attempt
-    requires { ⌜ Scratch (now state) (now low) (now high) (now work) ⌝ }
-    ensures { λ r. ⌜ Tried (now (state .entry)) (now (state .exit)) (scanOf (now (image .entry)) (now (state .entry)) (now (row .entry))) r ⌝ }
-    ensures { λ r. ⌜ AttemptWithin imageLimit r ⌝ }
-{
-    if limits::IMAGE_LIMIT < image.len() {
-        return Attempt::Doubt;
-    }
-    let counted = bytecode::counts(image);
-    let Counted::Counts(inputs, names, first) = counted else {
-        return Attempt::Doubt;
-    };
-    if state.len() != names {
-        return Attempt::Doubt;
-    }
-    if row.len() != inputs {
-        return Attempt::Doubt;
-    }
-    scan_from_fused(image, first, state, row, low, high, work)
-}
-
-// The fast way, and the plain one where it leaves a doubt.
+// 9, then the counts and the lengths: a wrong length is told after the check of the image.
 fn scan_in(
     image: &[u8],
     state: &mut [i32],
@@ -236,11 +190,21 @@ fn scan_in(
     ensures { λ r. ⌜ afterScan r (now (state .exit)) ≡ scanOf (now (image .entry)) (now (state .entry)) (now (row .entry)) ⌝ }
     ensures { λ r. ⌜ ScannedWithin imageLimit r ⌝ }
 {
-    let tried = scan_once(image, state, row, low, high, work);
-    match tried {
-        Attempt::Done(n) => Scanned::Done(n),
-        Attempt::Refused(number, n) => Scanned::Refused(number, 0, n),
-        Attempt::Doubt => scan_plain(image, state, row, low, high, work),
+    if limits::IMAGE_LIMIT < image.len() {
+        return Scanned::Refused(limits::TOO_LONG, 0, 0);
+    }
+    let counted = bytecode::counts(image);
+    match counted {
+        Counted::Broken(place) => Scanned::Refused(limits::BROKEN_IMAGE, place, 0),
+        Counted::Counts(inputs, names, first) => {
+            if state.len() != names {
+                return after_check(image, limits::WRONG_LENGTH);
+            }
+            if row.len() != inputs {
+                return after_check(image, limits::WRONG_LENGTH);
+            }
+            scan_names(image, first, state, row, low, high, work)
+        }
     }
 }
 

@@ -1,0 +1,30 @@
+-- The tests of a scan before its code, as one definition. Document 01, "Who can cause which refusal". Assumes nothing.
+use mathlib.Core.Bool.{Bool, true, false, _&&_}
+use mathlib.Core.List.{List}
+use Prim.Native.Nat.{ℕ}
+use lib.Dec.{eqb}
+use lib.IntN.{ℤ}
+use lib.ListN.{length}
+use Rattle.limits.specs.Limits.{wrongLength, stateOutOfRange, inputOutOfRange}
+use Rattle.limits.specs.Answer.{Answer, accepted, refused}
+use Rattle.semantics.specs.Formula.{State}
+use Rattle.bytecode.specs.Check.{Header, checkOf}
+use Rattle.bytecode.specs.Counting.{headerOf}
+use Rattle.machine.specs.Names.{stateLength, rowLength, stateInRange, rowInRange}
+
+-- the place of 12, 18 and 13 is 0
+abbrev pub testedBefore : Bool → ℕ → Answer (Unit {0}) → Answer (Unit {0})
+testedBefore true number a = a
+testedBefore false number a = refused number 0
+
+-- Check, start and scan test 9, then 11. Start and scan then test 12; scan goes on with 18, 13.
+abbrev pub mayScan : Answer (Unit {0}) → Header → State → List ℤ → Answer (Unit {0})
+mayScan (refused number place) h found row = refused number place
+mayScan (accepted u) h found row =
+    testedBefore (eqb (length found) (stateLength h) && eqb (length row) (rowLength h)) wrongLength
+    (testedBefore (stateInRange h found) stateOutOfRange
+    (testedBefore (rowInRange h row) inputOutOfRange
+    (accepted tt)))
+
+unfoldable pub beforeCode : List ℕ → State → List ℤ → Answer (Unit {0})
+beforeCode image found row = mayScan (checkOf image) (headerOf image) found row

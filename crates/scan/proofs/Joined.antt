@@ -1,0 +1,111 @@
+-- A code checked and run in one pass on a copy of the state, and the ways to it: what each answers is the answer of the scan. Assumes nothing.
+use mathlib.Core.Path.{_≡_, refl, sym, ap, subst, _∙_}
+use mathlib.Core.Bool.{true, false}
+use mathlib.Core.List.{List, []}
+use mathlib.Core.Option.{none}
+use Prim.Native.Nat.{ℕ, _+_, _≤_}
+use lib.IntN.{ℤ}
+use lib.ListN.{length, drop}
+use Rattle.limits.specs.Answer.{Answer, accepted, refused, _andThen_}
+use Rattle.semantics.specs.Program.{Range, knownFirst}
+use Rattle.semantics.specs.Formula.{State}
+use Rattle.semantics.specs.ReferenceScan.{allWithin, withInputs}
+use Rattle.bytecode.specs.Check.{known, checkCounts, checkRanges, withInputs as withCounted, checkHeader, checkCode, checkOf}
+use Rattle.bytecode.specs.Counting.{extentOf, rangesFrom, rangesEnd}
+use Rattle.bytecode.specs.Results.{Extends}
+use Rattle.bytecode.proofs.SoundHeader.{sound-counts}
+use Rattle.checker.proofs.Checking.{broken-header, whole-header}
+use Rattle.machine.specs.Step.{machine}
+use Rattle.machine.specs.Runs.{ran, run}
+use Rattle.machine.specs.Memory.{RangesIn}
+use Rattle.machine.proofs.Copies.{over-all, length-over}
+use Rattle.fused.specs.declared.Ended.{Ended}
+use Rattle.fused.specs.declared.Ended.the-variants as E
+use Rattle.fused.specs.Together.{Succeeds, Fails, BrokenCode, RunBy}
+use Rattle.scan.specs.declared.Scanned.the-variants as R
+use Rattle.scan.specs.Services.{AfterScan, refusedScan, scanOf}
+use Rattle.scan.specs.Results.{afterScan}
+use Rattle.scan.specs.Internal.{ranOn, scannedCode, scannedIn, scannedBy, scannedAt, KnownHeader, KnownCounts}
+use Rattle.scan.proofs.Images.{scan-refused, scan-wrong-state, scan-wrong-row, scan-from}
+
+-- ---- the code
+
+-- the copy before the run and behind it
+module _ (base : ℕ) (code : List ℕ) (low high found row w ws : List ℤ) (r : Ended) (copy : w ≡ withInputs found row) (lows : length low ≡ length found) (went : RunBy code low high found (length row) w ws r)
+    (ns : List Range) (q : RangesIn ns low high) where
+  sized : (a : Answer (Unit {0})) → checkCode base code (length code) 0 (known [] false none (knownFirst (length row) (length low))) ≡ a → checkCode base code (length code) 0 (known [] false none (knownFirst (length row) (length found))) ≡ a
+  sized a e = rw (← lows) e
+
+  ran-is : ranOn ns code found row ≡ run ns found code (length code) 0 0 (machine false false [] w)
+  ran-is = rw copy
+
+  -- the state is written at success
+  pub one-done : (n : ℕ) → r ≡ E.Done n → (left : List ℤ) → length row ≤ length found → length ws ≡ length w → left ≡ withInputs found ws → afterScan (R.Done n) left ≡ scannedAt base ns code found row
+  one-done n e left rows k o =
+      let s : Succeeds code low high found (length row) w ws n = subst (λ x. RunBy code low high found (length row) w ws x) e went in
+      let l : left ≡ ws = o ∙ over-all ws found (k ∙ ap length copy ∙ length-over row found rows) in
+      rw (sized (accepted tt) (s .sound base), ran-is ∙ s .went ns q, l)
+
+  pub one-refused : (k n : ℕ) → r ≡ E.Refused k n → afterScan (R.Refused k 0 n) found ≡ scannedAt base ns code found row
+  one-refused k n e =
+      let s : Fails code low high found (length row) w k n = subst (λ x. RunBy code low high found (length row) w ws x) e went in
+      rw (sized (accepted tt) (s .sound base), ran-is ∙ s .went ns q)
+
+  pub one-broken : (at : ℕ) → r ≡ E.Broken at → afterScan (R.Refused 11 (base + at) 0) found ≡ scannedAt base ns code found row
+  one-broken at e =
+      let s : BrokenCode code (length row) (length low) at × (at ≤ length code) = subst (λ x. RunBy code low high found (length row) w ws x) e went in
+      rw (sized (refused 11 (base + at)) (s .0 base))
+
+-- how large steps and places are
+module _ (code : List ℕ) (low high found row w ws : List ℤ) (r : Ended) (went : RunBy code low high found (length row) w ws r) where
+  pub done-steps : (n : ℕ) → r ≡ E.Done n → n ≤ length code
+  done-steps n e = let s : Succeeds code low high found (length row) w ws n = subst (λ x. RunBy code low high found (length row) w ws x) e went in s .within
+
+  pub refused-steps : (k n : ℕ) → r ≡ E.Refused k n → n ≤ length code
+  refused-steps k n e = let s : Fails code low high found (length row) w k n = subst (λ x. RunBy code low high found (length row) w ws x) e went in s .within
+
+  pub broken-place : (at : ℕ) → r ≡ E.Broken at → at ≤ length code
+  broken-place at e = let s : BrokenCode code (length row) (length low) at × (at ≤ length code) = subst (λ x. RunBy code low high found (length row) w ws x) e went in s .1
+
+-- ---- the values
+
+pub values-joined : (image : List ℕ) (place : ℕ) (found : State) (row : List ℤ) → KnownHeader image place (length row) (length found) → (ns : List Range) → allWithin ns found ≡ true → allWithin ns row ≡ true
+    → scannedAt place ns (drop place image) found row ≡ scannedBy (checkOf image) found (scannedIn ns (drop place image) found row)
+values-joined image place found row k ns a b = rw (whole-header image (k .short) (length row) (length found) place (k .headed), a, b)
+
+-- ---- the header
+
+module _ (image : List ℕ) (first inputs names : ℕ) (k : KnownCounts image first inputs names) where
+  pub header-known : (place : ℕ) → accepted (record { inputs = inputs; names = names; place = place }) ≡ (checkRanges image names first (withCounted inputs) andThen extentOf) → place ≤ length image
+      → KnownHeader image place inputs names
+  unfolding checkHeader
+  header-known place f i = record { short = k .short; headed = rw (← (k .counted)) f; inside = i; few = k .extends .few }
+
+  pub ranges-broken : (found : State) (row : List ℤ) (at : ℕ) → refused 11 at ≡ (checkRanges image names first (withCounted inputs) andThen extentOf) → afterScan (R.Refused 11 at 0) found ≡ scanOf image found row
+  unfolding checkHeader
+  ranges-broken found row at f = scan-refused image found row 11 at (broken-header image (k .short) at (rw (← (k .counted)) f))
+
+pub counts-broken : (image : List ℕ) (found : State) (row : List ℤ) (at : ℕ) → length image ≤ 65536 → refused 11 at ≡ checkCounts image → afterScan (R.Refused 11 at 0) found ≡ scanOf image found row
+unfolding checkHeader
+counts-broken image found row at l e = scan-refused image found row 11 at (broken-header image l at (rw (← e)))
+
+-- ---- what the check answers comes first
+
+by-check : (image : List ℕ) (found : State) (row : List ℤ) (x : AfterScan) → (checkOf image ≡ accepted tt → x ≡ scanOf image found row) → scannedBy (checkOf image) found x ≡ scanOf image found row
+by-check image found row x h = go (checkOf image) refl
+  where
+    go : (a : Answer (Unit {0})) → checkOf image ≡ a → scannedBy a found x ≡ scanOf image found row
+    go (refused number place) e = scan-refused image found row number place (sym e)
+    go (accepted u) e = h e
+
+module _ (image : List ℕ) (found : State) (row : List ℤ) {first inputs names : ℕ} (k : KnownCounts image first inputs names) where
+  pub state-length : (length found ≡ names → ⊥) → scannedBy (checkOf image) found (refusedScan 12 0 0 found) ≡ scanOf image found row
+  state-length h = by-check image found row _ λ sound. scan-wrong-state image found row sound (sound-counts image sound inputs names first (k .counted) (k .extends)) h
+
+  pub row-length : length found ≡ names → (length row ≡ inputs → ⊥) → scannedBy (checkOf image) found (refusedScan 12 0 0 found) ≡ scanOf image found row
+  row-length h n = by-check image found row _ λ sound. scan-wrong-row image found row sound (sound-counts image sound inputs names first (k .counted) (k .extends)) h n
+
+pub names-joined : (image : List ℕ) (found : State) (row : List ℤ) (first place : ℕ) → KnownCounts image first (length row) (length found) → place ≡ rangesEnd image (length found) first
+    → scannedBy (checkOf image) found (scannedIn (rangesFrom image (length found) first) (drop place image) found row) ≡ scanOf image found row
+names-joined image found row first place k e =
+    rw e (by-check image found row _ λ sound. scan-from image found row sound (sound-counts image sound (length row) (length found) first (k .counted) (k .extends)) refl refl)
