@@ -154,9 +154,9 @@ module _ (text from to : List ℕ) (count : ℕ) (s : Spans text from to count) 
   comparing at = record { in-count = omega arith; same = ap (λ (n : ℕ). spansFrom text (spansIn from to n) at) (sym (sub-zero count)) }
 
   module _ (at i a : ℕ) (c : Comparing text from to count at i a) where
-    pub compared : count ≤ i → Answers at (agrees a)
+    pub compared : {r : Compared} → r ≡ agrees a → count ≤ i → Answers at r
     unfolding spansFrom
-    compared h = answers at (agrees a) (c .same ∙ rw (left-none i h))
+    compared {r} e h = answers at r (c .same ∙ rw (left-none i h, e))
 
     module _ (h : i < count) where
       pub part-differs : {r : Compared} (p : ℕ) → r ≡ partFrom (length text) text (getD from i 0) (getD to i 0) a → r ≡ differs p → Answers at r

@@ -3,24 +3,17 @@ use Prim.Native.Nat.{ℕ}
 use mathlib.Core.Path.{_≡_}
 use mathlib.Core.List.{List}
 use lib.ListN.{length}
-use Rattle.lexer.specs.declared.Token.{Token}
-use Rattle.lexer.specs.declared.Token.the-variants as T
+use Rattle.lexer.specs.declared.Step.{Step}
+use Rattle.lexer.specs.declared.Step.the-variants.{Done, Refused}
 use Rattle.grammar.specs.Rules as R
 use Rattle.grammar.specs.Internal.{TokensIn}
 use Rattle.agreement.specs.declared.Repetition.{Repetition}
 use Rattle.agreement.specs.declared.Repetition.the-variants.{Until, Other}
-use Rattle.agreement.specs.declared.Compared.{Compared}
-use Rattle.agreement.specs.declared.Compared.the-variants.{Agrees, Differs}
 
--- `Agrees` is the place after what agrees, `Differs` the place of the first token that is not the one wanted.
-abbrev pub comparedOf : Compared → R.Compared
-comparedOf (Agrees n) = R.agrees n
-comparedOf (Differs p) = R.differs p
-
--- what is no token is not the one wanted; a token has no such place
-abbrev pub faultAt : Token → Compared
-faultAt (T.Is k s n) = Differs 0
-faultAt (T.Fault p) = Differs p
+-- `Done` is at the place after what agrees, `Refused` at the first token that is not the one wanted, or what is none.
+abbrev pub comparedOf : Step → R.Compared
+comparedOf (Done p) = R.agrees (p .at)
+comparedOf (Refused k q) = R.differs q
 
 -- `Until` is the place after a part of tokens that stands once more, so that they agree; `Other` says nothing.
 abbrev pub RepetitionBy : List ℕ → ℕ → ℕ → ℕ → Repetition → Type 0

@@ -1,5 +1,6 @@
-// The two lists of conditions of a change rule, compared token by token in spelling.
-use lexer::Token;
+// The two lists of conditions of a change rule, compared token by token in spelling. Each answer is the place after what agrees, or a
+// refusal at the first token that is not the one wanted.
+use lexer::Step;
 ghost use mathlib.Core.Bool.{cond};
 ghost use mathlib.Core.Path.{_≡_};
 ghost use mathlib.Core.List.{List};
@@ -10,27 +11,11 @@ ghost use Rattle.lexer.specs.Results.{kindOf};
 ghost use Rattle.lexer.specs.Token.{kindNumber, closeRound, bar, lastKind};
 ghost use Rattle.grammar.specs.Rules.{Spanned, partFrom, kindAt, partsFrom};
 ghost use Rattle.grammar.specs.Internal.{TokensIn};
-ghost use Rattle.agreement.specs.Results.{comparedOf, faultAt, RepetitionBy};
+ghost use Rattle.agreement.specs.Results.{comparedOf, RepetitionBy};
 ghost use Rattle.agreement.specs.Spans.{spansIn, spansOf, Spans, SpansRead};
 
-// The place after what agrees, or the place of the first token that is not the one wanted.
-pub enum Compared {
-    Agrees(usize),
-    Differs(usize),
-}
-
-// What is no token is not the one wanted.
-fn fault(read: Token) -> Compared
-    ensures { λ r. ⌜ r ≡ faultAt read ⌝ }
-{
-    match read {
-        Token::Is(_, _, _) => Compared::Differs(0),
-        Token::Fault(p) => Compared::Differs(p),
-    }
-}
-
 // The tokens from `from` up to `to` are wanted at `at`, token by token.
-fn compare_tokens(text: &[u8], from: usize, to: usize, at: usize) -> Compared
+fn compare_tokens(text: &[u8], from: usize, to: usize, at: usize) -> Step
     requires { ⌜ to ≤ length (now text) ⌝ }
     ensures { λ r. ⌜ comparedOf r ≡ partFrom (length (now (text .entry))) (now (text .entry)) from to at ⌝ }
 {
@@ -38,21 +23,29 @@ fn compare_tokens(text: &[u8], from: usize, to: usize, at: usize) -> Compared
     let mut b = at;
     while a < to {
         let wanted = lexer::token_at(text, a);
-        let Token::Is(kind, start, end) = wanted else {
-            return fault(wanted);
+        let Step::Done(token) = wanted else {
+            return wanted;
         };
         let found = lexer::token_at(text, b);
-        let Token::Is(kind2, start2, end2) = found else {
-            return fault(found);
+        let Step::Done(token2) = found else {
+            return found;
         };
-        if lexer::same_token(text, kind, start, end, kind2, start2, end2) {
-            a = end;
-            b = end2;
+        if lexer::same_token(
+            text,
+            token.kind,
+            token.start,
+            token.end,
+            token2.kind,
+            token2.start,
+            token2.end,
+        ) {
+            a = token.end;
+            b = token2.end;
         } else {
-            return Compared::Differs(start2);
+            return Step::Refused(limits::LISTS_DIFFER, token2.start);
         }
     }
-    Compared::Agrees(b)
+    lexer::reached(b, 0, 0)
 }
 
 // The end of a part that stands once more, or that its bytes do not.
@@ -88,7 +81,7 @@ fn repeated(text: &[u8], from: usize, to: usize, at: usize) -> Repetition
 }
 
 // The tokens from `from` up to `to` are wanted at `at`: compared as bytes first, which settles nearly every text that is accepted.
-fn compare_part(text: &[u8], from: usize, to: usize, at: usize) -> Compared
+fn compare_part(text: &[u8], from: usize, to: usize, at: usize) -> Step
     requires { ⌜ to ≤ length (now text) ⌝ }
     requires { ⌜ TokensIn (now text) from to ⌝ }
     ensures { λ r. ⌜ comparedOf r ≡ partFrom (length (now (text .entry))) (now (text .entry)) from to at ⌝ }
@@ -97,22 +90,22 @@ fn compare_part(text: &[u8], from: usize, to: usize, at: usize) -> Compared
     let Repetition::Until(end) = again else {
         return compare_tokens(text, from, to, at);
     };
-    Compared::Agrees(end)
+    lexer::reached(end, 0, 0)
 }
 
 // A token of a kind is wanted at `at`.
-fn compare_sign(text: &[u8], kind: u8, at: usize) -> Compared
+fn compare_sign(text: &[u8], kind: u8, at: usize) -> Step
     requires { ⌜ kind ≤ lastKind ⌝ }
     ensures { λ r. ⌜ comparedOf r ≡ kindAt (now (text .entry)) (kindOf kind) at ⌝ }
 {
     let found = lexer::token_at(text, at);
-    let Token::Is(kind2, start, end) = found else {
-        return fault(found);
+    let Step::Done(token) = found else {
+        return found;
     };
-    if kind2 == kind {
-        return Compared::Agrees(end);
+    if token.kind == kind {
+        return lexer::reached(token.end, 0, 0);
     }
-    Compared::Differs(start)
+    Step::Refused(limits::LISTS_DIFFER, token.start)
 }
 
 // The sign after a condition: `|` before another, `)` after the last.
@@ -126,7 +119,7 @@ fn separator(next: usize, count: usize) -> u8
 }
 
 // The conditions that stand from `from[i]` up to `to[i]` are wanted at `at`, with `|` between them and `)` after the last.
-pub fn compare_lists(text: &[u8], from: &[usize], to: &[usize], count: usize, at: usize) -> Compared
+pub fn compare_lists(text: &[u8], from: &[usize], to: &[usize], count: usize, at: usize) -> Step
     requires { ⌜ Spans (now text) (now from) (now to) count ⌝ }
     requires { ⌜ SpansRead (now text) (now from) (now to) count ⌝ }
     ensures { λ r. ⌜ ((cases : List Spanned) → spansOf cases ≡ spansIn (now (from .entry)) (now (to .entry)) count → comparedOf r ≡ partsFrom (now (text .entry)) cases at) ⌝ }
@@ -137,15 +130,15 @@ pub fn compare_lists(text: &[u8], from: &[usize], to: &[usize], count: usize, at
         let first = from[i];
         let last = to[i];
         let part = compare_part(text, first, last, a);
-        let Compared::Agrees(n) = part else {
+        let Step::Done(n) = part else {
             return part;
         };
         i += 1;
-        let sign = compare_sign(text, separator(i, count), n);
-        let Compared::Agrees(m) = sign else {
+        let sign = compare_sign(text, separator(i, count), n.at);
+        let Step::Done(m) = sign else {
             return sign;
         };
-        a = m;
+        a = m.at;
     }
-    Compared::Agrees(a)
+    lexer::reached(a, 0, 0)
 }

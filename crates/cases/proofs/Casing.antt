@@ -25,10 +25,13 @@ use Rattle.grammar.proofs.Size.{Pays, case-pays}
 use Rattle.expressions.specs.Steps.{Room}
 use Rattle.agreement.specs.Spans.{spansIn, spansOf, Spans}
 use Rattle.agreement.proofs.Parts.{spans-none}
-use Rattle.cases.specs.declared.Part.{Part}
-use Rattle.cases.specs.declared.Part.the-variants.{Done, Refused}
-use Rattle.cases.specs.Post.{Writes, codeOfCase, codeOfCases, endOfCondition, Lists}
-use Rattle.cases.proofs.Parts.{Got, writes, refuses}
+use Rattle.lexer.specs.Results.{reachedAt}
+use Rattle.lexer.specs.declared.Place.{Place}
+use Rattle.lexer.specs.declared.Step.{Step}
+use Rattle.lexer.specs.declared.Step.the-variants.{Refused}
+use Rattle.phrases.specs.Results.{numberTold, Writes}
+use Rattle.phrases.proofs.Writing.{Got, writes, refuses}
+use Rattle.cases.specs.Post.{codeOfCase, codeOfCases, endOfCondition, Lists}
 use Rattle.cases.proofs.Ways.{then-bytes}
 use Rattle.cases.proofs.Listing.{Found}
 
@@ -142,10 +145,10 @@ pub record Casing (sc : Scope) (w : List ℕ) (v at to : ℕ) (out₀ from upto 
   pub in-from : caseLimit ≤ length from
   pub in-upto : caseLimit ≤ length upto
 
-abbrev Answer : (sc : Scope) (w : List ℕ) (v at to : ℕ) (out₀ from upto out : List ℕ) → Part → Type 0
-Answer sc w v at to out₀ from upto out r = Writes (codeOfCases v) length (casesFrom caseLimit sc w [] at) to out₀ out r × Lists (casesFrom caseLimit sc w [] at) (sc .text) from upto
+abbrev Answer : (sc : Scope) (w : List ℕ) (v at to : ℕ) (out₀ from upto out : List ℕ) → Step → Type 0
+Answer sc w v at to out₀ from upto out r = Writes (codeOfCases v) numberTold length (casesFrom caseLimit sc w [] at) to out₀ out r × Lists (casesFrom caseLimit sc w [] at) (sc .text) from upto
 
-refuse : (sc : Scope) (w : List ℕ) (v at to : ℕ) (out₀ : List ℕ) {from upto out : List ℕ} {r : Part} {k q : ℕ} → r ≡ Refused k q → casesFrom caseLimit sc w [] at ≡ refused k q → Answer sc w v at to out₀ from upto out r
+refuse : (sc : Scope) (w : List ℕ) (v at to : ℕ) (out₀ : List ℕ) {from upto out : List ℕ} {r : Step} {k q : ℕ} → r ≡ Refused k q → casesFrom caseLimit sc w [] at ≡ refused k q → Answer sc w v at to out₀ from upto out r
 refuse sc w v at to out₀ d e = (refuses d e, record { held = λ cs n f. apart (sym f ∙ e); listed = λ cs n f. apart (sym f ∙ e) })
 
 pub casing-first : (sc : Scope) (w : List ℕ) (v at to : ℕ) (out₀ from upto : List ℕ) → Room (sc .text) at to → caseLimit ≤ length from → caseLimit ≤ length upto → Casing sc w v at to out₀ from upto out₀ at to 0
@@ -166,11 +169,11 @@ casing-first sc w v at to out₀ from upto r hf hu = record {
 
 module _ {sc : Scope} {w : List ℕ} {v at to : ℕ} {out₀ from upto out : List ℕ} {a t count : ℕ} (x : Casing sc w v at to out₀ from upto out a t count) where
   -- the cases come to a refusal
-  refused-so : {from′ upto′ out′ : List ℕ} {r : Part} {k q : ℕ} → r ≡ Refused k q → casesFrom (caseLimit - count) sc w (x .done) a ≡ refused k q → Answer sc w v at to out₀ from′ upto′ out′ r
+  refused-so : {from′ upto′ out′ : List ℕ} {r : Step} {k q : ℕ} → r ≡ Refused k q → casesFrom (caseLimit - count) sc w (x .done) a ≡ refused k q → Answer sc w v at to out₀ from′ upto′ out′ r
   refused-so d e = refuse sc w v at to out₀ d (x .same ∙ e)
 
-  pub casing-fault : {from′ upto′ out′ : List ℕ} {r : Part} {q : ℕ} → r ≡ Refused noToken q → tokenAt (sc .text) a ≡ fault q → Answer sc w v at to out₀ from′ upto′ out′ r
-  casing-fault d e = refused-so d (cases-fault sc w (x .done) a (caseLimit - count) e)
+  pub casing-fault : {from′ upto′ out′ : List ℕ} {r : Step} {k q : ℕ} → r ≡ Refused k q → (tokenAt (sc .text) a ≡ fault q) × (k ≡ noToken) → Answer sc w v at to out₀ from′ upto′ out′ r
+  casing-fault {q = q} d e = refused-so (d ∙ ap (λ (y : ℕ). Refused y q) (e .1)) (cases-fault sc w (x .done) a (caseLimit - count) (e .0))
 
   module _ {k s n : ℕ} (f : Found (sc .text) a k s n) where
     pub casing-other : {from′ upto′ out′ : List ℕ} → is (kindOf k) openSquare ≡ false → Answer sc w v at to out₀ from′ upto′ out′ (Refused notAllowed s)
@@ -192,12 +195,12 @@ module _ {sc : Scope} {w : List ℕ} {v at to : ℕ} {out₀ from upto out : Lis
         some-left : casesFrom (caseLimit - count) sc w (x .done) a ≡ casesFrom (suc (caseLimit - (count + 1))) sc w (x .done) a
         some-left = let e : caseLimit - count ≡ suc (caseLimit - (count + 1)) = omega (arith, more) in ap (λ (l : ℕ). casesFrom l sc w (x .done) a) e
 
-        pub casing-refused : {from′ upto′ out′ : List ℕ} {r : Part} {l q : ℕ} → r ≡ Refused l q → caseAt sc w a n ≡ refused l q → Answer sc w v at to out₀ from′ upto′ out′ r
+        pub casing-refused : {from′ upto′ out′ : List ℕ} {r : Step} {l q : ℕ} → r ≡ Refused l q → caseAt sc w a n ≡ refused l q → Answer sc w v at to out₀ from′ upto′ out′ r
         casing-refused d e = refused-so d (some-left ∙ cases-refused sc w (x .done) a (f .read) i (caseLimit - (count + 1)) e)
 
-        module _ {out′ : List ℕ} {m u e : ℕ} (g : Got (codeOfCase v) endOfCondition (caseAt sc w a n) t out out′ m u e) where
-          pub casing-behind : {from′ upto′ out″ : List ℕ} {r : Part} {q : ℕ} → r ≡ Refused noToken q → tokenAt (sc .text) m ≡ fault q → Answer sc w v at to out₀ from′ upto′ out″ r
-          casing-behind d h = refused-so d (some-left ∙ cases-behind sc w (x .done) a (f .read) i (caseLimit - (count + 1)) (g .is) h)
+        module _ {out′ : List ℕ} {o : Place} (g : Got (codeOfCase v) numberTold endOfCondition (caseAt sc w a n) t out out′ o) where
+          pub casing-behind : {from′ upto′ out″ : List ℕ} {r : Step} {k q : ℕ} → r ≡ Refused k q → (tokenAt (sc .text) (o .at) ≡ fault q) × (k ≡ noToken) → Answer sc w v at to out₀ from′ upto′ out″ r
+          casing-behind {q = q} d h = refused-so (d ∙ ap (λ (y : ℕ). Refused y q) (h .1)) (some-left ∙ cases-behind sc w (x .done) a (f .read) i (caseLimit - (count + 1)) (g .is) (h .0))
 
           -- one case more
           abbrev all : List Spanned
@@ -209,42 +212,42 @@ module _ {sc : Scope} {w : List ℕ} {v at to : ℕ} {out₀ from upto out : Lis
           all-code : codeOfCases v all ≡ codeOfCases v (x .done) ++ codeOfCase v (g .tree)
           all-code = code-append v (x .done) (g .tree)
 
-          all-ended : u ≡ to + length (codeOfCases v all)
+          all-ended : o .to ≡ to + length (codeOfCases v all)
           all-ended = rw (all-code) (simp length-append (omega (arith, g .ended, x .ended)))
 
           all-wrote : out′ ≡ sets out₀ to (codeOfCases v all)
           all-wrote = rw all-code (then-bytes out₀ to (codeOfCases v (x .done)) (codeOfCase v (g .tree)) (x .ended) (x .wrote) (g .wrote))
 
-          all-listed : spansOf all ≡ spansIn (set from count a) (set upto count e) (count + 1)
+          all-listed : spansOf all ≡ spansIn (set from count a) (set upto count (o .number)) (count + 1)
           all-listed =
-              spans-append (x .done) (g .tree) ∙ rw (add-one count, spans-add from upto count a e (omega (arith, more, x .in-from)) (omega (arith, more, x .in-upto)), ← x .listed, g .told)
-              (ap (λ (y : ℕ). spansOf (x .done) ++ (record { from = y; to = g .tree .span .to } ∷ [])) (case-from sc w a n (g .tree) m (g .is)))
+              spans-append (x .done) (g .tree) ∙ rw (add-one count, spans-add from upto count a (o .number) (omega (arith, more, x .in-from)) (omega (arith, more, x .in-upto)), ← x .listed, g .tells-it)
+              (ap (λ (y : ℕ). spansOf (x .done) ++ (record { from = y; to = g .tree .span .to } ∷ [])) (case-from sc w a n (g .tree) (o .at) (g .is)))
 
           module _ (few : length (sc .names) ≤ 64) (hv : v < 64) where
-            all-inside : (j : ℕ) → j < count + 1 → getD (set upto count e) j 0 ≤ length (sc .text)
+            all-inside : (j : ℕ) → j < count + 1 → getD (set upto count (o .number)) j 0 ≤ length (sc .text)
             all-inside j h = ⊎-elim
-                (λ (l : j < count). rw (getD-set-other upto count j e 0 (λ q. omega arith)) (x .inside j l))
-                (λ (l : j ≡ count). rw (l, getD-set-same upto count e 0 (omega (arith, more, x .in-upto)), g .told) (case-inside sc few w a n (casing-room .within) (g .tree) m (g .is)))
+                (λ (l : j < count). rw (getD-set-other upto count j (o .number) 0 (λ q. omega arith)) (x .inside j l))
+                (λ (l : j ≡ count). rw (l, getD-set-same upto count (o .number) 0 (omega (arith, more, x .in-upto)), g .tells-it) (case-inside sc few w a n (casing-room .within) (g .tree) (o .at) (g .is)))
                 (before-or j count h)
 
-            held : Spans (sc .text) (set from count a) (set upto count e) (count + 1)
+            held : Spans (sc .text) (set from count a) (set upto count (o .number)) (count + 1)
             held = record { in-from = simp length-set (omega (arith, more, x .in-from)); in-to = simp length-set (omega (arith, more, x .in-upto)); inside = all-inside }
 
-            paid : (2 * length (codeOfCase v (g .tree)) + 3 * n ≤ 3 * m) × (m ≤ length (sc .text))
+            paid : (2 * length (codeOfCase v (g .tree)) + 3 * n ≤ 3 * o .at) × (o .at ≤ length (sc .text))
             paid = subst (Pays (λ (c : Spanned). length (codeOfCase v c)) (length (sc .text)) n) (g .is) (case-pays sc few v hv w a n (casing-room .within))
 
-            module _ {k2 s2 n2 : ℕ} (f2 : Found (sc .text) m k2 s2 n2) where
-              pub casing-last : is (kindOf k2) bar ≡ false → Answer sc w v at to out₀ (set from count a) (set upto count e) out′ (Done m u (count + 1))
-              casing-last j =
-                  let q : casesFrom caseLimit sc w [] at ≡ accepted all m = x .same ∙ (some-left ∙ cases-last sc w (x .done) a (f .read) i (caseLimit - (count + 1)) (g .is) (f2 .read) j) in (
-                    writes (record { tree = all; is = q; ended = all-ended; told = sym all-counted; wrote = all-wrote }),
+            module _ {k2 s2 n2 : ℕ} (f2 : Found (sc .text) (o .at) k2 s2 n2) where
+              pub casing-last : {r : Step} → r ≡ reachedAt (o .at) (o .to) (count + 1) → is (kindOf k2) bar ≡ false → Answer sc w v at to out₀ (set from count a) (set upto count (o .number)) out′ r
+              casing-last d j =
+                  let q : casesFrom caseLimit sc w [] at ≡ accepted all (o .at) = x .same ∙ (some-left ∙ cases-last sc w (x .done) a (f .read) i (caseLimit - (count + 1)) (g .is) (f2 .read) j) in (
+                    writes d (record { tree = all; is = q; ended = all-ended; tells-it = sym all-counted; wrote = all-wrote }),
                     record {
-                      held = λ cs y r. subst (λ (l : List Spanned). Spans (sc .text) (set from count a) (set upto count e) (length l)) (same-value (sym q ∙ r)) (rw all-counted held);
-                      listed = λ cs y r. subst (λ (l : List Spanned). spansOf l ≡ spansIn (set from count a) (set upto count e) (length l)) (same-value (sym q ∙ r)) (rw all-counted all-listed);
+                      held = λ cs y r. subst (λ (l : List Spanned). Spans (sc .text) (set from count a) (set upto count (o .number)) (length l)) (same-value (sym q ∙ r)) (rw all-counted held);
+                      listed = λ cs y r. subst (λ (l : List Spanned). spansOf l ≡ spansIn (set from count a) (set upto count (o .number)) (length l)) (same-value (sym q ∙ r)) (rw all-counted all-listed);
                     },
                   )
 
-              pub casing-more : is (kindOf k2) bar ≡ true → Casing sc w v at to out₀ (set from count a) (set upto count e) out′ n2 u (count + 1)
+              pub casing-more : is (kindOf k2) bar ≡ true → Casing sc w v at to out₀ (set from count a) (set upto count (o .number)) out′ n2 (o .to) (count + 1)
               casing-more j = record {
                 done = all;
                 counted = all-counted;

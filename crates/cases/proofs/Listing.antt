@@ -9,8 +9,9 @@ use Rattle.limits.specs.Limits.{caseLimit, noToken, notAllowed, tooMany}
 use Rattle.lexer.specs.Token.{Kind, kindNumber, closeRound, openSquare, bar, is, token, fault}
 use Rattle.lexer.specs.Lexer.{tokenAt}
 use Rattle.lexer.specs.Results.{kindOf, Lies}
-use Rattle.lexer.specs.declared.Token.{Token}
-use Rattle.lexer.specs.declared.Token.the-variants.{Is}
+use Rattle.lexer.specs.declared.Place.{Place}
+use Rattle.lexer.specs.declared.Step.{Step}
+use Rattle.lexer.specs.declared.Step.the-variants.{Done, Refused}
 use Rattle.lexer.proofs.Tokens.{Answers, is-token}
 use Rattle.semantics.specs.Program.{Condition}
 use Rattle.grammar.specs.Parsed.{Parsed, accepted, refused, andThen, sign, expected, phrase, followed}
@@ -19,9 +20,10 @@ use Rattle.grammar.specs.Conditions.{listed}
 use Rattle.grammar.specs.Rules.{listFrom, plainList}
 use Rattle.grammar.specs.Emitted.{codeC}
 use Rattle.grammar.proofs.Growth.{listed-grown}
-use Rattle.expressions.specs.declared.Lookahead.{Lookahead}
 use Rattle.expressions.specs.Steps.{Room}
-use Rattle.expressions.proofs.Steps.{Refuses, Accepted, Known, known, told, untold, room-after, room-next}
+use Rattle.expressions.specs.Internal.{Stands}
+use Rattle.expressions.proofs.Steps.{Refuses, Accepted, told, untold, room-after, room-next}
+use Rattle.phrases.specs.Results.{parsedOf, nothing}
 use Rattle.cases.specs.Results.{placeOnly}
 use Rattle.cases.proofs.Parts.{behind-refused}
 
@@ -30,8 +32,8 @@ pub record Found (text : List ℕ) (at k s n : ℕ) : Type 0 where
   pub read : tokenAt text at ≡ token (kindOf k) s n
   pub lies : Lies (length text) at k s n
 
-pub found-token : (text : List ℕ) (at : ℕ) {t : Token} {k s n : ℕ} → Answers text at t → t ≡ Is k s n → Found text at k s n
-found-token text at {t} {k} {s} {n} a e = let f = is-token text at t a k s n e in record { read = f .0; lies = f .1 }
+pub found-token : (text : List ℕ) (at : ℕ) {t : Step} {x : Place} → Answers text at t → t ≡ Done x → Found text at (x .kind) (x .start) (x .end)
+found-token text at {t} {x} a e = let f = is-token text at t a x e in record { read = f .0; lies = f .1 }
 
 -- behind it there is as much room
 pub room-token : {text : List ℕ} {at t k s n : ℕ} → Room text at t → Found text at k s n → Room text n t
@@ -96,8 +98,8 @@ listing-first r = record { done = []; same = refl; room = r }
 
 module _ {sc : Scope} {at a left : ℕ} (w : Listing sc at a left) where
   -- ... comes to a refusal
-  pub listing-fault : {q : ℕ} → tokenAt (sc .text) a ≡ fault q → refused noToken q ≡ placeOnly (plainList sc at)
-  listing-fault e = sym (plain-refused sc at (w .same ∙ list-fault sc (w .done) a left e))
+  pub listing-fault : {r : Step} {k q : ℕ} → r ≡ Refused k q → (tokenAt (sc .text) a ≡ fault q) × (k ≡ noToken) → parsedOf nothing r ≡ placeOnly (plainList sc at)
+  listing-fault d e = rw (d, e .1) (sym (plain-refused sc at (w .same ∙ list-fault sc (w .done) a left (e .0))))
 
   module _ {k s n : ℕ} (f : Found (sc .text) a k s n) where
     pub listing-full : is (kindOf k) openSquare ≡ true → left ≡ 0 → refused tooMany s ≡ placeOnly (plainList sc at)
@@ -114,12 +116,12 @@ module _ {sc : Scope} {at a left : ℕ} (w : Listing sc at a left) where
       listing-room = record { short = w .room .short; within = f .lies .within (w .room .within); room = omega arith }
 
       module _ (i : is (kindOf k) openSquare ≡ true) where
-        pub listing-refused : {l q : ℕ} → Refuses (sc .text) (listed sc n) l q → refused l q ≡ placeOnly (plainList sc at)
-        listing-refused r = sym (plain-refused sc at (w .same ∙ (some-left ∙ list-refused sc (w .done) a (f .read) (left - 1) i r)))
+        pub listing-refused : {s : Step} {l q : ℕ} → s ≡ Refused l q → Refuses (sc .text) (listed sc n) l q → parsedOf nothing s ≡ placeOnly (plainList sc at)
+        listing-refused d r = rw d (sym (plain-refused sc at (w .same ∙ (some-left ∙ list-refused sc (w .done) a (f .read) (left - 1) i r))))
 
-        module _ {before after : List ℕ} {h : Lookahead} {t : ℕ} (x : Accepted (sc .text) codeC (listed sc n) 0 before after h t) where
-          here : Known (sc .text) h
-          here = known (x .stands)
+        module _ {before after : List ℕ} {h : Place} {t : ℕ} (x : Accepted (sc .text) codeC (listed sc n) 0 before after h t) where
+          here : Stands (sc .text) h
+          here = x .stands
 
           pub listing-last : (h .kind ≡ kindNumber bar → ⊥) → placeOnly (plainList sc at) ≡ expected (sc .text) (sign closeRound) (h .at)
           listing-last j = plain-closed sc at (w .same ∙ (some-left ∙ list-last sc (w .done) a (f .read) (left - 1) i (x .is) (here .read) (untold here bar j)))

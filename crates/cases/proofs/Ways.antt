@@ -22,7 +22,8 @@ use Rattle.grammar.specs.Forms.{caseValueOpening}
 use Rattle.leb128.proofs.Stores.{sets-append}
 use Rattle.grammar.proofs.Combine.{apart}
 use Rattle.cases.specs.Results.{placeOnly}
-use Rattle.cases.proofs.Parts.{same-refusal, phrase-fault, behind-refused}
+use Rattle.phrases.proofs.Writing.{same-refusal}
+use Rattle.cases.proofs.Parts.{phrase-fault, behind-refused}
 
 -- ---- a case
 

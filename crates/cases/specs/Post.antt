@@ -1,27 +1,14 @@
 -- What the contracts of this crate say of lent memory. Assumes nothing.
-use Prim.Native.Nat.{ℕ, _+_, _≤_}
+use Prim.Native.Nat.{ℕ, _≤_}
 use mathlib.Core.Path.{_≡_}
 use mathlib.Core.List.{List, [], _∷_}
 use lib.ListN.{length}
-use lib.Seq.{sets}
-use Rattle.grammar.specs.Parsed.{Parsed, accepted, andThen}
+use Rattle.grammar.specs.Parsed.{Parsed, accepted}
 use Rattle.limits.specs.Limits.{caseLimit}
 use Rattle.grammar.specs.Expressions.{Scope}
 use Rattle.grammar.specs.Rules.{Spanned, casesOf, casesFrom}
 use Rattle.grammar.specs.Emitted.{codeK}
 use Rattle.agreement.specs.Spans.{spansIn, spansOf, Spans}
-use Rattle.cases.specs.declared.Part.{Part}
-use Rattle.cases.specs.Results.{partOf}
-
--- what is answered for a part a that ends at n
-abbrev pub answered : {A : Type 0} → (A → List ℕ) → (A → ℕ) → ℕ → A → ℕ → Parsed (ℕ × ℕ)
-answered bytes tells to a n = accepted (to + length (bytes a), tells a) n
-
--- a function answers the place after what reads as p, the end of its bytes and the number that it tells; and has stored the bytes
--- as far as there is room
-pub record Writes {A : Type 0} (bytes : A → List ℕ) (tells : A → ℕ) (p : Parsed A) (to : ℕ) (before after : List ℕ) (r : Part) : Type 0 where
-  pub answer : partOf r ≡ andThen p (answered bytes tells to)
-  pub wrote : (a : A) (n : ℕ) → p ≡ accepted a n → after ≡ sets before to (bytes a)
 
 -- the code of a case of the variable v, and of cases
 abbrev pub codeOfCase : ℕ → Spanned → List ℕ

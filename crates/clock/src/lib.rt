@@ -9,7 +9,7 @@ ghost use Rattle.declarations.specs.Post.{Room};
 ghost use Rattle.clock.specs.Clock.{entriesOf};
 ghost use Rattle.clock.specs.Services.{filledAt, rowFilled, fillOf};
 ghost use Rattle.clock.specs.Results.{afterFill, FilledWithin};
-ghost use Rattle.clock.specs.Internal.{Small, unreadOf};
+ghost use Rattle.clock.specs.Internal.{Small};
 
 mod local;
 
@@ -17,16 +17,6 @@ mod local;
 pub enum Filled {
     Done,
     Refused(u8, usize),
-}
-
-// A refusal passed on.
-fn unread(a: Analysis) -> Filled
-    ensures { λ r. ⌜ r ≡ unreadOf a ⌝ }
-{
-    match a {
-        Analysis::Accepted(_, _, _) => Filled::Refused(0, 0),
-        Analysis::Refused(k, p) => Filled::Refused(k, p),
-    }
 }
 
 // The value of the input of a name, where it is declared.
@@ -85,20 +75,22 @@ fn fill_in(
     ensures { λ r. ⌜ FilledWithin r ⌝ }
 {
     let analysis = translate::analyse(text, starts, ends);
-    let Analysis::Accepted(_, inputs, _) = analysis else {
-        return unread(analysis);
-    };
-    if !local::is_table(table) {
-        return Filled::Refused(limits::BROKEN_TABLE, 0);
+    match analysis {
+        Analysis::Accepted(_, inputs, _) => {
+            if !local::is_table(table) {
+                return Filled::Refused(limits::BROKEN_TABLE, 0);
+            }
+            if !local::is_minute(utc) {
+                return Filled::Refused(limits::MINUTE_OUT_OF_LIMIT, 0);
+            }
+            if row.len() != inputs {
+                return Filled::Refused(limits::WRONG_LENGTH, 0);
+            }
+            fill_row(text, starts, ends, table, utc, row);
+            Filled::Done
+        }
+        Analysis::Refused(number, place) => Filled::Refused(number, place),
     }
-    if !local::is_minute(utc) {
-        return Filled::Refused(limits::MINUTE_OUT_OF_LIMIT, 0);
-    }
-    if row.len() != inputs {
-        return Filled::Refused(limits::WRONG_LENGTH, 0);
-    }
-    fill_row(text, starts, ends, table, utc, row);
-    Filled::Done
 }
 
 pub fn fill(text: &[u8], table: &[i64], utc: i64, row: &mut [i32]) -> Filled

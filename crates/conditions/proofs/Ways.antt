@@ -17,14 +17,14 @@ use Rattle.grammar.specs.Expressions.{Scope, expression}
 use Rattle.grammar.specs.Conditions.{comparisonOf, compared, comparisonAt, opposite, inverted, atom, Connective, andAlso, orElse, connect, connectiveCode, andOf, orOf, square, wholeCondition, listed}
 use Rattle.grammar.specs.Emitted.{codeE, codeC}
 use Rattle.grammar.proofs.Growth.{Grown, not-end, connect-code, ands-end, ors-end, comparisons-end, atom-grown, conjunction-grown, square-grown}
-use Rattle.expressions.specs.declared.Lookahead.{Lookahead}
+use Rattle.lexer.specs.declared.Place.{Place}
 use Rattle.expressions.specs.declared.scope.Names.{Names}
 use Rattle.expressions.specs.Scopes.{scopeOf, Declared}
-use Rattle.expressions.specs.declared.Step.{Step}
-use Rattle.expressions.specs.declared.Step.the-variants.{Done, Refused}
-use Rattle.expressions.specs.Steps.{stepAt, Parses, Room}
-use Rattle.expressions.specs.Internal.{Codes, closedStep}
-use Rattle.expressions.proofs.Steps.{lookedAhead, Refuses, refused-now, Known, known, told, untold, Accepted, accepted-by, accepts, answers, same-part, passed, then-refused, ahead-at, ahead-stands, closing, closed-parses, one-more, room-fits, room-after, room-more, room-at}
+use Rattle.lexer.specs.declared.Step.{Step}
+use Rattle.lexer.specs.declared.Step.the-variants.{Done, Refused}
+use Rattle.expressions.specs.Steps.{stepAt, lookedAhead, Parses, Room}
+use Rattle.expressions.specs.Internal.{Codes, Stands, closedStep}
+use Rattle.expressions.proofs.Steps.{Refuses, refused-now, told, untold, upTo, Accepted, accepted-by, accepts-up-to, answers, same-part, passed, then-refused, ahead-at, ahead-stands, closing, closed-parses, one-more, room-fits, room-after, room-more, room-at}
 use Rattle.expressions.proofs.Scopes.{few-names}
 use Rattle.expressions.proofs.Chain.{Operators, Operator, operator-some, operator-none}
 use Rattle.leb128.proofs.Stores.{sets-append}
@@ -62,18 +62,18 @@ module _ (inner : ℕ → ℕ → Parsed Expression) (sc : Scope) (at : ℕ) whe
   unfolding comparisonAt
   comparison-refuses r = then-refused (sc .text) _ compared-fault (expression inner sc at) r
 
-  module _ {to : ℕ} {before mid : List ℕ} {h : Lookahead} {t c : ℕ} (a : Accepted (sc .text) codeE (expression inner sc at) to before mid h t) (e : Codes comparisonCode comparisonOf (h .kind) c) where
-    here : Known (sc .text) h
-    here = known (a .stands)
+  module _ {to : ℕ} {before mid : List ℕ} {h : Place} {t c : ℕ} (a : Accepted (sc .text) codeE (expression inner sc at) to before mid h t) (e : Codes comparisonCode comparisonOf (h .kind) c) where
+    here : Stands (sc .text) h
+    here = a .stands
 
     -- no comparison sign behind it
     pub comparison-none : c ≡ 0 → comparisonAt inner sc at ≡ refused notAllowed (h .start)
     unfolding comparisonAt compared
-    comparison-none z = rw (a .is, here .read, operator-none comparisonOf comparisonCode (here .kind) c (e (here .kind) (here .number)) comparison-some z)
+    comparison-none z = rw (a .is, here .read, operator-none comparisonOf comparisonCode (here .kind) c (e (here .kind) (here .numbered)) comparison-some z)
 
     module _ (z : c ≡ 0 → ⊥) where
       sign-of : Operator comparisonOf comparisonCode (here .kind) c
-      sign-of = operator-some comparisonOf comparisonCode (here .kind) c (e (here .kind) (here .number)) z
+      sign-of = operator-some comparisonOf comparisonCode (here .kind) c (e (here .kind) (here .numbered)) z
 
       no-end : here .kind ≡ ending → ⊥
       no-end i =
@@ -92,7 +92,7 @@ module _ (inner : ℕ → ℕ → Parsed Expression) (sc : Scope) (at : ℕ) whe
           subst (λ (p : Parsed Condition). Refuses (sc .text) p k q) (sym second)
           (then-refused (sc .text) _ (λ b n q e. record { looked = rw e }) (expression inner sc (h .end)) r)
 
-      module _ {after : List ℕ} {g : Lookahead} {u : ℕ} (b : Accepted (sc .text) codeE (expression inner sc (h .end)) t mid after g u) where
+      module _ {after : List ℕ} {g : Place} {u : ℕ} (b : Accepted (sc .text) codeE (expression inner sc (h .end)) t mid after g u) where
         pub second-room : Room (sc .text) (h .at) t → Grown codeE (length (sc .text)) (h .end) (expression inner sc (h .end)) → Room (sc .text) (g .at) (u + 1)
         second-room r grown = room-more r here no-end grown b .0
 
@@ -116,7 +116,7 @@ module _ {text : List ℕ} {p : Parsed Condition} where
   unfolding opposite lookedAhead
   opposite-refuses r = then-refused text _ (λ a n q e. record { looked = rw e }) p r
 
-  opposite-accepts : {to : ℕ} {before after : List ℕ} {h : Lookahead} {t u : ℕ} {last : List ℕ} → Accepted text codeC p to before after h t → u ≡ t + 1 → last ≡ set after t 16 → Accepted text codeC (opposite p) to before last h u
+  opposite-accepts : {to : ℕ} {before after : List ℕ} {h : Place} {t u : ℕ} {last : List ℕ} → Accepted text codeC p to before after h t → u ≡ t + 1 → last ≡ set after t 16 → Accepted text codeC (opposite p) to before last h u
   unfolding opposite codeC
   opposite-accepts a e f = one-more a (negated (a .tree)) 16 (rw (a .is)) refl e f
 
@@ -135,9 +135,9 @@ module _ (text starts ends : List ℕ) (names : Names) (left at : ℕ) where
   inverted-fault q e = rw e
 
   -- `ahead` read the token h there
-  module _ (to : ℕ) {t : ℕ} {r : Step} {h : Lookahead} (d : r ≡ Done h t) (e : r ≡ stepAt (tokenAt text at) at to) where
-    first : Known text h
-    first = known (ahead-stands text at to d e)
+  module _ (to : ℕ) {r : Step} {h : Place} (d : r ≡ Done h) (e : r ≡ stepAt (tokenAt text at) at to) where
+    first : Stands text h
+    first = ahead-stands text at to d e
 
     pub atom-inverted : h .kind ≡ kindNumber tilde → atomIn left sc at ≡ invertedIn left sc (h .end)
     unfolding atom
@@ -164,8 +164,8 @@ module _ (text starts ends : List ℕ) (names : Names) (left at : ℕ) where
       pub inverted-refuses : {k q l : ℕ} {front last : List ℕ} → p ≡ Refused k q → Parses text codeC (invertedIn left sc at) l front last p
       inverted-refuses i = same-part inverted-square (passed c i opposite-refuses)
 
-      pub inverted-accepts : {l : Lookahead} {n x : ℕ} {last : List ℕ} → p ≡ Done l n → (x ≡ n + 1) × (last ≡ set after n 16) → Parses text codeC (invertedIn left sc at) v before last (Done l x)
-      inverted-accepts i f = same-part inverted-square (accepts (opposite-accepts (accepted-by c i) (f .0) (f .1)))
+      pub inverted-accepts : {l : Place} {x : ℕ} {last : List ℕ} → p ≡ Done l → (x ≡ l .to + 1) × (last ≡ set after (l .to) 16) → Parses text codeC (invertedIn left sc at) v before last (Done (upTo l x))
+      inverted-accepts i f = same-part inverted-square (accepts-up-to refl (opposite-accepts (accepted-by c i) (f .0) (f .1)))
 
 -- ---- brackets
 
@@ -199,10 +199,10 @@ module _ {text starts ends : List ℕ} {names : Names} (d : Declared starts ends
   conjunction-grows = conjunction-grown _ (few-names text d) left at (r .within)
 
 -- behind `[c]`, whose bracket is the token h, there is room for a byte
-pub square-fits : (text starts ends : List ℕ) (names : Names) (left at to : ℕ) {t u v : ℕ} {before after : List ℕ} {p r : Step} {g h : Lookahead} → p ≡ Done g v → Parses text codeC (square left (scopeOf text starts ends names) (h .start) (h .end)) u before after p → r ≡ Done h t → r ≡ stepAt (tokenAt text at) at to → h .kind ≡ kindNumber openSquare → Declared starts ends names → Room text at u → v < 2 ^ 32
+pub square-fits : (text starts ends : List ℕ) (names : Names) (left at to : ℕ) {u : ℕ} {before after : List ℕ} {p r : Step} {g h : Place} → p ≡ Done g → Parses text codeC (square left (scopeOf text starts ends names) (h .start) (h .end)) u before after p → r ≡ Done h → r ≡ stepAt (tokenAt text at) at to → h .kind ≡ kindNumber openSquare → Declared starts ends names → Room text at u → g .to < 2 ^ 32
 unfolding is kindNumber
 square-fits text starts ends names left at to {u = u} {h = h} i c d e m declared room =
-    let k = known (ahead-stands text at to d e) in
+    let k = ahead-stands text at to d e in
     let q = room-at text at to d e room in
     let mv = token-at-moved text (h .at) (k .kind) (h .start) (h .end) (q .within) (k .read) in
     let wide : h .start < h .end = mv .3 (not-end (k .kind) openSquare refl (told k openSquare m)) in

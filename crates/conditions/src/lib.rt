@@ -1,8 +1,8 @@
 // Conditions, over the expressions of `expressions` and in the same way: each function takes the place where its part starts, writes
 // the part's code, and answers with the token behind it.
 use bytecode::opcode;
-use expressions::Step;
 use expressions::scope::Names;
+use lexer::Step;
 ghost use Rattle.bytecode.specs.Instructions.{comparisonCode};
 ghost use Rattle.grammar.specs.Conditions.{comparisonOf, connectiveCode, andOf, orOf, square, wholeCondition, listed};
 ghost use Rattle.grammar.specs.Emitted.{codeC};
@@ -70,18 +70,19 @@ fn comparison(
     ensures { λ r. ⌜ Parses (now (text .entry)) codeC (comparisonIn left (scopeOf (now (text .entry)) (now (starts .entry)) (now (ends .entry)) names) at) to (now (out .entry)) (now (out .exit)) r ⌝ }
 {
     let first = expressions::expression(text, starts, ends, names, at, left, out, to);
-    let Step::Done(sign, t) = first else {
+    let Step::Done(sign) = first else {
         return first;
     };
     let code = comparison_code(sign.kind);
     if code == 0 {
         return Step::Refused(limits::NOT_ALLOWED, sign.start);
     }
-    let second = expressions::expression(text, starts, ends, names, sign.end, left, out, t);
-    let Step::Done(behind, u) = second else {
+    let second = expressions::expression(text, starts, ends, names, sign.end, left, out, sign.to);
+    let Step::Done(mut behind) = second else {
         return second;
     };
-    Step::Done(behind, leb128::put_byte(out, u, code))
+    behind.to = leb128::put_byte(out, behind.to, code);
+    Step::Done(behind)
 }
 
 // Conjunctions with `|` between them.
@@ -100,19 +101,19 @@ fn condition(
     ensures { λ r. ⌜ Parses (now (text .entry)) codeC (conditionIn left (scopeOf (now (text .entry)) (now (starts .entry)) (now (ends .entry)) names) at) to (now (out .entry)) (now (out .exit)) r ⌝ }
 {
     let first = conjunction(text, starts, ends, names, at, left, out, to);
-    let Step::Done(mut behind, mut t) = first else {
+    let Step::Done(mut behind) = first else {
         return first;
     };
     loop {
         let code = or_code(behind.kind);
         if code == 0 {
-            return Step::Done(behind, t);
+            return Step::Done(behind);
         }
-        let more = conjunction(text, starts, ends, names, behind.end, left, out, t);
-        let Step::Done(next, u) = more else {
+        let more = conjunction(text, starts, ends, names, behind.end, left, out, behind.to);
+        let Step::Done(mut next) = more else {
             return more;
         };
-        t = leb128::put_byte(out, u, code);
+        next.to = leb128::put_byte(out, next.to, code);
         behind = next;
     }
 }
@@ -133,19 +134,19 @@ fn conjunction(
     ensures { λ r. ⌜ Parses (now (text .entry)) codeC (conjunctionIn left (scopeOf (now (text .entry)) (now (starts .entry)) (now (ends .entry)) names) at) to (now (out .entry)) (now (out .exit)) r ⌝ }
 {
     let first = atom(text, starts, ends, names, at, left, out, to);
-    let Step::Done(mut behind, mut t) = first else {
+    let Step::Done(mut behind) = first else {
         return first;
     };
     loop {
         let code = and_code(behind.kind);
         if code == 0 {
-            return Step::Done(behind, t);
+            return Step::Done(behind);
         }
-        let more = atom(text, starts, ends, names, behind.end, left, out, t);
-        let Step::Done(next, u) = more else {
+        let more = atom(text, starts, ends, names, behind.end, left, out, behind.to);
+        let Step::Done(mut next) = more else {
             return more;
         };
-        t = leb128::put_byte(out, u, code);
+        next.to = leb128::put_byte(out, next.to, code);
         behind = next;
     }
 }
@@ -166,7 +167,7 @@ fn atom(
     ensures { λ r. ⌜ Parses (now (text .entry)) codeC (atomIn left (scopeOf (now (text .entry)) (now (starts .entry)) (now (ends .entry)) names) at) to (now (out .entry)) (now (out .exit)) r ⌝ }
 {
     let read = expressions::ahead(text, at, to);
-    let Step::Done(here, _) = read else {
+    let Step::Done(here) = read else {
         return read;
     };
     if here.kind == lexer::TILDE {
@@ -204,7 +205,7 @@ fn inverted(
     ensures { λ r. ⌜ Parses (now (text .entry)) codeC (invertedIn left (scopeOf (now (text .entry)) (now (starts .entry)) (now (ends .entry)) names) at) to (now (out .entry)) (now (out .exit)) r ⌝ }
 {
     let read = expressions::ahead(text, at, to);
-    let Step::Done(here, _) = read else {
+    let Step::Done(here) = read else {
         return read;
     };
     if here.kind == lexer::OPEN_SQUARE {
@@ -219,10 +220,11 @@ fn inverted(
             out,
             to,
         );
-        let Step::Done(behind, t) = inner else {
+        let Step::Done(mut behind) = inner else {
             return inner;
         };
-        return Step::Done(behind, leb128::put_byte(out, t, opcode::NOT));
+        behind.to = leb128::put_byte(out, behind.to, opcode::NOT);
+        return Step::Done(behind);
     }
     Step::Refused(limits::NOT_ALLOWED, here.start)
 }

@@ -22,14 +22,11 @@ use Rattle.lexer.specs.Lexer.{tokenAt, valueOf}
 use Rattle.lexer.proofs.Laws.{cond-prop}
 use Rattle.grammar.specs.Parsed.{Parsed, accepted, refused, sign, expected, phrase, followed}
 use Rattle.grammar.specs.Declarations.{inRange, signedAt, boundAt, startAt}
-use Rattle.lexer.specs.declared.Token.{Token}
-use Rattle.lexer.specs.declared.Token.the-variants.{Fault}
-use Rattle.phrases.specs.declared.Expected.{Expected}
-use Rattle.phrases.specs.declared.Expected.the-variants as E
-use Rattle.phrases.specs.Results.{expectedOf, faultOf}
+use Rattle.lexer.specs.declared.Step.{Step}
+use Rattle.lexer.specs.declared.Step.the-variants.{Refused}
+use Rattle.phrases.specs.Results.{parsedOf, nothing, valueTold}
 use Rattle.declarations.specs.Internal.{signedBy}
-use Rattle.declarations.specs.Results.{numberOf, boundOf, unexpected}
-use Rattle.declarations.specs.declared.Bound.{Bound}
+use Rattle.declarations.specs.Results.{numberOf}
 use Rattle.declarations.specs.declared.Number.{Number}
 use Rattle.declarations.specs.declared.Number.the-variants.{Is, Outside}
 use Rattle.declarations.proofs.Numbers.{kept, between}
@@ -120,11 +117,11 @@ module _ (low high : ℤ) (fl : SFits w32 low) (fh : SFits w32 high) where
 
 -- ---- refusals passed on
 
-pub unread-fault : {t : Token} {p : ℕ} {e : Expected} {b : Bound} → t ≡ Fault p → e ≡ faultOf t → b ≡ unexpected e → boundOf b ≡ refused noToken p
-unread-fault g h i = rw (i, h, g)
+pub no-token : {r : Step} {k q : ℕ} → r ≡ Refused k q → k ≡ noToken → parsedOf valueTold r ≡ refused noToken q
+no-token g e = rw (g, e)
 
-pub unread-sign : {e : Expected} {k p : ℕ} {b : Bound} (q : Parsed (Unit {0})) → expectedOf e ≡ q → e ≡ E.Refused k p → b ≡ unexpected e → (q ≡ refused k p) × (boundOf b ≡ refused k p)
-unread-sign q h g i = (sym h ∙ ap expectedOf g, rw (i, g))
+pub no-sign : {r : Step} {k q : ℕ} (p : Parsed (Unit {0})) → parsedOf nothing r ≡ p → r ≡ Refused k q → (p ≡ refused k q) × (parsedOf valueTold r ≡ refused k q)
+no-sign p h g = (sym h ∙ ap (parsedOf nothing) g, rw g)
 
 -- ---- bounds that were held in locals
 

@@ -8,17 +8,16 @@ use Rattle.semantics.specs.Program.{Name, Range}
 use Rattle.grammar.specs.Parsed.{Parsed, accepted, refused, andThen}
 use Rattle.grammar.specs.Declarations.{spellings, newName, declaration}
 use Rattle.grammar.specs.Emitted.{header}
-use Rattle.phrases.specs.declared.Expected.{Expected}
-use Rattle.phrases.specs.declared.Expected.the-variants as E
-use Rattle.phrases.specs.Results.{expectedOf}
+use Rattle.lexer.specs.declared.Place.{Place}
+use Rattle.lexer.specs.declared.Step.{Step}
+use Rattle.lexer.specs.declared.Step.the-variants.{Done, Refused}
+use Rattle.phrases.specs.Results.{parsedOf, nothing, answered, Writes}
+use Rattle.phrases.proofs.Writing.{got, refuses}
 use Rattle.grammar.proofs.Combine.{then-then, never}
 use Rattle.declarations.specs.Internal.{rangeAt, rangeBytes}
-use Rattle.declarations.specs.Results.{stepOf, unexpectedStep}
-use Rattle.declarations.specs.Post.{Holds, Writes, Names, Declares}
-use Rattle.declarations.specs.declared.Step.{Step}
-use Rattle.declarations.specs.declared.Step.the-variants.{Done, Refused}
+use Rattle.declarations.specs.Post.{Holds, Names, Declares}
 use Rattle.declarations.proofs.Numbers.{range-bytes}
-use Rattle.declarations.proofs.Steps.{After, after, refused-then, refuses}
+use Rattle.declarations.proofs.Steps.{After, after, refused-then}
 
 -- the name with spelling w
 abbrev spelledAs : List ℕ → Range → Name
@@ -35,10 +34,8 @@ unfolding declaration rangeAt
 named-range text names at w n e = rw e (simp then-then)
 
 -- no more than fifteen bytes are written
-pub few-bytes : (p : Parsed Range) (to : ℕ) (before after' : List ℕ) (r : Step) (n t : ℕ) → Writes rangeBytes p to before after' r → r ≡ Done n t → t ≤ to + 15
-few-bytes p to before after' r n t h g =
-    let a = after (λ (x : Range). to + length (rangeBytes x)) p t n (sym (h .answer) ∙ ap stepOf g) in
-    omega (arith, a .2, range-bytes (a .0))
+pub few-bytes : (p : Parsed Range) (to : ℕ) (before after' : List ℕ) (r : Step) (x : Place) → Writes rangeBytes nothing (λ _. tt) p to before after' r → r ≡ Done x → x .to ≤ to + 15
+few-bytes p to before after' r x h g = let a = got h g in omega (arith, a .ended, range-bytes (a .tree))
 
 -- ---- the answer
 
@@ -46,45 +43,44 @@ spellings-more : (names : List Name) (x : Name) → spellings (names ++ (x ∷ [
 spellings-more [] x = refl
 spellings-more (y ∷ names) x = ap (λ (l : List (List ℕ)). y .spelling ∷ l) (spellings-more names x)
 
-step-refused : (k p n t : ℕ) {A : Type 0} → Refused k p ≡ Done n t → A
-step-refused k p n t h = let z : _≡_ {A = ℕ} 0 1 = cc in absurd (omega arith)
+step-refused : (k p : ℕ) (x : Place) {A : Type 0} → Refused k p ≡ Done x → A
+step-refused k p x h = let z : _≡_ {A = ℕ} 0 1 = cc in absurd (omega arith)
 
 module _ (text starts ends : List ℕ) (at to count : ℕ) (before mid starts' ends' : List ℕ) where
   abbrev Answers : Step → Type 0
-  Answers r = ((names : List Name) → Holds text starts ends count names → Declares text names at to count before mid starts' ends' r) × ((n t : ℕ) → r ≡ Done n t → (count < 64) × (t ≤ to + 15))
+  Answers r = ((names : List Name) → Holds text starts ends count names → Declares text names at to count before mid starts' ends' r) × ((x : Place) → r ≡ Done x → (count < 64) × (x .to ≤ to + 15))
 
-  module _ {named : Expected} (h : (names : List Name) → Holds text starts ends count names → Names text names at count starts' ends' named) where
-    pub unnamed : {k q : ℕ} {r : Step} → named ≡ E.Refused k q → r ≡ unexpectedStep named → Answers r
-    unnamed {k} {q} g i =
-        let j = i ∙ ap unexpectedStep g in (
-          λ names held.
-              let e = no-new-name text names at k q (refused-then (λ (x : List ℕ). tt {0}) (newName text names at) k q (sym (h names held .answer) ∙ ap expectedOf g)) in
-              record { writes = refuses _ _ _ _ _ k q j e; named = λ x n f. never k q n x (sym e ∙ f) },
-          λ n t f. step-refused k q n t (sym j ∙ f),
-        )
+  module _ {named : Step} (h : (names : List Name) → Holds text starts ends count names → Names text names at count starts' ends' named) where
+    pub unnamed : {k q : ℕ} → named ≡ Refused k q → Answers named
+    unnamed {k} {q} g = (
+      λ names held.
+          let e = no-new-name text names at k q (refused-then (λ (x : List ℕ). tt {0}) (newName text names at) k q (sym (h names held .answer) ∙ ap (parsedOf nothing) g)) in
+          record { writes = refuses g e; named = λ x n f. never k q n x (sym e ∙ f) },
+      λ x f. step-refused k q x (sym g ∙ f),
+    )
 
-    module _ {n : ℕ} (g : named ≡ E.After n) {r : Step} (w : Writes rangeBytes (rangeAt text n) to before mid r) where
+    module _ {next : Place} (g : named ≡ Done next) {r : Step} (w : Writes rangeBytes nothing (λ _. tt) (rangeAt text (next .at)) to before mid r) where
       module _ (names : List Name) (held : Holds text starts ends count names) where
-        new : After (λ (x : List ℕ). tt {0}) (newName text names at) tt n
-        new = after (λ (x : List ℕ). tt {0}) (newName text names at) tt n (sym (h names held .answer) ∙ ap expectedOf g)
+        new : After (λ (x : List ℕ). tt {0}) (newName text names at) tt (next .at)
+        new = after (λ (x : List ℕ). tt {0}) (newName text names at) tt (next .at) (sym (h names held .answer) ∙ ap (parsedOf nothing) g)
 
-        is : declaration text names at ≡ andThen (rangeAt text n) (λ r m. accepted (spelledAs (new .0) r) m)
-        is = named-range text names at (new .0) n (new .1)
+        is : declaration text names at ≡ andThen (rangeAt text (next .at)) (λ r m. accepted (spelledAs (new .0) r) m)
+        is = named-range text names at (new .0) (next .at) (new .1)
 
         declared : Declares text names at to count before mid starts' ends' r
         unfolding header rangeBytes
         declared = record {
           writes = record {
-            answer = w .answer ∙ sym (ap (λ (p : Parsed Name). andThen p (λ x m. accepted (to + length (header (x ∷ []))) m)) is ∙ then-then (rangeAt text n) _ _);
-            wrote = λ x m f. let a = after (spelledAs (new .0)) (rangeAt text n) x m (sym is ∙ f) in rw (a .2) (w .wrote (a .0) m (a .1));
+            answer = w .answer ∙ sym (ap (λ (p : Parsed Name). andThen p (answered (λ (x : Name). header (x ∷ [])) (λ (x : Name). tt {0}) to)) is ∙ then-then (rangeAt text (next .at)) _ _);
+            wrote = λ x m f. let a = after (spelledAs (new .0)) (rangeAt text (next .at)) x m (sym is ∙ f) in rw (a .2) (w .wrote (a .0) m (a .1));
           };
           named = λ x m f.
-              let a = after (spelledAs (new .0)) (rangeAt text n) x m (sym is ∙ f) in
+              let a = after (spelledAs (new .0)) (rangeAt text (next .at)) x m (sym is ∙ f) in
               record {
                 counted = simp length-append (omega (arith, held .counted));
-                spelled = h names held .named (new .0) n (new .1) ∙ sym (spellings-more names x ∙ ap (λ (y : Name). spellings names ++ (y .spelling ∷ [])) (a .2));
+                spelled = h names held .named (new .0) (next .at) (new .1) ∙ sym (spellings-more names x ∙ ap (λ (y : Name). spellings names ++ (y .spelling ∷ [])) (a .2));
               };
         }
 
       pub entered : count < 64 → Answers r
-      entered few = (declared, λ m t f. (few, few-bytes (rangeAt text n) to before mid r m t w f))
+      entered few = (declared, λ x f. (few, few-bytes (rangeAt text (next .at)) to before mid r x w f))

@@ -14,11 +14,11 @@ use Rattle.grammar.specs.Parsed.{Parsed, accepted, refused}
 use Rattle.grammar.specs.Declarations.{declaration, declarationsFrom, declarations}
 use Rattle.grammar.specs.Emitted.{header}
 use Rattle.grammar.proofs.Combine.{token-prop, then-prop}
-use Rattle.declarations.specs.Results.{declaredOf}
+use Rattle.lexer.specs.declared.Place.{Place}
+use Rattle.lexer.specs.declared.Step.{Step}
+use Rattle.lexer.specs.declared.Step.the-variants.{Done, Refused}
+use Rattle.phrases.proofs.Writing.{got, refused-part}
 use Rattle.declarations.specs.Post.{Holds, headerAfter, DeclaresAll}
-use Rattle.declarations.specs.declared.Declared.{Declared}
-use Rattle.declarations.specs.declared.Declared.the-variants.{Until, Refused}
-use Rattle.declarations.proofs.Steps.{after, refused-then}
 use Rattle.declarations.proofs.Loop.{header-append}
 
 -- an empty table holds no names
@@ -39,23 +39,21 @@ pub record AllDeclared (word : Kind) (text : List ℕ) (names : List Name) (at t
   pub wrote : after ≡ sets before to (headerAfter names all)
   pub held : Holds text starts ends c all
 
-module _ (word : Kind) (text : List ℕ) (names : List Name) (at to : ℕ) (before after' starts ends : List ℕ) {r : Declared} (d : DeclaresAll word text names at to before after' starts ends r) where
-  pub all-declared : {n t c : ℕ} → r ≡ Until n t c → AllDeclared word text names at to before after' starts ends n t c
-  all-declared {n} {t} {c} g =
-      let a = after (λ (all : List Name). (to + length (headerAfter names all), length all)) (declarations word text names at) (t, c) n (sym (d .answer) ∙ ap declaredOf g) in
-      let ec : c ≡ length (a .0) = ap (λ (p : ℕ × ℕ). p .1) (a .2) in
+module _ (word : Kind) (text : List ℕ) (names : List Name) (at to : ℕ) (before after' starts ends : List ℕ) {r : Step} (d : DeclaresAll word text names at to before after' starts ends r) where
+  pub all-declared : {x : Place} → r ≡ Done x → AllDeclared word text names at to before after' starts ends (x .at) (x .to) (x .number)
+  all-declared {x} g =
+      let a = got (d .writes) g in
       record {
-        all = a .0;
-        read = a .1;
-        counted = ec;
-        ended = ap (λ (p : ℕ × ℕ). p .0) (a .2);
-        wrote = d .wrote (a .0) n (a .1);
-        held = subst (λ (m : ℕ). Holds text starts ends m (a .0)) (sym ec) (d .named (a .0) n (a .1));
+        all = a .tree;
+        read = a .is;
+        counted = a .tells-it;
+        ended = a .ended;
+        wrote = a .wrote;
+        held = subst (λ (m : ℕ). Holds text starts ends m (a .tree)) (sym (a .tells-it)) (d .named (a .tree) (x .at) (a .is));
       }
 
   pub not-declared : {k p : ℕ} → r ≡ Refused k p → declarations word text names at ≡ refused k p
-  not-declared {k} {p} g =
-      refused-then (λ (all : List Name). (to + length (headerAfter names all), length all)) (declarations word text names at) k p (sym (d .answer) ∙ ap declaredOf g)
+  not-declared g = refused-part (d .writes) g
 
 -- ---- names are added behind those declared before
 

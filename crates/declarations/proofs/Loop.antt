@@ -9,23 +9,19 @@ use lib.Seq.{sets, drop-append-seam}
 use Rattle.limits.specs.Limits.{noToken}
 use Rattle.lexer.specs.Token.{Kind, is, token, fault}
 use Rattle.lexer.specs.Lexer.{tokenAt}
-use Rattle.lexer.specs.declared.Token.{Token}
-use Rattle.lexer.specs.declared.Token.the-variants.{Fault}
+use Rattle.lexer.specs.Results.{reachedAt}
+use Rattle.lexer.specs.declared.Place.{Place}
+use Rattle.lexer.specs.declared.Step.{Step}
+use Rattle.lexer.specs.declared.Step.the-variants.{Done, Refused}
 use Rattle.semantics.specs.Program.{Name}
 use Rattle.grammar.specs.Parsed.{accepted, refused}
 use Rattle.grammar.specs.Declarations.{declaration, declarationsFrom, declarations}
 use Rattle.grammar.specs.Emitted.{header}
-use Rattle.phrases.specs.declared.Expected.{Expected}
-use Rattle.phrases.specs.Results.{faultOf}
+use Rattle.phrases.proofs.Writing.{got, refused-part, writes}
+use Rattle.phrases.proofs.Writing as W
 use Rattle.leb128.proofs.Stores.{sets-append}
 use Rattle.grammar.proofs.Combine.{same-value, never}
-use Rattle.declarations.specs.Results.{stepOf, unexpectedStep, undeclared}
 use Rattle.declarations.specs.Post.{Room, Holds, Declares, headerAfter, DeclaresAll, Few}
-use Rattle.declarations.specs.declared.Step.{Step}
-use Rattle.declarations.specs.declared.Step.the-variants as S
-use Rattle.declarations.specs.declared.Declared.{Declared}
-use Rattle.declarations.specs.declared.Declared.the-variants.{Until, Refused}
-use Rattle.declarations.proofs.Steps.{after, refused-then}
 
 pub header-append : (l k : List Name) → header (l ++ k) ≡ header l ++ header k
 unfolding header
@@ -76,53 +72,52 @@ module _ (word : Kind) (text : List ℕ) (names : List Name) (at to : ℕ) (befo
     wrote = refl;
   }
 
-  refuses : (after' starts ends : List ℕ) {r : Declared} (k p : ℕ) → r ≡ Refused k p → declarations word text names at ≡ refused k p → DeclaresAll word text names at to before after' starts ends r
-  refuses after' starts ends k p h e = record { answer = rw (h, e); wrote = λ all n f. never k p n all (sym e ∙ f); named = λ all n f. never k p n all (sym e ∙ f) }
+  refuses : (after' starts ends : List ℕ) {r : Step} (k p : ℕ) → r ≡ Refused k p → declarations word text names at ≡ refused k p → DeclaresAll word text names at to before after' starts ends r
+  refuses after' starts ends k p h e = record { writes = W.refuses h e; named = λ all n f. never k p n all (sym e ∙ f) }
 
   module _ (starts ends after' : List ℕ) (a known t : ℕ) (g : Going word text names at to before starts ends after' a known t) where
-    pub stops-fault : {read : Token} {x : Expected} {s : Step} {r : Declared} {p : ℕ} → read ≡ Fault p → x ≡ faultOf read → s ≡ unexpectedStep x → r ≡ undeclared s → tokenAt text a ≡ fault p → DeclaresAll word text names at to before after' starts ends r
-    stops-fault {p = p} h i j l e = refuses after' starts ends noToken p (rw (l, j, i, h)) (g .goes ∙ turn-fault (g .fuel) word text (names ++ g .new) a p e)
+    pub stops-fault : {r : Step} {k p : ℕ} → r ≡ Refused k p → (tokenAt text a ≡ fault p) × (k ≡ noToken) → DeclaresAll word text names at to before after' starts ends r
+    stops-fault {p = p} h e = refuses after' starts ends noToken p (h ∙ ap (λ (x : ℕ). Refused x p) (e .1)) (g .goes ∙ turn-fault (g .fuel) word text (names ++ g .new) a p (e .0))
 
     module _ (k : Kind) (s n : ℕ) (e : tokenAt text a ≡ token k s n) where
-      pub ends-all : is k word ≡ false → DeclaresAll word text names at to before after' starts ends (Until a t known)
+      pub ends-all : {r : Step} → r ≡ reachedAt a t known → is k word ≡ false → DeclaresAll word text names at to before after' starts ends r
       unfolding headerAfter
-      ends-all f =
+      ends-all i f =
           let d = g .goes ∙ turn-end (g .fuel) word text (names ++ g .new) a k s n e f in
           let seam : drop (length names) (names ++ g .new) ≡ g .new = drop-append-seam names (g .new) in
           record {
-            answer = rw (d, seam, g .ended, g .held .counted);
-            wrote = λ all m i. rw (← same-value (sym d ∙ i), seam) (g .wrote);
-            named = λ all m i. subst (λ (l : List Name). Holds text starts ends (length l) l) (same-value (sym d ∙ i)) (rw (g .held .counted) at (g .held));
+            writes = writes i (record { tree = names ++ g .new; is = d; ended = rw seam (g .ended); tells-it = g .held .counted; wrote = rw seam (g .wrote) });
+            named = λ all m j. subst (λ (l : List Name). Holds text starts ends (length l) l) (same-value (sym d ∙ j)) (rw (g .held .counted) at (g .held));
           }
 
       module _ (f : is k word ≡ true) (mid starts' ends' : List ℕ) where
         module _ {one : Step} (d : Declares text (names ++ g .new) n t known after' mid starts' ends' one) where
-          pub stops-at : {r : Declared} {q p : ℕ} → one ≡ S.Refused q p → r ≡ undeclared one → DeclaresAll word text names at to before mid starts' ends' r
-          stops-at {q = q} {p = p} h i =
-              let e2 = refused-then (λ (x : Name). t + length (header (x ∷ []))) (declaration text (names ++ g .new) n) q p (sym (d .writes .answer) ∙ ap stepOf h) in
-              refuses mid starts' ends' q p (i ∙ ap undeclared h) (g .goes ∙ turn-refused (g .fuel) word text (names ++ g .new) a k s n e q p f e2)
+          pub stops-at : {q p : ℕ} → one ≡ Refused q p → DeclaresAll word text names at to before mid starts' ends' one
+          stops-at {q} {p} h = refuses mid starts' ends' q p h (g .goes ∙ turn-refused (g .fuel) word text (names ++ g .new) a k s n e q p f (refused-part (d .writes) h))
 
-          pub more : {b u : ℕ} → known < 64 → one ≡ S.Done b u → Going word text names at to before starts' ends' mid b (known + 1) u
-          more {b} {u} few h =
-              let x = after (λ (x : Name). t + length (header (x ∷ []))) (declaration text (names ++ g .new) n) u b (sym (d .writes .answer) ∙ ap stepOf h) in
-              let bytes = header-append (g .new) (x .0 ∷ []) in
+          pub more : {x : Place} → known < 64 → one ≡ Done x → Going word text names at to before starts' ends' mid (x .at) (known + 1) (x .to)
+          more {x} few h =
+              let y = got (d .writes) h in
+              let bytes = header-append (g .new) (y .tree ∷ []) in
               let fuel' : g .fuel ≡ suc (g .fuel - 1) = omega (arith, g .enough) in
-              let left : declarationsFrom (g .fuel) word text ((names ++ g .new) ++ (x .0 ∷ [])) b ≡ declarationsFrom (suc (g .fuel - 1)) word text (names ++ (g .new ++ (x .0 ∷ []))) b = rw (append-assoc, ← fuel') in
-              let placed : sets after' t (header (x .0 ∷ [])) ≡ sets (sets before to (header (g .new))) (to + length (header (g .new))) (header (x .0 ∷ [])) = ap₂ (λ (l : List ℕ) (i : ℕ). sets l i (header (x .0 ∷ []))) (g .wrote) (g .ended) in
+              let left : declarationsFrom (g .fuel) word text ((names ++ g .new) ++ (y .tree ∷ [])) (x .at) ≡ declarationsFrom (suc (g .fuel - 1)) word text (names ++ (g .new ++ (y .tree ∷ []))) (x .at) = rw (append-assoc, ← fuel') in
+              let placed : sets after' t (header (y .tree ∷ [])) ≡ sets (sets before to (header (g .new))) (to + length (header (g .new))) (header (y .tree ∷ [])) = ap₂ (λ (l : List ℕ) (i : ℕ). sets l i (header (y .tree ∷ []))) (g .wrote) (g .ended) in
               record {
                 fuel = g .fuel - 1;
                 enough = omega (arith, g .enough);
-                new = g .new ++ (x .0 ∷ []);
-                held = rw append-assoc at (d .named (x .0) b (x .1));
-                goes = g .goes ∙ turn-more (g .fuel) word text (names ++ g .new) a k s n e (x .0) b f (x .1) ∙ left;
-                ended = rw bytes (simp length-append (omega (arith, x .2, g .ended)));
-                wrote = rw bytes (d .writes .wrote (x .0) b (x .1) ∙ placed ∙ sym (sets-append before to (header (g .new)) (header (x .0 ∷ []))));
+                new = g .new ++ (y .tree ∷ []);
+                held = rw append-assoc at (d .named (y .tree) (x .at) (y .is));
+                goes = g .goes ∙ turn-more (g .fuel) word text (names ++ g .new) a k s n e (y .tree) (x .at) f (y .is) ∙ left;
+                ended = rw bytes (simp length-append (omega (arith, y .ended, g .ended)));
+                wrote = rw bytes (d .writes .wrote (y .tree) (x .at) (y .is) ∙ placed ∙ sym (sets-append before to (header (g .new)) (header (y .tree ∷ []))));
               }
 
--- a refusal passed on is one
-pub few-refused : (to : ℕ) (s : Step) {r : Declared} → r ≡ undeclared s → Few to r
-few-refused to (S.Done n t) e = rw e tt
-few-refused to (S.Refused k p) e = rw e tt
+-- a refusal says nothing of them, and the end of the loop what holds there
+pub few-refused : (to : ℕ) {r : Step} {k p : ℕ} → r ≡ Refused k p → Few to r
+few-refused to e = rw e tt
+
+pub few-reached : (to : ℕ) {r : Step} {a t known : ℕ} → r ≡ reachedAt a t known → known ≤ 64 → t ≤ to + 15 * known → Few to r
+few-reached to e h i = rw e (h, i)
 
 -- ---- the invariant: as many names as there may be, no more than fifteen bytes for each, and the loop going on from any list of names
 -- that the table held first
@@ -152,22 +147,22 @@ module _ (word : Kind) (text : List ℕ) (at to : ℕ) (before starts₀ ends₀
 
     module _ (k : Kind) (s n : ℕ) (e : tokenAt text a ≡ token k s n) (f : is k word ≡ true) (mid starts' ends' : List ℕ) {one : Step}
         (d : (names : List Name) → Holds text starts ends known names → Declares text names n t known after' mid starts' ends' one)
-        (l : (n u : ℕ) → one ≡ S.Done n u → (known < 64) × (u ≤ t + 15))
+        (l : (x : Place) → one ≡ Done x → (known < 64) × (x .to ≤ t + 15))
       where
-        pub turns-out : {r : Declared} {q p : ℕ} → one ≡ S.Refused q p → r ≡ undeclared one → (names : List Name) → Holds text starts₀ ends₀ count names → DeclaresAll word text names at to before mid starts' ends' r
-        turns-out h i names held =
+        pub turns-out : {q p : ℕ} → one ≡ Refused q p → (names : List Name) → Holds text starts₀ ends₀ count names → DeclaresAll word text names at to before mid starts' ends' one
+        turns-out h names held =
             let go = g .going names held in
-            stops-at word text names at to before starts ends after' a known t go k s n e f mid starts' ends' (d (names ++ go .new) (go .held)) h i
+            stops-at word text names at to before starts ends after' a known t go k s n e f mid starts' ends' (d (names ++ go .new) (go .held)) h
 
-        pub turns-on : {b u : ℕ} → one ≡ S.Done b u → length starts' ≡ length starts → length ends' ≡ length ends → length mid ≡ length after' → Turning word text at to before starts₀ ends₀ count starts' ends' mid b (known + 1) u
-        turns-on {b} {u} h x y z =
-            let m = l b u h in
+        pub turns-on : {y : Place} → one ≡ Done y → length starts' ≡ length starts → length ends' ≡ length ends → length mid ≡ length after' → Turning word text at to before starts₀ ends₀ count starts' ends' mid (y .at) (known + 1) (y .to)
+        turns-on {y} h x z w =
+            let m = l y h in
             record {
               few = omega (arith, m .0);
               bytes = omega (arith, m .1, g .bytes);
               starts-kept = x ∙ g .starts-kept;
-              ends-kept = y ∙ g .ends-kept;
-              after-kept = z ∙ g .after-kept;
+              ends-kept = z ∙ g .ends-kept;
+              after-kept = w ∙ g .after-kept;
               going = λ names held. let go = g .going names held in
                   more word text names at to before starts ends after' a known t go k s n e f mid starts' ends' (d (names ++ go .new) (go .held)) (m .0) h;
             }

@@ -17,8 +17,10 @@ use Rattle.lexer.proofs.Table.{names-add}
 use Rattle.semantics.specs.Program.{Name}
 use Rattle.grammar.specs.Parsed.{accepted, refused}
 use Rattle.grammar.specs.Declarations.{spellings, newName}
-use Rattle.phrases.specs.declared.Expected.{Expected}
-use Rattle.phrases.specs.declared.Expected.the-variants.{After, Refused}
+use Rattle.lexer.specs.Results.{reachedAt}
+use Rattle.lexer.specs.declared.Place.{Place}
+use Rattle.lexer.specs.declared.Step.{Step}
+use Rattle.lexer.specs.declared.Step.the-variants.{Done, Refused}
 use Rattle.grammar.proofs.Combine.{same-value, never}
 use Rattle.declarations.specs.Post.{Room, Holds, Names}
 
@@ -54,19 +56,19 @@ module _ (text : List ℕ) (names : List Name) (at : ℕ) where
 
 -- ---- the answer
 
-not-after : {A : Type 0} (k p n : ℕ) → Refused k p ≡ After n → A
-not-after k p n h = let z : _≡_ {A = ℕ} 0 1 = cc in absurd (omega arith)
+not-done : {A : Type 0} (k p : ℕ) (x : Place) → Refused k p ≡ Done x → A
+not-done k p x h = let z : _≡_ {A = ℕ} 0 1 = cc in absurd (omega arith)
 
 module _ (text starts ends : List ℕ) (at count : ℕ) (starts' ends' : List ℕ) where
-  abbrev Answers : Expected → Type 0
-  Answers r = ((names : List Name) → Holds text starts ends count names → Names text names at count starts' ends' r) × ((n : ℕ) → r ≡ After n → count < 64)
+  abbrev Answers : Step → Type 0
+  Answers r = ((names : List Name) → Holds text starts ends count names → Names text names at count starts' ends' r) × ((x : Place) → r ≡ Done x → count < 64)
 
-  refuses : {r : Expected} (k p : ℕ) → r ≡ Refused k p → ((names : List Name) → Holds text starts ends count names → newName text names at ≡ refused k p) → Answers r
+  refuses : {r : Step} (k p : ℕ) → r ≡ Refused k p → ((names : List Name) → Holds text starts ends count names → newName text names at ≡ refused k p) → Answers r
   refuses k p g f =
-      (λ names h. record { answer = rw (g, f names h); named = λ w n e. never k p n w (sym (f names h) ∙ e) }, λ n e. not-after k p n (sym g ∙ e))
+      (λ names h. record { answer = rw (g, f names h); named = λ w n e. never k p n w (sym (f names h) ∙ e) }, λ x e. not-done k p x (sym g ∙ e))
 
-  pub faulty-name : {r : Expected} (p : ℕ) → r ≡ Refused noToken p → tokenAt text at ≡ fault p → Answers r
-  faulty-name p g e = refuses noToken p g (λ names h. name-fault text names at p e)
+  pub faulty-name : {r : Step} (k p : ℕ) → r ≡ Refused k p → (tokenAt text at ≡ fault p) × (k ≡ noToken) → Answers r
+  faulty-name k p g e = refuses noToken p (g ∙ ap (λ (x : ℕ). Refused x p) (e .1)) (λ names h. name-fault text names at p (e .0))
 
   module _ (k : Kind) (s n : ℕ) (e : tokenAt text at ≡ token k s n) where
     pub refuses-other : is k name ≡ false → Answers (Refused notAllowed s)
@@ -83,12 +85,12 @@ module _ (text starts ends : List ℕ) (at count : ℕ) (starts' ends' : List �
         pub refuses-last : overLong s n ≡ false → nameLimit ≤ count → Answers (Refused tooMany s)
         refuses-last l m = refuses tooMany s refl (λ names h. last-name text names at k s n e f (rw (h .spelled) at g) l (omega (arith, h .counted)))
 
-        pub takes-name : overLong s n ≡ false → count < nameLimit → Room starts ends count → (starts' ≡ set starts count s) × (ends' ≡ set ends count n) → Answers (After n)
-        takes-name l m room a = (
+        pub takes-name : overLong s n ≡ false → count < nameLimit → Room starts ends count → (starts' ≡ set starts count s) × (ends' ≡ set ends count n) → {r : Step} → r ≡ reachedAt n 0 0 → Answers r
+        takes-name l m room a d = (
           λ names h.
               let fresh = fresh-name text names at k s n e f (rw (h .spelled) at g) l (omega (arith, h .counted)) in
               record {
-                answer = rw fresh;
+                answer = rw (d, fresh);
                 named = λ w q i. rw (a .0, a .1, add-one count) (names-add text starts ends count s n (omega (arith, room .in-starts)) (omega (arith, room .in-ends))) ∙ ap (λ (x : List (List ℕ)). x ++ (part text s n ∷ [])) (h .spelled) ∙ ap (λ (x : List ℕ). spellings names ++ (x ∷ [])) (same-value (sym fresh ∙ i));
               },
           λ q i. m,

@@ -1,7 +1,7 @@
 // Declarations of inputs and variables: names into the table, bounds and starts as the header's numbers.
 use lexer::Found;
-use lexer::Token;
-use phrases::Expected;
+use lexer::Place;
+use lexer::Step;
 ghost use mathlib.Core.Bool.{cond};
 ghost use mathlib.Core.Path.{_≡_};
 ghost use mathlib.Core.List.{List};
@@ -14,13 +14,14 @@ ghost use Rattle.lexer.specs.Results.{kindOf};
 ghost use Rattle.lexer.specs.Token.{lastKind};
 ghost use Rattle.semantics.specs.Program.{Name};
 ghost use Rattle.grammar.specs.Declarations.{inRange, signedAt, boundAt, startAt};
-ghost use Rattle.phrases.specs.declared.Expected.the-variants.{After};
+ghost use Rattle.lexer.specs.declared.Place.{Place};
+ghost use Rattle.lexer.specs.declared.Step.the-variants.{Done};
 ghost use Rattle.limits.specs.Limits.{nameLimit, outOfLimit};
 ghost use Rattle.grammar.specs.Parsed.{accepted, refused as refusedAt};
-ghost use Rattle.declarations.specs.declared.Step.the-variants.{Done};
+ghost use Rattle.phrases.specs.Results.{parsedOf, nothing, valueTold, Writes};
 ghost use Rattle.declarations.specs.Internal.{signedBy, rangeAt, rangeBytes};
-ghost use Rattle.declarations.specs.Results.{numberOf, boundOf, unexpected, unexpectedStep, unbounded, undeclared};
-ghost use Rattle.declarations.specs.Post.{Room, Holds, Writes, Names, Declares, DeclaresAll, Few};
+ghost use Rattle.declarations.specs.Results.{numberOf, valuedAt};
+ghost use Rattle.declarations.specs.Post.{Room, Holds, Names, Declares, DeclaresAll, Few};
 
 const LOWEST: i32 = -2147483648;
 
@@ -32,59 +33,19 @@ enum Number {
     Outside,
 }
 
-// A signed number and the place after it, or a refusal's number and place.
-enum Bound {
-    Is(i32, usize),
-    Refused(u8, usize),
-}
-
-// The place after what was read and the end of the bytes written, or a refusal's number and place.
-enum Step {
-    Done(usize, usize),
-    Refused(u8, usize),
-}
-
-// The place after the declarations, the end of the bytes written and the count of names, or a refusal's number and place.
-pub enum Declared {
-    Until(usize, usize, usize),
-    Refused(u8, usize),
-}
-
-// A refusal passed on.
-fn unread(e: Expected) -> Bound
-    ensures { λ r. ⌜ r ≡ unexpected e ⌝ }
+// The place after a number, with its value.
+fn valued(at: usize, value: i32) -> Step
+    ensures { λ r. ⌜ r ≡ valuedAt at value ⌝ }
 {
-    match e {
-        Expected::After(_) => Bound::Refused(0, 0),
-        Expected::Refused(k, p) => Bound::Refused(k, p),
-    }
-}
-
-fn refused(e: Expected) -> Step
-    ensures { λ r. ⌜ r ≡ unexpectedStep e ⌝ }
-{
-    match e {
-        Expected::After(_) => Step::Refused(0, 0),
-        Expected::Refused(k, p) => Step::Refused(k, p),
-    }
-}
-
-fn no_bound(b: Bound) -> Step
-    ensures { λ r. ⌜ r ≡ unbounded b ⌝ }
-{
-    match b {
-        Bound::Is(_, _) => Step::Refused(0, 0),
-        Bound::Refused(k, p) => Step::Refused(k, p),
-    }
-}
-
-fn stopped(s: Step) -> Declared
-    ensures { λ r. ⌜ r ≡ undeclared s ⌝ }
-{
-    match s {
-        Step::Done(_, _) => Declared::Refused(0, 0),
-        Step::Refused(k, p) => Declared::Refused(k, p),
-    }
+    Step::Done(Place {
+        at,
+        kind: lexer::UNKNOWN,
+        start: at,
+        end: at,
+        to: 0,
+        number: 0,
+        value,
+    })
 }
 
 fn within(z: i64, low: i32, high: i32) -> Number
@@ -119,71 +80,71 @@ fn digits(
     negative: bool,
     low: i32,
     high: i32,
-) -> Bound
+) -> Step
     requires { ⌜ kind ≤ lastKind ⌝ }
-    ensures { λ r. ⌜ boundOf r ≡ signedAt (inRange low high) (signedBy negative) (now (text .entry)) (kindOf kind) start end ⌝ }
+    ensures { λ r. ⌜ parsedOf valueTold r ≡ signedAt (inRange low high) (signedBy negative) (now (text .entry)) (kindOf kind) start end ⌝ }
 {
     if kind != lexer::DIGITS {
-        return Bound::Refused(limits::NOT_ALLOWED, start);
+        return Step::Refused(limits::NOT_ALLOWED, start);
     }
     let value = lexer::value(lexer::name(text, start, end));
     let Number::Is(z) = signed(value, negative, low, high) else {
-        return Bound::Refused(limits::OUT_OF_LIMIT, start);
+        return Step::Refused(limits::OUT_OF_LIMIT, start);
     };
-    Bound::Is(z, end)
+    valued(end, z)
 }
 
 // A signed number between low and high.
-fn bound_at(text: &[u8], at: usize, low: i32, high: i32) -> Bound
-    ensures { λ r. ⌜ boundOf r ≡ boundAt (inRange low high) (now (text .entry)) at ⌝ }
+fn bound_at(text: &[u8], at: usize, low: i32, high: i32) -> Step
+    ensures { λ r. ⌜ parsedOf valueTold r ≡ boundAt (inRange low high) (now (text .entry)) at ⌝ }
 {
     let read = lexer::token_at(text, at);
-    let Token::Is(kind, start, end) = read else {
-        return unread(phrases::fault(read));
+    let Step::Done(token) = read else {
+        return read;
     };
-    if kind == lexer::MINUS {
-        let next = lexer::token_at(text, end);
-        let Token::Is(kind2, start2, end2) = next else {
-            return unread(phrases::fault(next));
+    if token.kind == lexer::MINUS {
+        let next = lexer::token_at(text, token.end);
+        let Step::Done(token2) = next else {
+            return next;
         };
-        return digits(text, kind2, start2, end2, true, low, high);
+        return digits(text, token2.kind, token2.start, token2.end, true, low, high);
     }
-    digits(text, kind, start, end, false, low, high)
+    digits(text, token.kind, token.start, token.end, false, low, high)
 }
 
 // An absent start is 0; the `;` is the token from `place` to `next`.
-fn absent(place: usize, next: usize, low: i32, high: i32) -> Bound
-    ensures { λ r. ⌜ boundOf r ≡ cond (inRange low high (pos 0)) (accepted (pos 0) next) (refusedAt outOfLimit place) ⌝ }
+fn absent(place: usize, next: usize, low: i32, high: i32) -> Step
+    ensures { λ r. ⌜ parsedOf valueTold r ≡ cond (inRange low high (pos 0)) (accepted (pos 0) next) (refusedAt outOfLimit place) ⌝ }
 {
     let Number::Is(z) = within(0, low, high) else {
-        return Bound::Refused(limits::OUT_OF_LIMIT, place);
+        return Step::Refused(limits::OUT_OF_LIMIT, place);
     };
-    Bound::Is(z, next)
+    valued(next, z)
 }
 
 // The start and the `;`.
-fn start_at(text: &[u8], at: usize, low: i32, high: i32) -> Bound
-    ensures { λ r. ⌜ boundOf r ≡ startAt (now (text .entry)) low high at ⌝ }
+fn start_at(text: &[u8], at: usize, low: i32, high: i32) -> Step
+    ensures { λ r. ⌜ parsedOf valueTold r ≡ startAt (now (text .entry)) low high at ⌝ }
 {
     let read = lexer::token_at(text, at);
-    let Token::Is(kind, place, next) = read else {
-        return unread(phrases::fault(read));
+    let Step::Done(token) = read else {
+        return read;
     };
-    if kind == lexer::INIT {
-        let given = bound_at(text, next, low, high);
-        let Bound::Is(z, end) = given else {
+    if token.kind == lexer::INIT {
+        let given = bound_at(text, token.end, low, high);
+        let Step::Done(z) = given else {
             return given;
         };
-        let closed = phrases::expect(text, end, lexer::SEMICOLON);
-        let Expected::After(after) = closed else {
-            return unread(closed);
+        let closed = phrases::expect(text, z.at, lexer::SEMICOLON);
+        let Step::Done(after) = closed else {
+            return closed;
         };
-        return Bound::Is(z, after);
+        return valued(after.at, z.value);
     }
-    if kind == lexer::SEMICOLON {
-        return absent(place, next, low, high);
+    if token.kind == lexer::SEMICOLON {
+        return absent(token.start, token.end, low, high);
     }
-    Bound::Refused(limits::NOT_ALLOWED, place)
+    Step::Refused(limits::NOT_ALLOWED, token.start)
 }
 
 // Low, high and start as the header has them.
@@ -199,58 +160,52 @@ fn put_range(out: &mut [u8], to: usize, low: i32, high: i32, start: i32) -> usiz
 // Low, `..`, high, the start and the `;`.
 fn range(text: &[u8], at: usize, out: &mut [u8], to: usize) -> Step
     requires { ⌜ to < 2 ^ 30 ⌝ }
-    ensures { λ r. ⌜ Writes rangeBytes (rangeAt (now (text .entry)) at) to (now (out .entry)) (now (out .exit)) r ⌝ }
+    ensures { λ r. ⌜ Writes rangeBytes nothing (λ _. tt) (rangeAt (now (text .entry)) at) to (now (out .entry)) (now (out .exit)) r ⌝ }
 {
     let first = bound_at(text, at, LOWEST, HIGHEST);
-    let Bound::Is(low, a) = first else {
-        return no_bound(first);
+    let Step::Done(low) = first else {
+        return first;
     };
-    let between = phrases::expect(text, a, lexer::DOTS);
-    let Expected::After(b) = between else {
-        return refused(between);
+    let between = phrases::expect(text, low.at, lexer::DOTS);
+    let Step::Done(b) = between else {
+        return between;
     };
-    let second = bound_at(text, b, low, HIGHEST);
-    let Bound::Is(high, c) = second else {
-        return no_bound(second);
+    let second = bound_at(text, b.at, low.value, HIGHEST);
+    let Step::Done(high) = second else {
+        return second;
     };
-    let third = start_at(text, c, low, high);
-    let Bound::Is(z, end) = third else {
-        return no_bound(third);
+    let third = start_at(text, high.at, low.value, high.value);
+    let Step::Done(z) = third else {
+        return third;
     };
-    Step::Done(end, put_range(out, to, low, high, z))
+    lexer::reached(z.at, put_range(out, to, low.value, high.value, z.value), 0)
 }
 
 // A new name into the table.
-fn new_name(
-    text: &[u8],
-    at: usize,
-    starts: &mut [usize],
-    ends: &mut [usize],
-    count: usize,
-) -> Expected
+fn new_name(text: &[u8], at: usize, starts: &mut [usize], ends: &mut [usize], count: usize) -> Step
     requires { ⌜ Room (now starts) (now ends) count ⌝ }
     ensures { λ r. ⌜ ((names : List Name) → Holds (now (text .entry)) (now (starts .entry)) (now (ends .entry)) count names → Names (now (text .entry)) names at count (now (starts .exit)) (now (ends .exit)) r) ⌝ }
-    ensures { λ r. ⌜ ((n : ℕ) → r ≡ After n → count < nameLimit) ⌝ }
+    ensures { λ r. ⌜ ((x : Place) → r ≡ Done x → count < nameLimit) ⌝ }
 {
     let read = lexer::token_at(text, at);
-    let Token::Is(kind, start, end) = read else {
-        return phrases::fault(read);
+    let Step::Done(token) = read else {
+        return read;
     };
-    if kind != lexer::NAME {
-        return Expected::Refused(limits::NOT_ALLOWED, start);
+    if token.kind != lexer::NAME {
+        return Step::Refused(limits::NOT_ALLOWED, token.start);
     }
-    let known = lexer::find(text, starts, ends, count, start, end);
+    let known = lexer::find(text, starts, ends, count, token.start, token.end);
     if let Found::At(_) = known {
-        return Expected::Refused(limits::WRONG_NAME, start);
+        return Step::Refused(limits::WRONG_NAME, token.start);
     }
-    if lexer::is_over_long(start, end) {
-        return Expected::Refused(limits::TOO_MANY, start);
+    if lexer::is_over_long(token.start, token.end) {
+        return Step::Refused(limits::TOO_MANY, token.start);
     }
     if count < limits::NAME_LIMIT {
-        lexer::add(starts, ends, count, start, end);
-        return Expected::After(end);
+        lexer::add(starts, ends, count, token.start, token.end);
+        return lexer::reached(token.end, 0, 0);
     }
-    Expected::Refused(limits::TOO_MANY, start)
+    Step::Refused(limits::TOO_MANY, token.start)
 }
 
 // A declaration after its word.
@@ -266,13 +221,13 @@ fn declaration(
     requires { ⌜ Room (now starts) (now ends) count ⌝ }
     requires { ⌜ to < 2 ^ 30 ⌝ }
     ensures { λ r. ⌜ ((names : List Name) → Holds (now (text .entry)) (now (starts .entry)) (now (ends .entry)) count names → Declares (now (text .entry)) names at to count (now (out .entry)) (now (out .exit)) (now (starts .exit)) (now (ends .exit)) r) ⌝ }
-    ensures { λ r. ⌜ ((n t : ℕ) → r ≡ Done n t → (count < nameLimit) × (t ≤ to + 15)) ⌝ }
+    ensures { λ r. ⌜ ((x : Place) → r ≡ Done x → (count < nameLimit) × (x .to ≤ to + 15)) ⌝ }
 {
     let named = new_name(text, at, starts, ends, count);
-    let Expected::After(next) = named else {
-        return refused(named);
+    let Step::Done(next) = named else {
+        return named;
     };
-    range(text, next, out, to)
+    range(text, next.at, out, to)
 }
 
 // Declarations that begin with the word, after `count` names.
@@ -285,7 +240,7 @@ pub fn declarations(
     count: usize,
     out: &mut [u8],
     to: usize,
-) -> Declared
+) -> Step
     requires { ⌜ (word ≤ lastKind) × (to < 2 ^ 20) ⌝ }
     requires { ⌜ Room (now starts) (now ends) count ⌝ }
     ensures { λ r. ⌜ ((names : List Name) → Holds (now (text .entry)) (now (starts .entry)) (now (ends .entry)) count names → DeclaresAll (kindOf word) (now (text .entry)) names at to (now (out .entry)) (now (out .exit)) (now (starts .exit)) (now (ends .exit)) r) ⌝ }
@@ -296,18 +251,18 @@ pub fn declarations(
     let mut t = to;
     loop {
         let read = lexer::token_at(text, a);
-        let Token::Is(kind, _, next) = read else {
-            return stopped(refused(phrases::fault(read)));
+        let Step::Done(token) = read else {
+            return read;
         };
-        if kind != word {
-            return Declared::Until(a, t, known);
+        if token.kind != word {
+            return lexer::reached(a, t, known);
         }
-        let one = declaration(text, next, starts, ends, known, out, t);
-        let Step::Done(b, u) = one else {
-            return stopped(one);
+        let one = declaration(text, token.end, starts, ends, known, out, t);
+        let Step::Done(b) = one else {
+            return one;
         };
-        a = b;
-        t = u;
+        a = b.at;
+        t = b.to;
         known += 1;
     }
 }

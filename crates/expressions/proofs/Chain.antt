@@ -14,12 +14,12 @@ use Rattle.lexer.specs.Lexer.{tokenAt}
 use Rattle.grammar.specs.Parsed.{Parsed, accepted, andThen, rest, chain}
 use Rattle.grammar.proofs.Growth.{Grown}
 use Rattle.leb128.proofs.Stores.{sets-append}
-use Rattle.expressions.specs.declared.Lookahead.{Lookahead}
-use Rattle.expressions.specs.declared.Step.{Step}
-use Rattle.expressions.specs.declared.Step.the-variants.{Done, Refused}
-use Rattle.expressions.specs.Steps.{Parses, Room}
+use Rattle.lexer.specs.declared.Place.{Place}
+use Rattle.lexer.specs.declared.Step.{Step}
+use Rattle.lexer.specs.declared.Step.the-variants.{Done, Refused}
+use Rattle.expressions.specs.Steps.{lookedAhead, Parses, Room}
 use Rattle.expressions.specs.Internal.{Stands, codeOf, Codes}
-use Rattle.expressions.proofs.Steps.{lookedAhead, Refuses, Known, known, Accepted, accepted-by, accepts, passed, then-refused, room-fits, room-after, room-next, room-more}
+use Rattle.expressions.proofs.Steps.{Refuses, upTo, stands-up-to, Accepted, accepted-by, accepts, passed, then-refused, room-fits, room-after, room-next, room-more}
 
 -- ---- operators
 
@@ -68,22 +68,22 @@ abbrev pub Grows : {A : Type 0} → (A → List ℕ) → (ℕ → Parsed A) → 
 Grows code operand text = (at to : ℕ) → Room text at to → Grown code (length text) at (operand at)
 
 -- the invariant of the loop: h is the token behind what was read
-pub record Turn {O A : Type 0} (code : A → List ℕ) (join : O → A → A → A) (operator : Kind → Option O) (operand : ℕ → Parsed A) (text : List ℕ) (out₀ : List ℕ) (h₀ : Lookahead) (t₀ : ℕ) (out : List ℕ) (h : Lookahead) (t : ℕ) : Type 0 where
-  pub room : Room text (h .at) t
+pub record Turn {O A : Type 0} (code : A → List ℕ) (join : O → A → A → A) (operator : Kind → Option O) (operand : ℕ → Parsed A) (text : List ℕ) (out₀ : List ℕ) (h₀ : Place) (out : List ℕ) (h : Place) : Type 0 where
+  pub room : Room text (h .at) (h .to)
   pub stands : Stands text h
   pub size : length out ≡ length out₀
   pub grows : Grows code operand text
-  pub chained : (a₀ : A) → Chained code join operator operand text a₀ (h₀ .at) t₀ out₀ (h .at) t out
+  pub chained : (a₀ : A) → Chained code join operator operand text a₀ (h₀ .at) (h₀ .to) out₀ (h .at) (h .to) out
 
 module _ {O A : Type 0} {code : A → List ℕ} {join : O → A → A → A} {operator : Kind → Option O} {number : O → ℕ} (ops : Operators code join operator number) (operand : ℕ → Parsed A) (text : List ℕ) where
   -- ---- the ways through `rest`
 
-  rest-none : (f : ℕ) (a : A) {h : Lookahead} (k : Known text h) → operator (k .kind) ≡ none → rest join operator operand text f a (h .at) ≡ accepted a (h .at)
+  rest-none : (f : ℕ) (a : A) {h : Place} (k : Stands text h) → operator (k .kind) ≡ none → rest join operator operand text f a (h .at) ≡ accepted a (h .at)
   unfolding rest
   rest-none zero a k e = refl
   rest-none (suc f) a k e = rw (k .read, e)
 
-  rest-some : (f : ℕ) (a : A) {h : Lookahead} (k : Known text h) (o : O) → operator (k .kind) ≡ some o → rest join operator operand text (suc f) a (h .at) ≡ andThen (operand (h .end)) (λ b l. rest join operator operand text f (join o a b) l)
+  rest-some : (f : ℕ) (a : A) {h : Place} (k : Stands text h) (o : O) → operator (k .kind) ≡ some o → rest join operator operand text (suc f) a (h .at) ≡ andThen (operand (h .end)) (λ b l. rest join operator operand text f (join o a b) l)
   unfolding rest
   rest-some f a k o e = rw (k .read, e)
 
@@ -103,8 +103,8 @@ module _ {O A : Type 0} {code : A → List ℕ} {join : O → A → A → A} {op
   chain-first at c e = passed c e (first-refuses at)
 
   -- the loop begins
-  pub turn-first : {at to : ℕ} {before out : List ℕ} {r : Step} {h : Lookahead} {t : ℕ} → Grows code operand text → Room text at to → Parses text code (operand at) to before out r → r ≡ Done h t → Turn code join operator operand text out h t out h t
-  turn-first {at} {to} {t = t} g m p i = record {
+  pub turn-first : {at to : ℕ} {before out : List ℕ} {r : Step} {h : Place} → Grows code operand text → Room text at to → Parses text code (operand at) to before out r → r ≡ Done h → Turn code join operator operand text out h out h
+  turn-first {at} {to} {h = h} g m p i = record {
     room = room-after m (g at to m) (accepted-by p i);
     stands = accepted-by p i .stands;
     size = refl;
@@ -116,17 +116,17 @@ module _ {O A : Type 0} {code : A → List ℕ} {join : O → A → A → A} {op
       same = refl;
       spelt = sym (append-nil (code a₀));
       wrote = refl;
-      count = sym (add-zero t);
+      count = sym (add-zero (h .to));
       fuels = omega arith;
     };
   }
 
-  module _ {out₀ : List ℕ} {h₀ : Lookahead} {t₀ : ℕ} {out : List ℕ} {h : Lookahead} {t : ℕ} (w : Turn code join operator operand text out₀ h₀ t₀ out h t) where
-    here : Known text h
-    here = known (w .stands)
+  module _ {out₀ : List ℕ} {h₀ : Place} {out : List ℕ} {h : Place} (w : Turn code join operator operand text out₀ h₀ out h) where
+    here : Stands text h
+    here = w .stands
 
     -- an operand may follow the token behind
-    pub turn-next : Room text (h .end) t
+    pub turn-next : Room text (h .end) (h .to)
     turn-next = room-next (w .room) here
 
     -- fuel is left while the text is
@@ -137,7 +137,7 @@ module _ {O A : Type 0} {code : A → List ℕ} {join : O → A → A → A} {op
         go zero i = absurd (omega (arith, w .room .within))
         go (suc f) i = g f
 
-    module _ {at to : ℕ} {before : List ℕ} (a : Accepted text code (operand at) to before out₀ h₀ t₀) where
+    module _ {at to : ℕ} {before : List ℕ} (a : Accepted text code (operand at) to before out₀ h₀ (h₀ .to)) where
       come : chain join operator operand text at ≡ rest join operator operand text (w .chained (a .tree) .fuel) (w .chained (a .tree) .tree) (h .at)
       unfolding chain
       come = rw (a .is) (w .chained (a .tree) .same)
@@ -145,13 +145,13 @@ module _ {O A : Type 0} {code : A → List ℕ} {join : O → A → A → A} {op
     -- c is the code of the token behind
     module _ {c : ℕ} (e : Codes number operator (h .kind) c) where
       sign : (c ≡ 0 → ⊥) → Operator operator number (here .kind) c
-      sign z = operator-some operator number (here .kind) c (e (here .kind) (here .number)) z
+      sign z = operator-some operator number (here .kind) c (e (here .kind) (here .numbered)) z
 
       -- no operator: the chain ends here
-      ends : {at to : ℕ} {before : List ℕ} → Accepted text code (operand at) to before out₀ h₀ t₀ → c ≡ 0 → Accepted text code (chain join operator operand text at) to before out h t
+      ends : {at to : ℕ} {before : List ℕ} → Accepted text code (operand at) to before out₀ h₀ (h₀ .to) → c ≡ 0 → Accepted text code (chain join operator operand text at) to before out h (h .to)
       ends {to = to} {before = before} a z =
           let d = w .chained (a .tree) in
-          let i : operator (here .kind) ≡ none = operator-none operator number (here .kind) c (e (here .kind) (here .number)) (ops .some-code) z in
+          let i : operator (here .kind) ≡ none = operator-none operator number (here .kind) c (e (here .kind) (here .numbered)) (ops .some-code) z in
           record {
             tree = d .tree;
             is = come a ∙ rest-none (d .fuel) (d .tree) here i;
@@ -160,12 +160,12 @@ module _ {O A : Type 0} {code : A → List ℕ} {join : O → A → A → A} {op
             wrote = d .wrote ∙ rw (a .wrote, a .count, d .spelt) (sym (sets-append before to (code (a .tree)) (d .tail)));
           }
 
-      pub turn-done : {at to : ℕ} {before : List ℕ} {r : Step} → Parses text code (operand at) to before out₀ r → r ≡ Done h₀ t₀ → c ≡ 0 → Parses text code (chain join operator operand text at) to before out (Done h t)
-      turn-done p f z = accepts (ends (accepted-by p f) z)
+      pub turn-done : {at to : ℕ} {before : List ℕ} {r : Step} → Parses text code (operand at) to before out₀ r → r ≡ Done h₀ → c ≡ 0 → Parses text code (chain join operator operand text at) to before out (Done h)
+      turn-done p f z = accepts refl (ends (accepted-by p f) z)
 
       -- the operand that follows is refused
       module _ (z : c ≡ 0 → ⊥) where
-        operand-refuses : {at to : ℕ} {before : List ℕ} → Accepted text code (operand at) to before out₀ h₀ t₀ → {k q : ℕ} → Refuses text (operand (h .end)) k q → Refuses text (chain join operator operand text at) k q
+        operand-refuses : {at to : ℕ} {before : List ℕ} → Accepted text code (operand at) to before out₀ h₀ (h₀ .to) → {k q : ℕ} → Refuses text (operand (h .end)) k q → Refuses text (chain join operator operand text at) k q
         operand-refuses {at} a {k} {q} r =
             let o = sign z in
             subst (λ (p : Parsed A). Refuses text p k q) (sym (come a))
@@ -173,12 +173,12 @@ module _ {O A : Type 0} {code : A → List ℕ} {join : O → A → A → A} {op
             (λ f. subst (λ (p : Parsed A). Refuses text p k q) (sym (rest-some f (w .chained (a .tree) .tree) here (o .which) (o .is)))
             (then-refused text _ (λ b. rest-fault f (join (o .which) (w .chained (a .tree) .tree) b)) (operand (h .end)) r)))
 
-        pub turn-refused : {at to u : ℕ} {before b x after : List ℕ} {r s : Step} {k q : ℕ} → Parses text code (operand at) to before out₀ r → r ≡ Done h₀ t₀ → Parses text code (operand (h .end)) u b x s → s ≡ Refused k q → Parses text code (chain join operator operand text at) to before after s
+        pub turn-refused : {at to u : ℕ} {before b x after : List ℕ} {r s : Step} {k q : ℕ} → Parses text code (operand at) to before out₀ r → r ≡ Done h₀ → Parses text code (operand (h .end)) u b x s → s ≡ Refused k q → Parses text code (chain join operator operand text at) to before after s
         turn-refused p f d i = passed d i (operand-refuses (accepted-by p f))
 
         -- the operand that follows is accepted
-        module _ {out′ : List ℕ} {s : Step} {g : Lookahead} {u : ℕ} (d : Parses text code (operand (h .end)) t out out′ s) (done : s ≡ Done g u) where
-          b : Accepted text code (operand (h .end)) t out out′ g u
+        module _ {out′ : List ℕ} {s : Step} {g : Place} (d : Parses text code (operand (h .end)) (h .to) out out′ s) (done : s ≡ Done g) where
+          b : Accepted text code (operand (h .end)) (h .to) out out′ g (g .to)
           b = accepted-by d done
 
           no-end : here .kind ≡ ending → ⊥
@@ -187,24 +187,24 @@ module _ {O A : Type 0} {code : A → List ℕ} {join : O → A → A → A} {op
               let y : _≡_ {A = ℕ} 0 1 = cc (ops .none-ends) in
               omega arith
 
-          turn-room : Room text (g .at) (u + 1) × (h .at < g .at)
-          turn-room = room-more (w .room) here no-end (w .grows (h .end) t turn-next) b
+          turn-room : Room text (g .at) (g .to + 1) × (h .at < g .at)
+          turn-room = room-more (w .room) here no-end (w .grows (h .end) (h .to) turn-next) b
 
-          pub turn-fits : u < 2 ^ 32
+          pub turn-fits : g .to < 2 ^ 32
           turn-fits = omega (arith, room-fits (turn-room .0))
 
           pub turn-less : length text - g .at < length text - h .at
           turn-less = omega (arith, turn-room .0 .within, turn-room .1)
 
-          module _ {out″ : List ℕ} (put : out″ ≡ set out′ u c) where
-            wrote-more : (tail : List ℕ) → out ≡ sets out₀ t₀ tail → t ≡ t₀ + length tail → out″ ≡ sets out₀ t₀ (tail ++ (code (b .tree) ++ (number (sign z .which) ∷ [])))
+          module _ {out″ : List ℕ} (put : out″ ≡ set out′ (g .to) c) where
+            wrote-more : (tail : List ℕ) → out ≡ sets out₀ (h₀ .to) tail → h .to ≡ h₀ .to + length tail → out″ ≡ sets out₀ (h₀ .to) (tail ++ (code (b .tree) ++ (number (sign z .which) ∷ [])))
             wrote-more tail hw ht =
-                put ∙ rw (sets-append out₀ t₀ tail (code (b .tree) ++ (number (sign z .which) ∷ [])), ← hw, ← ht, sets-append out t (code (b .tree)) (number (sign z .which) ∷ []), ← b .wrote, ← b .count, ← sign z .code)
+                put ∙ rw (sets-append out₀ (h₀ .to) tail (code (b .tree) ++ (number (sign z .which) ∷ [])), ← hw, ← ht, sets-append out (h .to) (code (b .tree)) (number (sign z .which) ∷ []), ← b .wrote, ← b .count, ← sign z .code)
 
             spelt-more : (a₀ tree : A) (tail : List ℕ) → code tree ≡ code a₀ ++ tail → code (join (sign z .which) tree (b .tree)) ≡ code a₀ ++ (tail ++ (code (b .tree) ++ (number (sign z .which) ∷ [])))
             spelt-more a₀ tree tail i = rw (ops .joined (sign z .which) tree (b .tree), i) (append-assoc (code a₀) tail (code (b .tree) ++ (number (sign z .which) ∷ [])))
 
-            chained-more : (a₀ : A) (f : ℕ) (tree : A) (tail : List ℕ) → rest join operator operand text (suc (length text)) a₀ (h₀ .at) ≡ rest join operator operand text f tree (h .at) → code tree ≡ code a₀ ++ tail → out ≡ sets out₀ t₀ tail → t ≡ t₀ + length tail → length text < f + h .at → Chained code join operator operand text a₀ (h₀ .at) t₀ out₀ (g .at) (u + 1) out″
+            chained-more : (a₀ : A) (f : ℕ) (tree : A) (tail : List ℕ) → rest join operator operand text (suc (length text)) a₀ (h₀ .at) ≡ rest join operator operand text f tree (h .at) → code tree ≡ code a₀ ++ tail → out ≡ sets out₀ (h₀ .to) tail → h .to ≡ h₀ .to + length tail → length text < f + h .at → Chained code join operator operand text a₀ (h₀ .at) (h₀ .to) out₀ (g .at) (g .to + 1) out″
             chained-more a₀ zero tree tail hs hb hw ht hf = absurd (omega (arith, w .room .within))
             chained-more a₀ (suc f) tree tail hs hb hw ht hf = record {
               fuel = f;
@@ -217,11 +217,11 @@ module _ {O A : Type 0} {code : A → List ℕ} {join : O → A → A → A} {op
               fuels = omega (arith, turn-room .1);
             }
 
-            pub turn-more : {v : ℕ} → v ≡ u + 1 → Turn code join operator operand text out₀ h₀ t₀ out″ g v
+            pub turn-more : {v : ℕ} → v ≡ g .to + 1 → Turn code join operator operand text out₀ h₀ out″ (upTo g v)
             turn-more {v} j =
-                subst (Turn code join operator operand text out₀ h₀ t₀ out″ g) (sym j) (record {
+                subst (λ (x : ℕ). Turn code join operator operand text out₀ h₀ out″ (upTo g x)) (sym j) (record {
                   room = turn-room .0;
-                  stands = b .stands;
+                  stands = stands-up-to (g .to + 1) (b .stands);
                   size = rw (put, b .wrote) (simp (length-set, length-sets) (w .size));
                   grows = w .grows;
                   chained = λ a₀. let d = w .chained a₀ in chained-more a₀ (d .fuel) (d .tree) (d .tail) (d .same) (d .spelt) (d .wrote) (d .count) (d .fuels);

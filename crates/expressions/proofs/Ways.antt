@@ -23,14 +23,14 @@ use Rattle.grammar.specs.Parsed.{Parsed, accepted, refused, andThen, sign, foll
 use Rattle.grammar.specs.Expressions.{Scope, withId, currentAt, previousAt, numberAt, primary, negative, factor, productOf, sumOf, bracket}
 use Rattle.grammar.specs.Emitted.{codeE}
 use Rattle.grammar.proofs.Growth.{Grown, products-end, sums-end, primary-grown, factor-grown, term-grown, expression-grown}
-use Rattle.expressions.specs.declared.Lookahead.{Lookahead}
-use Rattle.expressions.specs.declared.Step.{Step}
-use Rattle.expressions.specs.declared.Step.the-variants.{Done, Refused}
+use Rattle.lexer.specs.declared.Place.{Place}
+use Rattle.lexer.specs.declared.Step.{Step}
+use Rattle.lexer.specs.declared.Step.the-variants.{Done, Refused}
 use Rattle.expressions.specs.declared.scope.Names.{Names}
 use Rattle.expressions.specs.Scopes.{scopeOf, Declared}
-use Rattle.expressions.specs.Steps.{stepAt, Parses, Room}
-use Rattle.expressions.specs.Internal.{textOnly, closedStep, primaryIn, factorIn, termIn, expressionIn}
-use Rattle.expressions.proofs.Steps.{lookedAhead, Refuses, Known, known, told, untold, Accepted, accepted-by, accepts, answers, same-part, passed, then-refused, ahead-at, ahead-stands, closing, closed-parses, ended, one-more, room-fits, room-after}
+use Rattle.expressions.specs.Steps.{stepAt, lookedAhead, Parses, Room}
+use Rattle.expressions.specs.Internal.{textOnly, Stands, closedStep, primaryIn, factorIn, termIn, expressionIn}
+use Rattle.expressions.proofs.Steps.{Refuses, told, untold, upTo, Accepted, accepted-by, accepts-up-to, answers, same-part, passed, then-refused, ahead-at, ahead-stands, closing, closed-parses, ended, one-more, room-fits, room-after}
 use Rattle.expressions.proofs.Scopes.{few-names}
 use Rattle.expressions.proofs.Chain.{Operators}
 
@@ -134,7 +134,7 @@ number-text : (sc : Scope) (s n : ℕ) → numberAt sc s n ≡ numberAt (textOnl
 unfolding numberAt
 number-text sc s n = refl
 
-module _ (inner : ℕ → ℕ → Parsed Expression) (sc : Scope) {h : Lookahead} (k : Known (sc .text) h) where
+module _ (inner : ℕ → ℕ → Parsed Expression) (sc : Scope) {h : Place} (k : Stands (sc .text) h) where
   pub primary-number : h .kind ≡ kindNumber digits → primary inner sc (h .at) ≡ numberAt (textOnly (sc .text)) (h .start) (h .end)
   unfolding primary
   primary-number e = rw (k .read, told k digits e) (number-text sc (h .start) (h .end))
@@ -183,7 +183,7 @@ module _ {text : List ℕ} {p : Parsed Expression} where
   unfolding negative lookedAhead
   negative-refuses r = then-refused text _ (λ a n q e. record { looked = rw e }) p r
 
-  negative-accepts : {to : ℕ} {before after : List ℕ} {h : Lookahead} {t u : ℕ} {last : List ℕ} → Accepted text codeE p to before after h t → u ≡ t + 1 → last ≡ set after t 9 → Accepted text codeE (negative p) to before last h u
+  negative-accepts : {to : ℕ} {before after : List ℕ} {h : Place} {t u : ℕ} {last : List ℕ} → Accepted text codeE p to before after h t → u ≡ t + 1 → last ≡ set after t 9 → Accepted text codeE (negative p) to before last h u
   unfolding negative codeE
   negative-accepts a e f = one-more a (negate (a .tree)) 9 (rw (a .is)) refl e f
 
@@ -198,9 +198,9 @@ module _ (text starts ends : List ℕ) (names : Names) (left at : ℕ) where
   factor-fault q e = rw e
 
   -- `ahead` read the token h there
-  module _ (to : ℕ) {t : ℕ} {r : Step} {h : Lookahead} (d : r ≡ Done h t) (e : r ≡ stepAt (tokenAt text at) at to) where
-    here : Known text h
-    here = known (ahead-stands text at to d e)
+  module _ (to : ℕ) {r : Step} {h : Place} (d : r ≡ Done h) (e : r ≡ stepAt (tokenAt text at) at to) where
+    here : Stands text h
+    here = ahead-stands text at to d e
 
     pub factor-plain : (h .kind ≡ kindNumber minus → ⊥) → factorIn left sc at ≡ primaryIn left sc (h .at)
     unfolding factor
@@ -216,7 +216,7 @@ module _ (text starts ends : List ℕ) (names : Names) (left at : ℕ) where
       minus-fault q i = factor-minus ∙ rw i
 
       -- and the token g behind a `-`, with which the operand begins
-      module _ (u : ℕ) {w : ℕ} {s : Step} {g : Lookahead} (d′ : s ≡ Done g w) (e′ : s ≡ stepAt (tokenAt text (h .end)) (h .end) u) where
+      module _ (u : ℕ) {s : Step} {g : Place} (d′ : s ≡ Done g) (e′ : s ≡ stepAt (tokenAt text (h .end)) (h .end) u) where
         minus-operand : factorIn left sc at ≡ negative (primaryIn left sc (g .at))
         minus-operand = rw (ahead-at text (h .end) u d′ e′) factor-minus
 
@@ -224,8 +224,8 @@ module _ (text starts ends : List ℕ) (names : Names) (left at : ℕ) where
           pub minus-refuses : {k q l : ℕ} {first last : List ℕ} → p ≡ Refused k q → Parses text codeE (factorIn left sc at) l first last p
           minus-refuses i = same-part minus-operand (passed c i negative-refuses)
 
-          pub minus-accepts : {l : Lookahead} {n x : ℕ} {last : List ℕ} → p ≡ Done l n → (x ≡ n + 1) × (last ≡ set after n 9) → Parses text codeE (factorIn left sc at) v before last (Done l x)
-          minus-accepts i f = same-part minus-operand (accepts (negative-accepts (accepted-by c i) (f .0) (f .1)))
+          pub minus-accepts : {l : Place} {x : ℕ} {last : List ℕ} → p ≡ Done l → (x ≡ l .to + 1) × (last ≡ set after (l .to) 9) → Parses text codeE (factorIn left sc at) v before last (Done (upTo l x))
+          minus-accepts i f = same-part minus-operand (accepts-up-to refl (negative-accepts (accepted-by c i) (f .0) (f .1)))
 
 -- ---- growth
 
@@ -243,5 +243,5 @@ module _ {text starts ends : List ℕ} {names : Names} (d : Declared starts ends
   expression-grows = expression-grown _ (few-names text d) left at (r .within)
 
 -- behind a primary there is room for a byte
-pub primary-fits : (text starts ends : List ℕ) (names : Names) (left : ℕ) {at to u : ℕ} {before after : List ℕ} {r : Step} {h : Lookahead} → r ≡ Done h u → Parses text codeE (primaryIn left (scopeOf text starts ends names) at) to before after r → Declared starts ends names → Room text at to → u < 2 ^ 32
+pub primary-fits : (text starts ends : List ℕ) (names : Names) (left : ℕ) {at to : ℕ} {before after : List ℕ} {r : Step} {h : Place} → r ≡ Done h → Parses text codeE (primaryIn left (scopeOf text starts ends names) at) to before after r → Declared starts ends names → Room text at to → h .to < 2 ^ 32
 primary-fits text starts ends names left e c d m = omega (arith, room-fits (room-after m (primary-grows d left m) (accepted-by c e)))

@@ -7,14 +7,14 @@ use mathlib.Core.List.{List, []}
 use mathlib.Core.Option.{Option, none, some}
 use lib.Dec.{eqb}
 use Rattle.limits.specs.Limits.{notAllowed}
-use Rattle.lexer.specs.Token.{Kind, kindNumber}
+use Rattle.lexer.specs.Token.{Kind, kindNumber, token}
 use Rattle.lexer.specs.Lexer.{tokenAt}
 use Rattle.semantics.specs.Program.{Expression}
 use Rattle.grammar.specs.Parsed.{Parsed}
 use Rattle.grammar.specs.Expressions.{Scope, primary, factor, term, expression, bracket}
-use Rattle.expressions.specs.declared.Lookahead.{Lookahead}
-use Rattle.expressions.specs.declared.Step.{Step}
-use Rattle.expressions.specs.declared.Step.the-variants.{Done, Refused}
+use Rattle.lexer.specs.declared.Place.{Place}
+use Rattle.lexer.specs.declared.Step.{Step}
+use Rattle.lexer.specs.declared.Step.the-variants.{Done, Refused}
 use Rattle.expressions.specs.Steps.{stepAt}
 
 -- a text alone, without names
@@ -42,13 +42,15 @@ codeOf code (some o) = code o
 abbrev pub Codes : {O : Type 0} → (O → ℕ) → (Kind → Option O) → ℕ → ℕ → Type 0
 Codes code operator n c = (k : Kind) → n ≡ kindNumber k → c ≡ codeOf code (operator k)
 
--- h is the token that is read from its place
-abbrev pub Stands : List ℕ → Lookahead → Type 0
-Stands text h = Done h 0 ≡ stepAt (tokenAt text (h .at)) (h .at) 0
+-- the token h is the one read from its place
+pub record Stands (text : List ℕ) (h : Place) : Type 0 where
+  pub kind : Kind
+  pub read : tokenAt text (h .at) ≡ token kind (h .start) (h .end)
+  pub numbered : h .kind ≡ kindNumber kind
 
 -- a part with a token of the kind with the number w behind it, and the token behind that one; any other token there is refused 2
 abbrev pub closedStep : List ℕ → ℕ → Step → Step
-closedStep text w (Done h t) =
-    let next = stepAt (tokenAt text (h .end)) (h .end) t in
+closedStep text w (Done h) =
+    let next = stepAt (tokenAt text (h .end)) (h .end) (h .to) in
     cond (eqb (h .kind) w) next (Refused notAllowed (h .start))
 closedStep text w (Refused k q) = Refused k q

@@ -2,7 +2,8 @@
 // answers with the token behind the part, so that its caller need not read that token again.
 use bytecode::opcode;
 use lexer::Found;
-use lexer::Token;
+use lexer::Place;
+use lexer::Step;
 use scope::Names;
 ghost use mathlib.Core.Path.{_≡_};
 ghost use mathlib.Core.List.{_∷_};
@@ -19,48 +20,28 @@ ghost use Rattle.expressions.specs.Internal.{textOnly, primaryIn, factor
 
 pub mod scope;
 
-// A token, and the place from which it was read.
-pub struct Lookahead {
-    pub at: usize,
-    pub kind: u8,
-    pub start: usize,
-    pub end: usize,
-}
-
-// The token behind the part read and the end of the bytes written, or a refusal's number and place.
-pub enum Step {
-    Done(Lookahead, usize),
-    Refused(u8, usize),
-}
-
-// The first token at or after `at`, with the bytes written up to `to`.
+// The place `at` with the token there, and the bytes written up to `to`.
 pub fn ahead(text: &[u8], at: usize, to: usize) -> Step
     ensures { λ r. ⌜ r ≡ stepAt (tokenAt (now (text .entry)) at) at to ⌝ }
 {
     let read = lexer::token_at(text, at);
-    match read {
-        Token::Is(kind, start, end) => Step::Done(
-            Lookahead {
-                at,
-                kind,
-                start,
-                end,
-            },
-            to,
-        ),
-        Token::Fault(place) => Step::Refused(limits::NO_TOKEN, place),
-    }
+    let Step::Done(mut token) = read else {
+        return read;
+    };
+    token.at = at;
+    token.to = to;
+    Step::Done(token)
 }
 
 // A part with a token of the kind given behind it, and the token behind that one.
 pub fn closed(text: &[u8], part: Step, kind: u8) -> Step
     ensures { λ r. ⌜ r ≡ closedStep (now (text .entry)) kind part ⌝ }
 {
-    let Step::Done(behind, t) = part else {
+    let Step::Done(behind) = part else {
         return part;
     };
     if behind.kind == kind {
-        return ahead(text, behind.end, t);
+        return ahead(text, behind.end, behind.to);
     }
     Step::Refused(limits::NOT_ALLOWED, behind.start)
 }
@@ -191,19 +172,19 @@ pub fn expression(
     ensures { λ r. ⌜ Parses (now (text .entry)) codeE (expressionIn left (scopeOf (now (text .entry)) (now (starts .entry)) (now (ends .entry)) names) at) to (now (out .entry)) (now (out .exit)) r ⌝ }
 {
     let first = term(text, starts, ends, names, at, left, out, to);
-    let Step::Done(mut behind, mut t) = first else {
+    let Step::Done(mut behind) = first else {
         return first;
     };
     loop {
         let code = sum_code(behind.kind);
         if code == 0 {
-            return Step::Done(behind, t);
+            return Step::Done(behind);
         }
-        let more = term(text, starts, ends, names, behind.end, left, out, t);
-        let Step::Done(next, u) = more else {
+        let more = term(text, starts, ends, names, behind.end, left, out, behind.to);
+        let Step::Done(mut next) = more else {
             return more;
         };
-        t = leb128::put_byte(out, u, code);
+        next.to = leb128::put_byte(out, next.to, code);
         behind = next;
     }
 }
@@ -224,19 +205,19 @@ fn term(
     ensures { λ r. ⌜ Parses (now (text .entry)) codeE (termIn left (scopeOf (now (text .entry)) (now (starts .entry)) (now (ends .entry)) names) at) to (now (out .entry)) (now (out .exit)) r ⌝ }
 {
     let first = factor(text, starts, ends, names, at, left, out, to);
-    let Step::Done(mut behind, mut t) = first else {
+    let Step::Done(mut behind) = first else {
         return first;
     };
     loop {
         let code = product_code(behind.kind);
         if code == 0 {
-            return Step::Done(behind, t);
+            return Step::Done(behind);
         }
-        let more = factor(text, starts, ends, names, behind.end, left, out, t);
-        let Step::Done(next, u) = more else {
+        let more = factor(text, starts, ends, names, behind.end, left, out, behind.to);
+        let Step::Done(mut next) = more else {
             return more;
         };
-        t = leb128::put_byte(out, u, code);
+        next.to = leb128::put_byte(out, next.to, code);
         behind = next;
     }
 }
@@ -257,19 +238,20 @@ fn factor(
     ensures { λ r. ⌜ Parses (now (text .entry)) codeE (factorIn left (scopeOf (now (text .entry)) (now (starts .entry)) (now (ends .entry)) names) at) to (now (out .entry)) (now (out .exit)) r ⌝ }
 {
     let read = ahead(text, at, to);
-    let Step::Done(here, _) = read else {
+    let Step::Done(here) = read else {
         return read;
     };
     if here.kind == lexer::MINUS {
         let second = ahead(text, here.end, to);
-        let Step::Done(operand, _) = second else {
+        let Step::Done(operand) = second else {
             return second;
         };
         let inner = primary(text, starts, ends, names, operand, left, out, to);
-        let Step::Done(behind, t) = inner else {
+        let Step::Done(mut behind) = inner else {
             return inner;
         };
-        return Step::Done(behind, leb128::put_byte(out, t, opcode::NEGATE));
+        behind.to = leb128::put_byte(out, behind.to, opcode::NEGATE);
+        return Step::Done(behind);
     }
     primary(text, starts, ends, names, here, left, out, to)
 }
@@ -280,7 +262,7 @@ fn primary(
     starts: &[usize],
     ends: &[usize],
     names: Names,
-    here: Lookahead,
+    here: Place,
     left: usize,
     out: &mut [u8],
     to: usize,

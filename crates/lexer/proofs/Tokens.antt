@@ -6,36 +6,39 @@ use Prim.Native.Nat.{ℕ, _+_, _≤_, _<_}
 use native.Mathlib.Omega.{arith}
 use lib.ListN.{length, getD}
 use lib.Dec.{eqb, ltb, leb}
+use lib.IntN.{pos}
 use borrow.Author.Tests.{eq-eqb, ne-eqb, lt-ltb, le-ltb, leb-true, leb-false}
+use Rattle.limits.specs.Limits.{noToken}
 use Rattle.lexer.specs.Bytes.{part, sameBytes}
 use Rattle.lexer.specs.Token.{Kind, kindNumber, unknown, ending, name, digits, is, Read, token, fault, lastKind, spellingOf, wordKinds}
 use Rattle.lexer.specs.Lexer.{isSpace, isDigit, isLetter, isAlphanumeric, runEnd, kindIn, wordOf, pairOf, signOf, readOf, signAt, wordAt, digitsAt, previousAt, tokenOf, tokenPast, tokenAt}
-use Rattle.lexer.specs.Results.{kindOf, tokenRead, Lies, Placed}
-use Rattle.lexer.specs.declared.Token.{Token}
-use Rattle.lexer.specs.declared.Token.the-variants.{Is, Fault}
+use Rattle.lexer.specs.Results.{kindOf, tokenIs, tokenStep, Lies, Placed}
+use Rattle.lexer.specs.declared.Place.{Place}
+use Rattle.lexer.specs.declared.Step.{Step}
+use Rattle.lexer.specs.declared.Step.the-variants.{Done, Refused}
 use Rattle.lexer.proofs.Laws.{cond-prop, run-out, token-at-moved}
-use Rattle.lexer.proofs.KindNumbers.{ending-number, is-unknown, is-known, numbered, known-number}
+use Rattle.lexer.proofs.KindNumbers.{ending-number, is-unknown, is-known, number-kind, known-number}
 
 -- ---- signs
 
 module _ (a b s : ℕ) where
-  pub sign-two : (k : ℕ) → k ≡ kindNumber (pairOf a b) → (k ≡ 0 → ⊥) → tokenRead (Is k s (s + 2)) ≡ signAt a b s
+  pub sign-two : (k : ℕ) → k ≡ kindNumber (pairOf a b) → (k ≡ 0 → ⊥) → tokenIs k s (s + 2) ≡ tokenStep (signAt a b s)
   unfolding signAt
-  sign-two k e f = rw (is-known (pairOf a b) k e f, numbered (pairOf a b) k e)
+  sign-two k e f = rw (is-known (pairOf a b) k e f, e)
 
   module _ (k : ℕ) (e : k ≡ kindNumber (pairOf a b)) (z : k ≡ 0) where
-    pub sign-one : (j : ℕ) → j ≡ kindNumber (signOf a) → (j ≡ 0 → ⊥) → tokenRead (Is j s (s + 1)) ≡ signAt a b s
+    pub sign-one : (j : ℕ) → j ≡ kindNumber (signOf a) → (j ≡ 0 → ⊥) → tokenIs j s (s + 1) ≡ tokenStep (signAt a b s)
     unfolding signAt readOf
-    sign-one j ej f = rw (is-unknown (pairOf a b) k e z, is-known (signOf a) j ej f, numbered (signOf a) j ej)
+    sign-one j ej f = rw (is-unknown (pairOf a b) k e z, is-known (signOf a) j ej f, ej)
 
-    pub sign-none : (j : ℕ) → j ≡ kindNumber (signOf a) → j ≡ 0 → tokenRead (Fault s) ≡ signAt a b s
+    pub sign-none : (j : ℕ) → j ≡ kindNumber (signOf a) → j ≡ 0 → Refused noToken s ≡ tokenStep (signAt a b s)
     unfolding signAt readOf
     sign-none j ej y = rw (is-unknown (pairOf a b) k e z, is-unknown (signOf a) j ej y)
 
 -- ---- `_` at s
 
 module _ (text : List ℕ) (s b : ℕ) (hb : b ≡ getD text (s + 1) 0) where
-  pub previous-lone : isLetter b ≡ false → tokenRead (Fault s) ≡ previousAt text s
+  pub previous-lone : isLetter b ≡ false → Refused noToken s ≡ tokenStep (previousAt text s)
   unfolding previousAt
   previous-lone h = rw (← hb, h)
 
@@ -44,11 +47,11 @@ module _ (text : List ℕ) (s b : ℕ) (hb : b ≡ getD text (s + 1) 0) where
     unfolding is kindNumber
     word-is = rw (← he, hk)
 
-    pub previous-name : k ≡ 2 → tokenRead (Is 3 s e) ≡ previousAt text s
-    unfolding previousAt kindOf
+    pub previous-name : k ≡ 2 → tokenIs 3 s e ≡ tokenStep (previousAt text s)
+    unfolding previousAt kindNumber
     previous-name k2 = rw (← hb, h, word-is, k2, ← he)
 
-    pub previous-word : (k ≡ 2 → ⊥) → tokenRead (Fault s) ≡ previousAt text s
+    pub previous-word : (k ≡ 2 → ⊥) → Refused noToken s ≡ tokenStep (previousAt text s)
     unfolding previousAt
     previous-word f = rw (← hb, h, word-is, ne-eqb _ _ f)
 
@@ -112,7 +115,7 @@ token-beyond : (text : List ℕ) (at : ℕ) → length text ≤ at → tokenAt t
 unfolding tokenAt tokenPast
 token-beyond text at h = rw (run-out isSpace text at h, le-ltb _ _ h)
 
-module _ (text : List ℕ) (at k s n : ℕ) (e : tokenRead (Is k s n) ≡ tokenAt text at) where
+module _ (text : List ℕ) (at k s n : ℕ) (e : token (kindOf k) s n ≡ tokenAt text at) where
   kind-known : (1 ≤ k) × (k ≤ lastKind)
   kind-known = known-number k (subst Known (sym e) (token-known text at))
 
@@ -147,52 +150,73 @@ module _ (text : List ℕ) (at k s n : ℕ) (e : tokenRead (Is k s n) ≡ tokenA
             moved = λ f. absurd (f (ending-number k (kind-known .1) gk));
           }
 
-pub placed : (text : List ℕ) (at : ℕ) (t : Token) → tokenRead t ≡ tokenAt text at → Placed (length text) at t
-placed text at (Is k s n) e = lies text at k s n e
-placed text at (Fault p) e = tt
+-- a token that is answered, and one that is none
+module _ (text : List ℕ) (at : ℕ) where
+  token-is : (p : Place) → Done p ≡ tokenStep (tokenAt text at) → token (kindOf (p .kind)) (p .start) (p .end) ≡ tokenAt text at
+  token-is p e = go (tokenAt text at) e
+    where
+      go : (r : Read) → Done p ≡ tokenStep r → token (kindOf (p .kind)) (p .start) (p .end) ≡ r
+      go (token k s n) e =
+          let i : p ≡ record { at = s; kind = kindNumber k; start = s; end = n; to = 0; number = 0; value = pos 0 } = cc in
+          rw (i, number-kind k)
+      go (fault q) e = let z : _≡_ {A = ℕ} 0 1 = cc in absurd (omega arith)
+
+  fault-is : (k q : ℕ) → Refused k q ≡ tokenStep (tokenAt text at) → (tokenAt text at ≡ fault q) × (k ≡ noToken)
+  fault-is k q e = go (tokenAt text at) e
+    where
+      go : (r : Read) → Refused k q ≡ tokenStep r → (r ≡ fault q) × (k ≡ noToken)
+      go (token w s n) e = let z : _≡_ {A = ℕ} 0 1 = cc in absurd (omega arith)
+      go (fault p) e = (cc, cc)
+
+  placed : (t : Step) → t ≡ tokenStep (tokenAt text at) → Placed (length text) at t
+  placed (Done p) e = lies text at (p .kind) (p .start) (p .end) (token-is p e)
+  placed (Refused k q) e = tt
 
 -- ---- the token at `at`, from what its reader has found on its way
 
 -- what the reader promises of its answer
-abbrev pub Answers : List ℕ → ℕ → Token → Type 0
-Answers text at t = (tokenRead t ≡ tokenAt text at) × Placed (length text) at t
+abbrev pub Answers : List ℕ → ℕ → Step → Type 0
+Answers text at t = (t ≡ tokenStep (tokenAt text at)) × Placed (length text) at t
 
-answers : (text : List ℕ) (at : ℕ) (t : Token) → tokenRead t ≡ tokenAt text at → Answers text at t
+pub answered : (text : List ℕ) (at : ℕ) {t u : Step} → t ≡ u → Answers text at u → Answers text at t
+answered text at e a = subst (Answers text at) (sym e) a
+
+answers : (text : List ℕ) (at : ℕ) (t : Step) → t ≡ tokenStep (tokenAt text at) → Answers text at t
 answers text at t e = (e, placed text at t e)
 
 module _ (text : List ℕ) (at s : ℕ) (hs : s ≡ runEnd isSpace text at) where
-  pub token-end : length text ≤ s → Answers text at (Is 1 s s)
-  unfolding tokenAt tokenPast kindOf
-  token-end h = answers text at (Is 1 s s) (rw (← hs, le-ltb _ _ h))
+  pub token-end : length text ≤ s → Answers text at (tokenIs 1 s s)
+  unfolding tokenAt tokenPast kindNumber
+  token-end h = answers text at (tokenIs 1 s s) (rw (← hs, le-ltb _ _ h))
 
   module _ (h : s < length text) where
     past : tokenOf text s (getD text s 0) ≡ tokenAt text at
     unfolding tokenAt tokenPast
     past = rw (← hs, lt-ltb _ _ h)
 
-    pub token-word : (e k : ℕ) → isLetter (getD text s 0) ≡ true → e ≡ runEnd isAlphanumeric text s → k ≡ kindNumber (wordOf (part text s e)) → Answers text at (Is k s e)
+    pub token-word : (e k : ℕ) → isLetter (getD text s 0) ≡ true → e ≡ runEnd isAlphanumeric text s → k ≡ kindNumber (wordOf (part text s e)) → Answers text at (tokenIs k s e)
     unfolding tokenOf wordAt
-    token-word e k l he hk = answers text at (Is k s e) (rw (← past, l, numbered _ k hk, ← he))
+    token-word e k l he hk = answers text at (tokenIs k s e) (rw (← past, l, hk, ← he))
 
     module _ (n1 : isLetter (getD text s 0) ≡ false) where
-      pub token-digits : (e : ℕ) → isDigit (getD text s 0) ≡ true → e ≡ runEnd isDigit text s → Answers text at (Is 4 s e)
-      unfolding tokenOf digitsAt kindOf
-      token-digits e d he = answers text at (Is 4 s e) (rw (← past, n1, d, ← he))
+      pub token-digits : (e : ℕ) → isDigit (getD text s 0) ≡ true → e ≡ runEnd isDigit text s → Answers text at (tokenIs 4 s e)
+      unfolding tokenOf digitsAt kindNumber
+      token-digits e d he = answers text at (tokenIs 4 s e) (rw (← past, n1, d, ← he))
 
-      module _ (n2 : isDigit (getD text s 0) ≡ false) (t : Token) where
-        pub token-previous : getD text s 0 ≡ 95 → tokenRead t ≡ previousAt text s → Answers text at t
+      module _ (n2 : isDigit (getD text s 0) ≡ false) (t : Step) where
+        pub token-previous : getD text s 0 ≡ 95 → t ≡ tokenStep (previousAt text s) → Answers text at t
         unfolding tokenOf
         token-previous e ht = answers text at t (rw (← past, n1, n2, eq-eqb _ _ e) ht)
 
-        pub token-sign : (b : ℕ) → (getD text s 0 ≡ 95 → ⊥) → b ≡ getD text (s + 1) 0 → tokenRead t ≡ signAt (getD text s 0) b s → Answers text at t
+        pub token-sign : (b : ℕ) → (getD text s 0 ≡ 95 → ⊥) → b ≡ getD text (s + 1) 0 → t ≡ tokenStep (signAt (getD text s 0) b s) → Answers text at t
         unfolding tokenOf
         token-sign b f hb ht = answers text at t (rw (← past, n1, n2, ne-eqb _ _ f, ← hb) ht)
 
 -- ---- for callers: what an answer says once it is taken apart
 
-module _ (text : List ℕ) (at : ℕ) (t : Token) (a : Answers text at t) where
-  pub is-token : (k s n : ℕ) → t ≡ Is k s n → (tokenAt text at ≡ token (kindOf k) s n) × Lies (length text) at k s n
-  is-token k s n e = (sym (a .0) ∙ ap tokenRead e, subst (Placed (length text) at) e (a .1))
+module _ (text : List ℕ) (at : ℕ) (t : Step) (a : Answers text at t) where
+  pub is-token : (p : Place) → t ≡ Done p → (tokenAt text at ≡ token (kindOf (p .kind)) (p .start) (p .end)) × Lies (length text) at (p .kind) (p .start) (p .end)
+  is-token p e = (sym (token-is text at p (sym e ∙ a .0)), subst (Placed (length text) at) e (a .1))
 
-  pub is-fault : (p : ℕ) → t ≡ Fault p → tokenAt text at ≡ fault p
-  is-fault p e = sym (a .0) ∙ ap tokenRead e
+  pub is-fault : (k q : ℕ) → t ≡ Refused k q → (tokenAt text at ≡ fault q) × (k ≡ noToken)
+  is-fault k q e = fault-is text at k q (sym e ∙ a .0)

@@ -4,9 +4,12 @@ use mathlib.Core.Path.{_≡_}
 use mathlib.Core.List.{List, [], _∷_}
 use mathlib.Core.Option.{Option, none, some}
 use lib.ListN.{getD}
-use Rattle.lexer.specs.Token.{Kind, unknown, ending, name, previous, digits, inputWord, varWord, initWord, modWord, nextWord, dots, arrow, lessEqual, greaterEqual, notEqual, semicolon, colon, openRound, closeRound, openSquare, closeSquare, tilde, ampersand, bar, equals, less, greater, plus, minus, star, slash, lastKind, Read, token, fault}
-use Rattle.lexer.specs.declared.Token.{Token}
-use Rattle.lexer.specs.declared.Token.the-variants.{Is, Fault}
+use lib.IntN.{pos}
+use Rattle.limits.specs.Limits.{noToken}
+use Rattle.lexer.specs.Token.{Kind, kindNumber, unknown, ending, name, previous, digits, inputWord, varWord, initWord, modWord, nextWord, dots, arrow, lessEqual, greaterEqual, notEqual, semicolon, colon, openRound, closeRound, openSquare, closeSquare, tilde, ampersand, bar, equals, less, greater, plus, minus, star, slash, lastKind, Read, token, fault}
+use Rattle.lexer.specs.declared.Place.{Place}
+use Rattle.lexer.specs.declared.Step.{Step}
+use Rattle.lexer.specs.declared.Step.the-variants.{Done, Refused}
 use Rattle.lexer.specs.declared.Found.{Found}
 use Rattle.lexer.specs.declared.Found.the-variants.{At, Nothing}
 
@@ -18,10 +21,18 @@ kinds = unknown ∷ ending ∷ name ∷ previous ∷ digits ∷ inputWord ∷ va
 unfoldable pub kindOf : ℕ → Kind
 kindOf k = getD kinds k unknown
 
--- a token with its kind, its first byte's place and the place after it; or the place of what is no token
-abbrev pub tokenRead : Token → Read
-tokenRead (Is k s n) = token (kindOf k) s n
-tokenRead (Fault p) = fault p
+-- the place after a part, the end of the bytes written and the number told; the token there is not read
+abbrev pub reachedAt : ℕ → ℕ → ℕ → Step
+reachedAt n t x = Done (record { at = n; kind = 0; start = n; end = n; to = t; number = x; value = pos 0 })
+
+-- the token of a kind from s to n
+abbrev pub tokenIs : ℕ → ℕ → ℕ → Step
+tokenIs k s n = Done (record { at = s; kind = k; start = s; end = n; to = 0; number = 0; value = pos 0 })
+
+-- what stands at a place: a token, or what is none, which is refused 1
+abbrev pub tokenStep : Read → Step
+tokenStep (token k s n) = tokenIs (kindNumber k) s n
+tokenStep (fault q) = Refused noToken q
 
 -- the id of a name, if it has one
 abbrev pub foundId : Found → Option ℕ
@@ -38,6 +49,6 @@ pub record Lies (len at k s n : ℕ) : Type 0 where
   -- all but the end have a byte
   pub moved : (k ≡ 1 → ⊥) → s < n
 
-abbrev pub Placed : ℕ → ℕ → Token → Type 0
-Placed len at (Is k s n) = Lies len at k s n
-Placed len at (Fault p) = Unit {0}
+abbrev pub Placed : ℕ → ℕ → Step → Type 0
+Placed len at (Done p) = Lies len at (p .kind) (p .start) (p .end)
+Placed len at (Refused k q) = Unit {0}

@@ -6,15 +6,14 @@ use Prim.Native.Nat.{ℕ, _≤_}
 use borrow.Author.Tests.{eq-eqb}
 use Rattle.limits.specs.Limits.{notAllowed}
 use Rattle.lexer.specs.Token.{kindNumber, is, lastKind}
-use Rattle.lexer.specs.Results.{kindOf}
-use Rattle.lexer.specs.declared.Token.{Token}
-use Rattle.lexer.specs.declared.Token.the-variants.{Is, Fault}
+use Rattle.lexer.specs.Results.{kindOf, reachedAt}
+use Rattle.lexer.specs.declared.Place.{Place}
+use Rattle.lexer.specs.declared.Step.{Step}
+use Rattle.lexer.specs.declared.Step.the-variants.{Done, Refused}
 use Rattle.lexer.proofs.KindNumbers.{kind-number, kind-is-not}
 use Rattle.lexer.proofs.Tokens.{Answers, is-token, is-fault}
 use Rattle.grammar.specs.Parsed.{Parsed, accepted, refused, andThen, Wanted, isWanted, expected, phrase}
-use Rattle.phrases.specs.Results.{expectedOf, faultOf}
-use Rattle.phrases.specs.declared.Expected.{Expected}
-use Rattle.phrases.specs.declared.Expected.the-variants.{After, Refused}
+use Rattle.phrases.specs.Results.{parsedOf, nothing}
 
 -- ---- kinds by their numbers
 
@@ -27,19 +26,19 @@ other-kinds k w h i f = kind-is-not k (kindOf w) h (λ e. f (e ∙ kind-number w
 
 -- ---- one token, from what was read
 
-module _ (text : List ℕ) (at : ℕ) (w : Wanted) {t : Token} (a : Answers text at t) where
-  pub faulty : {p : ℕ} {r : Expected} → t ≡ Fault p → r ≡ faultOf t → expectedOf r ≡ expected text w at
+module _ (text : List ℕ) (at : ℕ) (w : Wanted) {t : Step} (a : Answers text at t) where
+  pub faulty : {k q : ℕ} → t ≡ Refused k q → parsedOf nothing t ≡ expected text w at
   unfolding expected
-  faulty g h = rw (h, is-fault text at t a _ g, g)
+  faulty {k} {q} g = let f = is-fault text at t a k q g in rw (g, f .0, f .1)
 
-  module _ {k s n : ℕ} (g : t ≡ Is k s n) where
-    pub wanted : isWanted text w (kindOf k) s n ≡ true → accepted tt n ≡ expected text w at
+  module _ {p : Place} (g : t ≡ Done p) where
+    pub wanted : {r : Step} → r ≡ reachedAt (p .end) 0 0 → isWanted text w (kindOf (p .kind)) (p .start) (p .end) ≡ true → parsedOf nothing r ≡ expected text w at
     unfolding expected
-    wanted h = rw (is-token text at t a k s n g .0, h)
+    wanted e h = rw (e, is-token text at t a p g .0, h)
 
-    pub unwanted : isWanted text w (kindOf k) s n ≡ false → refused notAllowed s ≡ expected text w at
+    pub unwanted : isWanted text w (kindOf (p .kind)) (p .start) (p .end) ≡ false → refused notAllowed (p .start) ≡ expected text w at
     unfolding expected
-    unwanted h = rw (is-token text at t a k s n g .0, h)
+    unwanted h = rw (is-token text at t a p g .0, h)
 
 -- ---- tokens one after another
 
@@ -63,18 +62,18 @@ module _ (text : List ℕ) where
   last w at e = e ∙ sym (then-none (expected text w at))
 
   -- a refusal of the first token is the answer
-  pub stops : {r : Expected} {k p : ℕ} (w : Wanted) (ws : List Wanted) (at : ℕ) → expectedOf r ≡ expected text w at → r ≡ Refused k p → expectedOf r ≡ phrase text (w ∷ ws) at
+  pub stops : {r : Step} {k p : ℕ} (w : Wanted) (ws : List Wanted) (at : ℕ) → parsedOf nothing r ≡ expected text w at → r ≡ Refused k p → parsedOf nothing r ≡ phrase text (w ∷ ws) at
   unfolding phrase
   stops w ws at e g = rw (← e, g)
 
   -- after the first token the others follow
-  pub goes-on : {r : Expected} {n : ℕ} {q : Parsed (Unit {0})} (w : Wanted) (ws : List Wanted) (at : ℕ) → expectedOf r ≡ expected text w at → r ≡ After n → q ≡ phrase text ws n → q ≡ phrase text (w ∷ ws) at
+  pub goes-on : {r : Step} {x : Place} {q : Parsed (Unit {0})} (w : Wanted) (ws : List Wanted) (at : ℕ) → parsedOf nothing r ≡ expected text w at → r ≡ Done x → q ≡ phrase text ws (x .at) → q ≡ phrase text (w ∷ ws) at
   unfolding phrase
   goes-on w ws at e g h = rw (← e, g) h
 
   -- the same of several first tokens
-  pub stops-in : {r : Expected} {k p : ℕ} (xs ys : List Wanted) (at : ℕ) → expectedOf r ≡ phrase text xs at → r ≡ Refused k p → expectedOf r ≡ phrase text (xs ++ ys) at
+  pub stops-in : {r : Step} {k p : ℕ} (xs ys : List Wanted) (at : ℕ) → parsedOf nothing r ≡ phrase text xs at → r ≡ Refused k p → parsedOf nothing r ≡ phrase text (xs ++ ys) at
   stops-in xs ys at e g = rw (phrase-append xs ys at, ← e, g)
 
-  pub goes-past : {r : Expected} {n : ℕ} {q : Parsed (Unit {0})} (xs ys : List Wanted) (at : ℕ) → expectedOf r ≡ phrase text xs at → r ≡ After n → q ≡ phrase text ys n → q ≡ phrase text (xs ++ ys) at
+  pub goes-past : {r : Step} {x : Place} {q : Parsed (Unit {0})} (xs ys : List Wanted) (at : ℕ) → parsedOf nothing r ≡ phrase text xs at → r ≡ Done x → q ≡ phrase text ys (x .at) → q ≡ phrase text (xs ++ ys) at
   goes-past xs ys at e g h = rw (phrase-append xs ys at, ← e, g) h

@@ -28,10 +28,11 @@ use Rattle.expressions.specs.Scopes.{scopeOf, Declared}
 use Rattle.expressions.specs.Steps.{Room}
 use Rattle.expressions.proofs.Scopes.{few-names, names-counted, as-long, scope-ruled}
 use Rattle.phrases.proofs.Laws.{same-kinds, other-kinds}
-use Rattle.cases.specs.declared.Part.{Part}
-use Rattle.cases.specs.declared.Part.the-variants.{Refused}
-use Rattle.cases.specs.Post.{Writes}
-use Rattle.cases.proofs.Parts.{Got, writes, refuses}
+use Rattle.lexer.specs.declared.Place.{Place}
+use Rattle.lexer.specs.declared.Step.{Step}
+use Rattle.lexer.specs.declared.Step.the-variants.{Refused}
+use Rattle.phrases.specs.Results.{numberTold, Writes}
+use Rattle.phrases.proofs.Writing.{Got, writes, refuses}
 use Rattle.cases.proofs.Ways.{then-bytes}
 use Rattle.cases.proofs.Listing.{Found}
 use Rattle.rules.specs.Post.{codeOfRule, endOf}
@@ -108,8 +109,8 @@ module _ {text starts ends : List ℕ} {count known₀ at to : ℕ} {out₀ out 
   abbrev sc : Scope
   sc = scopeOf text starts ends (naming count known)
 
-  abbrev Answer : List ℕ → Part → Type 0
-  Answer out′ r = Writes codeR length (rulesFrom 65 (scopeOf text starts ends (naming count known₀)) [] at) to out₀ out′ r
+  abbrev Answer : List ℕ → Step → Type 0
+  Answer out′ r = Writes codeR numberTold length (rulesFrom 65 (scopeOf text starts ends (naming count known₀)) [] at) to out₀ out′ r
 
   pub ruling-fuel : done < 65
   ruling-fuel = omega (arith, x .fuel, d .few)
@@ -117,23 +118,23 @@ module _ {text starts ends : List ℕ} {count known₀ at to : ℕ} {out₀ out 
   come : rulesFrom 65 (scopeOf text starts ends (naming count known₀)) [] at ≡ rulesFrom (suc (64 - done)) sc (x .rules) a
   come = let e : 65 - done ≡ suc (64 - done) = omega (arith, ruling-fuel) in x .same ∙ ap (λ (f : ℕ). rulesFrom f sc (x .rules) a) e
 
-  pub ruling-fault : {out′ : List ℕ} {r : Part} {q : ℕ} → r ≡ Refused noToken q → tokenAt text a ≡ fault q → Answer out′ r
-  ruling-fault g e = refuses g (come ∙ rules-fault (64 - done) sc (x .rules) a e)
+  pub ruling-fault : {out′ : List ℕ} {r : Step} {k q : ℕ} → r ≡ Refused k q → (tokenAt text a ≡ fault q) × (k ≡ noToken) → Answer out′ r
+  ruling-fault {q = q} g e = refuses (g ∙ ap (λ (y : ℕ). Refused y q) (e .1)) (come ∙ rules-fault (64 - done) sc (x .rules) a (e .0))
 
   module _ {k s n : ℕ} (f : Found text a k s n) where
     -- no rule follows
-    pub ruling-end : {r : Part} → is (kindOf k) name ≡ false → r ≡ endOf k s n (naming count known) t done → Answer out r
+    pub ruling-end : {r : Step} → is (kindOf k) name ≡ false → r ≡ endOf k s n (naming count known) t done → Answer out r
     unfolding endOf kindOf
     ruling-end i e = subst (Answer out) (sym e)
         (cond-prop (Answer out) (eqb k 1) _ _
         (λ y.
         let j = same-kinds k 1 (eqb-true k 1 y) in
         cond-prop (Answer out) (allTrue (flagsOf count known)) _ _
-        (λ z. writes (record {
+        (λ z. writes refl (record {
           tree = x .rules;
           is = come ∙ rules-end (64 - done) sc (x .rules) a (f .read) i j z;
           ended = x .ended;
-          told = sym (x .counted);
+          tells-it = sym (x .counted);
           wrote = x .wrote;
         }))
         (λ z. refuses refl (come ∙ rules-missing (64 - done) sc (x .rules) a (f .read) i j z)))
@@ -143,35 +144,35 @@ module _ {text starts ends : List ℕ} {count known₀ at to : ℕ} {out₀ out 
     ruling-room = record { short = x .room .short; within = f .lies .within (x .room .within); room = omega (arith, x .room .room, f .lies .after, f .lies .ordered) }
 
     module _ (i : is (kindOf k) name ≡ true) where
-      pub ruling-refused : {out′ : List ℕ} {r : Part} {l q : ℕ} → r ≡ Refused l q → ruleAt sc s n ≡ refused l q → Answer out′ r
+      pub ruling-refused : {out′ : List ℕ} {r : Step} {l q : ℕ} → r ≡ Refused l q → ruleAt sc s n ≡ refused l q → Answer out′ r
       ruling-refused g e = refuses g (come ∙ rules-refused (64 - done) sc (x .rules) a (f .read) i e)
 
-      module _ {out′ : List ℕ} {m u id : ℕ} (g : Got codeOfRule target (ruleAt sc s n) t out out′ m u id) where
-        fresh : (id < count) × (getD (flagsOf count known) id false ≡ false)
+      module _ {out′ : List ℕ} {o : Place} (g : Got codeOfRule numberTold target (ruleAt sc s n) t out out′ o) where
+        fresh : (o .number < count) × (getD (flagsOf count known) (o .number) false ≡ false)
         fresh =
-            let y : Fresh sc (accepted (g .tree) m) = subst (Fresh sc) (g .is) (rule-fresh sc s n) in
-            (omega (arith, y .0, g .told, names-counted text starts ends count (d .table)), ap (λ (v : ℕ). getD (flagsOf count known) v false) (g .told) ∙ y .1)
+            let y : Fresh sc (accepted (g .tree) (o .at)) = subst (Fresh sc) (g .is) (rule-fresh sc s n) in
+            (omega (arith, y .0, g .tells-it, names-counted text starts ends count (d .table)), ap (λ (v : ℕ). getD (flagsOf count known) v false) (g .tells-it) ∙ y .1)
 
         -- the variable is declared
-        pub ruling-declared : id < 64
+        pub ruling-declared : o .number < 64
         ruling-declared = omega (arith, fresh .0, d .few)
 
-        paid : (2 * length (codeOfRule (g .tree)) + 3 * n ≤ 3 * m) × (m ≤ length text)
+        paid : (2 * length (codeOfRule (g .tree)) + 3 * n ≤ 3 * o .at) × (o .at ≤ length text)
         paid = subst (Pays ruleBytes (length text) n) (g .is)
             (rule-pays sc (few-names text d) (as-long text d) s n (ruling-room .within))
 
-        pub ruling-more : (more : Names) → flagsOf count (more .known) ≡ set (flagsOf count known) id true → Ruling text starts ends count known₀ at to out₀ out′ (more .known) m u (done + 1)
+        pub ruling-more : (more : Names) → flagsOf count (more .known) ≡ set (flagsOf count known) (o .number) true → Ruling text starts ends count known₀ at to out₀ out′ (more .known) (o .at) (o .to) (done + 1)
         ruling-more more ek = record {
           rules = x .rules ++ (g .tree ∷ []);
           counted = length-append (x .rules) (g .tree ∷ []) ∙ ap (λ (y : ℕ). y + 1) (x .counted);
           same = come ∙ (rules-more (64 - done) sc (x .rules) a (f .read) i (g .is) ∙ turned);
-          fuel = omega (arith, x .fuel, rule-counts (flagsOf count known) id (omega (arith, fresh .0, length-flags count known)) (fresh .1), ap unruled ek);
+          fuel = omega (arith, x .fuel, rule-counts (flagsOf count known) (o .number) (omega (arith, fresh .0, length-flags count known)) (fresh .1), ap unruled ek);
           room = record { short = x .room .short; within = paid .1; room = omega (arith, g .ended, paid .0, ruling-room .room) };
           ended = rw (code-append (x .rules) (g .tree)) (simp length-append (omega (arith, g .ended, x .ended)));
           wrote = rw (code-append (x .rules) (g .tree)) (then-bytes out₀ to (codeR (x .rules)) (codeOfRule (g .tree)) (x .ended) (x .wrote) (g .wrote));
         }
           where
-            turned : rulesFrom (64 - done) (ruled sc (target (g .tree))) (x .rules ++ (g .tree ∷ [])) m ≡ rulesFrom (65 - (done + 1)) (scopeOf text starts ends (naming count (more .known))) (x .rules ++ (g .tree ∷ [])) m
+            turned : rulesFrom (64 - done) (ruled sc (target (g .tree))) (x .rules ++ (g .tree ∷ [])) (o .at) ≡ rulesFrom (65 - (done + 1)) (scopeOf text starts ends (naming count (more .known))) (x .rules ++ (g .tree ∷ [])) (o .at)
             turned =
                 let q : 64 - done ≡ 65 - (done + 1) = omega arith in
-                rw (← g .told, q) (ap (λ (y : Scope). rulesFrom (65 - (done + 1)) y (x .rules ++ (g .tree ∷ [])) m) (sym (scope-ruled text starts ends (naming count known) (naming count (more .known)) id refl ek)))
+                rw (← g .tells-it, q) (ap (λ (y : Scope). rulesFrom (65 - (done + 1)) y (x .rules ++ (g .tree ∷ [])) (o .at)) (sym (scope-ruled text starts ends (naming count known) (naming count (more .known)) (o .number) refl ek)))

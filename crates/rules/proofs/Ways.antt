@@ -28,7 +28,10 @@ use Rattle.expressions.proofs.Steps.{Refuses}
 use Rattle.agreement.specs.Spans.{spansIn, spansOf, Spans}
 use Rattle.grammar.specs.Forms.{ruleOpening, formulaClosing, functionClosing, valueOpening, changeOpening, noChangeOpening}
 use Rattle.cases.specs.Post.{codeOfCases, Lists, ListKept}
-use Rattle.cases.proofs.Parts.{Got, phrase-fault, behind-refused}
+use Rattle.lexer.specs.declared.Place.{Place}
+use Rattle.phrases.specs.Results.{numberTold}
+use Rattle.phrases.proofs.Writing.{Got}
+use Rattle.cases.proofs.Parts.{phrase-fault, behind-refused}
 use Rattle.cases.proofs.Ways.{then-bytes}
 use Rattle.rules.specs.Post.{codeOfRule}
 
@@ -101,23 +104,23 @@ pub change-length : (to : ℕ) {t u : ℕ} (v : ℕ) (cs : List Spanned) (ds : L
 unfolding codeR
 change-length to v cs ds ht hu = simp length-append (omega arith)
 
-module _ (sc : Scope) (w : List ℕ) (v n1 to : ℕ) {before after : List ℕ} {n2 t x : ℕ} where
+module _ (sc : Scope) (w : List ℕ) (v n1 to : ℕ) {before after : List ℕ} {x : Place} where
   -- room behind the cases, and behind the tokens that follow them
-  pub room-cases : (few : length (sc .names) ≤ 64) → v < 64 → Room (sc .text) n1 to → Got (codeOfCases v) length (casesFrom caseLimit sc w [] n1) to before after n2 t x → Room (sc .text) n2 t
+  pub room-cases : (few : length (sc .names) ≤ 64) → v < 64 → Room (sc .text) n1 to → Got (codeOfCases v) numberTold length (casesFrom caseLimit sc w [] n1) to before after x → Room (sc .text) (x .at) (x .to)
   unfolding codeK
   room-cases few hv r g =
       let p = subst (Pays (λ (cs : List Spanned). length (codeOfCases v cs)) (length (sc .text)) n1) (g .is) (cases-pay sc few v hv w caseLimit [] n1 n1 (r .within) (omega arith)) in
       record { short = r .short; within = p .1; room = omega (arith, g .ended, p .0, r .room) }
 
   -- the spans that are told
-  pub told-spans : {from upto : List ℕ} → Lists (casesFrom caseLimit sc w [] n1) (sc .text) from upto → Got (codeOfCases v) length (casesFrom caseLimit sc w [] n1) to before after n2 t x → Spans (sc .text) from upto x
-  told-spans l g = rw (g .told) (l .held (g .tree) n2 (g .is))
+  pub told-spans : {from upto : List ℕ} → Lists (casesFrom caseLimit sc w [] n1) (sc .text) from upto → Got (codeOfCases v) numberTold length (casesFrom caseLimit sc w [] n1) to before after x → Spans (sc .text) from upto (x .number)
+  told-spans l g = rw (g .tells-it) (l .held (g .tree) (x .at) (g .is))
 
-  pub told-listed : {from upto : List ℕ} → Lists (casesFrom caseLimit sc w [] n1) (sc .text) from upto → (g : Got (codeOfCases v) length (casesFrom caseLimit sc w [] n1) to before after n2 t x) → spansOf (g .tree) ≡ spansIn from upto x
-  told-listed l g = rw (g .told) (l .listed (g .tree) n2 (g .is))
+  pub told-listed : {from upto : List ℕ} → Lists (casesFrom caseLimit sc w [] n1) (sc .text) from upto → (g : Got (codeOfCases v) numberTold length (casesFrom caseLimit sc w [] n1) to before after x) → spansOf (g .tree) ≡ spansIn from upto (x .number)
+  told-listed l g = rw (g .tells-it) (l .listed (g .tree) (x .at) (g .is))
 
-  pub told-kept : {from upto : List ℕ} → n1 ≤ length (sc .text) → Lists (casesFrom caseLimit sc w [] n1) (sc .text) from upto → Got (codeOfCases v) length (casesFrom caseLimit sc w [] n1) to before after n2 t x → ListKept sc from upto x
-  told-kept h l g = record { variable = w; place = n1; end = n2; cases = g .tree; within = h; read = g .is; spans = told-listed l g }
+  pub told-kept : {from upto : List ℕ} → n1 ≤ length (sc .text) → Lists (casesFrom caseLimit sc w [] n1) (sc .text) from upto → Got (codeOfCases v) numberTold length (casesFrom caseLimit sc w [] n1) to before after x → ListKept sc from upto (x .number)
+  told-kept h l g = record { variable = w; place = n1; end = x .at; cases = g .tree; within = h; read = g .is; spans = told-listed l g }
 
 pub room-list : {text : List ℕ} (ws : List Wanted) {n m t : ℕ} → Room text n t → phrase text ws n ≡ accepted tt m → Room text m 0
 room-list {text} ws {n} r e =
@@ -132,9 +135,9 @@ module _ (sc : Scope) (w : List ℕ) (v at : ℕ) where
   formulas-unopened e = rw e
 
   module _ {n : ℕ} (e : phrase (sc .text) ruleOpening at ≡ accepted tt n) where
-    pub formulas-fault : {q : ℕ} → tokenAt (sc .text) n ≡ fault q → formulas sc w v at ≡ refused noToken q
+    pub formulas-fault : {k q : ℕ} → (tokenAt (sc .text) n ≡ fault q) × (k ≡ noToken) → formulas sc w v at ≡ refused k q
     unfolding formulas
-    formulas-fault f = rw (e, f)
+    formulas-fault f = rw (e, f .0, f .1)
 
     module _ {k : Kind} {s m : ℕ} (f : tokenAt (sc .text) n ≡ token k s m) where
       pub formulas-change : is k tilde ≡ true → formulas sc w v at ≡ changeAt sc w v m

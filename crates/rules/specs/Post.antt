@@ -9,8 +9,9 @@ use Rattle.semantics.specs.Program.{Rule, allTrue}
 use Rattle.grammar.specs.Emitted.{codeR}
 use Rattle.expressions.specs.declared.scope.Names.{Names}
 use Rattle.arith.specs.Flags.{flagsOf}
-use Rattle.cases.specs.declared.Part.{Part}
-use Rattle.cases.specs.declared.Part.the-variants.{Done, Refused}
+use Rattle.lexer.specs.Results.{reachedAt}
+use Rattle.lexer.specs.declared.Step.{Step}
+use Rattle.lexer.specs.declared.Step.the-variants.{Refused}
 
 -- the code of a rule
 abbrev pub codeOfRule : Rule → List ℕ
@@ -22,5 +23,5 @@ pub record SpanRoom (from upto : List ℕ) : Type 0 where
   pub in-upto : caseLimit ≤ length upto
 
 -- what is answered where no rule follows: at the end of the text 6 if a variable has no rule, elsewhere 2
-unfoldable pub endOf : ℕ → ℕ → ℕ → Names → ℕ → ℕ → Part
-endOf kind s n names t done = cond (eqb kind 1) (cond (allTrue (flagsOf (names .count) (names .known))) (Done n t done) (Refused wrongRule s)) (Refused notAllowed s)
+unfoldable pub endOf : ℕ → ℕ → ℕ → Names → ℕ → ℕ → Step
+endOf kind s n names t done = cond (eqb kind 1) (cond (allTrue (flagsOf (names .count) (names .known))) (reachedAt n t done) (Refused wrongRule s)) (Refused notAllowed s)

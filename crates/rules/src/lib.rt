@@ -1,12 +1,10 @@
 // The rules of a text: functions, and change formulas with their no-change formulas. A rule is written as it is read.
 ghost use mathlib.Core.List.{[]};
 use bytecode::opcode;
-use cases::Part;
 use cases::Variable;
 use expressions::scope::Names;
 use lexer::Found;
-use lexer::Token;
-use phrases::Expected;
+use lexer::Step;
 ghost use mathlib.Core.Path.{_≡_};
 ghost use Prim.Native.Nat.{_≤_, _<_};
 ghost use lib.ListN.{length};
@@ -19,7 +17,7 @@ ghost use Rattle.grammar.specs.Emitted.{codeR};
 ghost use Rattle.semantics.specs.Program.{target};
 ghost use Rattle.expressions.specs.Scopes.{scopeOf, Declared};
 ghost use Rattle.expressions.specs.Steps.{Room};
-ghost use Rattle.cases.specs.Post.{Writes};
+ghost use Rattle.phrases.specs.Results.{numberTold, Writes};
 ghost use Rattle.rules.specs.Post.{codeOfRule, SpanRoom, endOf};
 
 // `w = (e));`
@@ -32,29 +30,26 @@ fn function(
     at: usize,
     out: &mut [u8],
     to: usize,
-) -> Part
+) -> Step
     requires { ⌜ Declared (now starts) (now ends) names ⌝ }
     requires { ⌜ Room (now text) at to ⌝ }
     requires { ⌜ w .id < nameLimit ⌝ }
-    ensures { λ r. ⌜ Writes codeOfRule target (functionAt (scopeOf (now (text .entry)) (now (starts .entry)) (now (ends .entry)) names) (part (now (text .entry)) (w .start) (w .end)) (w .id) at) to (now (out .entry)) (now (out .exit)) r ⌝ }
+    ensures { λ r. ⌜ Writes codeOfRule numberTold target (functionAt (scopeOf (now (text .entry)) (now (starts .entry)) (now (ends .entry)) names) (part (now (text .entry)) (w .start) (w .end)) (w .id) at) to (now (out .entry)) (now (out .exit)) r ⌝ }
 {
     let opened = phrases::value_opening(text, at, w.start, w.end);
-    let Expected::After(a) = opened else {
-        return cases::unexpected(opened);
+    let Step::Done(a) = opened else {
+        return opened;
     };
-    let value = expressions::whole_expression(text, starts, ends, names, a, out, to);
-    let expressions::Step::Done(behind, t) = value else {
-        return cases::unread(value);
+    let value = expressions::whole_expression(text, starts, ends, names, a.at, out, to);
+    let Step::Done(behind) = value else {
+        return value;
     };
     let closed = phrases::function_closing(text, behind.at);
-    let Expected::After(b) = closed else {
-        return cases::unexpected(closed);
+    let Step::Done(b) = closed else {
+        return closed;
     };
-    Part::Done(
-        b,
-        bytecode::put_instruction(out, t, opcode::LET, w.id as u64),
-        w.id,
-    )
+    let t = bytecode::put_instruction(out, behind.to, opcode::LET, w.id as u64);
+    lexer::reached(b.at, t, w.id)
 }
 
 // `(w = _w) -> [c] & w = (e) | ..);` and `w: GX(w = _w -> ~([c] | ..));`. Where the conditions stand is kept in `from` and `upto`.
@@ -69,39 +64,36 @@ fn change(
     at: usize,
     out: &mut [u8],
     to: usize,
-) -> Part
+) -> Step
     requires { ⌜ Declared (now starts) (now ends) names ⌝ }
     requires { ⌜ Room (now text) at to ⌝ }
     requires { ⌜ w .id < nameLimit ⌝ }
     requires { ⌜ SpanRoom (now from) (now upto) ⌝ }
     requires { ⌜ Named (scopeOf (now text) (now starts) (now ends) names .names) ⌝ }
-    ensures { λ r. ⌜ Writes codeOfRule target (changeAt (scopeOf (now (text .entry)) (now (starts .entry)) (now (ends .entry)) names) (part (now (text .entry)) (w .start) (w .end)) (w .id) at) to (now (out .entry)) (now (out .exit)) r ⌝ }
+    ensures { λ r. ⌜ Writes codeOfRule numberTold target (changeAt (scopeOf (now (text .entry)) (now (starts .entry)) (now (ends .entry)) names) (part (now (text .entry)) (w .start) (w .end)) (w .id) at) to (now (out .entry)) (now (out .exit)) r ⌝ }
 {
     let opened = phrases::change_opening(text, at, w.start, w.end);
-    let Expected::After(a) = opened else {
-        return cases::unexpected(opened);
+    let Step::Done(a) = opened else {
+        return opened;
     };
-    let listed = cases::cases(text, starts, ends, names, w, from, upto, a, out, to);
-    let Part::Done(b, t, count) = listed else {
+    let listed = cases::cases(text, starts, ends, names, w, from, upto, a.at, out, to);
+    let Step::Done(b) = listed else {
         return listed;
     };
-    let next = phrases::no_change_opening(text, b, w.start, w.end);
-    let Expected::After(d) = next else {
-        return cases::unexpected(next);
+    let next = phrases::no_change_opening(text, b.at, w.start, w.end);
+    let Step::Done(d) = next else {
+        return next;
     };
-    let agreed = cases::agreeing_list(text, starts, ends, names, from, upto, count, d);
-    let Expected::After(e) = agreed else {
-        return cases::unexpected(agreed);
+    let agreed = cases::agreeing_list(text, starts, ends, names, from, upto, b.number, d.at);
+    let Step::Done(e) = agreed else {
+        return agreed;
     };
-    let closed = phrases::formula_closing(text, e);
-    let Expected::After(f) = closed else {
-        return cases::unexpected(closed);
+    let closed = phrases::formula_closing(text, e.at);
+    let Step::Done(f) = closed else {
+        return closed;
     };
-    Part::Done(
-        f,
-        bytecode::put_instruction(out, t, opcode::SETTLE, w.id as u64),
-        w.id,
-    )
+    let t = bytecode::put_instruction(out, b.to, opcode::SETTLE, w.id as u64);
+    lexer::reached(f.at, t, w.id)
 }
 
 // The rule of the variable, after its name.
@@ -116,26 +108,26 @@ fn formulas(
     at: usize,
     out: &mut [u8],
     to: usize,
-) -> Part
+) -> Step
     requires { ⌜ Declared (now starts) (now ends) names ⌝ }
     requires { ⌜ Room (now text) at to ⌝ }
     requires { ⌜ w .id < nameLimit ⌝ }
     requires { ⌜ SpanRoom (now from) (now upto) ⌝ }
     requires { ⌜ Named (scopeOf (now text) (now starts) (now ends) names .names) ⌝ }
-    ensures { λ r. ⌜ Writes codeOfRule target (formulasAt (scopeOf (now (text .entry)) (now (starts .entry)) (now (ends .entry)) names) (part (now (text .entry)) (w .start) (w .end)) (w .id) at) to (now (out .entry)) (now (out .exit)) r ⌝ }
+    ensures { λ r. ⌜ Writes codeOfRule numberTold target (formulasAt (scopeOf (now (text .entry)) (now (starts .entry)) (now (ends .entry)) names) (part (now (text .entry)) (w .start) (w .end)) (w .id) at) to (now (out .entry)) (now (out .exit)) r ⌝ }
 {
     let opened = phrases::rule_opening(text, at);
-    let Expected::After(a) = opened else {
-        return cases::unexpected(opened);
+    let Step::Done(a) = opened else {
+        return opened;
     };
-    let read = lexer::token_at(text, a);
-    let Token::Is(kind, _, end) = read else {
-        return cases::unexpected(phrases::fault(read));
+    let read = lexer::token_at(text, a.at);
+    let Step::Done(token) = read else {
+        return read;
     };
-    if kind == lexer::TILDE {
-        return change(text, starts, ends, names, w, from, upto, end, out, to);
+    if token.kind == lexer::TILDE {
+        return change(text, starts, ends, names, w, from, upto, token.end, out, to);
     }
-    function(text, starts, ends, names, w, a, out, to)
+    function(text, starts, ends, names, w, a.at, out, to)
 }
 
 // The rule whose name stands from `start` to `end`. The number told is the variable's id.
@@ -150,22 +142,22 @@ fn rule(
     upto: &mut [usize],
     out: &mut [u8],
     to: usize,
-) -> Part
+) -> Step
     requires { ⌜ Declared (now starts) (now ends) names ⌝ }
     requires { ⌜ Room (now text) end to ⌝ }
     requires { ⌜ SpanRoom (now from) (now upto) ⌝ }
     requires { ⌜ Named (scopeOf (now text) (now starts) (now ends) names .names) ⌝ }
-    ensures { λ r. ⌜ Writes codeOfRule target (ruleAt (scopeOf (now (text .entry)) (now (starts .entry)) (now (ends .entry)) names) start end) to (now (out .entry)) (now (out .exit)) r ⌝ }
+    ensures { λ r. ⌜ Writes codeOfRule numberTold target (ruleAt (scopeOf (now (text .entry)) (now (starts .entry)) (now (ends .entry)) names) start end) to (now (out .entry)) (now (out .exit)) r ⌝ }
 {
     if lexer::is_over_long(start, end) {
-        return Part::Refused(limits::TOO_MANY, start);
+        return Step::Refused(limits::TOO_MANY, start);
     }
     let found = lexer::find(text, starts, ends, names.count, start, end);
     let Found::At(id) = found else {
-        return Part::Refused(limits::WRONG_NAME, start);
+        return Step::Refused(limits::WRONG_NAME, start);
     };
     if expressions::scope::is_known(names, id) {
-        return Part::Refused(limits::WRONG_RULE, start);
+        return Step::Refused(limits::WRONG_RULE, start);
     }
     formulas(
         text,
@@ -182,17 +174,17 @@ fn rule(
 }
 
 // No rule follows: at the end of the text every variable has one.
-fn finish(kind: u8, start: usize, end: usize, names: Names, t: usize, done: usize) -> Part
+fn finish(kind: u8, start: usize, end: usize, names: Names, t: usize, done: usize) -> Step
     requires { ⌜ names .count ≤ nameLimit ⌝ }
     ensures { λ r. ⌜ r ≡ endOf kind start end names t done ⌝ }
 {
     if kind != lexer::END {
-        return Part::Refused(limits::NOT_ALLOWED, start);
+        return Step::Refused(limits::NOT_ALLOWED, start);
     }
     if expressions::scope::all_known(names) {
-        return Part::Done(end, t, done);
+        return lexer::reached(end, t, done);
     }
-    Part::Refused(limits::WRONG_RULE, start)
+    Step::Refused(limits::WRONG_RULE, start)
 }
 
 // Rules up to the end of the text. The number told is how many there are.
@@ -206,12 +198,12 @@ fn rules_in(
     at: usize,
     out: &mut [u8],
     to: usize,
-) -> Part
+) -> Step
     requires { ⌜ Declared (now starts) (now ends) names ⌝ }
     requires { ⌜ Room (now text) at to ⌝ }
     requires { ⌜ SpanRoom (now from) (now upto) ⌝ }
     requires { ⌜ Named (scopeOf (now text) (now starts) (now ends) names .names) ⌝ }
-    ensures { λ r. ⌜ Writes codeR length (rulesFrom itemBound (scopeOf (now (text .entry)) (now (starts .entry)) (now (ends .entry)) names) [] at) to (now (out .entry)) (now (out .exit)) r ⌝ }
+    ensures { λ r. ⌜ Writes codeR numberTold length (rulesFrom itemBound (scopeOf (now (text .entry)) (now (starts .entry)) (now (ends .entry)) names) [] at) to (now (out .entry)) (now (out .exit)) r ⌝ }
 {
     let count = names.count;
     let mut known = names.known;
@@ -220,32 +212,39 @@ fn rules_in(
     let mut done = 0;
     loop {
         let read = lexer::token_at(text, a);
-        let Token::Is(kind, start, end) = read else {
-            return cases::unexpected(phrases::fault(read));
+        let Step::Done(token) = read else {
+            return read;
         };
-        if kind != lexer::NAME {
-            return finish(kind, start, end, Names { count, known }, t, done);
+        if token.kind != lexer::NAME {
+            return finish(
+                token.kind,
+                token.start,
+                token.end,
+                Names { count, known },
+                t,
+                done,
+            );
         }
         let one = rule(
             text,
             starts,
             ends,
             Names { count, known },
-            start,
-            end,
+            token.start,
+            token.end,
             from,
             upto,
             out,
             t,
         );
-        let Part::Done(b, u, id) = one else {
+        let Step::Done(b) = one else {
             return one;
         };
-        let more = expressions::scope::ruled(Names { count, known }, id);
+        let more = expressions::scope::ruled(Names { count, known }, b.number);
         known = more.known;
         done += 1;
-        a = b;
-        t = u;
+        a = b.at;
+        t = b.to;
     }
 }
 
@@ -257,11 +256,11 @@ pub fn rules(
     at: usize,
     out: &mut [u8],
     to: usize,
-) -> Part
+) -> Step
     requires { ⌜ Declared (now starts) (now ends) names ⌝ }
     requires { ⌜ Room (now text) at to ⌝ }
     requires { ⌜ Named (scopeOf (now text) (now starts) (now ends) names .names) ⌝ }
-    ensures { λ r. ⌜ Writes codeR length (rulesFrom itemBound (scopeOf (now (text .entry)) (now (starts .entry)) (now (ends .entry)) names) [] at) to (now (out .entry)) (now (out .exit)) r ⌝ }
+    ensures { λ r. ⌜ Writes codeR numberTold length (rulesFrom itemBound (scopeOf (now (text .entry)) (now (starts .entry)) (now (ends .entry)) names) [] at) to (now (out .entry)) (now (out .exit)) r ⌝ }
 {
     let mut from = [0usize; limits::CASE_LIMIT];
     let mut upto = [0usize; limits::CASE_LIMIT];

@@ -18,49 +18,17 @@ use Rattle.grammar.specs.Rules.{rulesFrom}
 use Rattle.grammar.specs.Emitted.{header, codeR, image}
 use Rattle.grammar.specs.Parse.{program}
 use Rattle.declarations.specs.Post.{Holds}
-use Rattle.declarations.proofs.Steps.{after, refused-then}
 use Rattle.expressions.specs.declared.scope.Names.{Names}
 use Rattle.arith.specs.Flags.{flagsOf}
 use Rattle.expressions.specs.Scopes.{scopeOf}
-use Rattle.cases.specs.declared.Part.{Part}
-use Rattle.cases.specs.declared.Part.the-variants as P
-use Rattle.cases.specs.Results.{partOf}
-use Rattle.cases.specs.Post.{Writes}
-use Rattle.translate.specs.declared.Heading.{Heading}
-use Rattle.translate.specs.declared.Heading.the-variants as H
-use Rattle.translate.specs.declared.Analysis.the-variants as N
-use Rattle.translate.specs.Internal.{Declarations, headingOf, scopeAfter, Counts, headed, countsOf, Heads, Descends}
+use Rattle.lexer.specs.Results.{reachedAt}
+use Rattle.lexer.specs.declared.Step.{Step}
+use Rattle.lexer.specs.declared.Step.the-variants.{Refused}
+use Rattle.grammar.proofs.Combine.{same-value}
+use Rattle.phrases.proofs.Writing.{writes, refuses}
+use Rattle.translate.specs.Internal.{Declarations, headingOf, scopeAfter, Descends}
 use Rattle.translate.proofs.Stores.{counts-last}
-use Rattle.translate.proofs.Ways.{never, program-heading, names-few}
-
--- ---- the declarations that were read
-
-pub record HeadingRead (text before mid starts ends : List ℕ) (a t c m : ℕ) : Type 0 where
-  pub read : Declarations
-  pub is-read : headingOf text ≡ accepted read a
-  pub ended : t ≡ 2 + length (header (read .names))
-  pub counted : c ≡ read .inputs
-  pub named : m ≡ length (read .names)
-  pub wrote : mid ≡ sets before 2 (header (read .names))
-  pub held : Holds text starts ends m (read .names)
-
-module _ (text before mid starts ends : List ℕ) {r : Heading} (h : Heads text before mid starts ends r) where
-  pub heading-refused : {k p : ℕ} → r ≡ H.Refused k p → headingOf text ≡ refused k p
-  heading-refused {k} {p} e = refused-then countsOf (headingOf text) k p (sym (h .answer) ∙ ap headed e)
-
-  pub heading-read : {a t c m : ℕ} → r ≡ H.Until a t c m → HeadingRead text before mid starts ends a t c m
-  heading-read {a} {t} {c} {m} e =
-      let x = after countsOf (headingOf text) (record { end = t; inputs = c; names = m }) a (sym (h .answer) ∙ ap headed e) in
-      let q : m ≡ length (x .0 .names) = ap {A = Counts} (λ y. y .names) (x .2) in
-      record {
-        read = x .0;
-        is-read = x .1;
-        ended = ap {A = Counts} (λ y. y .end) (x .2);
-        counted = ap {A = Counts} (λ y. y .inputs) (x .2);
-        named = q;
-        wrote = h .wrote (x .0) a (x .1);
-        held = subst (λ (k : ℕ). Holds text starts ends k (x .0 .names)) (sym q) (h .named (x .0) a (x .1));
-      }
+use Rattle.translate.proofs.Ways.{never, program-heading, names-few, HeadingRead}
 
 -- few names, few bytes, within the text; the names are names of a text
 pub record Few (text : List ℕ) (d : Declarations) (n : ℕ) : Type 0 where
@@ -100,41 +68,20 @@ pub scope-is : (text starts ends : List ℕ) (d : Declarations) (c m : ℕ) (nam
     → (names .count ≡ m) × (flagsOf m (names .known) ≡ knownFirst c m) → scopeOf text starts ends names ≡ scopeAfter text d
 scope-is text starts ends d c m names h ec em en = rw (en .0, h .spelled, en .1, ec, em)
 
-module _ (p : Parsed (List Rule)) (t : ℕ) (mid last : List ℕ) {q : Part} (w : Writes codeR length p t mid last q) where
-  pub rules-refused : {k x : ℕ} → q ≡ P.Refused k x → p ≡ refused k x
-  rules-refused {k} {x} e = refused-then (λ (rs : List Rule). (t + length (codeR rs), length rs)) p k x (sym (w .answer) ∙ ap partOf e)
-
-  pub rules-read : {b u x : ℕ} → q ≡ P.Done b u x → (rules : List Rule) × (p ≡ accepted rules b) × (u ≡ t + length (codeR rules)) × (last ≡ sets mid t (codeR rules))
-  rules-read {b} {u} {x} e =
-      let y = after (λ (rs : List Rule). (t + length (codeR rs), length rs)) p (u, x) b (sym (w .answer) ∙ ap partOf e) in
-      (y .0, y .1, ap (λ (z : ℕ × ℕ). z .0) (y .2), w .wrote (y .0) b (y .1))
-
 -- ---- the answer and the bytes of the whole
 
-module _ (text before last starts ends : List ℕ) where
-  pub descends-refused : (k p : ℕ) → program text ≡ refused k p → Descends text (program text) before last starts ends (N.Refused k p)
-  descends-refused k p e = record {
-    answer = rw e;
-    wrote = λ q n h. never q n k p (sym h ∙ e);
-    named = λ q n h. never q n k p (sym h ∙ e);
-  }
+module _ (text before last starts ends : List ℕ) {r : Step} where
+  descends-refused : (k p : ℕ) → r ≡ Refused k p → program text ≡ refused k p → Descends text (program text) before last starts ends r
+  descends-refused k p d e = record { writes = refuses d e; named = λ q n h. never q n k p (sym h ∙ e) }
 
-  pub descends-accepted : (q : Program) (n : ℕ) → program text ≡ accepted q n → last ≡ sets before 0 (image q) → Holds text starts ends (length (q .names)) (q .names)
-      → Descends text (program text) before last starts ends (N.Accepted (length (image q)) (q .inputs) (length (q .names)))
-  descends-accepted q n e w h = record {
-    answer = rw e;
-    wrote = λ q' n' g. let i : accepted q n ≡ accepted q' n' = sym e ∙ g in let j : q ≡ q' = cc in subst (λ (x : Program). last ≡ sets before 0 (image x)) j w;
-    named = λ q' n' g. let i : accepted q n ≡ accepted q' n' = sym e ∙ g in let j : q ≡ q' = cc in subst (λ (x : Program). Holds text starts ends (length (x .names)) (x .names)) j h;
-  }
+  pub no-heading : (k p : ℕ) → r ≡ Refused k p → headingOf text ≡ refused k p → Descends text (program text) before last starts ends r
+  no-heading k p d e = descends-refused k p d (program-heading text ∙ rw e)
 
-  pub no-heading : (k p : ℕ) → headingOf text ≡ refused k p → Descends text (program text) before last starts ends (N.Refused k p)
-  no-heading k p e = descends-refused k p (program-heading text ∙ rw e)
-
-  pub no-rules : (d : Declarations) (a k p : ℕ) → headingOf text ≡ accepted d a → rulesFrom 65 (scopeAfter text d) [] a ≡ refused k p → Descends text (program text) before last starts ends (N.Refused k p)
-  no-rules d a k p e f = descends-refused k p (program-heading text ∙ rw (e, f))
+  pub no-rules : (x : Declarations) (a k p : ℕ) → headingOf text ≡ accepted x a → r ≡ Refused k p → rulesFrom 65 (scopeAfter text x) [] a ≡ refused k p → Descends text (program text) before last starts ends r
+  no-rules x a k p e d f = descends-refused k p d (program-heading text ∙ rw (e, f))
 
 -- the bytes of an image whose counts have one byte each
-image-bytes : (q : Program) → q .inputs < 128 → length (q .names) < 128 → image q ≡ q .inputs ∷ (length (q .names) - q .inputs) ∷ (header (q .names) ++ codeR (q .rules))
+pub image-bytes : (q : Program) → q .inputs < 128 → length (q .names) < 128 → image q ≡ q .inputs ∷ (length (q .names) - q .inputs) ∷ (header (q .names) ++ codeR (q .rules))
 unfolding image
 image-bytes q h i = rw (groups-one (q .inputs) h, groups-one (length (q .names) - q .inputs) (omega arith))
 
@@ -164,10 +111,8 @@ module _ (text before mid last : List ℕ) (starts ends : List ℕ) (a t c m b u
       let l : length (image whole) ≡ 2 + (length (header (x .read .names)) + length (codeR rules)) = ap length bytes ∙ simp length-append (omega arith) in
       omega (arith, eu, x .ended)
 
-  pub descends-whole : Descends text (program text) before (set (set last 0 c) 1 (m - c)) starts ends (N.Accepted u c m)
-  descends-whole =
-      let h : Holds text starts ends (length (x .read .names)) (x .read .names) = subst (λ (k : ℕ). Holds text starts ends k (x .read .names)) (x .named) (x .held) in
-      let r = descends-accepted text before (set (set last 0 c) 1 (m - c)) starts ends whole b is-whole all-stored h in
-      subst (λ (k : ℕ). Descends text (program text) before (set (set last 0 c) 1 (m - c)) starts ends (N.Accepted u c k)) (sym (x .named))
-      (subst (λ (k : ℕ). Descends text (program text) before (set (set last 0 c) 1 (m - c)) starts ends (N.Accepted u k (length (x .read .names)))) (sym (x .counted))
-      (subst (λ (k : ℕ). Descends text (program text) before (set (set last 0 c) 1 (m - c)) starts ends (N.Accepted k (x .read .inputs) (length (x .read .names)))) size r))
+  pub descends-whole : {r : Step} → r ≡ reachedAt b u m → Descends text (program text) before (set (set last 0 c) 1 (m - c)) starts ends r
+  descends-whole d = record {
+    writes = writes d (record { tree = whole; is = is-whole; ended = omega (arith, size); tells-it = refl; wrote = all-stored });
+    named = λ q n g. subst (λ (y : Program). Holds text starts ends (length (y .names)) (y .names)) (same-value (sym is-whole ∙ g)) (subst (λ (k : ℕ). Holds text starts ends k (x .read .names)) (x .named) (x .held));
+  }

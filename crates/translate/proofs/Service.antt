@@ -1,35 +1,40 @@
 -- From the descent to the service: the limit of texts, the answer, and the buffer. Assumes nothing.
 use mathlib.Core.Path.{_≡_, refl, sym, ap, subst, _∙_}
 use mathlib.Core.Bool.{Bool, true, false, cond}
-use mathlib.Core.List.{List, [], _++_}
-use Prim.Native.Nat.{ℕ, _+_, _*_, _≤_, _<_}
+use mathlib.Core.List.{List, [], _∷_, _++_}
+use Prim.Native.Nat.{ℕ, _+_, _-_, _*_, _≤_, _<_}
 use native.Mathlib.Omega.{arith}
 use lib.Dec.{leb}
-use lib.ListN.{length, take, drop}
-use lib.Seq.{length-sets}
+use lib.ListN.{length, take, drop, getD, length-map}
+use lib.Seq.{sets, length-sets}
 use borrow.Author.Tests.{lt-ltb, le-leb, lt-leb}
-use Rattle.limits.specs.Limits.{textLimit, imageLimit}
+use Rattle.limits.specs.Limits.{textLimit, nameLimit, imageLimit}
 use Rattle.limits.specs.Answer.{Answer}
 use Rattle.limits.specs.Answer as A
 use Rattle.semantics.specs.Program.{Program}
 use Rattle.bytecode.specs.Translation.{imageOf}
 use Rattle.grammar.specs.Parsed.{Parsed, accepted, refused}
-use Rattle.grammar.specs.Emitted.{image}
+use Rattle.grammar.specs.Emitted.{header, codeR, image}
 use Rattle.grammar.specs.Parse.{program, parse, answerOf, programOf}
 use Rattle.grammar.proofs.Image.{image-emitted}
-use Rattle.grammar.proofs.Accepted.{parse-translatable, parse-growth, parse-short as accepted-short}
+use Rattle.grammar.proofs.Accepted.{parse-translatable, parse-few, parse-growth, parse-short as accepted-short}
 use Rattle.grammar.proofs.Places.{Within}
 use Rattle.grammar.proofs.PlacesText.{parse-limited}
 use Rattle.grammar.proofs.ConverseText.{short-parse}
-use Rattle.translate.specs.declared.Analysis.{Analysis}
+use Rattle.lexer.specs.declared.Place.{Place}
+use Rattle.lexer.specs.declared.Step.{Step}
+use Rattle.lexer.specs.declared.Step.the-variants.{Done, Refused}
+use Rattle.phrases.proofs.Writing.{got, refused-part}
+use Rattle.declarations.specs.Post.{Holds}
 use Rattle.translate.specs.declared.Analysis.the-variants as N
 use Rattle.translate.specs.declared.Translated.{Translated}
 use Rattle.translate.specs.declared.Translated.the-variants as T
 use Rattle.translate.specs.Services.{AfterTranslation, translated, translationOf}
 use Rattle.translate.specs.Results.{translatedAnswer, afterTranslation, TranslatedWithin}
-use Rattle.translate.specs.Internal.{Counts, analysed, measured, measuresOf, Analyses, Descends}
-use Rattle.leb128.proofs.Stores.{take-sets}
+use Rattle.translate.specs.Internal.{measured, Analyses, Descends}
+use Rattle.leb128.proofs.Stores.{sets-past, take-sets}
 use Rattle.translate.proofs.Ways.{never}
+use Rattle.translate.proofs.Descent.{image-bytes}
 
 -- ---- the limit of texts
 
@@ -42,8 +47,31 @@ analyses-long text starts ends h =
     let e = parse-long text h in
     record { answer = rw e; named = λ q n g. never q n 9 0 (sym g ∙ e) }
 
-pub analyses-short : (text last starts ends : List ℕ) (r : Analysis) → length text ≤ textLimit → Descends text (program text) [] last starts ends r → Analyses text (parse text) starts ends r
-analyses-short text last starts ends r h d = rw (short-parse text h) (record { answer = d .answer; named = d .named })
+-- the two counts are the first bytes of the image
+two-counts : (q : Program) → q .inputs ≤ length (q .names) → length (q .names) ≤ nameLimit → sets (0 ∷ 0 ∷ []) 0 (image q) ≡ q .inputs ∷ (length (q .names) - q .inputs) ∷ []
+two-counts q h i = rw (image-bytes q (omega arith) (omega arith)) (sets-past (q .inputs ∷ (length (q .names) - q .inputs) ∷ []) 2 (header (q .names) ++ codeR (q .rules)) (omega arith))
+
+counted : (p : Parsed Program) (q : Program) (n t : ℕ) (last : List ℕ) → p ≡ accepted q n → t ≡ 0 + length (image q) → last ≡ q .inputs ∷ (length (q .names) - q .inputs) ∷ [] → q .inputs ≤ length (q .names)
+    → {i v : ℕ} → i ≡ getD last 0 0 → v ≡ getD last 1 0 → A.accepted (record { end = t; inputs = i; names = i + v }) ≡ measured p
+counted p q n t last e f g h ei ev =
+    let s : t ≡ length (image q) = omega (arith, f) in
+    let all : q .inputs + (length (q .names) - q .inputs) ≡ length (q .names) = omega arith in
+    rw (e, s, ei, ev, g, all)
+
+module _ (text last starts ends : List ℕ) {r : Step} (h : length text ≤ textLimit) (d : Descends text (program text) (0 ∷ 0 ∷ []) last starts ends r) where
+  names-held : (q : Program) (n : ℕ) → parse text ≡ accepted q n → Holds text starts ends (length (q .names)) (q .names)
+  names-held q n e = d .named q n (sym (short-parse text h) ∙ e)
+
+  pub analyses-refused : (k x : ℕ) → r ≡ Refused k x → Analyses text (parse text) starts ends (N.Refused k x)
+  analyses-refused k x e = record { answer = rw (short-parse text h, refused-part (d .writes) e); named = names-held }
+
+  pub analyses-accepted : (x : Place) → r ≡ Done x → {i v : ℕ} → i ≡ getD last 0 0 → v ≡ getD last 1 0 → Analyses text (parse text) starts ends (N.Accepted (x .to) i (i + v))
+  analyses-accepted x e ei ev =
+      let g = got (d .writes) e in
+      let p : parse text ≡ accepted (g .tree) (x .at) = short-parse text h ∙ g .is in
+      let f = parse-few text (g .tree) (x .at) p in
+      let few : g .tree .inputs ≤ length (g .tree .names) = subst (λ (n : ℕ). g .tree .inputs ≤ n) (length-map (g .tree .names) (λ n. n .range)) (parse-translatable text (g .tree) (x .at) p .well-formed .inputs-fit) in
+      record { answer = counted (parse text) (g .tree) (x .at) (x .to) last p (g .ended) (g .wrote ∙ two-counts (g .tree) few f) few ei ev; named = names-held }
 
 -- ---- what the analysis says of the text
 
@@ -54,16 +82,6 @@ module _ (p : Parsed Program) where
       go : (y : Parsed Program) → measured y ≡ A.refused k x → y ≡ refused k x
       go (accepted q n) e = let z : _≡_ {A = ℕ} 0 1 = cc in let f : ⊥ = omega arith in absurd f
       go (refused i j) e = let a : i ≡ k = cc in let b : j ≡ x = cc in rw (a, b)
-
-  pub measured-accepted : (size inputs names : ℕ) → measured p ≡ A.accepted (record { end = size; inputs = inputs; names = names })
-      → (q : Program) × (n : ℕ) × (p ≡ accepted q n) × (size ≡ length (image q))
-  measured-accepted size inputs names = go p
-    where
-      go : (y : Parsed Program) → measured y ≡ A.accepted (record { end = size; inputs = inputs; names = names }) → (q : Program) × (n : ℕ) × (y ≡ accepted q n) × (size ≡ length (image q))
-      go (accepted q n) e =
-          let c : measuresOf q ≡ record { end = size; inputs = inputs; names = names } = cc in
-          (q, n, refl, sym (ap {A = Counts} (λ z. z .end) c))
-      go (refused i j) e = let z : _≡_ {A = ℕ} 0 1 = cc in let f : ⊥ = omega arith in absurd f
 
 -- ---- the service's definition
 
@@ -125,29 +143,25 @@ pub record Made (text scratch : List ℕ) (size : ℕ) : Type 0 where
   pub room : size ≤ length scratch
   pub there : take size scratch ≡ image read
 
-module _ (text before after starts ends : List ℕ) (r : Analysis) (short : length text ≤ textLimit) (d : Descends text (program text) before after starts ends r) where
-  pub fault-passed : (k x : ℕ) (buffer : List ℕ) → r ≡ N.Refused k x → (afterTranslation (T.Refused k x) buffer ≡ translationOf text buffer) × TranslatedWithin (T.Refused k x)
-  fault-passed k x buffer e = bounded text buffer (T.Refused k x) buffer (translation-refused text buffer k x (short-parse text short ∙ measured-refused (program text) k x (sym (d .answer) ∙ ap analysed e)))
+module _ (text before after starts ends : List ℕ) {r : Step} (short : length text ≤ textLimit) (d : Descends text (program text) before after starts ends r) where
+  pub fault-passed : (k x : ℕ) (buffer : List ℕ) → r ≡ Refused k x → (afterTranslation (T.Refused k x) buffer ≡ translationOf text buffer) × TranslatedWithin (T.Refused k x)
+  fault-passed k x buffer e = bounded text buffer (T.Refused k x) buffer (translation-refused text buffer k x (short-parse text short ∙ refused-part (d .writes) e))
 
-  made-of : (q : Program) (n size : ℕ) → program text ≡ accepted q n → size ≡ length (image q) → 3 * length text + 4 ≤ 2 * length before → Made text after size
-  made-of q n size e m h =
-      let p : parse text ≡ accepted q n = short-parse text short ∙ e in
-      let w = d .wrote q n e in
-      let l : length (image q) ≡ length (imageOf q) = ap {A = List ℕ} length (image-emitted q) in
-      let f : length (image q) ≤ length before = omega (arith, parse-growth text q n p) in
+  pub image-made : (x : Place) → 3 * length text + 4 ≤ 2 * length before → r ≡ Done x → Made text after (x .to)
+  image-made x h e =
+      let g = got (d .writes) e in
+      let p : parse text ≡ accepted (g .tree) (x .at) = short-parse text short ∙ g .is in
+      let l : length (image (g .tree)) ≡ length (imageOf (g .tree)) = ap {A = List ℕ} length (image-emitted (g .tree)) in
+      let f : length (image (g .tree)) ≤ length before = omega (arith, parse-growth text (g .tree) (x .at) p) in
+      let m : x .to ≡ length (image (g .tree)) = omega (arith, g .ended) in
       record {
-        read = q;
-        end = n;
+        read = g .tree;
+        end = x .at;
         parsed = p;
         measure = m;
-        room = rw (w, length-sets before 0 (image q)) (omega arith);
-        there = rw (m, w) (take-sets before (image q) f);
+        room = omega (arith, ap {A = List ℕ} length (g .wrote), length-sets before 0 (image (g .tree)));
+        there = ap (λ (n : ℕ). take n after) m ∙ ap (take (length (image (g .tree)))) (g .wrote) ∙ take-sets before (image (g .tree)) f;
       }
-
-  pub image-made : (size inputs names : ℕ) → 3 * length text + 4 ≤ 2 * length before → r ≡ N.Accepted size inputs names → Made text after size
-  image-made size inputs names h e =
-      let x = measured-accepted (program text) size inputs names (sym (d .answer) ∙ ap analysed e) in
-      made-of (x .0) (x .1) size (x .2) (x .3) h
 
 module _ {text scratch : List ℕ} {size : ℕ} (m : Made text scratch size) (buffer : List ℕ) where
   pub made-short : length buffer < size → (afterTranslation (T.Refused 10 (length text)) buffer ≡ translationOf text buffer) × TranslatedWithin (T.Refused 10 (length text))

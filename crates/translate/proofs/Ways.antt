@@ -21,8 +21,7 @@ use Rattle.grammar.proofs.Size.{Pays, declarations-pay}
 use Rattle.declarations.specs.Post.{Holds, headerAfter}
 use Rattle.declarations.proofs.Known.{AllDeclared, header-joined}
 use Rattle.grammar.proofs.Combine.{then-then}
-use Rattle.translate.specs.declared.Heading.the-variants as H
-use Rattle.translate.specs.Internal.{Declarations, headingOf, scopeAfter, Heads}
+use Rattle.translate.specs.Internal.{Declarations, headingOf, scopeAfter}
 
 -- ---- what follows what
 
@@ -72,26 +71,20 @@ module _ (text : List ℕ) where
         let p2 = subst (Pays (λ (l : List Name). length (header l)) (length text) 0) f (declarations-pay text 65 varWord inputs n1 (g1 .1) (omega (arith, p1 .0))) in
         (g2 .0 .1, g2 .0 .2, g2 .1, omega (arith, p2 .0), named names (g2 .0 .0) (g2 .0 .3))
 
--- ---- what reading the declarations answers and leaves
+-- ---- what reading the declarations leaves
 
 pub never : {A X : Type 0} (a : A) (n k p : ℕ) → _≡_ {A = Parsed A} (accepted a n) (refused k p) → X
 never a n k p e = let z : _≡_ {A = ℕ} 0 1 = cc in let f : ⊥ = omega arith in absurd f
 
-module _ (text before after starts ends : List ℕ) where
-  pub heads-refused : (k p : ℕ) → headingOf text ≡ refused k p → Heads text before after starts ends (H.Refused k p)
-  heads-refused k p e = record {
-    answer = rw e;
-    wrote = λ d n h. never d n k p (sym h ∙ e);
-    named = λ d n h. never d n k p (sym h ∙ e);
-  }
-
-  pub heads-accepted : (d : Declarations) (at : ℕ) → headingOf text ≡ accepted d at → after ≡ sets before 2 (header (d .names)) → Holds text starts ends (length (d .names)) (d .names)
-      → Heads text before after starts ends (H.Until at (2 + length (header (d .names))) (d .inputs) (length (d .names)))
-  heads-accepted d at e w h = record {
-    answer = rw e;
-    wrote = λ d' n g. let q : d ≡ d' = cc in subst (λ (x : Declarations). after ≡ sets before 2 (header (x .names))) q w;
-    named = λ d' n g. let q : d ≡ d' = cc in subst (λ (x : Declarations). Holds text starts ends (length (x .names)) (x .names)) q h;
-  }
+-- the declarations that were read up to a: their bytes up to t, c inputs and m names
+pub record HeadingRead (text before mid starts ends : List ℕ) (a t c m : ℕ) : Type 0 where
+  pub read : Declarations
+  pub is-read : headingOf text ≡ accepted read a
+  pub ended : t ≡ 2 + length (header (read .names))
+  pub counted : c ≡ read .inputs
+  pub named : m ≡ length (read .names)
+  pub wrote : mid ≡ sets before 2 (header (read .names))
+  pub held : Holds text starts ends m (read .names)
 
 -- the declarations of inputs, then those of variables
 module _ (text before mid after s1 e1 s2 e2 : List ℕ) (a t c b u m : ℕ) (x : AllDeclared inputWord text [] 0 2 before mid s1 e1 a t c) (y : AllDeclared varWord text (x .all) a t mid after s2 e2 b u m) where
@@ -116,10 +109,13 @@ module _ (text before mid after s1 e1 s2 e2 : List ℕ) (a t c b u m : ℕ) (x :
       ∙ sets-join before 2 (header (x .all)) (headerAfter (x .all) (y .all))
       ∙ ap (sets before 2) (sym joined)
 
-  pub heads-both : Heads text before after s2 e2 (H.Until b u c m)
-  heads-both =
-      let h : Holds text s2 e2 (length (y .all)) (y .all) = subst (λ (k : ℕ). Holds text s2 e2 k (y .all)) (y .counted) (y .held) in
-      let r = heads-accepted text before after s2 e2 (record { inputs = length (x .all); names = y .all }) b (both-accepted text (x .all) a (x .read) (y .all) b (y .read)) stored h in
-      subst (λ (k : ℕ). Heads text before after s2 e2 (H.Until b u c k)) (sym (y .counted))
-      (subst (λ (k : ℕ). Heads text before after s2 e2 (H.Until b u k (length (y .all)))) (sym (x .counted))
-      (subst (λ (k : ℕ). Heads text before after s2 e2 (H.Until b k (length (x .all)) (length (y .all)))) end-is r))
+  pub heading-both : HeadingRead text before after s2 e2 b u c m
+  heading-both = record {
+    read = record { inputs = length (x .all); names = y .all };
+    is-read = both-accepted text (x .all) a (x .read) (y .all) b (y .read);
+    ended = sym end-is;
+    counted = x .counted;
+    named = y .counted;
+    wrote = stored;
+    held = y .held;
+  }

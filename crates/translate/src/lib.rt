@@ -1,23 +1,16 @@
 // The translate service: one descent that checks the text and makes its image in memory of its own, which is then stored where it fits.
 // A refused text so never touches the lent buffer.
-use cases::Part;
-use declarations::Declared;
+use lexer::Step;
 ghost use mathlib.Core.Path.{_≡_};
 ghost use mathlib.Core.List.{_++_};
-ghost use Prim.Native.Nat.{_+_, _*_, _≤_};
+ghost use Prim.Native.Nat.{_+_, _*_, _≤_, _<_};
 ghost use lib.ListN.{length, drop};
 ghost use Rattle.limits.specs.Limits.{textLimit};
 ghost use Rattle.grammar.specs.Parse.{program, parse};
 ghost use Rattle.declarations.specs.Post.{Room};
 ghost use Rattle.translate.specs.Services.{translationOf};
 ghost use Rattle.translate.specs.Results.{afterTranslation, TranslatedWithin};
-ghost use Rattle.translate.specs.Internal.{undeclaredOf, unheadedOf, unruledOf, untranslatedOf, Heads, Descends, Analyses};
-
-// The place after the declarations, the end of the bytes written, the counts of inputs and of names; or a refusal.
-pub enum Heading {
-    Until(usize, usize, usize, usize),
-    Refused(u8, usize),
-}
+ghost use Rattle.translate.specs.Internal.{Descends, Analyses};
 
 // The image's length and the counts of inputs and of names; or a refusal's number and place.
 pub enum Analysis {
@@ -31,78 +24,45 @@ pub enum Translated {
     Refused(u8, usize),
 }
 
-// A refusal passed on.
-fn undeclared(d: Declared) -> Heading
-    ensures { λ r. ⌜ r ≡ undeclaredOf d ⌝ }
-{
-    match d {
-        Declared::Until(_, _, _) => Heading::Refused(0, 0),
-        Declared::Refused(k, p) => Heading::Refused(k, p),
-    }
-}
-
-fn unheaded(h: Heading) -> Analysis
-    ensures { λ r. ⌜ r ≡ unheadedOf h ⌝ }
-{
-    match h {
-        Heading::Until(_, _, _, _) => Analysis::Refused(0, 0),
-        Heading::Refused(k, p) => Analysis::Refused(k, p),
-    }
-}
-
-fn unruled(part: Part) -> Analysis
-    ensures { λ r. ⌜ r ≡ unruledOf part ⌝ }
-{
-    match part {
-        Part::Done(_, _, _) => Analysis::Refused(0, 0),
-        Part::Refused(k, p) => Analysis::Refused(k, p),
-    }
-}
-
-fn untranslated(a: Analysis) -> Translated
-    ensures { λ r. ⌜ r ≡ untranslatedOf a ⌝ }
-{
-    match a {
-        Analysis::Accepted(_, _, _) => Translated::Refused(0, 0),
-        Analysis::Refused(k, p) => Translated::Refused(k, p),
-    }
-}
-
-// All inputs, then all variables, into the table; the header's bytes behind the two counts.
-fn read_heading(text: &[u8], starts: &mut [usize], ends: &mut [usize], out: &mut [u8]) -> Heading
-    requires { ⌜ length (now text) ≤ textLimit ⌝ }
-    requires { ⌜ Room (now starts) (now ends) 0 ⌝ }
-    ensures { λ r. ⌜ Heads (now (text .entry)) (now (out .entry)) (now (out .exit)) (now (starts .exit)) (now (ends .exit)) r ⌝ }
-{
-    let first = declarations::declarations(text, 0, lexer::INPUT, starts, ends, 0, out, 2);
-    let Declared::Until(a, t, inputs) = first else {
-        return undeclared(first);
-    };
-    let second = declarations::declarations(text, a, lexer::VAR, starts, ends, inputs, out, t);
-    let Declared::Until(b, u, count) = second else {
-        return undeclared(second);
-    };
-    Heading::Until(b, u, inputs, count)
-}
-
-// The whole text, into lent memory as far as there is room.
-fn descend(text: &[u8], starts: &mut [usize], ends: &mut [usize], out: &mut [u8]) -> Analysis
+// The whole text, into lent memory as far as there is room: all inputs, then all variables, into the table; the rules; and last the
+// header's two counts.
+fn descend(text: &[u8], starts: &mut [usize], ends: &mut [usize], out: &mut [u8]) -> Step
     requires { ⌜ length (now text) ≤ textLimit ⌝ }
     requires { ⌜ Room (now starts) (now ends) 0 ⌝ }
     ensures { λ r. ⌜ Descends (now (text .entry)) (program (now (text .entry))) (now (out .entry)) (now (out .exit)) (now (starts .exit)) (now (ends .exit)) r ⌝ }
 {
-    let head = read_heading(text, starts, ends, out);
-    let Heading::Until(a, t, inputs, count) = head else {
-        return unheaded(head);
+    let first = declarations::declarations(text, 0, lexer::INPUT, starts, ends, 0, out, 2);
+    let Step::Done(inputs) = first else {
+        return first;
     };
-    let names = expressions::scope::first_names(inputs, count);
-    let read = rules::rules(text, starts, ends, names, a, out, t);
-    let Part::Done(_, size, _) = read else {
-        return unruled(read);
+    let second = declarations::declarations(
+        text,
+        inputs.at,
+        lexer::VAR,
+        starts,
+        ends,
+        inputs.number,
+        out,
+        inputs.to,
+    );
+    let Step::Done(all) = second else {
+        return second;
     };
-    leb128::put_byte(out, 0, inputs as u8);
-    leb128::put_byte(out, 1, (count - inputs) as u8);
-    Analysis::Accepted(size, inputs, count)
+    let names = expressions::scope::first_names(inputs.number, all.number);
+    let read = rules::rules(text, starts, ends, names, all.at, out, all.to);
+    let Step::Done(end) = read else {
+        return read;
+    };
+    leb128::put_byte(out, 0, inputs.number as u8);
+    leb128::put_byte(out, 1, (all.number - inputs.number) as u8);
+    lexer::reached(end.at, end.to, all.number)
+}
+
+// A count of the header.
+fn count_of(byte: u8) -> usize
+    ensures { λ r. ⌜ (r ≡ byte) × (r < 256) ⌝ }
+{
+    byte as usize
 }
 
 // Checks a text and measures its image; leaves the names in the table, which has room for 64.
@@ -113,8 +73,15 @@ pub fn analyse(text: &[u8], starts: &mut [usize], ends: &mut [usize]) -> Analysi
     if limits::TEXT_LIMIT < text.len() {
         return Analysis::Refused(limits::TOO_LONG, 0);
     }
-    let mut none = [0u8; 0];
-    descend(text, starts, ends, &mut none)
+    // room for the two counts
+    let mut counts = [0u8; 2];
+    let read = descend(text, starts, ends, &mut counts);
+    let inputs = count_of(counts[0]);
+    let names = inputs + count_of(counts[1]);
+    match read {
+        Step::Done(end) => Analysis::Accepted(end.to, inputs, names),
+        Step::Refused(number, place) => Analysis::Refused(number, place),
+    }
 }
 
 // `from`, written over the front of `to`.
@@ -142,15 +109,18 @@ fn translate_in(
     ensures { λ r. ⌜ afterTranslation r (now (image .exit)) ≡ translationOf (now (text .entry)) (now (image .entry)) ⌝ }
     ensures { λ r. ⌜ TranslatedWithin r ⌝ }
 {
-    let analysis = descend(text, starts, ends, scratch);
-    let Analysis::Accepted(size, _, _) = analysis else {
-        return untranslated(analysis);
-    };
-    if image.len() < size {
-        return Translated::Refused(limits::BUFFER_TOO_SHORT, text.len());
+    let read = descend(text, starts, ends, scratch);
+    match read {
+        Step::Done(end) => {
+            let size = end.to;
+            if image.len() < size {
+                return Translated::Refused(limits::BUFFER_TOO_SHORT, text.len());
+            }
+            store(image, &scratch[..size]);
+            Translated::Image(size)
+        }
+        Step::Refused(number, place) => Translated::Refused(number, place),
     }
-    store(image, &scratch[..size]);
-    Translated::Image(size)
 }
 
 // A text of at most 1,024 bytes, whose image has at most 1,538: clearing the scratch memory would else take longer than the descent.

@@ -35,7 +35,9 @@ shared-slice-read-last : tie.Need-shared-slice-read-last Inv-loop μ-loop
 shared-slice-read-last c = omega (arith, c .before .before .before .before .before .before .before .pre .0 .in-to, c .before .before .loop-test .taken)
 
 compare-part-requires : tie.Need-compare-part-requires Inv-loop μ-loop
-compare-part-requires c κs = let start = c .before .before .before .before .before .before .before in (start .pre .0 .inside _ (c .before .before .loop-test .taken), start .pre .1 .each _ (c .before .before .loop-test .taken))
+compare-part-requires c κs =
+    let start = c .before .before .before .before .before .before .before in
+    (start .pre .0 .inside _ (c .before .before .loop-test .taken), start .pre .1 .each _ (c .before .before .loop-test .taken))
 
 returns : tie.Need-returns Inv-loop μ-loop
 returns c =
@@ -70,19 +72,18 @@ loop-less c = omega (arith, c .before .before .before .before .before .before .b
 
 loop-again : tie.Need-loop-again Inv-loop μ-loop
 loop-again c =
-    let at-part = c .before .before .before .before .before .before in
+    let at-separator = c .before .before .before .before in
+    let at-part = at-separator .before .before in
     let at-compare-part = at-part .before .before in
     let at-loop-test = at-compare-part .before .before .before in
     let at-loop = at-loop-test .before in
     let start = at-loop .before .before .before .before in
-    next-part _ _ _ _ (start .pre .0) _ _ _ (at-loop .loop .inv) (at-loop-test .loop-test .taken) _ (at-compare-part .compare-part .ensures) (ap comparedOf (at-part .part .given .1)) _ (c .before .before .before .before .separator .ensures) (c .before .before .before .compare-sign .ensures) _ (ap comparedOf (c .before .sign .given .1))
+    next-part _ _ _ _ (start .pre .0) _ _ _ (at-loop .loop .inv) (at-loop-test .loop-test .taken) _ (at-compare-part .compare-part .ensures) (ap comparedOf (at-part .part .given .1)) _ (at-separator .separator .ensures) (c .before .before .before .compare-sign .ensures) _ (ap comparedOf (c .before .sign .given .1))
 
 returns-3 : tie.Need-returns-3 Inv-loop μ-loop
-returns-3 c = compared _ _ _ _ (c .before .before .before .before .before .pre .0) _ _ _ (c .before .loop .inv) (c .loop-test .left)
+returns-3 c = compared _ _ _ _ (c .before .before .before .before .before .before .pre .0) _ _ _ (c .before .before .loop .inv) (ap comparedOf (c .reached .ensures)) (c .before .loop-test .left)
 
 pub compare-lists-spec : {M : Type 1} → statement M
 compare-lists-spec =
     tie.close
-    (tie.spec Inv-loop μ-loop loop-holds mul-first shared-slice-read-first mul-last shared-slice-read-last compare-part-requires
-    (λ c. search needs) (λ c. search needs) returns add-i (λ c κs. search needs) compare-sign-requires (λ c. search needs)
-    (λ c. search needs) returns-2 loop-less loop-again returns-3)
+    (tie.spec Inv-loop μ-loop loop-holds mul-first shared-slice-read-first mul-last shared-slice-read-last compare-part-requires (λ c. search needs) (λ c. search needs) returns add-i (λ c κs. search needs) compare-sign-requires (λ c. search needs) (λ c. search needs) returns-2 loop-less loop-again (λ c κs. search needs) returns-3)

@@ -5,7 +5,7 @@ use Prim.Native.Nat.{_-_}
 use native.Mathlib.Omega.{arith}
 use borrow.Author.Needs.{needs}
 use Rattle.lexer.proofs.Tokens.{is-token, is-fault}
-use Rattle.agreement.specs.Results.{comparedOf, faultAt}
+use Rattle.agreement.specs.Results.{comparedOf}
 use Rattle.agreement.proofs.Progress.{progress}
 use Rattle.agreement.proofs.Parts.{Matching, matching, matched, unmatched-fault, found-fault, unmatched, next-tokens}
 use Rattle.agreement.proofs.compare_tokens.Statement.{statement}
@@ -21,22 +21,22 @@ loop-holds : tie.Need-loop-holds Inv-loop μ-loop
 loop-holds c = matching _ _ _ _ (c .before .pre)
 
 returns : tie.Need-returns Inv-loop μ-loop
-returns c = ap comparedOf (c .fault .ensures ∙ ap faultAt (c .before .enum-told .given .1)) ∙ unmatched-fault _ _ _ _ _ _ (c .before .before .before .before .before .loop .inv) (c .before .before .before .before .loop-test .taken) _ (is-fault _ _ _ (c .before .before .before .token-at .ensures) _ (c .before .enum-told .given .1))
+returns c = ap comparedOf (c .enum-told .given .1) ∙ unmatched-fault _ _ _ _ _ _ (c .before .before .before .before .loop .inv) (c .before .before .before .loop-test .taken) _ (is-fault _ _ _ (c .before .before .token-at .ensures) _ _ (c .enum-told .given .1) .0)
 
 returns-2 : tie.Need-returns-2 Inv-loop μ-loop
 returns-2 c =
-    let at-wanted = c .before .before .before .before .before in
+    let at-wanted = c .before .before .before .before in
     let at-token-at = at-wanted .before .before in
     let at-loop-test = at-token-at .before in
     let at-loop = at-loop-test .before in
-    ap comparedOf (c .fault2 .ensures ∙ ap faultAt (c .before .enum-told2 .given .1))
-    ∙ found-fault _ _ _ _ _ _ (at-loop .loop .inv) (at-loop-test .loop-test .taken) _ _ _ (is-token _ _ _ (at-token-at .token-at .ensures) _ _ _ (at-wanted .wanted .given .1) .0) _ (is-fault _ _ _ (c .before .before .before .token-at2 .ensures) _ (c .before .enum-told2 .given .1))
+    ap comparedOf (c .enum-told2 .given .1)
+    ∙ found-fault _ _ _ _ _ _ (at-loop .loop .inv) (at-loop-test .loop-test .taken) _ _ _ (is-token _ _ _ (at-token-at .token-at .ensures) _ (at-wanted .wanted .given .1) .0) _ (is-fault _ _ _ (c .before .before .token-at2 .ensures) _ _ (c .enum-told2 .given .1) .0)
 
 same-token-requires : tie.Need-same-token-requires Inv-loop μ-loop
 same-token-requires c κs =
     let at-wanted = c .before .before .before .before .before in
     let at-token-at = at-wanted .before .before in
-    ((is-token _ _ _ (at-token-at .token-at .ensures) _ _ _ (at-wanted .wanted .given .1)) .1 .known-kind, (is-token _ _ _ (c .before .before .before .token-at2 .ensures) _ _ _ (c .before .found .given .1)) .1 .known-kind)
+    ((is-token _ _ _ (at-token-at .token-at .ensures) _ (at-wanted .wanted .given .1)) .1 .known-kind, (is-token _ _ _ (c .before .before .before .token-at2 .ensures) _ (c .before .found .given .1)) .1 .known-kind)
 
 loop-less : tie.Need-loop-less Inv-loop μ-loop
 loop-less c =
@@ -44,7 +44,7 @@ loop-less c =
     let at-token-at = at-wanted .before .before in
     let at-loop-test = at-token-at .before in
     let start = at-loop-test .before .before .before in
-    let l = progress _ _ _ _ _ (omega (arith, at-loop-test .loop-test .taken, start .pre)) (is-token _ _ _ (at-token-at .token-at .ensures) _ _ _ (at-wanted .wanted .given .1) .0) in omega (arith, l, at-loop-test .loop-test .taken)
+    let l = progress _ _ _ _ _ (omega (arith, at-loop-test .loop-test .taken, start .pre)) (is-token _ _ _ (at-token-at .token-at .ensures) _ (at-wanted .wanted .given .1) .0) in omega (arith, l, at-loop-test .loop-test .taken)
 
 loop-again : tie.Need-loop-again Inv-loop μ-loop
 loop-again c =
@@ -54,8 +54,8 @@ loop-again c =
     let at-loop-test = at-token-at .before in
     let at-loop = at-loop-test .before in
     let start = at-loop .before .before in
-    let w = is-token _ _ _ (at-token-at .token-at .ensures) _ _ _ (at-wanted .wanted .given .1) in
-    let f = is-token _ _ _ (at-token-at2 .token-at2 .ensures) _ _ _ (c .before .before .before .found .given .1) in
+    let w = is-token _ _ _ (at-token-at .token-at .ensures) _ (at-wanted .wanted .given .1) in
+    let f = is-token _ _ _ (at-token-at2 .token-at2 .ensures) _ (c .before .before .before .found .given .1) in
     next-tokens _ _ _ _ _ _ (at-loop .loop .inv) (at-loop-test .loop-test .taken) _ _ _ (w .0) _ _ _ (f .0) (sym (c .before .same-token .ensures) ∙ c .if1 .taken) (progress _ _ _ _ _ (omega (arith, at-loop-test .loop-test .taken, start .pre)) (w .0))
 
 returns-3 : tie.Need-returns-3 Inv-loop μ-loop
@@ -65,16 +65,14 @@ returns-3 c =
     let at-token-at = at-wanted .before .before in
     let at-loop-test = at-token-at .before in
     let at-loop = at-loop-test .before in
-    let w = is-token _ _ _ (at-token-at .token-at .ensures) _ _ _ (at-wanted .wanted .given .1) in
-    let f = is-token _ _ _ (at-token-at2 .token-at2 .ensures) _ _ _ (c .before .before .before .found .given .1) in
+    let w = is-token _ _ _ (at-token-at .token-at .ensures) _ (at-wanted .wanted .given .1) in
+    let f = is-token _ _ _ (at-token-at2 .token-at2 .ensures) _ (c .before .before .before .found .given .1) in
     unmatched _ _ _ _ _ _ (at-loop .loop .inv) (at-loop-test .loop-test .taken) _ _ _ (w .0) _ _ _ (f .0) (sym (c .before .same-token .ensures) ∙ c .if1 .left)
 
 returns-4 : tie.Need-returns-4 Inv-loop μ-loop
-returns-4 c = matched _ _ _ _ _ _ (c .before .loop .inv) (c .loop-test .left)
+returns-4 c = ap comparedOf (c .reached .ensures) ∙ matched _ _ _ _ _ _ (c .before .before .loop .inv) (c .before .loop-test .left)
 
 pub compare-tokens-spec : {M : Type 1} → statement M
 compare-tokens-spec =
     tie.close
-    (tie.spec Inv-loop μ-loop loop-holds (λ c κs. search needs) (λ c. search needs) (λ c. search needs) (λ c κs. search needs) returns
-    (λ c κs. search needs) (λ c. search needs) (λ c. search needs) (λ c κs. search needs) returns-2 same-token-requires loop-less loop-again
-    returns-3 returns-4)
+    (tie.spec Inv-loop μ-loop loop-holds (λ c κs. search needs) (λ c. search needs) (λ c. search needs) returns (λ c κs. search needs) (λ c. search needs) (λ c. search needs) returns-2 same-token-requires loop-less loop-again returns-3 (λ c κs. search needs) returns-4)

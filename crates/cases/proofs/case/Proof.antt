@@ -7,7 +7,8 @@ use Rattle.grammar.proofs.Growth.{listed-grown, whole-expression-grown}
 use Rattle.expressions.proofs.Steps.{accepted-by, room-after}
 use Rattle.expressions.proofs.Scopes.{few-names}
 use Rattle.grammar.specs.Forms.{caseValueOpening}
-use Rattle.cases.proofs.Parts.{writes, not-expected, not-read, found}
+use Rattle.phrases.proofs.Writing.{writes, not-expected, found}
+use Rattle.cases.proofs.Parts.{not-read}
 use Rattle.cases.proofs.Ways.{condition-refused, opening-refused, value-refused, closing-refused, case-accepted, case-bytes, case-length, room-phrase}
 use borrow.Author.Needs.{needs}
 use Rattle.cases.proofs.case.Statement.{statement}
@@ -19,15 +20,15 @@ listed-requires c κs =
     (start .pre .0, start .pre .1 .0)
 
 returns : tie.Need-returns
-returns c = λ from. not-read (c .unread .ensures) (c .before .before .before .before .before .listed .ensures) (c .before .enum-told .given .1) (condition-refused _ _ from _)
+returns c = λ from. not-read (c .before .before .before .before .listed .ensures) (c .enum-told .given .1) (condition-refused _ _ from _)
 
 returns-2 : tie.Need-returns-2
 returns-2 c =
-    let at-first = c .before .before .before .before .before in
+    let at-first = c .before .before .before .before in
     let at-listed = at-first .before .before .before .before in
     λ from.
     let l = accepted-by (at-listed .listed .ensures) (at-first .first .given .1) in
-    not-expected (c .unexpected .ensures) (c .before .before .before .case-value-opening .ensures) (c .before .enum-told2 .given .1) (opening-refused _ _ from _ (l .is))
+    not-expected (c .before .before .case-value-opening .ensures) (c .enum-told2 .given .1) (opening-refused _ _ from _ (l .is))
 
 put-byte-requires : tie.Need-put-byte-requires
 put-byte-requires c κs =
@@ -42,8 +43,7 @@ put-byte-requires c κs =
 whole-expression-requires : tie.Need-whole-expression-requires
 unfolding is kindNumber
 whole-expression-requires c κs =
-    let at-put-byte = c .before .before .before in
-    let at-opened = at-put-byte .before .before .before in
+    let at-opened = c .before .before .before .before .before .before in
     let at-case-value-opening = at-opened .before .before in
     let at-first = at-case-value-opening .before .before in
     let at-listed = at-first .before .before .before .before in
@@ -52,12 +52,12 @@ whole-expression-requires c κs =
     let few = few-names _ (start .pre .0) in
     let rl = room-after (start .pre .1 .0) (listed-grown _ few _ (start .pre .1 .0 .within)) l in
     let p = found (at-case-value-opening .case-value-opening .ensures) (at-opened .opened .given .1) in
-    let rp = room-phrase {u = at-put-byte .put-byte .result} (caseValueOpening _) (refl, (refl, (refl, tt))) rl p (omega (arith, at-put-byte .put-byte .ensures .0)) in
+    let rp = room-phrase {u = c .before .before .before .put-byte .result} (caseValueOpening _) (refl, (refl, (refl, tt))) rl p (omega (arith, c .before .before .before .put-byte .ensures .0)) in
     (start .pre .0, rp)
 
 returns-3 : tie.Need-returns-3
 returns-3 c =
-    let at-whole-expression = c .before .before .before .before .before in
+    let at-whole-expression = c .before .before .before .before in
     let at-opened = at-whole-expression .before .before .before .before .before .before .before in
     let at-case-value-opening = at-opened .before .before in
     let at-first = at-case-value-opening .before .before in
@@ -65,11 +65,11 @@ returns-3 c =
     λ from.
     let l = accepted-by (at-listed .listed .ensures) (at-first .first .given .1) in
     let p = found (at-case-value-opening .case-value-opening .ensures) (at-opened .opened .given .1) in
-    not-read (c .unread2 .ensures) (at-whole-expression .whole-expression .ensures) (c .before .enum-told3 .given .1) (value-refused _ _ from _ (l .is) p)
+    not-read (at-whole-expression .whole-expression .ensures) (c .enum-told3 .given .1) (value-refused _ _ from _ (l .is) p)
 
 same-length-4 : tie.Need-same-length-4
 same-length-4 c =
-    let at-whole-expression = c .before .before .before .before .before .before .before .before .before in
+    let at-whole-expression = c .before .before .before .before .before .before .before .before in
     let at-put-byte = at-whole-expression .before .before .before .before in
     let at-listed = at-put-byte .before .before .before .before .before .before .before .before .before .before .before in
     at-whole-expression .whole-expression .kept .1 .1 .1 .1 .1 .0 ∙ at-put-byte .put-byte .kept .0 ∙ at-listed .listed .kept .1 .1 .1 .1 .1 .0
@@ -77,7 +77,7 @@ same-length-4 c =
 returns-4 : tie.Need-returns-4
 unfolding kindOf
 returns-4 c =
-    let at-second = c .before .before .before .before .before in
+    let at-second = c .before .before .before .before in
     let at-whole-expression = at-second .before .before .before .before in
     let at-opened = at-whole-expression .before .before .before .before .before .before .before in
     let at-case-value-opening = at-opened .before .before in
@@ -87,7 +87,7 @@ returns-4 c =
     let l = accepted-by (at-listed .listed .ensures) (at-first .first .given .1) in
     let p = found (at-case-value-opening .case-value-opening .ensures) (at-opened .opened .given .1) in
     let v = accepted-by (at-whole-expression .whole-expression .ensures) (at-second .second .given .1) in
-    not-expected (c .unexpected2 .ensures) (c .before .before .before .expect .ensures) (c .before .enum-told4 .given .1) (closing-refused _ _ from _ (l .is) p (v .is))
+    not-expected (c .before .before .expect .ensures) (c .enum-told4 .given .1) (closing-refused _ _ from _ (l .is) p (v .is))
 
 put-instruction-requires : tie.Need-put-instruction-requires
 unfolding is kindNumber
@@ -111,15 +111,15 @@ put-instruction-requires c κs =
 
 same-length-5 : tie.Need-same-length-5
 same-length-5 c =
-    let at-whole-expression = c .before .before .before .before .before .before .before .before .before .before .before .before .before in
+    let at-whole-expression = c .before .before .before .before .before .before .before .before .before .before .before .before .before .before in
     let at-put-byte = at-whole-expression .before .before .before .before in
     let at-listed = at-put-byte .before .before .before .before .before .before .before .before .before .before .before in
-    c .before .before .put-instruction .kept .0 ∙ at-whole-expression .whole-expression .kept .1 .1 .1 .1 .1 .0 ∙ at-put-byte .put-byte .kept .0 ∙ at-listed .listed .kept .1 .1 .1 .1 .1 .0
+    c .before .before .before .put-instruction .kept .0 ∙ at-whole-expression .whole-expression .kept .1 .1 .1 .1 .1 .0 ∙ at-put-byte .put-byte .kept .0 ∙ at-listed .listed .kept .1 .1 .1 .1 .1 .0
 
 returns-5 : tie.Need-returns-5
 unfolding kindOf
 returns-5 c =
-    let at-closed = c .before .before .before .before .before in
+    let at-closed = c .before .before .before .before .before .before in
     let at-expect = at-closed .before .before in
     let at-second = at-expect .before .before in
     let at-whole-expression = at-second .before .before .before .before in
@@ -133,19 +133,15 @@ returns-5 c =
     let p = found (at-case-value-opening .case-value-opening .ensures) (at-opened .opened .given .1) in
     let v = accepted-by (at-whole-expression .whole-expression .ensures) (at-second .second .given .1) in
     let q = found (at-expect .expect .ensures) (at-closed .closed .given .1) in
-    writes (record {
+    writes (c .reached .ensures) (record {
       tree = record { case = record { condition = l .tree; value = v .tree }; span = record { from = from; to = at-first .first .given .0 .0 .at } };
       is = case-accepted _ _ from _ (l .is) p (v .is) q;
-      ended = case-length _ _ _ (l .count) (at-put-byte .put-byte .ensures .0) (v .count) (c .before .before .put-instruction .ensures .0);
-      told = refl;
-      wrote = case-bytes _ _ _ _ (l .count) (l .wrote) (at-put-byte .put-byte .ensures .0) (at-put-byte .put-byte .ensures .1) (v .count) (v .wrote) (c .before .before .put-instruction .ensures .1);
+      ended = case-length _ _ _ (l .count) (at-put-byte .put-byte .ensures .0) (v .count) (c .before .before .before .put-instruction .ensures .0);
+      tells-it = refl;
+      wrote = case-bytes _ _ _ _ (l .count) (l .wrote) (at-put-byte .put-byte .ensures .0) (at-put-byte .put-byte .ensures .1) (v .count) (v .wrote) (c .before .before .before .put-instruction .ensures .1);
     })
 
 pub case-spec : {M : Type 1} → statement M
 case-spec =
     tie.close
-    (tie.spec listed-requires (λ c. search needs) (λ c. search needs) (λ c κs. search needs) (λ c. search needs) returns
-    (λ c κs. search needs) (λ c. search needs) (λ c. search needs) (λ c κs. search needs) (λ c. search needs) returns-2 put-byte-requires
-    whole-expression-requires (λ c. search needs) (λ c. search needs) (λ c κs. search needs) (λ c. search needs) returns-3
-    (λ c κs. search needs) (λ c. search needs) (λ c. search needs) (λ c κs. search needs) same-length-4 returns-4 put-instruction-requires same-length-5
-    returns-5)
+    (tie.spec listed-requires (λ c. search needs) (λ c. search needs) (λ c. search needs) returns (λ c κs. search needs) (λ c. search needs) (λ c. search needs) (λ c. search needs) returns-2 put-byte-requires whole-expression-requires (λ c. search needs) (λ c. search needs) (λ c. search needs) returns-3 (λ c κs. search needs) (λ c. search needs) (λ c. search needs) same-length-4 returns-4 put-instruction-requires (λ c κs. search needs) same-length-5 returns-5)

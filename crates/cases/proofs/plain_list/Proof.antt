@@ -24,57 +24,63 @@ loop-holds : tie.Need-loop-holds Inv-loop μ-loop
 loop-holds c = (listing-first (c .before .before .before .pre .1), refl)
 
 returns : tie.Need-returns Inv-loop μ-loop
-returns c = rw (c .fault .ensures, c .before .enum-told .given .1) (listing-fault (c .before .before .before .before .loop .inv .0) (is-fault _ _ _ (c .before .before .before .token-at .ensures) _ (c .before .enum-told .given .1)))
+returns c = listing-fault (c .before .before .before .loop .inv .0) (c .enum-told .given .1) (is-fault _ _ _ (c .before .before .token-at .ensures) _ _ (c .enum-told .given .1))
 
 returns-2 : tie.Need-returns-2 Inv-loop μ-loop
 unfolding kindOf
 returns-2 c =
-    let f = found-token _ _ (c .before .before .before .before .token-at .ensures) (c .before .before .read .given .1) in
-    listing-other (c .before .before .before .before .before .loop .inv .0) f (other-kinds _ _ (f .lies .known-kind) (omega arith) (c .if1 .taken))
+    let at-read = c .before .before .before in
+    let at-token-at = at-read .before .before in
+    let at-loop = at-token-at .before in
+    let f = found-token _ _ (at-token-at .token-at .ensures) (at-read .read .given .1) in
+    listing-other (at-loop .loop .inv .0) f (other-kinds _ _ (f .lies .known-kind) (omega arith) (c .if1 .taken))
 
 returns-3 : tie.Need-returns-3 Inv-loop μ-loop
 unfolding kindOf
 returns-3 c =
-    let at-token-at = c .before .before .before .before .before in
+    let at-read = c .before .before .before .before in
+    let at-token-at = at-read .before .before in
     let at-loop = at-token-at .before in
-    let f = found-token _ _ (at-token-at .token-at .ensures) (c .before .before .before .read .given .1) in
+    let f = found-token _ _ (at-token-at .token-at .ensures) (at-read .read .given .1) in
     listing-full (at-loop .loop .inv .0) f (same-kinds _ 19 (c .before .if1 .left)) (c .if2 .taken)
 
 slice-aggregate-listed : tie.Need-slice-aggregate-listed Inv-loop μ-loop
-slice-aggregate-listed c = sym (c .before .before .before .before .before .before .before .loop .inv .1)
+slice-aggregate-listed c = sym (c .before .before .before .before .before .before .before .before .loop .inv .1)
 
 listed-requires : tie.Need-listed-requires Inv-loop μ-loop
 listed-requires c κs =
-    let at-token-at = c .before .before .before .before .before .before in
+    let at-read = c .before .before .before .before .before in
+    let at-token-at = at-read .before .before in
     let at-loop = at-token-at .before in
     let start = at-loop .before .before .before .before in
-    let f = found-token _ _ (at-token-at .token-at .ensures) (c .before .before .before .before .read .given .1) in
+    let f = found-token _ _ (at-token-at .token-at .ensures) (at-read .read .given .1) in
     (start .pre .0, listing-room (at-loop .loop .inv .0) f (c .before .if2 .left))
 
 returns-4 : tie.Need-returns-4 Inv-loop μ-loop
 unfolding kindOf
 returns-4 c =
-    let at-if2 = c .before .before .before .before .before .before in
+    let at-if2 = c .before .before .before .before .before in
     let at-if1 = at-if2 .before in
-    let at-read = at-if1 .before .before in
+    let at-read = at-if1 .before .before .before in
     let at-token-at = at-read .before .before in
     let at-loop = at-token-at .before in
     let f = found-token _ _ (at-token-at .token-at .ensures) (at-read .read .given .1) in
     let i = same-kinds _ 19 (at-if1 .if1 .left) in
-    rw (c .unlisted .ensures, c .before .enum-told2 .given .1) (listing-refused (at-loop .loop .inv .0) f (at-if2 .if2 .left) i (refused-by (c .before .before .before .before .listed .ensures) (c .before .enum-told2 .given .1)))
+    listing-refused (at-loop .loop .inv .0) f (at-if2 .if2 .left) i (c .enum-told2 .given .1) (refused-by (c .before .before .before .listed .ensures) (c .enum-told2 .given .1))
 
 returns-5 : tie.Need-returns-5 Inv-loop μ-loop
 unfolding kindOf kindNumber
 returns-5 c =
-    let at-listed = c .before .before .before .before .before .before .before in
+    let at-one = c .before .before .before .before in
+    let at-listed = at-one .before .before .before in
     let at-if2 = at-listed .before .before in
     let at-if1 = at-if2 .before in
-    let at-read = at-if1 .before .before in
+    let at-read = at-if1 .before .before .before in
     let at-token-at = at-read .before .before in
     let at-loop = at-token-at .before in
     let f = found-token _ _ (at-token-at .token-at .ensures) (at-read .read .given .1) in
     let i = same-kinds _ 19 (at-if1 .if1 .left) in
-    let x = accepted-by (at-listed .listed .ensures) (c .before .before .before .before .one .given .1) in
+    let x = accepted-by (at-listed .listed .ensures) (at-one .one .given .1) in
     c .expect .ensures ∙ sym (listing-last (at-loop .loop .inv .0) f (at-if2 .if2 .left) i x (c .before .if3 .taken))
 
 loop-less : tie.Need-loop-less Inv-loop μ-loop
@@ -86,7 +92,7 @@ loop-again c =
     let at-listed = c .before .before .before .before .before .before in
     let at-if2 = at-listed .before .before in
     let at-if1 = at-if2 .before in
-    let at-read = at-if1 .before .before in
+    let at-read = at-if1 .before .before .before in
     let at-token-at = at-read .before .before in
     let at-loop = at-token-at .before in
     let start = at-loop .before .before .before .before in
@@ -98,6 +104,4 @@ loop-again c =
 pub plain-list-spec : {M : Type 1} → statement M
 plain-list-spec =
     tie.close
-    (tie.spec Inv-loop μ-loop loop-holds (λ c κs. search needs) (λ c. search needs) (λ c. search needs) (λ c κs. search needs) returns
-    returns-2 returns-3 slice-aggregate-listed listed-requires (λ c. search needs) (λ c. search needs) (λ c κs. search needs) returns-4
-    (λ c κs. search needs) returns-5 (λ c. search needs) loop-less loop-again)
+    (tie.spec Inv-loop μ-loop loop-holds (λ c κs. search needs) (λ c. search needs) (λ c. search needs) returns returns-2 returns-3 slice-aggregate-listed listed-requires (λ c. search needs) (λ c. search needs) returns-4 (λ c κs. search needs) returns-5 (λ c. search needs) loop-less loop-again)

@@ -12,21 +12,18 @@ use Rattle.clock.proofs.fill_in.Statement.{statement}
 use Rattle.clock.proofs.fill_in.Tie as tie
 
 returns : tie.Need-returns
-returns c = rw (c .unread .ensures, c .before .enum-told .given .1) (text-refused _ _ _ _ _ _ (refused-text _ _ _ _ (c .before .before .before .before .before .before .before .analyse .ensures) _ _ (c .before .enum-told .given .1)))
-
-returns-2 : tie.Need-returns-2
-returns-2 c =
+returns c =
     let d = read-text _ _ _ _ (c .before .before .before .before .before .before .before .before .before .analyse .ensures) _ _ _ (c .before .before .before .analysis .given .1) in
     (table-refused _ _ _ _ d (sym (c .before .is-table .ensures) ∙ not-true _ (c .if1 .taken)), omega arith)
 
-returns-3 : tie.Need-returns-3
-returns-3 c =
+returns-2 : tie.Need-returns-2
+returns-2 c =
     let d = read-text _ _ _ _ (c .before .before .before .before .before .before .before .before .before .before .before .analyse .ensures) _ _ _ (c .before .before .before .before .before .analysis .given .1) in
     let m : isMinute (c .before .before .before .before .before .before .before .before .before .before .before .before .before .before .before .before .before .args .utc) ≡ false = sym (rw (same64 (c .before .before .before .before .before .before .before .before .before .before .before .before .before .before .before .before .before .fits .utc)) at (c .before .is-minute .ensures)) ∙ not-true _ (c .if2 .taken) in
     (minute-refused _ _ _ _ d (sym (c .before .before .before .is-table .ensures) ∙ not-false _ (c .before .before .if1 .left)) m, omega arith)
 
-returns-4 : tie.Need-returns-4
-returns-4 c =
+returns-3 : tie.Need-returns-3
+returns-3 c =
     let d = read-text _ _ _ _ (c .before .before .before .before .before .before .before .before .before .before .before .before .analyse .ensures) _ _ _ (c .before .before .before .before .before .before .analysis .given .1) in
     let m : isMinute (c .before .before .before .before .before .before .before .before .before .before .before .before .before .before .before .before .before .before .args .utc) ≡ true = sym (rw (same64 (c .before .before .before .before .before .before .before .before .before .before .before .before .before .before .before .before .before .before .fits .utc)) at (c .before .before .is-minute .ensures)) ∙ not-false _ (c .before .if2 .left) in
     (length-refused _ _ _ _ d (sym (c .before .before .before .before .is-table .ensures) ∙ not-false _ (c .before .before .before .if1 .left)) m (λ e. omega (arith, c .if3 .taken)), omega arith)
@@ -40,16 +37,16 @@ fill-row-requires c κs =
       rw (same64 (c .before .before .before .before .before .before .before .before .before .before .before .before .before .before .before .before .before .before .before .before .before .fits .utc)) (minute-fits (c .before .before .before .before .before .before .before .before .before .before .before .before .before .before .before .before .before .before .before .before .before .args .utc) m),
     )
 
-returns-5 : tie.Need-returns-5
-returns-5 c =
+returns-4 : tie.Need-returns-4
+returns-4 c =
     let d = read-text _ _ _ _ (c .before .before .before .before .before .before .before .before .before .before .before .before .before .before .before .before .before .analyse .ensures) _ _ _ (c .before .before .before .before .before .before .before .before .before .before .before .analysis .given .1) in
     let m : isMinute (c .before .before .before .before .before .before .before .before .before .before .before .before .before .before .before .before .before .before .before .before .before .before .before .args .utc) ≡ true = sym (rw (same64 (c .before .before .before .before .before .before .before .before .before .before .before .before .before .before .before .before .before .before .before .before .before .before .before .fits .utc)) at (c .before .before .before .before .before .before .before .is-minute .ensures)) ∙ not-false _ (c .before .before .before .before .before .before .if2 .left) in
     (all-filled _ _ _ _ d (sym (c .before .before .before .before .before .before .before .before .before .is-table .ensures) ∙ not-false _ (c .before .before .before .before .before .before .before .before .if1 .left)) m _ (c .before .before .before .before .before .if3 .left) (rw (same64 (c .before .before .before .before .before .before .before .before .before .before .before .before .before .before .before .before .before .before .before .before .before .before .before .fits .utc)) at (c .before .fill-row .ensures)), tt)
 
+returns-5 : tie.Need-returns-5
+returns-5 c = text-refused _ _ _ _ _ _ (refused-text _ _ _ _ (c .before .before .before .before .before .before .before .analyse .ensures) _ _ (c .before .analysis2 .given .1))
+
 pub fill-in-spec : {M : Type 1} → statement M
 fill-in-spec =
     tie.close
-    (tie.spec (λ c κs. search needs) (λ c. search needs) (λ c. search needs) (λ c κs. search needs) (λ c. search needs) (λ c. search needs)
-    returns (λ c κs. search needs) (λ c. search needs) (λ c. search needs) returns-2 (λ c κs. search needs) (λ c. search needs)
-    (λ c. search needs) returns-3 (λ c. search needs) (λ c. search needs) returns-4 fill-row-requires (λ c. search needs)
-    (λ c. search needs) (λ c. search needs) returns-5)
+    (tie.spec (λ c κs. search needs) (λ c. search needs) (λ c κs. search needs) (λ c. search needs) (λ c. search needs) returns (λ c κs. search needs) (λ c. search needs) (λ c. search needs) returns-2 (λ c. search needs) (λ c. search needs) returns-3 fill-row-requires (λ c. search needs) (λ c. search needs) (λ c. search needs) (λ c. search needs) returns-4 (λ c. search needs) (λ c. search needs) returns-5)

@@ -5,7 +5,7 @@ use Rattle.declarations.proofs.declaration.Statement.{statement}
 use Rattle.declarations.proofs.declaration.Tie as tie
 
 returns : tie.Need-returns
-returns c = unnamed _ _ _ _ _ _ _ _ _ _ (c .before .before .before .before .before .before .before .new-name .ensures .0) (c .before .enum-told .given .1) (c .refused .ensures)
+returns c = unnamed _ _ _ _ _ _ _ _ _ _ (c .before .before .before .before .before .before .new-name .ensures .0) (c .enum-told .given .1)
 
 returns-2 : tie.Need-returns-2
 returns-2 c =
@@ -16,5 +16,4 @@ returns-2 c =
 pub declaration-spec : {M : Type 1} → statement M
 declaration-spec =
     tie.close
-    (tie.spec (λ c κs. search needs) (λ c. search needs) (λ c. search needs) (λ c κs. search needs) (λ c. search needs) (λ c. search needs)
-    returns (λ c κs. search needs) (λ c. search needs) (λ c. search needs) (λ c. search needs) returns-2)
+    (tie.spec (λ c κs. search needs) (λ c. search needs) (λ c. search needs) (λ c. search needs) (λ c. search needs) returns (λ c κs. search needs) (λ c. search needs) (λ c. search needs) (λ c. search needs) returns-2)

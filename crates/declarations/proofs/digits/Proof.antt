@@ -1,9 +1,11 @@
 -- `declarations::digits` meets its contract. Assumes nothing.
+use mathlib.Core.Path.{ap, _∙_}
 use mir.Syntax.{w32}
 use mir.Val.{SFits}
 use Rattle.arith.proofs.Laws.{same32}
 use Rattle.lexer.specs.Token.{kindNumber, digits as digits-kind}
 use Rattle.lexer.proofs.KindNumbers.{kind-is, kind-is-not}
+use Rattle.phrases.specs.Results.{parsedOf, valueTold}
 use Rattle.declarations.proofs.Bounds.{no-digits, digits-in, digits-out}
 use borrow.Author.Needs.{needs}
 use Rattle.declarations.proofs.digits.Statement.{statement}
@@ -16,21 +18,21 @@ returns c = no-digits _ _ (c .before .before .fits .low) (c .before .before .fit
 returns-2 : tie.Need-returns-2
 unfolding kindNumber
 returns-2 c =
-    let at-if1 = c .before .before .before .before .before in
+    let at-name = c .before .before .before .before in
+    let at-if1 = at-name .before in
     let start = at-if1 .before .before in
-    digits-out _ _ (start .fits .low) (start .fits .high) _ (start .args .negative) _ _ _ _ (kind-is _ digits-kind (at-if1 .if1 .left)) (rw (c .before .before .before .before .name .ensures) at (c .before .before .before .value .ensures))
+    digits-out _ _ (start .fits .low) (start .fits .high) _ (start .args .negative) _ _ _ _ (kind-is _ digits-kind (at-if1 .if1 .left)) (rw (at-name .name .ensures) at (c .before .before .before .value .ensures))
     (rw (same32 (start .fits .low), same32 (start .fits .high)) at (c .before .before .signed .ensures)) (c .enum-told .given .1)
 
 returns-3 : tie.Need-returns-3
 unfolding kindNumber
 returns-3 c =
-    let f : SFits w32 (c .before .z .given .0 .0) = search needs in
-    rw (same32 f)
-    (digits-in _ _ (c .before .before .before .before .before .before .before .before .fits .low) (c .before .before .before .before .before .before .before .before .fits .high) _ (c .before .before .before .before .before .before .before .before .args .negative) _ _ _ _ (kind-is _ digits-kind (c .before .before .before .before .before .before .if1 .left)) (rw (c .before .before .before .before .before .name .ensures) at (c .before .before .before .before .value .ensures))
-    (rw (same32 (c .before .before .before .before .before .before .before .before .fits .low), same32 (c .before .before .before .before .before .before .before .before .fits .high)) at (c .before .before .before .signed .ensures)) (c .before .z .given .1))
+    let f : SFits w32 (c .before .before .z .given .0 .0) = search needs in
+    ap (parsedOf valueTold) (c .valued .ensures) ∙ rw (same32 f)
+    (digits-in _ _ (c .before .before .before .before .before .before .before .before .before .fits .low) (c .before .before .before .before .before .before .before .before .before .fits .high) _ (c .before .before .before .before .before .before .before .before .before .args .negative) _ _ _ _ (kind-is _ digits-kind (c .before .before .before .before .before .before .before .if1 .left)) (rw (c .before .before .before .before .before .before .name .ensures) at (c .before .before .before .before .before .value .ensures))
+    (rw (same32 (c .before .before .before .before .before .before .before .before .before .fits .low), same32 (c .before .before .before .before .before .before .before .before .before .fits .high)) at (c .before .before .before .before .signed .ensures)) (c .before .before .z .given .1))
 
 pub digits-spec : {M : Type 1} → statement M
 digits-spec =
     tie.close
-    (tie.spec returns (λ c κs. search needs) (λ c κs. search needs) (λ c κs. search needs) (λ c. search needs) (λ c. search needs) returns-2
-    returns-3)
+    (tie.spec returns (λ c κs. search needs) (λ c κs. search needs) (λ c κs. search needs) (λ c. search needs) (λ c. search needs) returns-2 (λ c κs. search needs) returns-3)

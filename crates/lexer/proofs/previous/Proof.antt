@@ -11,11 +11,11 @@ use Rattle.lexer.proofs.previous.Tie as tie
 
 returns : tie.Need-returns
 returns c =
-    let l = c .before .before .before .before in
+    let l = c .before .before .before .before .before in
     let at-is-letter = l .before in
     let at-byte-at = at-is-letter .before in
-    previous-name _ _ _ (at-byte-at .byte-at .ensures) _ _ (sym (at-is-letter .is-letter .ensures) ∙ l .if1 .taken) (c .before .before .before .run .ensures)
-    (c .before .word .ensures ∙ ap (λ (w : List ℕ). kindNumber (wordOf w)) (c .before .before .name .ensures)) (c .if2 .taken)
+    c .token .ensures ∙ previous-name _ _ _ (at-byte-at .byte-at .ensures) _ _ (sym (at-is-letter .is-letter .ensures) ∙ l .if1 .taken) (c .before .before .before .before .run .ensures)
+    (c .before .before .word .ensures ∙ ap (λ (w : List ℕ). kindNumber (wordOf w)) (c .before .before .before .name .ensures)) (c .before .if2 .taken)
 
 returns-2 : tie.Need-returns-2
 returns-2 c =
@@ -32,4 +32,4 @@ pub previous-spec : {M : Type 1} → statement M
 previous-spec =
     tie.close
     (tie.spec (λ c. search needs) (λ c κs. search needs) (λ c κs. search needs) (λ c κs. search needs) (λ c κs. search needs)
-    (λ c κs. search needs) returns returns-2 returns-3)
+    (λ c κs. search needs) (λ c κs. search needs) returns returns-2 returns-3)

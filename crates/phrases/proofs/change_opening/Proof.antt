@@ -28,14 +28,14 @@ Whole s q = Left s q (changeOpening (w s)) (s .args .at)
 abbrev from-closing : List Wanted
 from-closing = sign closeRound ∷ sign arrow ∷ []
 
-past-opening : (c : tie.After-known-told) {q : Parsed (Unit {0})} → Left (c .before .before .before .before .before) q (unchangedValue (w (c .before .before .before .before .before)) ++ from-closing) (c .before .first .given .0 .0) → Whole (c .before .before .before .before .before) q
+past-opening : (c : tie.After-known-told) {q : Parsed (Unit {0})} → Left (c .before .before .before .before .before) q (unchangedValue (w (c .before .before .before .before .before)) ++ from-closing) (c .before .first .given .0 .0 .at) → Whole (c .before .before .before .before .before) q
 unfolding kindOf
 past-opening c h = goes-on _ _ _ _ (c .before .before .before .expect .ensures) (c .before .first .given .1) h
 
-past-value : (c : tie.After-known-told2) {q : Parsed (Unit {0})} → Left (c .before .before .before .before .before .before .before .before .before) q from-closing (c .before .second .given .0 .0) → Whole (c .before .before .before .before .before .before .before .before .before) q
+past-value : (c : tie.After-known-told2) {q : Parsed (Unit {0})} → Left (c .before .before .before .before .before .before .before .before .before) q from-closing (c .before .second .given .0 .0 .at) → Whole (c .before .before .before .before .before .before .before .before .before) q
 past-value c h = past-opening (c .before .before .before .before) (goes-past _ _ _ _ (c .before .before .before .unchanged-value .ensures) (c .before .second .given .1) h)
 
-past-closing : (c : tie.After-known-told3) {q : Parsed (Unit {0})} → Left (c .before .before .before .before .before .before .before .before .before .before .before .before .before) q (sign arrow ∷ []) (c .before .third .given .0 .0) → Whole (c .before .before .before .before .before .before .before .before .before .before .before .before .before) q
+past-closing : (c : tie.After-known-told3) {q : Parsed (Unit {0})} → Left (c .before .before .before .before .before .before .before .before .before .before .before .before .before) q (sign arrow ∷ []) (c .before .third .given .0 .0 .at) → Whole (c .before .before .before .before .before .before .before .before .before .before .before .before .before) q
 unfolding kindOf
 past-closing c h = past-value (c .before .before .before .before) (goes-on _ _ _ _ (c .before .before .before .expect2 .ensures) (c .before .third .given .1) h)
 
@@ -57,5 +57,4 @@ returns-4 c = past-closing (c .before) (last _ _ _ (c .expect3 .ensures))
 pub change-opening-spec : {M : Type 1} → statement M
 change-opening-spec =
     tie.close
-    (tie.spec (λ c κs. search needs) (λ c. search needs) (λ c. search needs) returns (λ c κs. search needs) (λ c. search needs)
-    (λ c. search needs) returns-2 (λ c κs. search needs) (λ c. search needs) (λ c. search needs) returns-3 (λ c κs. search needs) returns-4)
+    (tie.spec (λ c κs. search needs) (λ c. search needs) (λ c. search needs) returns (λ c κs. search needs) (λ c. search needs) (λ c. search needs) returns-2 (λ c κs. search needs) (λ c. search needs) (λ c. search needs) returns-3 (λ c κs. search needs) returns-4)

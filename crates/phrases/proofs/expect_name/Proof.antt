@@ -12,35 +12,36 @@ use Rattle.phrases.proofs.expect_name.Statement.{statement}
 use Rattle.phrases.proofs.expect_name.Tie as tie
 
 returns : tie.Need-returns
-returns c = faulty _ _ _ (c .before .before .before .token-at .ensures) (c .before .enum-told .given .1) (c .fault .ensures)
+returns c = faulty _ _ _ (c .before .before .token-at .ensures) (c .enum-told .given .1)
 
 -- the names as the definition compares them
-compared : (c : tie.After-same-name) → sameName (part (c .before .before .before .before .before .before .before .before .before .args .text .now) (c .before .before .before .before .before .before .before .before .before .args .start) (c .before .before .before .before .before .before .before .before .before .args .end)) (part (c .before .before .before .before .before .before .before .before .before .args .text .now) (c .before .before .before .before .before .read .given .0 .1 .0) (c .before .before .before .before .before .read .given .0 .1 .1 .0)) ≡ c .same-name .result
+compared : (c : tie.After-same-name) → sameName (part (c .before .before .before .before .before .before .before .before .before .before .args .text .now) (c .before .before .before .before .before .before .before .before .before .before .args .start) (c .before .before .before .before .before .before .before .before .before .before .args .end)) (part (c .before .before .before .before .before .before .before .before .before .before .args .text .now) (c .before .before .before .before .before .before .read .given .0 .0 .start) (c .before .before .before .before .before .before .read .given .0 .0 .end)) ≡ c .same-name .result
 compared c = ap₂ sameName (sym (c .before .before .name .ensures)) (sym (c .before .name2 .ensures)) ∙ sym (c .same-name .ensures)
 
 returns-2 : tie.Need-returns-2
 unfolding kindOf kindNumber
 returns-2 c =
-    let at-read = c .before .before .before .before .before .before in
+    let at-if1 = c .before .before .before .before .before in
+    let at-read = at-if1 .before .before .before in
     let at-token-at = at-read .before .before in
-    wanted _ _ _ (at-token-at .token-at .ensures) (at-read .read .given .1) (rw (kind-is _ name (c .before .before .before .before .if1 .taken), compared (c .before) ∙ c .if2 .taken))
+    wanted _ _ _ (at-token-at .token-at .ensures) (at-read .read .given .1) (c .reached .ensures) (rw (kind-is _ name (at-if1 .if1 .taken), compared (c .before .before) ∙ c .before .if2 .taken))
 
 returns-3 : tie.Need-returns-3
 unfolding kindOf kindNumber
 returns-3 c =
-    let at-read = c .before .before .before .before .before .before in
+    let at-if1 = c .before .before .before .before in
+    let at-read = at-if1 .before .before .before in
     let at-token-at = at-read .before .before in
-    unwanted _ _ _ (at-token-at .token-at .ensures) (at-read .read .given .1) (rw (kind-is _ name (c .before .before .before .before .if1 .taken), compared (c .before) ∙ c .if2 .left))
+    unwanted _ _ _ (at-token-at .token-at .ensures) (at-read .read .given .1) (rw (kind-is _ name (at-if1 .if1 .taken), compared (c .before) ∙ c .if2 .left))
 
 returns-4 : tie.Need-returns-4
 unfolding kindOf kindNumber
 returns-4 c =
-    let at-token-at = c .before .before .before .before in
-    let t = is-token _ _ _ (at-token-at .token-at .ensures) _ _ _ (c .before .before .read .given .1) in
-    unwanted _ _ _ (at-token-at .token-at .ensures) (c .before .before .read .given .1) (rw (kind-is-not _ name (t .1 .known-kind) (c .if1 .left)))
+    let at-token-at = c .before .before .before .before .before in
+    let t = is-token _ _ _ (at-token-at .token-at .ensures) _ (c .before .before .before .read .given .1) in
+    unwanted _ _ _ (at-token-at .token-at .ensures) (c .before .before .before .read .given .1) (rw (kind-is-not _ name (t .1 .known-kind) (c .if1 .left)))
 
 pub expect-name-spec : {M : Type 1} → statement M
 expect-name-spec =
     tie.close
-    (tie.spec (λ c κs. search needs) (λ c. search needs) (λ c. search needs) (λ c κs. search needs) returns (λ c κs. search needs)
-    (λ c κs. search needs) (λ c κs. search needs) returns-2 returns-3 returns-4)
+    (tie.spec (λ c κs. search needs) (λ c. search needs) (λ c. search needs) returns (λ c κs. search needs) (λ c κs. search needs) (λ c κs. search needs) (λ c κs. search needs) returns-2 returns-3 returns-4)

@@ -37,23 +37,23 @@ from-opening w = ruleOpening ++ from-value w
 abbrev from-name : List ℕ → List Wanted
 from-name w = own w ∷ from-opening w
 
-past-closing : (c : tie.After-known-told) {q : Parsed (Unit {0})} → Left (c .before .before .before .before .before) q (from-name (w (c .before .before .before .before .before))) (c .before .first .given .0 .0) → Whole (c .before .before .before .before .before) q
+past-closing : (c : tie.After-known-told) {q : Parsed (Unit {0})} → Left (c .before .before .before .before .before) q (from-name (w (c .before .before .before .before .before))) (c .before .first .given .0 .0 .at) → Whole (c .before .before .before .before .before) q
 past-closing c h = goes-past _ _ _ _ (c .before .before .before .formula-closing .ensures) (c .before .first .given .1) h
 
-past-name : (c : tie.After-known-told2) {q : Parsed (Unit {0})} → Left (c .before .before .before .before .before .before .before .before .before) q (from-opening (w (c .before .before .before .before .before .before .before .before .before))) (c .before .second .given .0 .0) → Whole (c .before .before .before .before .before .before .before .before .before) q
+past-name : (c : tie.After-known-told2) {q : Parsed (Unit {0})} → Left (c .before .before .before .before .before .before .before .before .before) q (from-opening (w (c .before .before .before .before .before .before .before .before .before))) (c .before .second .given .0 .0 .at) → Whole (c .before .before .before .before .before .before .before .before .before) q
 past-name c h = past-closing (c .before .before .before .before) (goes-on _ _ _ _ (c .before .before .before .expect-name .ensures) (c .before .second .given .1) h)
 
-past-opening : (c : tie.After-known-told3) {q : Parsed (Unit {0})} → Left (c .before .before .before .before .before .before .before .before .before .before .before .before .before) q (from-value (w (c .before .before .before .before .before .before .before .before .before .before .before .before .before))) (c .before .third .given .0 .0) → Whole (c .before .before .before .before .before .before .before .before .before .before .before .before .before) q
+past-opening : (c : tie.After-known-told3) {q : Parsed (Unit {0})} → Left (c .before .before .before .before .before .before .before .before .before .before .before .before .before) q (from-value (w (c .before .before .before .before .before .before .before .before .before .before .before .before .before))) (c .before .third .given .0 .0 .at) → Whole (c .before .before .before .before .before .before .before .before .before .before .before .before .before) q
 past-opening c h = past-name (c .before .before .before .before) (goes-past _ _ _ _ (c .before .before .before .rule-opening .ensures) (c .before .third .given .1) h)
 
-past-value : (c : tie.After-known-told4) {q : Parsed (Unit {0})} → Left (c .before .before .before .before .before .before .before .before .before .before .before .before .before .before .before .before .before) q from-arrow (c .before .fourth .given .0 .0) → Whole (c .before .before .before .before .before .before .before .before .before .before .before .before .before .before .before .before .before) q
+past-value : (c : tie.After-known-told4) {q : Parsed (Unit {0})} → Left (c .before .before .before .before .before .before .before .before .before .before .before .before .before .before .before .before .before) q from-arrow (c .before .fourth .given .0 .0 .at) → Whole (c .before .before .before .before .before .before .before .before .before .before .before .before .before .before .before .before .before) q
 past-value c h = past-opening (c .before .before .before .before) (goes-past _ _ _ _ (c .before .before .before .unchanged-value .ensures) (c .before .fourth .given .1) h)
 
-past-arrow : (c : tie.After-known-told5) {q : Parsed (Unit {0})} → Left (c .before .before .before .before .before .before .before .before .before .before .before .before .before .before .before .before .before .before .before .before .before) q (sign tilde ∷ sign openRound ∷ []) (c .before .fifth .given .0 .0) → Whole (c .before .before .before .before .before .before .before .before .before .before .before .before .before .before .before .before .before .before .before .before .before) q
+past-arrow : (c : tie.After-known-told5) {q : Parsed (Unit {0})} → Left (c .before .before .before .before .before .before .before .before .before .before .before .before .before .before .before .before .before .before .before .before .before) q (sign tilde ∷ sign openRound ∷ []) (c .before .fifth .given .0 .0 .at) → Whole (c .before .before .before .before .before .before .before .before .before .before .before .before .before .before .before .before .before .before .before .before .before) q
 unfolding kindOf
 past-arrow c h = past-value (c .before .before .before .before) (goes-on _ _ _ _ (c .before .before .before .expect .ensures) (c .before .fifth .given .1) h)
 
-past-tilde : (c : tie.After-known-told6) {q : Parsed (Unit {0})} → Left (c .before .before .before .before .before .before .before .before .before .before .before .before .before .before .before .before .before .before .before .before .before .before .before .before .before) q (sign openRound ∷ []) (c .before .sixth .given .0 .0) → Whole (c .before .before .before .before .before .before .before .before .before .before .before .before .before .before .before .before .before .before .before .before .before .before .before .before .before) q
+past-tilde : (c : tie.After-known-told6) {q : Parsed (Unit {0})} → Left (c .before .before .before .before .before .before .before .before .before .before .before .before .before .before .before .before .before .before .before .before .before .before .before .before .before) q (sign openRound ∷ []) (c .before .sixth .given .0 .0 .at) → Whole (c .before .before .before .before .before .before .before .before .before .before .before .before .before .before .before .before .before .before .before .before .before .before .before .before .before) q
 unfolding kindOf
 past-tilde c h = past-arrow (c .before .before .before .before) (goes-on _ _ _ _ (c .before .before .before .expect2 .ensures) (c .before .sixth .given .1) h)
 
@@ -84,7 +84,4 @@ returns-7 c = past-tilde (c .before) (last _ _ _ (c .expect3 .ensures))
 pub no-change-opening-spec : {M : Type 1} → statement M
 no-change-opening-spec =
     tie.close
-    (tie.spec (λ c κs. search needs) (λ c. search needs) (λ c. search needs) returns (λ c κs. search needs) (λ c. search needs)
-    (λ c. search needs) returns-2 (λ c κs. search needs) (λ c. search needs) (λ c. search needs) returns-3 (λ c κs. search needs)
-    (λ c. search needs) (λ c. search needs) returns-4 (λ c κs. search needs) (λ c. search needs) (λ c. search needs) returns-5
-    (λ c κs. search needs) (λ c. search needs) (λ c. search needs) returns-6 (λ c κs. search needs) returns-7)
+    (tie.spec (λ c κs. search needs) (λ c. search needs) (λ c. search needs) returns (λ c κs. search needs) (λ c. search needs) (λ c. search needs) returns-2 (λ c κs. search needs) (λ c. search needs) (λ c. search needs) returns-3 (λ c κs. search needs) (λ c. search needs) (λ c. search needs) returns-4 (λ c κs. search needs) (λ c. search needs) (λ c. search needs) returns-5 (λ c κs. search needs) (λ c. search needs) (λ c. search needs) returns-6 (λ c κs. search needs) returns-7)

@@ -1,12 +1,12 @@
 -- `rules::formulas` meets its contract. Assumes nothing.
-use mathlib.Core.Path.{refl, _∙_}
+use mathlib.Core.Path.{refl}
 use native.Mathlib.Omega.{arith}
 use Rattle.lexer.specs.Token.{is, kindNumber}
 use Rattle.lexer.specs.Results.{kindOf}
 use Rattle.lexer.proofs.Tokens.{is-fault}
 use Rattle.grammar.specs.Forms.{ruleOpening}
 use Rattle.phrases.proofs.Laws.{same-kinds, other-kinds}
-use Rattle.cases.proofs.Parts.{refuses, not-expected, found, reads-as}
+use Rattle.phrases.proofs.Writing.{refuses, not-expected, found, reads-as}
 use Rattle.cases.proofs.Ways.{room-phrase}
 use Rattle.cases.proofs.Listing.{found-token, room-token}
 use Rattle.rules.proofs.Ways.{formulas-unopened, formulas-fault, formulas-change, formulas-function}
@@ -15,19 +15,19 @@ use Rattle.rules.proofs.formulas.Statement.{statement}
 use Rattle.rules.proofs.formulas.Tie as tie
 
 returns : tie.Need-returns
-returns c = not-expected (c .unexpected .ensures) (c .before .before .before .rule-opening .ensures) (c .before .enum-told .given .1) (formulas-unopened _ _ _ _)
+returns c = not-expected (c .before .before .rule-opening .ensures) (c .enum-told .given .1) (formulas-unopened _ _ _ _)
 
 returns-2 : tie.Need-returns-2
 returns-2 c =
-    let at-opened = c .before .before .before .before .before .before in
+    let at-opened = c .before .before .before .before in
     let at-rule-opening = at-opened .before .before in
     let p = found (at-rule-opening .rule-opening .ensures) (at-opened .opened .given .1) in
-    refuses (c .unexpected2 .ensures ∙ rw (c .before .fault .ensures, c .before .before .enum-told2 .given .1)) (formulas-fault _ _ _ _ p (is-fault _ _ _ (c .before .before .before .before .token-at .ensures) _ (c .before .before .enum-told2 .given .1)))
+    refuses (c .enum-told2 .given .1) (formulas-fault _ _ _ _ p (is-fault _ _ _ (c .before .before .token-at .ensures) _ _ (c .enum-told2 .given .1)))
 
 change-requires : tie.Need-change-requires
 unfolding is kindNumber
 change-requires c κs =
-    let at-read = c .before .before .before .before .before in
+    let at-read = c .before .before .before .before .before .before in
     let at-token-at = at-read .before .before in
     let at-opened = at-token-at .before .before in
     let at-rule-opening = at-opened .before .before in
@@ -42,7 +42,7 @@ unfolding kindOf
 returns-3 c =
     let at-change = c .before .before .before .before .before .before in
     let at-if1 = at-change .before .before .before .before in
-    let at-read = at-if1 .before .before in
+    let at-read = at-if1 .before .before .before in
     let at-token-at = at-read .before .before in
     let at-opened = at-token-at .before .before in
     let at-rule-opening = at-opened .before .before in
@@ -53,7 +53,7 @@ returns-3 c =
 function-requires : tie.Need-function-requires
 unfolding is kindNumber
 function-requires c κs =
-    let at-opened = c .before .before .before .before .before .before .before in
+    let at-opened = c .before .before .before .before .before .before .before .before in
     let at-rule-opening = at-opened .before .before in
     let start = at-rule-opening .before .before .before .before .before .before .before in
     let p = found (at-rule-opening .rule-opening .ensures) (at-opened .opened .given .1) in
@@ -63,17 +63,16 @@ function-requires c κs =
 returns-4 : tie.Need-returns-4
 unfolding kindOf
 returns-4 c =
-    let at-read = c .before .before .before .before .before .before in
+    let at-if1 = c .before .before .before .before in
+    let at-read = at-if1 .before .before .before in
     let at-token-at = at-read .before .before in
     let at-opened = at-token-at .before .before in
     let at-rule-opening = at-opened .before .before in
     let p = found (at-rule-opening .rule-opening .ensures) (at-opened .opened .given .1) in
     let t = found-token _ _ (at-token-at .token-at .ensures) (at-read .read .given .1) in
-    reads-as (formulas-function _ _ _ _ p (t .read) (other-kinds _ _ (t .lies .known-kind) (omega arith) (c .before .before .before .before .if1 .left))) (c .before .before .function .ensures)
+    reads-as (formulas-function _ _ _ _ p (t .read) (other-kinds _ _ (t .lies .known-kind) (omega arith) (at-if1 .if1 .left))) (c .before .before .function .ensures)
 
 pub formulas-spec : {M : Type 1} → statement M
 formulas-spec =
     tie.close
-    (tie.spec (λ c κs. search needs) (λ c. search needs) (λ c. search needs) (λ c κs. search needs) returns (λ c κs. search needs)
-    (λ c. search needs) (λ c. search needs) (λ c κs. search needs) (λ c κs. search needs) returns-2 change-requires (λ c. search needs)
-    (λ c. search needs) (λ c. search needs) returns-3 function-requires (λ c. search needs) returns-4)
+    (tie.spec (λ c κs. search needs) (λ c. search needs) (λ c. search needs) returns (λ c κs. search needs) (λ c. search needs) (λ c. search needs) returns-2 change-requires (λ c. search needs) (λ c. search needs) (λ c. search needs) returns-3 function-requires (λ c. search needs) returns-4)

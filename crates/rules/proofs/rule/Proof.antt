@@ -2,7 +2,7 @@
 use mathlib.Core.Path.{refl, sym, ap, _∙_}
 use Rattle.lexer.specs.Results.{foundId}
 use Rattle.expressions.proofs.Scopes.{id-below, id-few}
-use Rattle.cases.proofs.Parts.{refuses, reads-as}
+use Rattle.phrases.proofs.Writing.{refuses, reads-as}
 use Rattle.rules.proofs.Ways.{rule-long, rule-unknown, rule-second, rule-formulas}
 use borrow.Author.Needs.{needs}
 use Rattle.rules.proofs.rule.Statement.{statement}
@@ -51,5 +51,4 @@ returns-4 c =
 pub rule-spec : {M : Type 1} → statement M
 rule-spec =
     tie.close
-    (tie.spec (λ c κs. search needs) returns (λ c κs. search needs) (λ c. search needs) (λ c. search needs) returns-2 is-known-requires
-    returns-3 formulas-requires (λ c. search needs) (λ c. search needs) (λ c. search needs) returns-4)
+    (tie.spec (λ c κs. search needs) returns (λ c κs. search needs) (λ c. search needs) (λ c. search needs) returns-2 is-known-requires returns-3 formulas-requires (λ c. search needs) (λ c. search needs) (λ c. search needs) returns-4)

@@ -7,7 +7,7 @@ use borrow.Author.Needs.{needs}
 use Rattle.lexer.specs.Results.{kindOf}
 use Rattle.lexer.proofs.Tokens.{is-fault}
 use Rattle.phrases.proofs.Laws.{same-kinds, other-kinds}
-use Rattle.cases.proofs.Parts.{got, refused-part}
+use Rattle.phrases.proofs.Writing.{got, refused-part}
 use Rattle.cases.proofs.Listing.{found-token}
 use Rattle.rules.proofs.Ruling.{declared-as, Ruling, ruling-first, ruling-fuel, ruling-fault, ruling-end, ruling-room, ruling-refused, ruling-declared, ruling-more}
 use Rattle.rules.proofs.rules_in.Statement.{statement}
@@ -25,46 +25,45 @@ loop-holds : tie.Need-loop-holds Inv-loop μ-loop
 loop-holds c = (ruling-first _ _ _ _ _ _ _ _ (c .before .before .before .before .before .before .pre .1 .0), refl, refl, refl)
 
 same-length : tie.Need-same-length Inv-loop μ-loop
-same-length c = c .before .before .before .before .before .loop .inv .1
+same-length c = c .before .before .before .loop .inv .1
 
 same-length-2 : tie.Need-same-length-2 Inv-loop μ-loop
-same-length-2 c = c .before .before .before .before .before .loop .inv .2
+same-length-2 c = c .before .before .before .loop .inv .2
 
 same-length-3 : tie.Need-same-length-3 Inv-loop μ-loop
-same-length-3 c = c .before .before .before .before .before .loop .inv .3
+same-length-3 c = c .before .before .before .loop .inv .3
 
 returns : tie.Need-returns Inv-loop μ-loop
 returns c =
-    let at-loop = c .before .before .before .before .before in
-    let start = at-loop .before .before .before .before .before .before .before in
-    let d = declared-as (start .pre .0) (at-loop .loop .known) in
-    ruling-fault (at-loop .loop .inv .0) d (c .unexpected .ensures ∙ rw (c .before .fault .ensures, c .before .before .enum-told .given .1)) (is-fault _ _ _ (c .before .before .before .before .token-at .ensures) _ (c .before .before .enum-told .given .1))
+    let d = declared-as (c .before .before .before .before .before .before .before .before .before .before .pre .0) (c .before .before .before .loop .known) in
+    ruling-fault (c .before .before .before .loop .inv .0) d (c .enum-told .given .1) (is-fault _ _ _ (c .before .before .token-at .ensures) _ _ (c .enum-told .given .1))
 
 finish-requires : tie.Need-finish-requires Inv-loop μ-loop
-finish-requires c κs = c .before .before .before .before .before .before .before .before .before .before .before .before .pre .0 .few
+finish-requires c κs = c .before .before .before .before .before .before .before .before .before .before .before .before .before .pre .0 .few
 
 same-length-4 : tie.Need-same-length-4 Inv-loop μ-loop
-same-length-4 c = c .before .before .before .before .before .before .loop .inv .1
+same-length-4 c = c .before .before .before .before .before .before .before .loop .inv .1
 
 same-length-5 : tie.Need-same-length-5 Inv-loop μ-loop
-same-length-5 c = c .before .before .before .before .before .before .loop .inv .2
+same-length-5 c = c .before .before .before .before .before .before .before .loop .inv .2
 
 same-length-6 : tie.Need-same-length-6 Inv-loop μ-loop
-same-length-6 c = c .before .before .before .before .before .before .loop .inv .3
+same-length-6 c = c .before .before .before .before .before .before .before .loop .inv .3
 
 returns-2 : tie.Need-returns-2 Inv-loop μ-loop
 unfolding kindOf
 returns-2 c =
-    let at-token-at = c .before .before .before .before .before in
+    let at-read = c .before .before .before .before in
+    let at-token-at = at-read .before .before in
     let at-loop = at-token-at .before in
     let start = at-loop .before .before .before .before .before .before .before in
     let d = declared-as (start .pre .0) (at-loop .loop .known) in
-    let f = found-token _ _ (at-token-at .token-at .ensures) (c .before .before .before .read .given .1) in
+    let f = found-token _ _ (at-token-at .token-at .ensures) (at-read .read .given .1) in
     ruling-end (at-loop .loop .inv .0) d f (other-kinds _ _ (f .lies .known-kind) (omega arith) (c .before .if1 .taken)) (c .finish .ensures)
 
 rule-requires : tie.Need-rule-requires Inv-loop μ-loop
 rule-requires c κs =
-    let at-read = c .before .before .before .before .before in
+    let at-read = c .before .before .before .before .before .before in
     let at-token-at = at-read .before .before in
     let at-loop = at-token-at .before in
     let start = at-loop .before .before .before .before .before .before .before in
@@ -75,19 +74,19 @@ rule-requires c κs =
 same-length-7 : tie.Need-same-length-7 Inv-loop μ-loop
 same-length-7 c =
     let at-rule = c .before .before .before .before .before .before .before .before in
-    let at-loop = at-rule .before .before .before .before .before .before .before .before .before in
+    let at-loop = at-rule .before .before .before .before .before .before .before .before .before .before in
     at-rule .rule .kept .1 .1 .1 .1 .1 .1 .0 ∙ at-loop .loop .inv .1
 
 same-length-8 : tie.Need-same-length-8 Inv-loop μ-loop
 same-length-8 c =
     let at-rule = c .before .before .before .before .before .before .before .before in
-    let at-loop = at-rule .before .before .before .before .before .before .before .before .before in
+    let at-loop = at-rule .before .before .before .before .before .before .before .before .before .before in
     at-rule .rule .kept .1 .1 .1 .1 .1 .1 .1 .0 ∙ at-loop .loop .inv .2
 
 same-length-9 : tie.Need-same-length-9 Inv-loop μ-loop
 same-length-9 c =
     let at-rule = c .before .before .before .before .before .before .before .before in
-    let at-loop = at-rule .before .before .before .before .before .before .before .before .before in
+    let at-loop = at-rule .before .before .before .before .before .before .before .before .before .before in
     at-rule .rule .kept .1 .1 .1 .1 .1 .1 .1 .1 .0 ∙ at-loop .loop .inv .3
 
 returns-3 : tie.Need-returns-3 Inv-loop μ-loop
@@ -95,7 +94,7 @@ unfolding kindOf
 returns-3 c =
     let at-rule = c .before .before .before .before .before .before .before .before in
     let at-if1 = at-rule .before .before .before .before in
-    let at-read = at-if1 .before .before in
+    let at-read = at-if1 .before .before .before in
     let at-token-at = at-read .before .before in
     let at-loop = at-token-at .before in
     let start = at-loop .before .before .before .before .before .before .before in
@@ -109,7 +108,7 @@ unfolding kindOf
 ruled-requires c κs =
     let at-rule = c .before .before .before .before .before .before .before .before .before in
     let at-if1 = at-rule .before .before .before .before in
-    let at-read = at-if1 .before .before in
+    let at-read = at-if1 .before .before .before in
     let at-token-at = at-read .before .before in
     let at-loop = at-token-at .before in
     let start = at-loop .before .before .before .before .before .before .before in
@@ -120,14 +119,14 @@ ruled-requires c κs =
 
 add-done : tie.Need-add-done Inv-loop μ-loop
 add-done c =
-    let at-loop = c .before .before .before .before .before .before .before .before .before .before .before .before .before .before .before .before .before .before .before in
+    let at-loop = c .before .before .before .before .before .before .before .before .before .before .before .before .before .before .before .before .before .before .before .before in
     let start = at-loop .before .before .before .before .before .before .before in
     let d = declared-as (start .pre .0) (at-loop .loop .known) in
     omega (arith, ruling-fuel (at-loop .loop .inv .0) d)
 
 loop-less : tie.Need-loop-less Inv-loop μ-loop
 loop-less c =
-    let at-loop = c .before .before .before .before .before .before .before .before .before .before .before .before .before .before .before .before .before .before .before in
+    let at-loop = c .before .before .before .before .before .before .before .before .before .before .before .before .before .before .before .before .before .before .before .before in
     let start = at-loop .before .before .before .before .before .before .before in
     let d = declared-as (start .pre .0) (at-loop .loop .known) in
     omega (arith, ruling-fuel (at-loop .loop .inv .0) d)
@@ -137,7 +136,7 @@ unfolding kindOf
 loop-again c =
     let at-rule = c .before .before .before .before .before .before .before .before .before .before in
     let at-if1 = at-rule .before .before .before .before in
-    let at-read = at-if1 .before .before in
+    let at-read = at-if1 .before .before .before in
     let at-token-at = at-read .before .before in
     let at-loop = at-token-at .before in
     let start = at-loop .before .before .before .before .before .before .before in
@@ -150,7 +149,4 @@ loop-again c =
 pub rules-in-spec : {M : Type 1} → statement M
 rules-in-spec =
     tie.close
-    (tie.spec Inv-loop μ-loop loop-holds (λ c κs. search needs) (λ c. search needs) (λ c. search needs) (λ c κs. search needs)
-    (λ c κs. search needs) same-length same-length-2 same-length-3 returns finish-requires same-length-4 same-length-5 same-length-6
-    returns-2 rule-requires (λ c. search needs) (λ c. search needs) same-length-7 same-length-8 same-length-9 returns-3 ruled-requires
-    add-done loop-less loop-again)
+    (tie.spec Inv-loop μ-loop loop-holds (λ c κs. search needs) (λ c. search needs) (λ c. search needs) same-length same-length-2 same-length-3 returns finish-requires same-length-4 same-length-5 same-length-6 returns-2 rule-requires (λ c. search needs) (λ c. search needs) same-length-7 same-length-8 same-length-9 returns-3 ruled-requires add-done loop-less loop-again)

@@ -1,19 +1,22 @@
--- `translate::analyse` meets its contract: the limit of texts, then the descent over an empty buffer. Assumes nothing.
+-- `translate::analyse` meets its contract: the limit of texts, then the descent over room for the two counts. Assumes nothing.
 use borrow.Author.Needs.{needs}
-use Rattle.translate.proofs.Service.{analyses-long, analyses-short}
+use Rattle.translate.proofs.Service.{analyses-long, analyses-refused, analyses-accepted}
 use Rattle.translate.proofs.analyse.Statement.{statement}
 use Rattle.translate.proofs.analyse.Tie as tie
 
 returns : tie.Need-returns
 returns c = analyses-long _ _ _ (c .if1 .taken)
 
+add-names : tie.Need-add-names
+add-names c = let a = c .before .count-of .ensures .1 in let b = c .count-of2 .ensures .1 in search needs
+
 returns-2 : tie.Need-returns-2
-returns-2 c =
-    let at-descend = c .before .before .before .before .before in
-    let at-if1 = at-descend .before .before .before .before in
-    analyses-short _ _ _ _ _ (at-if1 .if1 .left) (at-descend .descend .ensures)
+returns-2 c = analyses-accepted _ _ _ _ (c .before .before .before .before .before .before .before .before .before .before .before .before .before .before .if1 .left) (c .before .before .before .before .before .before .before .before .before .before .descend .ensures) _ (c .before .read .given .1) (c .before .before .before .before .count-of .ensures .0) (c .before .before .before .count-of2 .ensures .0)
+
+returns-3 : tie.Need-returns-3
+returns-3 c = analyses-refused _ _ _ _ (c .before .before .before .before .before .before .before .before .before .before .before .before .before .before .if1 .left) (c .before .before .before .before .before .before .before .before .before .before .descend .ensures) _ _ (c .before .read2 .given .1)
 
 pub analyse-spec : {M : Type 1} → statement M
 analyse-spec =
     tie.close
-    (tie.spec returns (λ c. search needs) (λ c κs. search needs) (λ c. search needs) (λ c. search needs) returns-2)
+    (tie.spec returns (λ c. search needs) (λ c κs. search needs) (λ c. search needs) (λ c κs. search needs) (λ c. search needs) (λ c κs. search needs) add-names (λ c. search needs) (λ c. search needs) (λ c. search needs) (λ c. search needs) returns-2 (λ c. search needs) (λ c. search needs) returns-3)

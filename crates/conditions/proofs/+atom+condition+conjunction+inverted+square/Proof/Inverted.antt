@@ -33,7 +33,9 @@ module _ (t : ℕ) where
       (λ c κs. search (arith, room-behind))
       (λ c. search needs) (λ c. search needs) (λ c. search needs)
       (λ c. search inverted-refuses)
-      (λ c κs. let asks = c .before .before .before .before .before .before .before .before .before .before .before .before .before .before .before .before .before .before .pre in search square-fits)
+      (λ c κs.
+      let asks = c .before .before .before .before .before .before .before .before .before .before .before .before .before .before .before .before .before .before .pre in
+      square-fits _ _ _ _ _ _ _ (c .before .before .inner .given .1) (c .before .before .before .before .before .before .square .ensures) (c .before .before .before .before .before .before .before .before .before .before .before .read .given .1) (c .before .before .before .before .before .before .before .before .before .before .before .before .before .ahead .ensures) (c .before .before .before .before .before .before .before .before .if1 .taken) (asks .1 .0) (asks .1 .1))
       (λ c. search needs)
       (λ c. search inverted-accepts)
       (λ c. search (refuses, refused-now, inverted-none))

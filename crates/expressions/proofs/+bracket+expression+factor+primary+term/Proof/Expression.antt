@@ -23,11 +23,11 @@ use Rattle.expressions.proofs.+bracket+expression+factor+primary+term.L
 use Rattle.expressions.proofs.+bracket+expression+factor+primary+term.Proof.Measures.{μ-expression, μ-term}
 
 abbrev Inv-loop : lts.InvT-loop
-Inv-loop text starts ends names at left out₀ to behind₀ t₀ out behind t =
-    Turn codeE operation sumOf (termIn left (scopeOf text starts ends names)) text out₀ behind₀ t₀ out behind t
+Inv-loop text starts ends names at left out₀ to behind₀ out behind =
+    Turn codeE operation sumOf (termIn left (scopeOf text starts ends names)) text out₀ behind₀ out behind
 
 abbrev μ-loop : lts.MeasureT-loop
-μ-loop text starts ends names at left out₀ to behind₀ t₀ out behind t = length text - behind .at
+μ-loop text starts ends names at left out₀ to behind₀ out behind = length text - behind .at
 
 module _ (t : ℕ) where
   abbrev claims : lts.Claims

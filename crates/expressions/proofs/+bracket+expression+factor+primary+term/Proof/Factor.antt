@@ -41,7 +41,11 @@ module _ (t : ℕ) where
       (λ c κs. let asks = start (c .before .before) .pre in (omega (arith, asks .0), (asks .1 .0, (search (room-at, room-behind), search ahead-stands))))
       (λ c. search needs) (λ c. search needs) (λ c. search needs)
       (λ c. let s = c .before .before .before .before .before .before .before in search minus-refuses)
-      (λ c κs. let asks = start (c .before .before .before .before .before .before .before .before .before) .pre in search (primary-fits, room-at, room-behind))
+      (λ c κs.
+      let s = c .before .before .before .before .before .before .before .before .before in
+      let asks = start s .pre in
+      primary-fits _ _ _ _ _ (c .before .before .inner .given .1) (c .before .before .before .before .before .before .primary .ensures) (asks .1 .0)
+      (room-at _ _ _ (s .second .given .1) (s .before .before .ahead2 .ensures) (room-behind _ _ _ (s .before .before .before .before .before .before .read .given .1) (s .before .before .before .before .before .before .before .before .ahead .ensures) (asks .1 .1))))
       (λ c. search needs)
       (λ c. let s = c .before .before .before .before .before .before .before .before .before .before .before .before in search minus-accepts)
       (λ c κs. search (arith, ahead-stands, room-at))

@@ -5,7 +5,7 @@ use native.Mathlib.Omega.{arith}
 use borrow.Author.Needs.{needs}
 use borrow.Fn.Kinds.{In}
 use Rattle.lexer.specs.Token.{kindNumber}
-use Rattle.expressions.proofs.Steps.{known, refuses, refused-now, same-part, room-fits, room-next, token-fits}
+use Rattle.expressions.proofs.Steps.{refuses, refused-now, same-part, room-fits, room-next, token-fits}
 use Rattle.expressions.proofs.Cycle.{just, below}
 use Rattle.expressions.proofs.Ways.{primary-number, primary-current, primary-previous, primary-bracket, primary-none}
 use Rattle.expressions.proofs.number.Reads as number
@@ -31,14 +31,14 @@ module _ (t : ℕ) where
       lts.spec claims asked primary.Post
       (λ c κs. search room-fits)
       (λ c. search needs)
-      (λ c. search (same-part, primary-number, known))
+      (λ c. search (same-part, primary-number))
       (λ c κs. search room-fits)
       (λ c. search needs)
-      (λ c. search (same-part, primary-current, known))
-      (λ c κs. search (room-fits, token-fits, known))
+      (λ c. search (same-part, primary-current))
+      (λ c κs. search (room-fits, token-fits))
       (λ c. search needs)
-      (λ c. search (same-part, primary-previous, known))
-      (λ c κs. search (arith, room-next, known))
+      (λ c. search (same-part, primary-previous))
+      (λ c κs. search (arith, room-next))
       (λ c. search needs)
-      (λ c. search (same-part, primary-bracket, known))
-      (λ c. search (refuses, refused-now, primary-none, known))
+      (λ c. let asks = c .before .before .before .before .before .before .before .before .before .before .before .before .before .before .before .before .pre in search (same-part, primary-bracket))
+      (λ c. search (refuses, refused-now, primary-none))

@@ -46,11 +46,4 @@ all-known-spec =
     tie.close
     (tie.spec
     Inv-loop
-    μ-loop
-    loop-holds
-    is-known-requires
-    add-i
-    loop-less
-    loop-again
-    returns
-    returns-2)
+    μ-loop loop-holds is-known-requires add-i loop-less loop-again returns returns-2)
