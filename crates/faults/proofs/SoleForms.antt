@@ -23,8 +23,7 @@ use Rattle.lexer.specs.Spelling.{IsDigits, SpellsName}
 use Rattle.grammar.specs.Derivation.{Tokens, Stands}
 use Rattle.grammar.specs.Spelled.{positive, negative, absent, given}
 use Rattle.grammar.proofs.Bytes.{heads}
-use Rattle.grammar.proofs.Combine.{token-prop, then-prop, option-prop, never}
-use Rattle.grammar.proofs.Fits.{Holds}
+use Rattle.grammar.proofs.Combine.{Holds, token-prop, then-prop, option-prop, never}
 use Rattle.lexer.proofs.Spellings.{isFixed, fixed-spelling}
 use Rattle.grammar.proofs.Standing.{stands}
 use Rattle.grammar.proofs.Derived.{sign-stands}

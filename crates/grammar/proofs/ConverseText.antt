@@ -22,24 +22,15 @@ use Rattle.grammar.specs.Spelled.{declares, DeclareAll, Distinct, Apart,
 use Rattle.grammar.specs.Spelled as S
 use Rattle.grammar.specs.Accepts.{Accepts}
 use Rattle.grammar.specs.Internal.{Named}
-use Rattle.grammar.proofs.Shape.{NamesFit}
 use Rattle.lexer.proofs.Spellings.{isFixed}
 use Rattle.grammar.proofs.Standing.{split, spells-in, end-read}
 use Rattle.grammar.proofs.Phrases.{fixed-at, name-at}
-use Rattle.grammar.proofs.Whole.{named}
+use Rattle.grammar.proofs.Whole.{named, declared-fit, fit-append}
 use Rattle.grammar.proofs.Accepted.{parse-spelled, program-parsed}
 use Rattle.grammar.proofs.ConverseDeclarations.{declarations-read}
 use Rattle.grammar.proofs.ConverseRules.{rules-read, few-unruled}
 
 -- ---- names
-
-declared-fit : (word : List ℕ) (ts : List (List ℕ)) (l : List Name) → DeclareAll word ts l → NamesFit l
-declared-fit word ts l S.DeclareAll.none = tt
-declared-fit word ts l (S.DeclareAll.more us vs x k (declares w ls hs ws r nm dl dh ds fits) e) = (record { is-name = nm; range-fits = fits }, declared-fit word vs k e)
-
-fit-append : (k l : List Name) → NamesFit k → NamesFit l → NamesFit (k ++ l)
-fit-append [] l h g = g
-fit-append (x ∷ k) l h g = (h .0, fit-append k l (h .1) g)
 
 apart-front : (w : List ℕ) (k l : List Name) → Apart w (spellings (k ++ l)) → Apart w (spellings k)
 apart-front w [] l a = tt

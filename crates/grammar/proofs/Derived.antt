@@ -1,11 +1,14 @@
--- What a parser accepts is spelled by the tokens that it went past: expressions and conditions. One law a combinator. Assumes nothing.
+-- What a parser accepts is spelled by the tokens that it went past, and uses only values that may be used: expressions and conditions.
+-- One law a combinator. Assumes nothing.
 use mathlib.Core.Path.{_≡_, refl, ap, sym, _∙_, subst}
 use mathlib.Core.List.{List, [], _∷_, _++_}
 use mathlib.Core.Bool.{Bool, true, false, cond}
 use mathlib.Core.Option.{Option, none, some}
 use Prim.Native.Nat.{ℕ, zero, suc, _+_, _≤_}
+use native.Mathlib.Omega.{arith}
 use lib.ListN.{length, getD, getElem?}
-use lib.Dec.{ltb}
+use lib.Dec.{ltb, lt→ltb}
+use lib.IntN.{pos}
 use borrow.Author.Tests.{ltb-false}
 use Rattle.limits.specs.Limits.{bracketLimit, numberLimit}
 use Rattle.lexer.specs.Bytes.{bytes, part}
@@ -16,14 +19,15 @@ use Rattle.lexer.specs.Lexer.{tokenAt, overLong, valueOf}
 use Rattle.lexer.specs.Names.{idOf}
 use Rattle.lexer.proofs.Laws.{cond-prop, token-at-moved}
 use Rattle.lexer.proofs.Same.{same-kind}
-use Rattle.semantics.specs.Program.{Expression, previous, operation, negate, Condition, negated}
+use Rattle.arith.proofs.Laws.{mag-int32}
+use Rattle.semantics.specs.Program.{Expression, previous, operation, negate, Condition, negated, UsableE, UsableC}
 use Rattle.grammar.specs.Parsed.{Parsed, accepted, refused, andThen, onToken, sign, expected, rest, chain}
 use Rattle.grammar.specs.Expressions.{Scope, withId, currentAt, previousAt, numberAt, primary, negative, factor, productOf, sumOf, term, expression, bracket, wholeExpression}
 use Rattle.grammar.specs.Conditions.{comparisonOf, compared, comparisonAt, opposite as opposed, inverted, atom, Connective, andAlso, orElse, connect, andOf, orOf, conjunction, condition, square, wholeCondition, listed}
-use Rattle.grammar.specs.Derivation.{Stands, Spells, SpellsE, a-number, a-current, a-previous, brackets, plain, opposite, one-factor, product, one-term, sum, SpellsC, not-square, one-atom, conjoined, one-conjunction, disjoined}
+use Rattle.grammar.specs.Derivation.{Stands, Spells, Level, LevelC, SpellsE, a-number, a-current, a-previous, brackets, plain, opposite, one-factor, product, one-term, sum, SpellsC, not-square, one-atom, conjoined, one-conjunction, disjoined}
 use Rattle.grammar.specs.Derivation as D
 use Rattle.grammar.proofs.Combine.{token-prop, then-prop, option-prop, one-sign}
-use Rattle.grammar.proofs.Bytes.{part-cons, heads}
+use Rattle.grammar.proofs.Bytes.{part-cons, heads, place-in}
 use Rattle.grammar.proofs.NotEnd.{not-end, operator-end, products-end, sums-end, comparisons-end, ands-end, ors-end}
 use Rattle.grammar.proofs.Standing.{stands, stands-spelled, spells-in, spells-append, id-names, product-sign, sum-sign, comparison-sign, only-sign}
 
@@ -122,14 +126,21 @@ module _ (text : List ℕ) where
 -- ---- expressions
 
 module _ (sc : Scope) where
+  -- the tokens spell an expression or a condition, whose values may be used here
+  abbrev pub ScopedE : Level → ℕ → List (List ℕ) → Expression → Type 0
+  ScopedE v l ts e = SpellsE (sc .names) v l ts e × (length (sc .names) ≡ length (sc .known) → UsableE (sc .known) e)
+
+  abbrev pub ScopedC : LevelC → ℕ → List (List ℕ) → Condition → Type 0
+  ScopedC v l ts c = SpellsC (sc .names) v l ts c × (length (sc .names) ≡ length (sc .known) → UsableC (sc .known) c)
+
   -- what follows the `(` of a bracket, with l brackets left before it
   abbrev ClosedE : ℕ → List (List ℕ) → Expression → Type 0
   ClosedE zero ts e = ⊥
-  ClosedE (suc l) ts e = Closed (sc .text) (SpellsE (sc .names) D.expression l) (bytes ")") ts e
+  ClosedE (suc l) ts e = Closed (sc .text) (ScopedE D.expression l) (bytes ")") ts e
 
-  bracketed : (l : ℕ) (ts : List (List ℕ)) (e : Expression) → ClosedE l ts e → SpellsE (sc .names) D.primary l (bytes "(" ∷ ts) e
+  bracketed : (l : ℕ) (ts : List (List ℕ)) (e : Expression) → ClosedE l ts e → ScopedE D.primary l (bytes "(" ∷ ts) e
   bracketed zero ts e c = absurd c
-  bracketed (suc l) ts e c = rw (c .is-closed) (brackets (c .inner) e (c .derives))
+  bracketed (suc l) ts e c = rw (c .is-closed) (brackets (c .inner) e (c .derives .0), c .derives .1)
 
   id-derives : {A : Type 0} (R : List (List ℕ) → A → Type 0) (at p s n : ℕ) (f : ℕ → Parsed A) → ((i : ℕ) → getElem? (sc .names) i ≡ some (part (sc .text) s n) → Derives (sc .text) R at (f i)) → Derives (sc .text) R at (withId sc p s n f)
   unfolding withId
@@ -140,7 +151,7 @@ module _ (sc : Scope) where
 
   module _ (l : ℕ) (inner : ℕ → ℕ → Parsed Expression) (hi : (s n : ℕ) → n ≤ length (sc .text) → Derives (sc .text) (ClosedE l) n (inner s n)) where
     abbrev P : ℕ → Parsed Expression → Type 0
-    P at p = Derives (sc .text) (SpellsE (sc .names) D.primary l) at p
+    P at p = Derives (sc .text) (ScopedE D.primary l) at p
 
     pub primary-derives : (at : ℕ) → at ≤ length (sc .text) → P at (primary inner sc at)
     unfolding primary numberAt currentAt previousAt is kindNumber
@@ -152,13 +163,13 @@ module _ (sc : Scope) where
         (λ e.
         let r = sign-stands (sc .text) digits refl at k s n h et e in
         cond-prop (P at) (ltb numberLimit (valueOf w)) _ _ (λ t. tt)
-        (λ t. record { tokens = w ∷ []; spells = (n, r .0, refl); derives = a-number w (r .1) (ltb-false numberLimit (valueOf w) t) }))
+        (λ t. record { tokens = w ∷ []; spells = (n, r .0, refl); derives = (a-number w (r .1) (ltb-false numberLimit (valueOf w) t), λ g. mag-int32 (pos (valueOf w)) (omega (arith, ltb-false numberLimit (valueOf w) t))) }))
         (λ n1. cond-prop (P at) (is k name) _ _
         (λ e.
         let r = sign-stands (sc .text) name refl at k s n h et e in
-        id-derives (SpellsE (sc .names) D.primary l) at s s n _
+        id-derives (ScopedE D.primary l) at s s n _
         (λ i ei. cond-prop (P at) (getD (sc .known) i false) _ _
-        (λ t. record { tokens = w ∷ []; spells = (n, r .0, refl); derives = a-current w i ei }) (λ t. tt)))
+        (λ t. record { tokens = w ∷ []; spells = (n, r .0, refl); derives = (a-current w i ei, λ g. t) }) (λ t. tt)))
         (λ n2. cond-prop (P at) (is k T.previous) _ _
         (λ e.
         let r = sign-stands (sc .text) T.previous refl at k s n h et e in
@@ -166,39 +177,39 @@ module _ (sc : Scope) where
         let c = part-cons (sc .text) s n (mv .3 (not-end k T.previous refl e)) (mv .2) in
         let b : getD (sc .text) s 0 ≡ 95 = heads (sym c ∙ r .1 .is-cons) in
         let q : w ≡ bytes "_" ++ part (sc .text) (s + 1) n = c ∙ ap (λ (x : ℕ). x ∷ part (sc .text) (s + 1) n) b in
-        id-derives (SpellsE (sc .names) D.primary l) at s (s + 1) n _
+        id-derives (ScopedE D.primary l) at s (s + 1) n _
         (λ i ei. record {
           tokens = (bytes "_" ++ part (sc .text) (s + 1) n) ∷ [];
           spells = (n, subst (Stands (sc .text) at n) q (r .0), refl);
-          derives = a-previous (part (sc .text) (s + 1) n) i ei;
+          derives = (a-previous (part (sc .text) (s + 1) n) i ei, λ g. lt→ltb i (length (sc .known)) (omega (arith, g, place-in (sc .names) i (part (sc .text) (s + 1) n) ei)));
         }))
         (λ n3. cond-prop (P at) (is k openRound) _ _
         (λ e.
         let mv = token-at-moved (sc .text) at k s n h et in
-        before (sc .text) (ClosedE l) (SpellsE (sc .names) D.primary l) (bytes "(") (bracketed l) at n (sign-is (sc .text) openRound (bytes "(") (λ x q. q) refl at k s n h et e) (inner s n) (hi s n (mv .2)))
+        before (sc .text) (ClosedE l) (ScopedE D.primary l) (bytes "(") (bracketed l) at n (sign-is (sc .text) openRound (bytes "(") (λ x q. q) refl at k s n h et e) (inner s n) (hi s n (mv .2)))
         (λ n4. tt)))))
 
-    pub factor-derives : (at : ℕ) → at ≤ length (sc .text) → Derives (sc .text) (SpellsE (sc .names) D.factor l) at (factor inner sc at)
+    pub factor-derives : (at : ℕ) → at ≤ length (sc .text) → Derives (sc .text) (ScopedE D.factor l) at (factor inner sc at)
     unfolding factor negative is kindNumber
     factor-derives at h =
-        token-prop (Derives (sc .text) (SpellsE (sc .names) D.factor l) at) (tokenAt (sc .text) at) _ (λ k q. tt)
+        token-prop (Derives (sc .text) (ScopedE D.factor l) at) (tokenAt (sc .text) at) _ (λ k q. tt)
         (λ k s n et.
         let mv = token-at-moved (sc .text) at k s n h et in
-        cond-prop (Derives (sc .text) (SpellsE (sc .names) D.factor l) at) (is k minus) _ _
-        (λ e. making (sc .text) (SpellsE (sc .names) D.primary l) (SpellsE (sc .names) D.factor l) (λ x. negate x) (bytes "-") (λ ts x d. opposite ts x d) at n (sign-is (sc .text) minus (bytes "-") (λ x q. q) refl at k s n h et e) (primary inner sc n) (primary-derives n (mv .2)))
-        (λ e. weaker (sc .text) (SpellsE (sc .names) D.primary l) (SpellsE (sc .names) D.factor l) (λ ts x d. plain ts x d) at (primary inner sc at) (primary-derives at h)))
+        cond-prop (Derives (sc .text) (ScopedE D.factor l) at) (is k minus) _ _
+        (λ e. making (sc .text) (ScopedE D.primary l) (ScopedE D.factor l) (λ x. negate x) (bytes "-") (λ ts x d. (opposite ts x (d .0), d .1)) at n (sign-is (sc .text) minus (bytes "-") (λ x q. q) refl at k s n h et e) (primary inner sc n) (primary-derives n (mv .2)))
+        (λ e. weaker (sc .text) (ScopedE D.primary l) (ScopedE D.factor l) (λ ts x d. (plain ts x (d .0), d .1)) at (primary inner sc at) (primary-derives at h)))
 
-    pub term-derives : (at : ℕ) → at ≤ length (sc .text) → Derives (sc .text) (SpellsE (sc .names) D.term l) at (term inner sc at)
+    pub term-derives : (at : ℕ) → at ≤ length (sc .text) → Derives (sc .text) (ScopedE D.term l) at (term inner sc at)
     unfolding term
     term-derives at h =
-        chain-derives (sc .text) (SpellsE (sc .names) D.factor l) (SpellsE (sc .names) D.term l) operation productOf products-end (λ ts a d. one-factor ts a d)
-        (λ k w o ts us a b e sp d f. product w o ts us a b (product-sign k w sp o e) d f) (factor inner sc) factor-derives at h
+        chain-derives (sc .text) (ScopedE D.factor l) (ScopedE D.term l) operation productOf products-end (λ ts a d. (one-factor ts a (d .0), d .1))
+        (λ k w o ts us a b e sp d f. (product w o ts us a b (product-sign k w sp o e) (d .0) (f .0), λ g. (d .1 g, f .1 g))) (factor inner sc) factor-derives at h
 
-    pub expression-derives : (at : ℕ) → at ≤ length (sc .text) → Derives (sc .text) (SpellsE (sc .names) D.expression l) at (expression inner sc at)
+    pub expression-derives : (at : ℕ) → at ≤ length (sc .text) → Derives (sc .text) (ScopedE D.expression l) at (expression inner sc at)
     unfolding expression
     expression-derives at h =
-        chain-derives (sc .text) (SpellsE (sc .names) D.term l) (SpellsE (sc .names) D.expression l) operation sumOf sums-end (λ ts a d. one-term ts a d)
-        (λ k w o ts us a b e sp d f. sum w o ts us a b (sum-sign k w sp o e) d f) (term inner sc) term-derives at h
+        chain-derives (sc .text) (ScopedE D.term l) (ScopedE D.expression l) operation sumOf sums-end (λ ts a d. (one-term ts a (d .0), d .1))
+        (λ k w o ts us a b e sp d f. (sum w o ts us a b (sum-sign k w sp o e) (d .0) (f .0), λ g. (d .1 g, f .1 g))) (term inner sc) term-derives at h
 
   pub bracket-derives : (l s n : ℕ) → n ≤ length (sc .text) → Derives (sc .text) (ClosedE l) n (bracket l sc s n)
   unfolding bracket is kindNumber
@@ -206,11 +217,11 @@ module _ (sc : Scope) where
   bracket-derives (suc l) s n h =
       then-prop (Derives (sc .text) (ClosedE (suc l)) n) (expression (λ s n. bracket l sc s n) sc n) _ (λ k q. tt)
       (λ e m es.
-      let d : Derived (sc .text) (SpellsE (sc .names) D.expression l) n m e = subst (Derives (sc .text) (SpellsE (sc .names) D.expression l) n) es (expression-derives l (λ s n. bracket l sc s n) (bracket-derives l) n h) in
-      rw (one-sign (sc .text) closeRound e m) (sign-derives (sc .text) (SpellsE (sc .names) D.expression l) closeRound (bytes ")") (λ x q. q) refl n e m (spells-in (sc .text) n m (d .tokens) h (d .spells) .1) d))
+      let d : Derived (sc .text) (ScopedE D.expression l) n m e = subst (Derives (sc .text) (ScopedE D.expression l) n) es (expression-derives l (λ s n. bracket l sc s n) (bracket-derives l) n h) in
+      rw (one-sign (sc .text) closeRound e m) (sign-derives (sc .text) (ScopedE D.expression l) closeRound (bytes ")") (λ x q. q) refl n e m (spells-in (sc .text) n m (d .tokens) h (d .spells) .1) d))
 
   -- an expression that is accepted is spelled by the tokens from where it starts to where it ends
-  pub whole-expression-derives : (at : ℕ) → at ≤ length (sc .text) → Derives (sc .text) (SpellsE (sc .names) D.expression bracketLimit) at (wholeExpression sc at)
+  pub whole-expression-derives : (at : ℕ) → at ≤ length (sc .text) → Derives (sc .text) (ScopedE D.expression bracketLimit) at (wholeExpression sc at)
   unfolding wholeExpression
   whole-expression-derives at h = expression-derives bracketLimit (λ s n. bracket bracketLimit sc s n) (bracket-derives bracketLimit) at h
 
@@ -218,30 +229,30 @@ module _ (sc : Scope) where
 
   abbrev pub ClosedC : ℕ → List (List ℕ) → Condition → Type 0
   ClosedC zero ts c = ⊥
-  ClosedC (suc l) ts c = Closed (sc .text) (SpellsC (sc .names) D.condition l) (bytes "]") ts c
+  ClosedC (suc l) ts c = Closed (sc .text) (ScopedC D.condition l) (bytes "]") ts c
 
-  squared : (l : ℕ) (ts : List (List ℕ)) (c : Condition) → ClosedC l ts c → SpellsC (sc .names) D.atom l (bytes "[" ∷ ts) c
+  squared : (l : ℕ) (ts : List (List ℕ)) (c : Condition) → ClosedC l ts c → ScopedC D.atom l (bytes "[" ∷ ts) c
   squared zero ts c h = absurd h
-  squared (suc l) ts c h = rw (h .is-closed) (D.SpellsC.square (h .inner) c (h .derives))
+  squared (suc l) ts c h = rw (h .is-closed) (D.SpellsC.square (h .inner) c (h .derives .0), h .derives .1)
 
-  not-squared : (l : ℕ) (ts : List (List ℕ)) (c : Condition) → ClosedC l ts c → SpellsC (sc .names) D.atom l (bytes "~" ∷ bytes "[" ∷ ts) (negated c)
+  not-squared : (l : ℕ) (ts : List (List ℕ)) (c : Condition) → ClosedC l ts c → ScopedC D.atom l (bytes "~" ∷ bytes "[" ∷ ts) (negated c)
   not-squared zero ts c h = absurd h
-  not-squared (suc l) ts c h = rw (h .is-closed) (not-square (h .inner) c (h .derives))
+  not-squared (suc l) ts c h = rw (h .is-closed) (not-square (h .inner) c (h .derives .0), h .derives .1)
 
   -- `&` and `|`
-  and-derives : (l : ℕ) (k : Kind) (w : List ℕ) (o : Connective) (ts us : List (List ℕ)) (a b : Condition) → andOf k ≡ some o → Spelling k w → SpellsC (sc .names) D.conjunction l ts a → SpellsC (sc .names) D.atom l us b → SpellsC (sc .names) D.conjunction l (ts ++ w ∷ us) (connect o a b)
+  and-derives : (l : ℕ) (k : Kind) (w : List ℕ) (o : Connective) (ts us : List (List ℕ)) (a b : Condition) → andOf k ≡ some o → Spelling k w → ScopedC D.conjunction l ts a → ScopedC D.atom l us b → ScopedC D.conjunction l (ts ++ w ∷ us) (connect o a b)
   unfolding andOf connect
-  and-derives l k w o ts us a b e sp d f = let r = only-sign k w sp ampersand andAlso o e in rw (r .0, ← r .1) (conjoined ts us a b d f)
+  and-derives l k w o ts us a b e sp d f = let r = only-sign k w sp ampersand andAlso o e in rw (r .0, ← r .1) (conjoined ts us a b (d .0) (f .0), λ g. (d .1 g, f .1 g))
 
-  or-derives : (l : ℕ) (k : Kind) (w : List ℕ) (o : Connective) (ts us : List (List ℕ)) (a b : Condition) → orOf k ≡ some o → Spelling k w → SpellsC (sc .names) D.condition l ts a → SpellsC (sc .names) D.conjunction l us b → SpellsC (sc .names) D.condition l (ts ++ w ∷ us) (connect o a b)
+  or-derives : (l : ℕ) (k : Kind) (w : List ℕ) (o : Connective) (ts us : List (List ℕ)) (a b : Condition) → orOf k ≡ some o → Spelling k w → ScopedC D.condition l ts a → ScopedC D.conjunction l us b → ScopedC D.condition l (ts ++ w ∷ us) (connect o a b)
   unfolding orOf connect
-  or-derives l k w o ts us a b e sp d f = let r = only-sign k w sp bar orElse o e in rw (r .0, ← r .1) (disjoined ts us a b d f)
+  or-derives l k w o ts us a b e sp d f = let r = only-sign k w sp bar orElse o e in rw (r .0, ← r .1) (disjoined ts us a b (d .0) (f .0), λ g. (d .1 g, f .1 g))
 
   module _ (l : ℕ) (inner : ℕ → ℕ → Parsed Expression) (hi : (s n : ℕ) → n ≤ length (sc .text) → Derives (sc .text) (ClosedE l) n (inner s n)) (inside : ℕ → ℕ → Parsed Condition) (hd : (s n : ℕ) → n ≤ length (sc .text) → Derives (sc .text) (ClosedC l) n (inside s n)) where
     abbrev A : ℕ → Parsed Condition → Type 0
-    A at p = Derives (sc .text) (SpellsC (sc .names) D.atom l) at p
+    A at p = Derives (sc .text) (ScopedC D.atom l) at p
 
-    compared-derives : (at : ℕ) (a : Expression) (n : ℕ) → n ≤ length (sc .text) → Derived (sc .text) (SpellsE (sc .names) D.expression l) at n a → A at (compared inner sc a n)
+    compared-derives : (at : ℕ) (a : Expression) (n : ℕ) → n ≤ length (sc .text) → Derived (sc .text) (ScopedE D.expression l) at n a → A at (compared inner sc a n)
     unfolding compared
     compared-derives at a n h d =
         token-prop (A at) (tokenAt (sc .text) n) _ (λ k q. tt)
@@ -251,12 +262,12 @@ module _ (sc : Scope) where
         let mv = token-at-moved (sc .text) n k s m h et in
         then-prop (A at) (expression inner sc m) _ (λ k q. tt)
         (λ b n2 es.
-        let f : Derived (sc .text) (SpellsE (sc .names) D.expression l) m n2 b = subst (Derives (sc .text) (SpellsE (sc .names) D.expression l) m) es (expression-derives l inner hi m (mv .2)) in
+        let f : Derived (sc .text) (ScopedE D.expression l) m n2 b = subst (Derives (sc .text) (ScopedE D.expression l) m) es (expression-derives l inner hi m (mv .2)) in
         let w = part (sc .text) s m in
         record {
           tokens = d .tokens ++ w ∷ f .tokens;
           spells = joined (sc .text) at n m n2 w (d .tokens) (f .tokens) (d .spells) (stands (sc .text) n k s m h ne et) (f .spells);
-          derives = D.SpellsC.compared w o (d .tokens) (f .tokens) a b (comparison-sign k w (stands-spelled (sc .text) n k s m h ne et) o eo) (d .derives) (f .derives);
+          derives = (D.SpellsC.compared w o (d .tokens) (f .tokens) a b (comparison-sign k w (stands-spelled (sc .text) n k s m h ne et) o eo) (d .derives .0) (f .derives .0), λ g. (d .derives .1 g, f .derives .1 g));
         })))
 
     comparison-derives : (at : ℕ) → at ≤ length (sc .text) → A at (comparisonAt inner sc at)
@@ -264,7 +275,7 @@ module _ (sc : Scope) where
     comparison-derives at h =
         then-prop (A at) (expression inner sc at) _ (λ k q. tt)
         (λ a n es.
-        let d : Derived (sc .text) (SpellsE (sc .names) D.expression l) at n a = subst (Derives (sc .text) (SpellsE (sc .names) D.expression l) at) es (expression-derives l inner hi at h) in
+        let d : Derived (sc .text) (ScopedE D.expression l) at n a = subst (Derives (sc .text) (ScopedE D.expression l) at) es (expression-derives l inner hi at h) in
         compared-derives at a n (spells-in (sc .text) at n (d .tokens) h (d .spells) .1) d)
 
     inverted-derives : (at n : ℕ) → n ≤ length (sc .text) → Stands (sc .text) at n (bytes "~") → A at (inverted inside sc n)
@@ -290,19 +301,19 @@ module _ (sc : Scope) where
         cond-prop (A at) (is k tilde) _ _
         (λ e. inverted-derives at n (mv .2) (sign-is (sc .text) tilde (bytes "~") (λ x q. q) refl at k s n h et e))
         (λ e. cond-prop (A at) (is k openSquare) _ _
-        (λ e2. before (sc .text) (ClosedC l) (SpellsC (sc .names) D.atom l) (bytes "[") (squared l) at n (sign-is (sc .text) openSquare (bytes "[") (λ x q. q) refl at k s n h et e2) (inside s n) (hd s n (mv .2)))
+        (λ e2. before (sc .text) (ClosedC l) (ScopedC D.atom l) (bytes "[") (squared l) at n (sign-is (sc .text) openSquare (bytes "[") (λ x q. q) refl at k s n h et e2) (inside s n) (hd s n (mv .2)))
         (λ e2. comparison-derives at h)))
 
-    pub conjunction-derives : (at : ℕ) → at ≤ length (sc .text) → Derives (sc .text) (SpellsC (sc .names) D.conjunction l) at (conjunction inner inside sc at)
+    pub conjunction-derives : (at : ℕ) → at ≤ length (sc .text) → Derives (sc .text) (ScopedC D.conjunction l) at (conjunction inner inside sc at)
     unfolding conjunction
     conjunction-derives at h =
-        chain-derives (sc .text) (SpellsC (sc .names) D.atom l) (SpellsC (sc .names) D.conjunction l) connect andOf ands-end (λ ts a d. one-atom ts a d) (and-derives l)
+        chain-derives (sc .text) (ScopedC D.atom l) (ScopedC D.conjunction l) connect andOf ands-end (λ ts a d. (one-atom ts a (d .0), d .1)) (and-derives l)
         (atom inner inside sc) atom-derives at h
 
-    condition-derives : (at : ℕ) → at ≤ length (sc .text) → Derives (sc .text) (SpellsC (sc .names) D.condition l) at (condition inner inside sc at)
+    condition-derives : (at : ℕ) → at ≤ length (sc .text) → Derives (sc .text) (ScopedC D.condition l) at (condition inner inside sc at)
     unfolding condition
     condition-derives at h =
-        chain-derives (sc .text) (SpellsC (sc .names) D.conjunction l) (SpellsC (sc .names) D.condition l) connect orOf ors-end (λ ts a d. one-conjunction ts a d) (or-derives l)
+        chain-derives (sc .text) (ScopedC D.conjunction l) (ScopedC D.condition l) connect orOf ors-end (λ ts a d. (one-conjunction ts a (d .0), d .1)) (or-derives l)
         (conjunction inner inside sc) conjunction-derives at h
 
   pub square-derives : (l s n : ℕ) → n ≤ length (sc .text) → Derives (sc .text) (ClosedC l) n (square l sc s n)
@@ -313,10 +324,15 @@ module _ (sc : Scope) where
       let inside : ℕ → ℕ → Parsed Condition = λ s n. square l sc s n in
       then-prop (Derives (sc .text) (ClosedC (suc l)) n) (condition inner inside sc n) _ (λ k q. tt)
       (λ c m es.
-      let d : Derived (sc .text) (SpellsC (sc .names) D.condition l) n m c = subst (Derives (sc .text) (SpellsC (sc .names) D.condition l) n) es (condition-derives l inner (bracket-derives l) inside (square-derives l) n h) in
-      rw (one-sign (sc .text) closeSquare c m) (sign-derives (sc .text) (SpellsC (sc .names) D.condition l) closeSquare (bytes "]") (λ x q. q) refl n c m (spells-in (sc .text) n m (d .tokens) h (d .spells) .1) d))
+      let d : Derived (sc .text) (ScopedC D.condition l) n m c = subst (Derives (sc .text) (ScopedC D.condition l) n) es (condition-derives l inner (bracket-derives l) inside (square-derives l) n h) in
+      rw (one-sign (sc .text) closeSquare c m) (sign-derives (sc .text) (ScopedC D.condition l) closeSquare (bytes "]") (λ x q. q) refl n c m (spells-in (sc .text) n m (d .tokens) h (d .spells) .1) d))
 
   -- `[c]` of a rule form, after its bracket
-  pub listed-derives : (at : ℕ) → at ≤ length (sc .text) → Derives (sc .text) (Closed (sc .text) (SpellsC (sc .names) D.condition bracketLimit) (bytes "]")) at (listed sc at)
+  pub listed-scoped : (at : ℕ) → at ≤ length (sc .text) → Derives (sc .text) (Closed (sc .text) (ScopedC D.condition bracketLimit) (bytes "]")) at (listed sc at)
   unfolding listed wholeCondition square
-  listed-derives at h = square-derives (suc bracketLimit) 0 at h
+  listed-scoped at h = square-derives (suc bracketLimit) 0 at h
+
+  pub listed-derives : (at : ℕ) → at ≤ length (sc .text) → Derives (sc .text) (Closed (sc .text) (SpellsC (sc .names) D.condition bracketLimit) (bytes "]")) at (listed sc at)
+  listed-derives at h =
+      weaker (sc .text) (Closed (sc .text) (ScopedC D.condition bracketLimit) (bytes "]")) (Closed (sc .text) (SpellsC (sc .names) D.condition bracketLimit) (bytes "]"))
+      (λ ts c d. record { inner = d .inner; is-closed = d .is-closed; derives = d .derives .0 }) at (listed sc at) (listed-scoped at h)

@@ -2,19 +2,20 @@
 use mathlib.Core.Path.{_≡_, refl, _∙_, subst}
 use mathlib.Core.List.{List, [], _∷_, _++_, map, append-assoc}
 use Prim.Native.Nat.{ℕ, zero, suc, _≤_}
+use native.Mathlib.Omega.{arith}
 use lib.ListN.{length}
 use Rattle.limits.specs.Limits.{bracketLimit}
 use Rattle.lexer.specs.Bytes.{bytes}
 use Rattle.lexer.specs.Token.{kindNumber, closeRound, openSquare, bar, is}
 use Rattle.lexer.specs.Lexer.{tokenAt}
 use Rattle.lexer.proofs.Laws.{cond-prop, token-at-moved}
-use Rattle.semantics.specs.Program.{Case}
+use Rattle.semantics.specs.Program.{Case, UsableK}
 use Rattle.grammar.specs.Parsed.{Parsed, accepted, refused, sign, phrase, followed}
 use Rattle.grammar.specs.Expressions.{Scope, wholeExpression}
 use Rattle.grammar.specs.Conditions.{listed}
 use Rattle.grammar.specs.Forms.{caseValueOpening}
 use Rattle.grammar.specs.Rules.{Spanned, caseAt, casesFrom, casesOf}
-use Rattle.grammar.specs.Derivation.{Stands, Spells, SpellsE, SpellsC}
+use Rattle.grammar.specs.Derivation.{Stands, Spells}
 use Rattle.grammar.specs.Derivation as D
 use Rattle.grammar.specs.Spelled.{squared, cased, SpellsCases, one-case, more-cases, SpellsList, one-listed, more-listed}
 use Rattle.grammar.proofs.Combine.{token-prop, then-prop}
@@ -22,7 +23,7 @@ use Rattle.lexer.proofs.Spellings.{isFixed}
 use Rattle.grammar.proofs.Standing.{stands-in, spells-in, spells-append}
 use Rattle.grammar.proofs.Phrases.{signs, fixed-stands, phrase-spells}
 use Rattle.grammar.proofs.Listed.{Listed, last, next}
-use Rattle.grammar.proofs.Derived.{Derives, Closed, whole-expression-derives, listed-derives}
+use Rattle.grammar.proofs.Derived.{Derives, ScopedE, ScopedC, Closed, whole-expression-derives, listed-scoped}
 
 -- the tokens of a case after its `[`
 abbrev pub caseRest : List ℕ → List (List ℕ) → List (List ℕ) → List (List ℕ)
@@ -41,8 +42,8 @@ module _ (sc : Scope) where
     pub lists : Spells (sc .text) n (c .span .to) (conditions ++ bytes "]" ∷ [])
     pub spells : Spells (sc .text) n m (caseRest w conditions values)
     pub begins : c .span .from ≡ at
-    pub condition : SpellsC (sc .names) D.condition bracketLimit conditions (c .case .condition)
-    pub value : SpellsE (sc .names) D.expression bracketLimit values (c .case .value)
+    pub condition : ScopedC sc D.condition bracketLimit conditions (c .case .condition)
+    pub value : ScopedE sc D.expression bracketLimit values (c .case .value)
 
   abbrev pub CaseReads : List ℕ → ℕ → ℕ → Parsed Spanned → Type 0
   CaseReads w at n (accepted c m) = CaseRead w at n m c
@@ -53,7 +54,7 @@ module _ (sc : Scope) where
   case-derives w at n h =
       then-prop (CaseReads w at n) (listed sc n) _ (λ k q. tt)
       (λ c n1 e1.
-      let d1 = subst (Derives (sc .text) (Closed (sc .text) (SpellsC (sc .names) D.condition bracketLimit) (bytes "]")) n) e1 (listed-derives sc n h) in
+      let d1 = subst (Derives (sc .text) (Closed (sc .text) (ScopedC sc D.condition bracketLimit) (bytes "]")) n) e1 (listed-scoped sc n h) in
       let ts = d1 .derives .inner in
       let s1 : Spells (sc .text) n n1 (ts ++ bytes "]" ∷ []) = subst (Spells (sc .text) n n1) (d1 .derives .is-closed) (d1 .spells) in
       let i1 = spells-in (sc .text) n n1 (ts ++ bytes "]" ∷ []) h s1 .1 in
@@ -63,7 +64,7 @@ module _ (sc : Scope) where
       let i2 = spells-in (sc .text) n1 n2 (bytes "&" ∷ w ∷ bytes "=" ∷ bytes "(" ∷ []) i1 s2 .1 in
       then-prop (CaseReads w at n) (wholeExpression sc n2) _ (λ k q. tt)
       (λ e n3 e3.
-      let d3 = subst (Derives (sc .text) (SpellsE (sc .names) D.expression bracketLimit) n2) e3 (whole-expression-derives sc n2 i2) in
+      let d3 = subst (Derives (sc .text) (ScopedE sc D.expression bracketLimit) n2) e3 (whole-expression-derives sc n2 i2) in
       let i3 = spells-in (sc .text) n2 n3 (d3 .tokens) i2 (d3 .spells) .1 in
       then-prop (CaseReads w at n) (phrase (sc .text) (sign closeRound ∷ []) n3) _ (λ k q. tt)
       (λ u2 n4 e4.
@@ -80,7 +81,8 @@ module _ (sc : Scope) where
         value = d3 .derives;
       }))))
 
-  pub record CasesRead (w : List ℕ) (done : List Spanned) (at n : ℕ) (cs : List Spanned) : Type 0 where
+  -- at most `left` cases, after those done
+  pub record CasesRead (w : List ℕ) (left : ℕ) (done : List Spanned) (at n : ℕ) (cs : List Spanned) : Type 0 where
     pub more : List Spanned
     pub is-more : cs ≡ done ++ more
     pub tokens : List (List ℕ)
@@ -88,13 +90,15 @@ module _ (sc : Scope) where
     pub spells : Spells (sc .text) at n tokens
     pub derives : SpellsCases (sc .names) w tokens list (casesOf more)
     pub lists : Listed (sc .text) more list
+    pub counted : length (casesOf more) ≤ left
+    pub usable : length (sc .names) ≡ length (sc .known) → UsableK (sc .known) (casesOf more)
 
-  abbrev pub CasesReads : List ℕ → List Spanned → ℕ → Parsed (List Spanned) → Type 0
-  CasesReads w done at (accepted cs n) = CasesRead w done at n cs
-  CasesReads w done at (refused k q) = Unit {0}
+  abbrev pub CasesReads : List ℕ → ℕ → List Spanned → ℕ → Parsed (List Spanned) → Type 0
+  CasesReads w left done at (accepted cs n) = CasesRead w left done at n cs
+  CasesReads w left done at (refused k q) = Unit {0}
 
   -- the last case, and one before others, with their `[`
-  module _ (w : List ℕ) (done : List Spanned) (at n m : ℕ) (c : Spanned) (h : at ≤ length (sc .text)) (st : Stands (sc .text) at n (bytes "[")) (r : CaseRead w at n m c) where
+  module _ (w : List ℕ) (left : ℕ) (done : List Spanned) (at n m : ℕ) (c : Spanned) (h : at ≤ length (sc .text)) (st : Stands (sc .text) at n (bytes "[")) (r : CaseRead w at n m c) where
     abbrev tokens : List (List ℕ)
     tokens = cased w (r .conditions) (r .values)
 
@@ -104,7 +108,7 @@ module _ (sc : Scope) where
     span-spells : Spells (sc .text) (c .span .from) (c .span .to) (squared (r .conditions))
     span-spells = rw (r .begins) (n, st, r .lists)
 
-    case-last : CasesRead w done at m (done ++ (c ∷ []))
+    case-last : CasesRead w (suc left) done at m (done ++ (c ∷ []))
     case-last =
         record {
           more = c ∷ [];
@@ -112,11 +116,13 @@ module _ (sc : Scope) where
           tokens = tokens;
           list = squared (r .conditions);
           spells = (n, st, r .spells);
-          derives = one-case (r .conditions) (r .values) (c .case) (r .condition) (r .value);
+          derives = one-case (r .conditions) (r .values) (c .case) (r .condition .0) (r .value .0);
           lists = last c (squared (r .conditions)) span-within span-spells;
+          counted = omega arith;
+          usable = λ g. (r .condition .1 g, r .value .1 g, tt);
         }
 
-    case-next : (i : ℕ) → Stands (sc .text) m i (bytes "|") → (p : Parsed (List Spanned)) → CasesReads w (done ++ (c ∷ [])) i p → CasesReads w done at p
+    case-next : (i : ℕ) → Stands (sc .text) m i (bytes "|") → (p : Parsed (List Spanned)) → CasesReads w left (done ++ (c ∷ [])) i p → CasesReads w (suc left) done at p
     case-next i su (accepted cs j) q =
         record {
           more = c ∷ q .more;
@@ -124,29 +130,31 @@ module _ (sc : Scope) where
           tokens = tokens ++ bytes "|" ∷ q .tokens;
           list = squared (r .conditions) ++ bytes "|" ∷ q .list;
           spells = spells-append (sc .text) at m j tokens (bytes "|" ∷ q .tokens) (n, st, r .spells) (i, su, q .spells);
-          derives = more-cases (r .conditions) (r .values) (q .tokens) (q .list) (c .case) (casesOf (q .more)) (r .condition) (r .value) (q .derives);
+          derives = more-cases (r .conditions) (r .values) (q .tokens) (q .list) (c .case) (casesOf (q .more)) (r .condition .0) (r .value .0) (q .derives);
           lists = next c (q .more) (squared (r .conditions)) (q .list) span-within span-spells (q .lists);
+          counted = omega (arith, q .counted);
+          usable = λ g. (r .condition .1 g, r .value .1 g, q .usable g);
         }
     case-next i su (refused k p) q = tt
 
-  pub cases-derive : (w : List ℕ) (left : ℕ) (done : List Spanned) (at : ℕ) → at ≤ length (sc .text) → CasesReads w done at (casesFrom left sc w done at)
+  pub cases-derive : (w : List ℕ) (left : ℕ) (done : List Spanned) (at : ℕ) → at ≤ length (sc .text) → CasesReads w left done at (casesFrom left sc w done at)
   unfolding casesFrom isFixed kindNumber
   cases-derive w zero done at h =
-      token-prop (CasesReads w done at) (tokenAt (sc .text) at) _ (λ k q. tt)
-      (λ k s n et. cond-prop (CasesReads w done at) (is k openSquare) _ _ (λ e. tt) (λ e. tt))
+      token-prop (CasesReads w zero done at) (tokenAt (sc .text) at) _ (λ k q. tt)
+      (λ k s n et. cond-prop (CasesReads w zero done at) (is k openSquare) _ _ (λ e. tt) (λ e. tt))
   cases-derive w (suc left) done at h =
-      token-prop (CasesReads w done at) (tokenAt (sc .text) at) _ (λ k q. tt)
-      (λ k s n et. cond-prop (CasesReads w done at) (is k openSquare) _ _
-      (λ eo. then-prop (CasesReads w done at) (caseAt sc w at n) _ (λ k q. tt)
+      token-prop (CasesReads w (suc left) done at) (tokenAt (sc .text) at) _ (λ k q. tt)
+      (λ k s n et. cond-prop (CasesReads w (suc left) done at) (is k openSquare) _ _
+      (λ eo. then-prop (CasesReads w (suc left) done at) (caseAt sc w at n) _ (λ k q. tt)
       (λ c n1 e1.
       let st = fixed-stands (sc .text) openSquare refl at k s n h et eo in
       let i0 = stands-in (sc .text) at n (bytes "[") h st .1 in
       let r = subst (CaseReads w at n) e1 (case-derives w at n i0) in
       let i1 = spells-in (sc .text) n n1 (caseRest w (r .conditions) (r .values)) i0 (r .spells) .1 in
-      token-prop (CasesReads w done at) (tokenAt (sc .text) n1) _ (λ k q. tt)
+      token-prop (CasesReads w (suc left) done at) (tokenAt (sc .text) n1) _ (λ k q. tt)
       (λ k2 s2 n2 et2.
       let mw = token-at-moved (sc .text) n1 k2 s2 n2 i1 et2 in
-      cond-prop (CasesReads w done at) (is k2 bar) _ _
-      (λ e. case-next w done at n n1 c h st r n2 (fixed-stands (sc .text) bar refl n1 k2 s2 n2 i1 et2 e) (casesFrom left sc w (done ++ (c ∷ [])) n2) (cases-derive w left (done ++ (c ∷ [])) n2 (mw .2)))
-      (λ e. case-last w done at n n1 c h st r))))
+      cond-prop (CasesReads w (suc left) done at) (is k2 bar) _ _
+      (λ e. case-next w left done at n n1 c h st r n2 (fixed-stands (sc .text) bar refl n1 k2 s2 n2 i1 et2 e) (casesFrom left sc w (done ++ (c ∷ [])) n2) (cases-derive w left (done ++ (c ∷ [])) n2 (mw .2)))
+      (λ e. case-last w left done at n n1 c h st r))))
       (λ e. tt))

@@ -1,10 +1,12 @@
--- Rules that are accepted are spelled by the tokens that were read. Assumes nothing.
+-- Rules that are accepted are spelled by the tokens that were read, and stand in the order of work. Assumes nothing.
 use mathlib.Core.Path.{_≡_, refl, ap, sym, _∙_, subst}
 use mathlib.Core.List.{List, [], _∷_, _++_, map, append-assoc, append-nil}
-use mathlib.Core.Bool.{true, false}
+use mathlib.Core.Bool.{Bool, true, false}
 use mathlib.Core.Option.{none, some}
-use Prim.Native.Nat.{ℕ, zero, suc, _≤_}
-use lib.ListN.{length, getD, getElem?, length-set}
+use Prim.Native.Nat.{ℕ, zero, suc, _≤_, _<_}
+use native.Mathlib.Omega.{arith}
+use lib.ListN.{length, getD, set, getElem?, length-set}
+use lib.Dec.{lt→ltb}
 use Rattle.limits.specs.Limits.{caseLimit, bracketLimit}
 use Rattle.lexer.specs.Bytes.{bytes, part}
 use Rattle.lexer.specs.Token.{Kind, kindNumber, ending, name, tilde, is, token}
@@ -12,31 +14,37 @@ use Rattle.lexer.specs.Lexer.{tokenAt, overLong}
 use Rattle.lexer.specs.Names.{idOf}
 use Rattle.lexer.proofs.Laws.{cond-prop, token-at-moved}
 use Rattle.lexer.proofs.Same.{same-kind}
-use Rattle.semantics.specs.Program.{Condition, Case, Rule, change, target, allTrue}
+use Rattle.arith.proofs.Basics.{true-T}
+use Rattle.semantics.specs.Program.{Condition, Case, Rule, change, target, allTrue, UsableK, UsableR, AgreesR, AgreesAll, OrderedRules}
 use Rattle.grammar.specs.Parsed.{Parsed, accepted, refused, phrase, followed}
 use Rattle.grammar.specs.Expressions.{Scope, withId, wholeExpression}
 use Rattle.grammar.specs.Forms.{valueOpening, functionClosing, formulaClosing, changeOpening, noChangeOpening, ruleOpening}
 use Rattle.grammar.specs.Rules.{casesFrom, agreeingList, casesOf, functionAt, changeAt, formulas, ruleAt, ruled, rulesFrom}
-use Rattle.grammar.specs.Derivation.{Stands, Spells, SpellsE}
+use Rattle.grammar.specs.Derivation.{Stands, Spells}
 use Rattle.grammar.specs.Derivation as D
 use Rattle.grammar.specs.Spelled.{SpellsCases, SpellsList, SpellsR, a-change, a-function, SpellsRules}
 use Rattle.grammar.specs.Spelled as S
 use Rattle.grammar.specs.Internal.{Named}
 use Rattle.grammar.proofs.Combine.{token-prop, then-prop, option-prop}
+use Rattle.grammar.proofs.Bytes.{id-of}
 use Rattle.lexer.specs.Spelling.{Separated}
 use Rattle.lexer.proofs.Spellings.{isFixed}
 use Rattle.grammar.proofs.Standing.{spells-in, split, spells-append, id-names, end-separated}
 use Rattle.grammar.proofs.Phrases.{signs, fixed-stands, phrase-spells, headTokens, middleTokens}
 use Rattle.grammar.proofs.DerivedCases.{cases-list}
 use Rattle.grammar.proofs.Lists.{cases-in, agreeing-same}
-use Rattle.grammar.proofs.Derived.{Derived, Derives, before, sign-stands, whole-expression-derives}
+use Rattle.grammar.proofs.Derived.{Derived, Derives, before, weaker, sign-stands, ScopedE, whole-expression-derives}
 
 module _ (sc : Scope) (few : length (sc .names) ≤ 64) (lengths : length (sc .names) ≡ length (sc .known)) (good : Named (sc .names)) where
   -- ---- a function, after `v: GX(`
 
   module _ (w : List ℕ) (v : ℕ) (ev : getElem? (sc .names) v ≡ some w) where
+    -- a rule of v whose values may be used here, and whose lists agree
+    abbrev ScopedR : Rule → Type 0
+    ScopedR r = UsableR (sc .known) r × AgreesR r × (target r ≡ v)
+
     abbrev Ruling : List (List ℕ) → Rule → Type 0
-    Ruling ts r = SpellsR (sc .names) (w ∷ bytes ":" ∷ bytes "GX" ∷ bytes "(" ∷ ts) r
+    Ruling ts r = SpellsR (sc .names) (w ∷ bytes ":" ∷ bytes "GX" ∷ bytes "(" ∷ ts) r × ScopedR r
 
     function-derives : (at : ℕ) → at ≤ length (sc .text) → Derives (sc .text) Ruling at (functionAt sc w v at)
     unfolding functionAt followed signs isFixed kindNumber
@@ -47,7 +55,7 @@ module _ (sc : Scope) (few : length (sc .names) ≤ 64) (lengths : length (sc .n
         let i1 = spells-in (sc .text) at n1 (w ∷ bytes "=" ∷ bytes "(" ∷ []) h s1 .1 in
         then-prop (Derives (sc .text) Ruling at) (wholeExpression sc n1) _ (λ k q. tt)
         (λ e n2 e2.
-        let d2 = subst (Derives (sc .text) (SpellsE (sc .names) D.expression bracketLimit) n1) e2 (whole-expression-derives sc n1 i1) in
+        let d2 = subst (Derives (sc .text) (ScopedE sc D.expression bracketLimit) n1) e2 (whole-expression-derives sc n1 i1) in
         let i2 = spells-in (sc .text) n1 n2 (d2 .tokens) i1 (d2 .spells) .1 in
         then-prop (Derives (sc .text) Ruling at) (phrase (sc .text) functionClosing n2) _ (λ k q. tt)
         (λ u2 n3 e3.
@@ -56,13 +64,13 @@ module _ (sc : Scope) (few : length (sc .names) ≤ 64) (lengths : length (sc .n
         record {
           tokens = w ∷ bytes "=" ∷ bytes "(" ∷ d2 .tokens ++ bytes ")" ∷ bytes ")" ∷ bytes ";" ∷ [];
           spells = spells-append (sc .text) at n2 n3 (w ∷ bytes "=" ∷ bytes "(" ∷ d2 .tokens) (bytes ")" ∷ bytes ")" ∷ bytes ";" ∷ []) s12 s3;
-          derives = a-function w v (d2 .tokens) e ev (d2 .derives);
+          derives = (a-function w v (d2 .tokens) e ev (d2 .derives .0), (d2 .derives .1 lengths, tt, refl));
         })))
 
     -- ---- a change formula and its no-change formula, after `v: GX(~`
 
     abbrev Changing : List (List ℕ) → Rule → Type 0
-    Changing ts r = SpellsR (sc .names) (w ∷ bytes ":" ∷ bytes "GX" ∷ bytes "(" ∷ bytes "~" ∷ ts) r
+    Changing ts r = SpellsR (sc .names) (w ∷ bytes ":" ∷ bytes "GX" ∷ bytes "(" ∷ bytes "~" ∷ ts) r × ScopedR r
 
     -- the tokens from after `v: GX(~` on
     change-spells : (a b c d e f : ℕ) (ts ls : List (List ℕ)) → Spells (sc .text) a b (headTokens w) → Spells (sc .text) b c ts → Spells (sc .text) c d (middleTokens w) → Spells (sc .text) d e (ls ++ bytes ")" ∷ []) → Spells (sc .text) e f (bytes ")" ∷ bytes ";" ∷ []) → Spells (sc .text) a f ((headTokens w ++ ts) ++ (middleTokens w ++ ls) ++ bytes ")" ∷ bytes ")" ∷ bytes ";" ∷ [])
@@ -73,8 +81,8 @@ module _ (sc : Scope) (few : length (sc .names) ≤ 64) (lengths : length (sc .n
         let tail = spells-append (sc .text) (p .place) e f (bytes ")" ∷ []) (bytes ")" ∷ bytes ";" ∷ []) (p .second) s5 in
         spells-append (sc .text) a (p .place) f ((headTokens w ++ ts) ++ (middleTokens w ++ ls)) (bytes ")" ∷ bytes ")" ∷ bytes ";" ∷ []) (spells-append (sc .text) a c (p .place) (headTokens w ++ ts) (middleTokens w ++ ls) front back) tail
 
-    change-is : (ts ls : List (List ℕ)) (ks : List Case) (ds : List Condition) → SpellsCases (sc .names) w ts ls ks → length ks ≤ caseLimit → ds ≡ map (λ k. k .condition) ks → Changing ((headTokens w ++ ts) ++ (middleTokens w ++ ls) ++ bytes ")" ∷ bytes ")" ∷ bytes ";" ∷ []) (change v ks ds)
-    change-is ts ls ks ds d l e = a-change w v ts ls ks ds ev d l (subst (SpellsList (sc .names) ls) (sym e) (cases-list (sc .names) w ts ls ks d))
+    change-is : (ts ls : List (List ℕ)) (ks : List Case) (ds : List Condition) → SpellsCases (sc .names) w ts ls ks → length ks ≤ caseLimit → ds ≡ map (λ k. k .condition) ks → UsableK (sc .known) ks → Changing ((headTokens w ++ ts) ++ (middleTokens w ++ ls) ++ bytes ")" ∷ bytes ")" ∷ bytes ";" ∷ []) (change v ks ds)
+    change-is ts ls ks ds d l e u = (a-change w v ts ls ks ds ev d l (subst (SpellsList (sc .names) ls) (sym e) (cases-list (sc .names) w ts ls ks d)), (u, e, refl))
 
     change-derives : (at : ℕ) → at ≤ length (sc .text) → Derives (sc .text) Changing at (changeAt sc w v at)
     unfolding changeAt followed signs isFixed kindNumber
@@ -100,11 +108,11 @@ module _ (sc : Scope) (few : length (sc .names) ≤ 64) (lengths : length (sc .n
         record {
           tokens = (headTokens w ++ r .tokens) ++ (middleTokens w ++ r .list) ++ bytes ")" ∷ bytes ")" ∷ bytes ";" ∷ [];
           spells = change-spells at n1 n2 n3 n4 n5 (r .tokens) (r .list) s1 (r .spells) s3 (ag .spells) s5;
-          derives = change-is (r .tokens) (r .list) (casesOf cases) ds (r .derives) (r .fine .1) (ag .same);
+          derives = change-is (r .tokens) (r .list) (casesOf cases) ds (r .derives) (r .counted) (ag .same) (r .usable);
         })))))
 
     -- the formulas of w, after its name
-    formulas-derive : (at : ℕ) → at ≤ length (sc .text) → Derives (sc .text) (λ ts r. SpellsR (sc .names) (w ∷ ts) r) at (formulas sc w v at)
+    formulas-derive : (at : ℕ) → at ≤ length (sc .text) → Derives (sc .text) (λ ts r. SpellsR (sc .names) (w ∷ ts) r × ScopedR r) at (formulas sc w v at)
     unfolding formulas signs isFixed kindNumber
     formulas-derive at h =
         then-prop R (phrase (sc .text) ruleOpening at) _ (λ k q. tt)
@@ -119,9 +127,9 @@ module _ (sc : Scope) (few : length (sc .names) ≤ 64) (lengths : length (sc .n
         (λ e. after at n s1 (functionAt sc w v n) (function-derives n i1))))
       where
         R : Parsed Rule → Type 0
-        R p = Derives (sc .text) (λ ts r. SpellsR (sc .names) (w ∷ ts) r) at p
+        R p = Derives (sc .text) (λ ts r. SpellsR (sc .names) (w ∷ ts) r × ScopedR r) at p
 
-        after : (at n : ℕ) → Spells (sc .text) at n (bytes ":" ∷ bytes "GX" ∷ bytes "(" ∷ []) → (p : Parsed Rule) → Derives (sc .text) Ruling n p → Derives (sc .text) (λ ts r. SpellsR (sc .names) (w ∷ ts) r) at p
+        after : (at n : ℕ) → Spells (sc .text) at n (bytes ":" ∷ bytes "GX" ∷ bytes "(" ∷ []) → (p : Parsed Rule) → Derives (sc .text) Ruling n p → Derives (sc .text) (λ ts r. SpellsR (sc .names) (w ∷ ts) r × ScopedR r) at p
         after at n sp (accepted r m) d =
             record {
               tokens = bytes ":" ∷ bytes "GX" ∷ bytes "(" ∷ d .tokens;
@@ -132,17 +140,26 @@ module _ (sc : Scope) (few : length (sc .names) ≤ 64) (lengths : length (sc .n
 
   -- ---- a rule, and all rules
 
-  rule-derives : (at s n : ℕ) → n ≤ length (sc .text) → Stands (sc .text) at n (part (sc .text) s n) → Derives (sc .text) (SpellsR (sc .names)) at (ruleAt sc s n)
+  -- a rule that is the first of its variable
+  abbrev pub First : Rule → Type 0
+  First r = (UsableR (sc .known) r × AgreesR r) × (target r < length (sc .known)) × (getD (sc .known) (target r) false ≡ false)
+
+  -- after its name, which stands from s up to n
+  pub rule-derives : (s n : ℕ) → n ≤ length (sc .text) → Derives (sc .text) (λ ts r. SpellsR (sc .names) (part (sc .text) s n ∷ ts) r × First r) n (ruleAt sc s n)
   unfolding ruleAt withId
-  rule-derives at s n h st =
+  rule-derives s n h =
       let w = part (sc .text) s n in
-      cond-prop (Derives (sc .text) (SpellsR (sc .names)) at) (overLong s n) _ _ (λ e. tt)
-      (λ e. option-prop (Derives (sc .text) (SpellsR (sc .names)) at) (idOf (sc .names) w) _ _ (λ z. tt)
-      (λ v ev. cond-prop (Derives (sc .text) (SpellsR (sc .names)) at) (getD (sc .known) v false) _ _ (λ t. tt)
-      (λ t. before (sc .text) (λ ts r. SpellsR (sc .names) (w ∷ ts) r) (SpellsR (sc .names)) w (λ ts r d. d) at n st (formulas sc w v n) (formulas-derive w v (id-names (sc .names) w v ev) n h))))
+      let R : Parsed Rule → Type 0 = Derives (sc .text) (λ ts r. SpellsR (sc .names) (w ∷ ts) r × First r) n in
+      cond-prop R (overLong s n) _ _ (λ e. tt)
+      (λ e. option-prop R (idOf (sc .names) w) _ _ (λ z. tt)
+      (λ v ev. cond-prop R (getD (sc .known) v false) _ _ (λ t. tt)
+      (λ t.
+      let l : v < length (sc .known) = omega (arith, lengths, id-of (sc .names) w v ev) in
+      weaker (sc .text) (λ ts r. SpellsR (sc .names) (w ∷ ts) r × ScopedR w v (id-names (sc .names) w v ev) r) (λ ts r. SpellsR (sc .names) (w ∷ ts) r × First r)
+      (λ ts r d. (d .0, ((d .1 .0, d .1 .1), subst (λ (x : ℕ). x < length (sc .known)) (sym (d .1 .2)) l, subst (λ (x : ℕ). getD (sc .known) x false ≡ false) (sym (d .1 .2)) t))) n (formulas sc w v n) (formulas-derive w v (id-names (sc .names) w v ev) n h))))
 
 -- rules from a place to the end of the text, after those done
-pub record RulesRead (text : List ℕ) (names : List (List ℕ)) (done : List Rule) (at : ℕ) (rs : List Rule) : Type 0 where
+pub record RulesRead (text : List ℕ) (names : List (List ℕ)) (known : List Bool) (done : List Rule) (at : ℕ) (rs : List Rule) : Type 0 where
   pub more : List Rule
   pub is-more : rs ≡ done ++ more
   pub tokens : List (List ℕ)
@@ -150,42 +167,61 @@ pub record RulesRead (text : List ℕ) (names : List (List ℕ)) (done : List Ru
   pub spells : Spells text at end tokens
   pub ends : Separated text end (length text)
   pub derives : SpellsRules names tokens more
+  pub ordered : OrderedRules known more
+  pub agrees : AgreesAll more
 
-abbrev pub RulesReads : List ℕ → List (List ℕ) → List Rule → ℕ → Parsed (List Rule) → Type 0
-RulesReads text names done at (accepted rs n) = RulesRead text names done at rs
-RulesReads text names done at (refused k q) = Unit {0}
+abbrev pub RulesReads : List ℕ → List (List ℕ) → List Bool → List Rule → ℕ → Parsed (List Rule) → Type 0
+RulesReads text names known done at (accepted rs n) = RulesRead text names known done at rs
+RulesReads text names known done at (refused k q) = Unit {0}
 
-rule-next : (text : List ℕ) (names : List (List ℕ)) (done : List Rule) (at m : ℕ) (r : Rule) → Derived text (SpellsR names) at m r → (p : Parsed (List Rule)) → RulesReads text names (done ++ (r ∷ [])) m p → RulesReads text names done at p
-rule-next text names done at m r d (accepted rs n) q =
-    record {
-      more = r ∷ q .more;
-      is-more = q .is-more ∙ append-assoc done (r ∷ []) (q .more);
-      tokens = d .tokens ++ q .tokens;
-      end = q .end;
-      spells = spells-append text at m (q .end) (d .tokens) (q .tokens) (d .spells) (q .spells);
-      ends = q .ends;
-      derives = S.SpellsRules.more (d .tokens) (q .tokens) r (q .more) (d .derives) (q .derives);
-    }
-rule-next text names done at m r d (refused k p) q = tt
-
-pub rules-derive : (f : ℕ) (sc : Scope) → length (sc .names) ≤ 64 → length (sc .names) ≡ length (sc .known) → Named (sc .names) → (done : List Rule) (at : ℕ) → at ≤ length (sc .text) → RulesReads (sc .text) (sc .names) done at (rulesFrom f sc done at)
+pub rules-derive : (f : ℕ) (sc : Scope) → length (sc .names) ≤ 64 → length (sc .names) ≡ length (sc .known) → Named (sc .names) → (done : List Rule) (at : ℕ) → at ≤ length (sc .text) → RulesReads (sc .text) (sc .names) (sc .known) done at (rulesFrom f sc done at)
 unfolding rulesFrom is kindNumber
 rules-derive zero sc few lengths good done at h = tt
 rules-derive (suc f) sc few lengths good done at h =
-    token-prop (RulesReads (sc .text) (sc .names) done at) (tokenAt (sc .text) at) _ (λ k q. tt)
+    token-prop R (tokenAt (sc .text) at) _ (λ k q. tt)
     (λ k s n et.
     let mv = token-at-moved (sc .text) at k s n h et in
-    cond-prop (RulesReads (sc .text) (sc .names) done at) (is k name) _ _
-    (λ e. then-prop (RulesReads (sc .text) (sc .names) done at) (ruleAt sc s n) _ (λ k q. tt)
+    cond-prop R (is k name) _ _
+    (λ e. then-prop R (ruleAt sc s n) _ (λ k q. tt)
     (λ r m er.
-    let d = subst (Derives (sc .text) (SpellsR (sc .names)) at) er (rule-derives sc few lengths good at s n (mv .2) (sign-stands (sc .text) name refl at k s n h et e .0)) in
-    let i = spells-in (sc .text) at m (d .tokens) h (d .spells) .1 in
+    let d = subst (Derives (sc .text) (λ ts r. SpellsR (sc .names) (part (sc .text) s n ∷ ts) r × First sc few lengths good r) n) er (rule-derives sc few lengths good s n (mv .2)) in
+    let i = spells-in (sc .text) n m (d .tokens) (mv .2) (d .spells) .1 in
     let l = lengths ∙ sym (length-set (sc .known) (target r) true) in
-    rule-next (sc .text) (sc .names) done at m r d (rulesFrom f (ruled sc (target r)) (done ++ (r ∷ [])) m) (rules-derive f (ruled sc (target r)) few l good (done ++ (r ∷ [])) m i)))
-    (λ n1. cond-prop (RulesReads (sc .text) (sc .names) done at) (is k ending) _ _
+    next (part (sc .text) s n) n m r (sign-stands (sc .text) name refl at k s n h et e .0) d
+    (rulesFrom f (ruled sc (target r)) (done ++ (r ∷ [])) m) (rules-derive f (ruled sc (target r)) few l good (done ++ (r ∷ [])) m i)))
+    (λ n1. cond-prop R (is k ending) _ _
     (λ e.
     let et2 : tokenAt (sc .text) at ≡ token ending s n = et ∙ ap (λ (x : Kind). token x s n) (same-kind k ending e) in
-    cond-prop (RulesReads (sc .text) (sc .names) done at) (allTrue (sc .known)) _ _
-    (λ t. record { more = []; is-more = sym (append-nil done); tokens = []; end = at; spells = refl; ends = end-separated (sc .text) at s n h et2; derives = S.SpellsRules.none })
+    cond-prop R (allTrue (sc .known)) _ _
+    (λ t. record {
+      more = [];
+      is-more = sym (append-nil done);
+      tokens = [];
+      end = at;
+      spells = refl;
+      ends = end-separated (sc .text) at s n h et2;
+      derives = S.SpellsRules.none;
+      ordered = true-T (allTrue (sc .known)) t;
+      agrees = tt;
+    })
     (λ t. tt))
     (λ n2. tt)))
+  where
+    R : Parsed (List Rule) → Type 0
+    R p = RulesReads (sc .text) (sc .names) (sc .known) done at p
+
+    next : (w : List ℕ) (n m : ℕ) (r : Rule) → Stands (sc .text) at n w → Derived (sc .text) (λ ts r. SpellsR (sc .names) (w ∷ ts) r × First sc few lengths good r) n m r → (p : Parsed (List Rule)) → RulesReads (sc .text) (sc .names) (set (sc .known) (target r) true) (done ++ (r ∷ [])) m p → R p
+    next w n m r st d (accepted rs i) q =
+        let f = d .derives .1 in
+        record {
+          more = r ∷ q .more;
+          is-more = q .is-more ∙ append-assoc done (r ∷ []) (q .more);
+          tokens = (w ∷ d .tokens) ++ q .tokens;
+          end = q .end;
+          spells = spells-append (sc .text) at m (q .end) (w ∷ d .tokens) (q .tokens) (n, st, d .spells) (q .spells);
+          ends = q .ends;
+          derives = S.SpellsRules.more (w ∷ d .tokens) (q .tokens) r (q .more) (d .derives .0) (q .derives);
+          ordered = (f .0 .0, lt→ltb (target r) (length (sc .known)) (f .1), f .2, q .ordered);
+          agrees = (f .0 .1, q .agrees);
+        }
+    next w n m r st d (refused k p) q = tt

@@ -1,52 +1,39 @@
--- The tokens of an accepted text. Assumes nothing.
+-- A text that is accepted spells its program, and the two lists of each of its rules agree. Assumes nothing.
 use mathlib.Core.Path.{_≡_, refl, sym, _∙_, subst}
 use mathlib.Core.List.{List, [], _++_}
 use mathlib.Core.Bool.{Bool, true, false, cond}
-use Prim.Native.Nat.{ℕ}
+use Prim.Native.Nat.{ℕ, _≤_}
 use native.Mathlib.Nat.{le-refl}
 use native.Mathlib.Omega.{arith}
-use lib.ListN.{length}
+use lib.ListN.{length, length-map}
 use lib.Dec.{ltb}
+use borrow.Author.Tests.{ltb-false}
 use Rattle.limits.specs.Limits.{textLimit}
 use Rattle.lexer.specs.Bytes.{bytes}
 use Rattle.lexer.specs.Token.{kindNumber, inputWord, varWord}
-use Rattle.semantics.specs.Program.{Name, Rule, Program, knownFirst}
+use Rattle.semantics.specs.Program.{Name, Rule, Program, knownFirst, AgreesAll}
 use Rattle.semantics.proofs.Reference.{length-known}
 use Rattle.grammar.specs.Parsed.{Parsed, accepted, refused, itemBound}
 use Rattle.grammar.specs.Expressions.{Scope}
 use Rattle.grammar.specs.Declarations.{spellings, declarations}
 use Rattle.grammar.specs.Rules.{rulesFrom}
 use Rattle.grammar.specs.Parse.{program, parse}
-use Rattle.grammar.specs.Derivation.{TokensOf}
-use Rattle.grammar.specs.Spelled.{DeclareAll, SpellsRules, namesOf}
-use Rattle.grammar.proofs.Combine.{then-prop, never}
+use Rattle.grammar.specs.Spelled.{DeclareAll, Distinct, SpellsRules, Spelled}
+use Rattle.grammar.proofs.Combine.{Holds, then-prop, never}
 use Rattle.lexer.proofs.Spellings.{isFixed}
 use Rattle.grammar.proofs.Standing.{spells-append}
 use Rattle.grammar.proofs.Whole.{Ends, Names, declarations-fit, spellings-length, named}
 use Rattle.grammar.proofs.DerivedDeclarations.{DeclaredFrom, DeclaresFrom, declarations-derive}
 use Rattle.grammar.proofs.DerivedRules.{RulesRead, RulesReads, rules-derive}
 
--- the declarations, the rules and the tokens of an accepted text
-pub record Read (text : List ℕ) (p : Program) : Type 0 where
-  pub input-tokens : List (List ℕ)
-  pub variable-tokens : List (List ℕ)
-  pub rule-tokens : List (List ℕ)
-  pub tokens : TokensOf text (input-tokens ++ variable-tokens ++ rule-tokens)
-  pub inputs : List Name
-  pub variables : List Name
-  pub declares-inputs : DeclareAll (bytes "input") input-tokens inputs
-  pub declares-variables : DeclareAll (bytes "var") variable-tokens variables
-  pub names : p .names ≡ inputs ++ variables
-  pub input-count : p .inputs ≡ length inputs
-  pub spells-rules : SpellsRules (namesOf p) rule-tokens (p .rules)
-
+-- what is read spells the program, if the text is within its limit
 abbrev Reads : List ℕ → Parsed Program → Type 0
-Reads text (accepted p n) = Read text p
-Reads text (refused k q) = Unit {0}
+Reads text r = Holds (λ (p : Program). (length text ≤ textLimit → Spelled text p) × AgreesAll (p .rules)) r
 
-read : (text : List ℕ) (inputs names : List Name) (rules : List Rule) (a b : ℕ) → DeclaredFrom text (bytes "input") [] 0 a inputs → DeclaredFrom text (bytes "var") inputs a b names → RulesRead text (spellings names) [] b rules → Read text (record { inputs = length inputs; names = names; rules = rules })
-read text inputs names rules a b d e r =
+read : (text : List ℕ) (inputs names : List Name) (rules : List Rule) (a b : ℕ) → DeclaredFrom text (bytes "input") [] 0 a inputs → DeclaredFrom text (bytes "var") inputs a b names → Distinct (spellings names) → length names ≤ 64 → RulesRead text (spellings names) (knownFirst (length inputs) (length names)) [] b rules → length text ≤ textLimit → Spelled text (record { inputs = length inputs; names = names; rules = rules })
+read text inputs names rules a b d e distinct few r short =
     record {
+      short = short;
       input-tokens = d .tokens;
       variable-tokens = e .tokens;
       rule-tokens = r .tokens;
@@ -61,7 +48,10 @@ read text inputs names rules a b d e r =
       declares-variables = e .derives;
       names = e .is-more;
       input-count = refl;
+      distinct = distinct;
+      few = few;
       spells-rules = subst (SpellsRules (spellings names) (r .tokens)) (sym (r .is-more)) (r .derives);
+      ordered = rw (length-map names (λ n. n .range), r .is-more) (r .ordered);
     }
 
 program-reads : (text : List ℕ) → Reads text (program text)
@@ -75,16 +65,17 @@ program-reads text =
     (λ names n2 e2.
     let g2 = subst (Ends (length text) (Names text (length inputs))) e2 (declarations-fit text itemBound varWord inputs n1 (length inputs) (g1 .1) (g1 .0 .0, g1 .0 .1, le-refl (length inputs), g1 .0 .3)) in
     let d2 = subst (DeclaresFrom text (bytes "var") inputs n1) e2 (declarations-derive text itemBound varWord refl inputs n1 (g1 .1)) in
-    let sc : Scope = record { text = text; names = spellings names; known = knownFirst (length inputs) (length names) } in
+    let known = knownFirst (length inputs) (length names) in
+    let sc : Scope = record { text = text; names = spellings names; known = known } in
     then-prop (Reads text) (rulesFrom itemBound sc [] n2) _ (λ k q. tt)
     (λ rules n3 e3.
-    let r = subst (RulesReads text (spellings names) [] n2) e3 (rules-derive itemBound sc (omega (arith, spellings-length names, g2 .0 .1)) (spellings-length names ∙ sym (length-known (length inputs) (length names))) (named names (g2 .0 .0) (g2 .0 .3)) [] n2 (g2 .1)) in
-    read text inputs names rules n1 n2 d1 d2 r)))
+    let r : RulesRead text (spellings names) known [] n2 rules = subst (RulesReads text (spellings names) known [] n2) e3 (rules-derive itemBound sc (omega (arith, spellings-length names, g2 .0 .1)) (spellings-length names ∙ sym (length-known (length inputs) (length names))) (named names (g2 .0 .0) (g2 .0 .3)) [] n2 (g2 .1)) in
+    (read text inputs names rules n1 n2 d1 d2 (g2 .0 .3) (g2 .0 .1) r, subst AgreesAll (sym (r .is-more)) (r .agrees)))))
 
-pub parse-reads : (text : List ℕ) (p : Program) (n : ℕ) → parse text ≡ accepted p n → Read text p
+pub parse-reads : (text : List ℕ) (p : Program) (n : ℕ) → parse text ≡ accepted p n → Spelled text p × AgreesAll (p .rules)
 unfolding parse
-parse-reads text p n e = go (ltb textLimit (length text)) e
+parse-reads text p n e = go (ltb textLimit (length text)) refl e
   where
-    go : (t : Bool) → cond t (refused 9 0) (program text) ≡ accepted p n → Read text p
-    go true q = never 9 0 n p q
-    go false q = subst (Reads text) q (program-reads text)
+    go : (t : Bool) → ltb textLimit (length text) ≡ t → cond t (refused 9 0) (program text) ≡ accepted p n → Spelled text p × AgreesAll (p .rules)
+    go true t q = never 9 0 n p q
+    go false t q = let r = subst (Reads text) q (program-reads text) in (r .0 (ltb-false textLimit (length text) t), r .1)

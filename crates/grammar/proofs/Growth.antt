@@ -20,7 +20,7 @@ use Rattle.grammar.specs.Emitted.{codeE, codeC}
 use Rattle.grammar.proofs.Combine.{token-prop, then-prop}
 use Rattle.grammar.proofs.Bytes.{digits-bytes, id-bytes, place-in, part-length}
 use Rattle.grammar.proofs.Standing.{is-read, stands-in, spells-in}
-use Rattle.grammar.proofs.Derived.{Derives, ClosedC, primary-derives, factor-derives, term-derives, expression-derives, bracket-derives, whole-expression-derives, atom-derives, conjunction-derives, square-derives, listed-derives}
+use Rattle.grammar.proofs.Derived.{Derives, ScopedE, ScopedC, ClosedC, primary-derives, factor-derives, term-derives, expression-derives, bracket-derives, whole-expression-derives, atom-derives, conjunction-derives, square-derives, listed-scoped}
 pub use Rattle.grammar.proofs.NotEnd.{operator-end, products-end, sums-end, ands-end, ors-end, comparisons-end, not-end}
 
 -- an accepted part that starts at `at` has a byte at least, ends within the text, and twice its code's bytes are at most three times
@@ -159,11 +159,11 @@ module _ (sc : Scope) (few : length (sc .names) ≤ 64) where
   abbrev inside : ℕ → ℕ → ℕ → Parsed Condition
   inside left s n = square left sc s n
 
-  grownE : (v : Level) (left at : ℕ) (p : Parsed Expression) → at ≤ length (sc .text) → Derives (sc .text) (SpellsE (sc .names) v left) at p → Grown codeE (length (sc .text)) at p
-  grownE v left at p h d = grown-by (SpellsE (sc .names) v left) codeE (expression-makes (sc .names) few v left) (sc .text) at at (omega arith) h p d
+  grownE : (v : Level) (left at : ℕ) (p : Parsed Expression) → at ≤ length (sc .text) → Derives (sc .text) (ScopedE sc v left) at p → Grown codeE (length (sc .text)) at p
+  grownE v left at p h d = grown-by (ScopedE sc v left) codeE (λ ts e d. expression-makes (sc .names) few v left ts e (d .0)) (sc .text) at at (omega arith) h p d
 
-  grownC : (v : LevelC) (left at : ℕ) (p : Parsed Condition) → at ≤ length (sc .text) → Derives (sc .text) (SpellsC (sc .names) v left) at p → Grown codeC (length (sc .text)) at p
-  grownC v left at p h d = grown-by (SpellsC (sc .names) v left) codeC (condition-makes (sc .names) few v left) (sc .text) at at (omega arith) h p d
+  grownC : (v : LevelC) (left at : ℕ) (p : Parsed Condition) → at ≤ length (sc .text) → Derives (sc .text) (ScopedC sc v left) at p → Grown codeC (length (sc .text)) at p
+  grownC v left at p h d = grown-by (ScopedC sc v left) codeC (λ ts c d. condition-makes (sc .names) few v left ts c (d .0)) (sc .text) at at (omega arith) h p d
 
   pub primary-grown : (left : ℕ) → Reads codeE (λ at. primary (inner left) sc at)
   primary-grown left at h = grownE D.primary left at (primary (inner left) sc at) h (primary-derives sc left (inner left) (bracket-derives sc left) at h)
@@ -190,7 +190,7 @@ module _ (sc : Scope) (few : length (sc .names) ≤ 64) where
   closed-makes : (left : ℕ) (ts : List (List ℕ)) (c : Condition) → ClosedC sc left ts c → Makes codeC ts c
   closed-makes zero ts c d = absurd d
   closed-makes (suc left) ts c d =
-      let g = condition-makes (sc .names) few D.condition left (d .inner) c (d .derives) in
+      let g = condition-makes (sc .names) few D.condition left (d .inner) c (d .derives .0) in
       let b = bytes-append (d .inner) (bytes "]" ∷ []) in
       rw (d .is-closed) (omega (arith, b, g .0), omega (arith, b, g .1))
 
@@ -198,4 +198,4 @@ module _ (sc : Scope) (few : length (sc .names) ≤ 64) where
   square-grown left s n i h = grown-by (ClosedC sc left) codeC (closed-makes left) (sc .text) s n (omega arith) h (square left sc s n) (square-derives sc left s n h)
 
   pub listed-grown : Reads codeC (λ at. listed sc at)
-  listed-grown at h = grown-by (ClosedC sc (suc bracketLimit)) codeC (closed-makes (suc bracketLimit)) (sc .text) at at (omega arith) h (listed sc at) (listed-derives sc at h)
+  listed-grown at h = grown-by (ClosedC sc (suc bracketLimit)) codeC (closed-makes (suc bracketLimit)) (sc .text) at at (omega arith) h (listed sc at) (listed-scoped sc at h)

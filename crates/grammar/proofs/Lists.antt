@@ -8,7 +8,7 @@ use lib.Dec.{ltb, leb, eqb}
 use Rattle.limits.specs.Limits.{caseLimit}
 use Rattle.lexer.specs.Bytes.{bytes}
 use Rattle.lexer.proofs.Laws.{cond-prop}
-use Rattle.semantics.specs.Program.{Condition}
+use Rattle.semantics.specs.Program.{Condition, UsableK}
 use Rattle.grammar.specs.Parsed.{Parsed, accepted, refused}
 use Rattle.grammar.specs.Expressions.{Scope}
 use Rattle.grammar.specs.Rules.{Spanned, casesFrom, plainList, Compared, agrees, differs, partsFrom, firstFound, agreeingList, casesOf}
@@ -17,7 +17,6 @@ use Rattle.grammar.specs.Spelled.{SpellsCases}
 use Rattle.grammar.specs.Internal.{Named}
 use Rattle.grammar.proofs.Shape.{conditionsOf}
 use Rattle.grammar.proofs.Combine.{never}
-use Rattle.grammar.proofs.Fits.{Holds, Fine, cases-usable, cases-fit}
 use Rattle.grammar.proofs.Standing.{spells-in}
 use Rattle.grammar.proofs.Listed.{Listed, parts-spells}
 use Rattle.grammar.proofs.DerivedCases.{CasesRead, CasesReads, cases-derive, cases-list}
@@ -43,7 +42,8 @@ first-found-inv (refused k q) (differs p) ds m e =
 module _ (sc : Scope) (few : length (sc .names) ≤ 64) (lengths : length (sc .names) ≡ length (sc .known)) where
   -- the cases of a change formula, from `at` up to n
   pub record CasesIn (w : List ℕ) (at n : ℕ) (cs : List Spanned) : Type 0 where
-    pub fine : Fine (sc .known) (casesOf cs)
+    pub counted : length (casesOf cs) ≤ caseLimit
+    pub usable : UsableK (sc .known) (casesOf cs)
     pub within : n ≤ length (sc .text)
     pub tokens : List (List ℕ)
     pub list : List (List ℕ)
@@ -53,9 +53,10 @@ module _ (sc : Scope) (few : length (sc .names) ≤ 64) (lengths : length (sc .n
 
   pub cases-in : (w : List ℕ) (at n : ℕ) (cs : List Spanned) → at ≤ length (sc .text) → casesFrom caseLimit sc w [] at ≡ accepted cs n → CasesIn w at n cs
   cases-in w at n cs h e =
-      let r : CasesRead sc w [] at n cs = subst (CasesReads sc w [] at) e (cases-derive sc w caseLimit [] at h) in
+      let r : CasesRead sc w caseLimit [] at n cs = subst (CasesReads sc w caseLimit [] at) e (cases-derive sc w caseLimit [] at h) in
       record {
-        fine = subst (Holds (λ (cs : List Spanned). Fine (sc .known) (casesOf cs))) e (cases-fit sc lengths w caseLimit [] at refl tt);
+        counted = subst (λ (x : List Spanned). length (casesOf x) ≤ caseLimit) (sym (r .is-more)) (r .counted);
+        usable = subst (λ (x : List Spanned). UsableK (sc .known) (casesOf x)) (sym (r .is-more)) (r .usable lengths);
         within = spells-in (sc .text) at n (r .tokens) h (r .spells) .1;
         tokens = r .tokens;
         list = r .list;
@@ -68,7 +69,7 @@ module _ (sc : Scope) (few : length (sc .names) ≤ 64) (lengths : length (sc .n
   pub agreeing-reads : Named (sc .names) → (w : List ℕ) (from to : ℕ) (cs : List Spanned) → CasesIn w from to cs → (at n : ℕ) → at ≤ length (sc .text) → partsFrom (sc .text) cs at ≡ agrees n → plainList sc at ≡ accepted (conditionsOf (casesOf cs)) n
   agreeing-reads good w from to cs c at n h e =
       no-change-reads sc good w (c .tokens) (c .list) (casesOf cs) (conditionsOf (casesOf cs)) (c .derives) (cases-list (sc .names) w (c .tokens) (c .list) (casesOf cs) (c .derives))
-      (cases-usable (sc .known) (casesOf cs) (c .fine .2)) (c .fine .1) at n h (parts-spells (sc .text) cs (c .list) (c .lists) at n h e)
+      (c .usable) (c .counted) at n h (parts-spells (sc .text) cs (c .list) (c .lists) at n h e)
 
   -- a no-change list that is accepted lists the conditions of the cases, in the same tokens, and a `)`
   pub record Agreeing (cs : List Spanned) (ls : List (List ℕ)) (at m : ℕ) (ds : List Condition) : Type 0 where

@@ -32,7 +32,7 @@ use Rattle.grammar.proofs.Phrases.{headTokens, middleTokens}
 use Rattle.grammar.proofs.Derived.{Derives}
 use Rattle.grammar.proofs.Growth.{Grown, Kept, phrase-kept, whole-expression-grown, not-end, laterBytes, bytesOf, bytes-append, token-bytes, spells-bytes, digits-some, expression-makes, condition-makes}
 use Rattle.grammar.proofs.DerivedCases.{caseRest, CaseReads, case-derives, CasesReads, cases-derive}
-use Rattle.grammar.proofs.Whole.{Ends, Declared, declaration-fits, agree-kept}
+use Rattle.grammar.proofs.Whole.{agree-kept}
 use Rattle.grammar.proofs.DerivedDeclarations.{AfterWord, declaration-derives}
 
 -- what is accepted ends within the text, and twice its code's bytes are at most three times its own
@@ -118,13 +118,13 @@ module _ (sc : Scope) (few : length (sc .names) ≤ 64) (v : ℕ) (hv : v < 64) 
       pays : (p : Parsed Spanned) → CaseReads sc w at n p → Pays (λ c. length (codeK v (casesOf (c ∷ [])))) (length (sc .text)) n p
       pays (accepted c m) r =
           let ts = caseRest w (r .conditions) (r .values) in
-          (omega (arith, spells-bytes (sc .text) n m ts h (r .spells), case-bytes w (r .conditions) (r .values), case-makes (sc .names) few v hv (r .conditions) (r .values) (c .case) (r .condition) (r .value)), spells-in (sc .text) n m ts h (r .spells) .1)
+          (omega (arith, spells-bytes (sc .text) n m ts h (r .spells), case-bytes w (r .conditions) (r .values), case-makes (sc .names) few v hv (r .conditions) (r .values) (c .case) (r .condition .0) (r .value .0)), spells-in (sc .text) n m ts h (r .spells) .1)
       pays (refused k q) r = tt
 
   pub cases-pay : (w : List ℕ) (left : ℕ) (done : List Spanned) (from at : ℕ) → at ≤ length (sc .text) → 2 * length (codeK v (casesOf done)) + 3 * from ≤ 3 * at → Pays (λ cs. length (codeK v (casesOf cs))) (length (sc .text)) from (casesFrom left sc w done at)
   cases-pay w left done from at h g = pays (casesFrom left sc w done at) (cases-derive sc w left done at h)
     where
-      pays : (p : Parsed (List Spanned)) → CasesReads sc w done at p → Pays (λ cs. length (codeK v (casesOf cs))) (length (sc .text)) from p
+      pays : (p : Parsed (List Spanned)) → CasesReads sc w left done at p → Pays (λ cs. length (codeK v (casesOf cs))) (length (sc .text)) from p
       pays (accepted cs n) r =
           (rw (r .is-more) (omega (arith, cases-append v done (r .more), cases-make (sc .names) few v hv w (r .tokens) (r .list) (casesOf (r .more)) (r .derives), spells-bytes (sc .text) at n (r .tokens) h (r .spells))), spells-in (sc .text) at n (r .tokens) h (r .spells) .1)
       pays (refused k q) r = tt
@@ -173,11 +173,11 @@ all-make word ts l (S.DeclareAll.more us vs x k d r) = omega (arith, declares-ma
 
 module _ (text : List ℕ) where
   declaration-pays : (names : List Name) (at : ℕ) → at ≤ length text → Pays nameBytes (length text) at (declaration text names at)
-  declaration-pays names at h = pays (declaration text names at) (declaration-derives text [] names at h) (declaration-fits text names at h)
+  declaration-pays names at h = pays (declaration text names at) (declaration-derives text [] names at h)
     where
-      pays : (p : Parsed Name) → Derives text (AfterWord text []) at p → Ends (length text) (Declared text names) p → Pays nameBytes (length text) at p
-      pays (accepted x n) d f = (omega (arith, declares-make [] ([] ∷ d .tokens) x (d .derives (f .0 .fits)), spells-bytes text at n (d .tokens) h (d .spells)), f .1)
-      pays (refused k q) d f = tt
+      pays : (p : Parsed Name) → Derives text (AfterWord text [] names) at p → Pays nameBytes (length text) at p
+      pays (accepted x n) d = (omega (arith, declares-make [] ([] ∷ d .tokens) x (d .derives .0), spells-bytes text at n (d .tokens) h (d .spells)), spells-in text at n (d .tokens) h (d .spells) .1)
+      pays (refused k q) d = tt
 
   pub declarations-pay : (f : ℕ) (word : Kind) (names : List Name) (at : ℕ) → at ≤ length text → 2 * length (header names) ≤ 3 * at → Pays (λ l. length (header l)) (length text) 0 (declarationsFrom f word text names at)
   unfolding declarationsFrom
