@@ -7,12 +7,12 @@ use lib.Dec.{eqb, ltb}
 use lib.ListN.{length, getD}
 use borrow.Author.Tests.{ltb-true, ltb-false}
 use Rattle.lexer.specs.Bytes.{part}
-use Rattle.lexer.specs.Token.{Kind, name, unknown, is, Read, token, fault}
+use Rattle.lexer.specs.Token.{Kind, name, unknown, is, TokenRead, token, fault}
 use Rattle.lexer.specs.Lexer.{isSpace, isDigit, isLetter, isAlphanumeric, runEnd, wordOf, pairOf, signOf, readOf, signAt, wordAt, digitsAt, previousAt, tokenOf, tokenPast, tokenAt}
 use Rattle.lexer.proofs.Laws.{cond-prop, run-from, run-some, letter-in-run}
 
 -- a token ends after s
-abbrev Beyond : ℕ → Read → Type 0
+abbrev Beyond : ℕ → TokenRead → Type 0
 Beyond s (token k t n) = s < n
 Beyond s (fault p) = Unit {0}
 
@@ -39,7 +39,7 @@ module _ (text : List ℕ) (s : ℕ) (l : s < length text) where
       (λ n1. cond-prop (Beyond s) (isDigit b) _ _ (λ e. run-some isDigit text s l e)
       (λ n2. cond-prop (Beyond s) (eqb b 95) _ _ (λ e. previous-beyond) (λ n3. sign-beyond b (getD text (s + 1) 0))))
 
-beyond-from : (at s : ℕ) (r : Read) → at ≤ s → Beyond s r → Beyond at r
+beyond-from : (at s : ℕ) (r : TokenRead) → at ≤ s → Beyond s r → Beyond at r
 beyond-from at s (token k t n) h b = omega arith
 beyond-from at s (fault p) h b = tt
 

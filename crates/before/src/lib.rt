@@ -9,7 +9,7 @@ ghost use Rattle.semantics.specs.Program.{Range};
 ghost use Rattle.bytecode.specs.Check.{checkOf};
 ghost use Rattle.bytecode.specs.Counting.{headerOf};
 ghost use Rattle.machine.specs.Memory.{RangesIn};
-ghost use Rattle.scan.specs.Internal.{Fitting, Scratch};
+ghost use Rattle.scan.specs.Internal.{FittingMemory, Scratch};
 ghost use Rattle.before.specs.Before.{beforeCode};
 ghost use Rattle.before.specs.Internal.{beforeAnswer, inRanges, CopiedBy, BegunBy, Announced};
 
@@ -28,7 +28,7 @@ fn before_ranges(
     row: &[i32],
     work: &mut [i32],
 ) -> Before
-    requires { ⌜ Fitting (now state) (now row) (now low) (now high) (now work) ⌝ }
+    requires { ⌜ FittingMemory (now state) (now row) (now low) (now high) (now work) ⌝ }
     ensures { λ r. ⌜ ((ns : List Range) → RangesIn ns (now (low .entry)) (now (high .entry)) → beforeAnswer r ≡ inRanges ns (now (state .entry)) (now (row .entry))) ⌝ }
     ensures { λ r. ⌜ CopiedBy place (now (state .entry)) (now (row .entry)) (now (work .exit)) r ⌝ }
 {

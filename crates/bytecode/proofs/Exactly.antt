@@ -20,7 +20,7 @@ use Rattle.bytecode.specs.Translation.{RangesFit}
 use Rattle.bytecode.specs.Signature.{Sort, number, truth, Role, pushes, computes, tests, opens, picks, lets, settles, signature}
 use Rattle.bytecode.specs.Check.{Known, known, one, empty, unset, closed, fresh, opened, taking, admits, advance, complete, item, checkRange, checkRanges, checkCounts, Header, checkHeader, ends, checkCode, atStart, checkBody, checkOf}
 use Rattle.bytecode.specs.Counting.{headerOf, codeOf, counted, countFrom, instructionsIn}
-use Rattle.bytecode.specs.Sound.{RangesAt, Spells}
+use Rattle.bytecode.specs.Sound.{RangesAt, SpellsCode}
 use Rattle.bytecode.specs.Allowed.{leftIn, leftBy, leftByAll, AllowedIn, Allowed, Finished}
 use Rattle.bytecode.specs.Internal.{SoundByPlace}
 use Rattle.bytecode.proofs.RoundTrip.{fetch-next}
@@ -164,7 +164,7 @@ at-places (j ∷ is) c h = (h [] j is refl, at-places is (leftBy j c) (λ before
 -- what the walk found
 record Walked (code : List ℕ) (at : ℕ) (c : Known) : Type 0 where
   instructions : List Instruction
-  spells : Spells code at instructions
+  spells : SpellsCode code at instructions
   places : Places instructions c
   ends : Finished (leftByAll instructions c)
 
@@ -187,7 +187,7 @@ walked base code (suc f) at c l e = inside (ltb at (length code)) refl (λ next 
         let k : length code ≤ at = ltb-false at (length code) b in
         record { instructions = []; spells = k; places = tt; ends = finished-by c (check-ended base code (suc f) at c k e) }
 
-walks : (base : ℕ) (code : List ℕ) (f at : ℕ) (is : List Instruction) (c : Known) → length code ≤ at + f → Spells code at is → Places is c → Finished (leftByAll is c) → checkCode base code f at c ≡ accepted tt
+walks : (base : ℕ) (code : List ℕ) (f at : ℕ) (is : List Instruction) (c : Known) → length code ≤ at + f → SpellsCode code at is → Places is c → Finished (leftByAll is c) → checkCode base code f at c ≡ accepted tt
 walks base code zero at [] c l s p e = rw (complete-if c e)
 walks base code (suc f) at [] c l s p e = rw (le-ltb at (length code) s, complete-if c e)
 walks base code zero at (i ∷ is) c l s p e = let b : ⊥ = omega (arith, fetch-next code at i (s .0) (s .1) .0) in absurd b
@@ -267,7 +267,7 @@ accepted-sound bytes e =
 
 -- ---- the count of instructions
 
-count-spelled : (code : List ℕ) (f at : ℕ) (is : List Instruction) → length code ≤ at + f → Spells code at is → countFrom code f at ≡ length is
+count-spelled : (code : List ℕ) (f at : ℕ) (is : List Instruction) → length code ≤ at + f → SpellsCode code at is → countFrom code f at ≡ length is
 count-spelled code zero at [] l s = refl
 count-spelled code (suc f) at [] l s = go (fetch code at) refl
   where

@@ -20,8 +20,8 @@ use Rattle.arith.proofs.Laws.{fits-int32, int32-fits}
 use Rattle.semantics.specs.Program.{Range}
 use Rattle.leb128.specs.Numbers.{Read, got, nothing, _then_, numberAt, signedAt, unzigzag}
 use Rattle.leb128.proofs.Signs.{zigzag-unzigzag, zigzag-fits}
-use Rattle.bytecode.specs.Check.{item, Placed, checkRange, checkRanges, Counts, checkCounts, Header, withInputs, checkHeader}
-use Rattle.bytecode.specs.Counting.{extentOf, rangeAt, rangesFrom, rangesEnd}
+use Rattle.bytecode.specs.Check.{item, Placed, checkRange, checkRanges, Counts, checkCounts, Header, headerWith, checkHeader}
+use Rattle.bytecode.specs.Counting.{extentOf, rangeHere, rangesFrom, rangesEnd}
 use Rattle.bytecode.specs.Sound.{RangesAt}
 use Rattle.bytecode.proofs.Fetching.{number-within}
 use Rattle.bytecode.proofs.Walk.{header-read}
@@ -144,7 +144,7 @@ pub record Heading (bytes : List ℕ) (inputs names first i place : ℕ) : Type 
   pub among : i ≤ names
   pub inside : place ≤ length bytes
   pub rest : List Range → ℕ → Answer Header
-  pub goes : checkRanges bytes names first (withInputs inputs) ≡ checkRanges bytes (names - i) place rest
+  pub goes : checkRanges bytes names first (headerWith inputs) ≡ checkRanges bytes (names - i) place rest
   pub ends : (ns : List Range) (next : ℕ) → (rest ns next andThen extentOf) ≡ accepted (record { inputs = inputs; names = i + length ns; place = next })
 
 abbrev pub behind : List ℕ → ℕ → Answer ℕ
@@ -152,7 +152,7 @@ behind bytes at = checkRange bytes at andThen λ p. accepted (p .next)
 
 module _ {bytes : List ℕ} {inputs names first i place : ℕ} (h : Heading bytes inputs names first i place) where
   -- a range that breaks
-  pub heading-breaks : (at : ℕ) → i < names → refused 11 at ≡ behind bytes place → refused 11 at ≡ (checkRanges bytes names first (withInputs inputs) andThen extentOf)
+  pub heading-breaks : (at : ℕ) → i < names → refused 11 at ≡ behind bytes place → refused 11 at ≡ (checkRanges bytes names first (headerWith inputs) andThen extentOf)
   heading-breaks at l e = rw (h .goes) (go (names - i) refl (checkRange bytes place) refl e)
     where
       go : (m : ℕ) → names - i ≡ m → (a : Answer Placed) → checkRange bytes place ≡ a → refused 11 at ≡ (a andThen λ p. accepted (p .next))
@@ -185,7 +185,7 @@ module _ {bytes : List ℕ} {inputs names first i place : ℕ} (h : Heading byte
           }
 
   -- all ranges are read
-  pub heading-ends : names ≤ i → accepted (record { inputs = inputs; names = names; place = place }) ≡ (checkRanges bytes names first (withInputs inputs) andThen extentOf)
+  pub heading-ends : names ≤ i → accepted (record { inputs = inputs; names = names; place = place }) ≡ (checkRanges bytes names first (headerWith inputs) andThen extentOf)
   heading-ends l =
       let n : names - i ≡ 0 = omega arith in
       let e : i + 0 ≡ names = omega (arith, h .among) in
@@ -194,7 +194,7 @@ module _ {bytes : List ℕ} {inputs names first i place : ℕ} (h : Heading byte
 pub heading-begins : (bytes : List ℕ) (inputs names first : ℕ) → first ≤ length bytes → Heading bytes inputs names first 0 first
 heading-begins bytes inputs names first l =
     let n : names - 0 ≡ names = omega arith in
-    record { among = omega arith; inside = l; rest = withInputs inputs; goes = rw n; ends = λ ns next. let z : 0 + length ns ≡ length ns = omega arith in rw z }
+    record { among = omega arith; inside = l; rest = headerWith inputs; goes = rw n; ends = λ ns next. let z : 0 + length ns ≡ length ns = omega arith in rw z }
 
 -- ---- the ranges, filled in
 
@@ -204,12 +204,12 @@ module _ (bytes : List ℕ) (at : ℕ) where
   unfolding rangesFrom rangesEnd
   ranges-none m e = rw e (refl, refl)
 
-  ranges-stop : (m : ℕ) → rangeAt bytes at ≡ nothing → (rangesFrom bytes m at ≡ []) × (rangesEnd bytes m at ≡ at)
+  ranges-stop : (m : ℕ) → rangeHere bytes at ≡ nothing → (rangesFrom bytes m at ≡ []) × (rangesEnd bytes m at ≡ at)
   unfolding rangesFrom rangesEnd
   ranges-stop zero e = (refl, refl)
   ranges-stop (suc m) e = (rw e, rw e)
 
-  ranges-next : (m : ℕ) (n : Range) (next : ℕ) → rangeAt bytes at ≡ got n next
+  ranges-next : (m : ℕ) (n : Range) (next : ℕ) → rangeHere bytes at ≡ got n next
       → (rangesFrom bytes (suc m) at ≡ n ∷ rangesFrom bytes m next) × (rangesEnd bytes (suc m) at ≡ rangesEnd bytes m next)
   unfolding rangesFrom rangesEnd
   ranges-next m n next e = (rw e, rw e)
@@ -236,11 +236,11 @@ module _ {field : Range → ℤ} {bytes : List ℕ} {count at i place : ℕ} {wh
   pub filling-ends : count ≤ i → Filled field bytes count at place whole part
   filling-ends h = done (ranges-none bytes place (count - i) (omega arith))
 
-  pub filling-stops : rangeAt bytes place ≡ nothing → Filled field bytes count at place whole part
+  pub filling-stops : rangeHere bytes place ≡ nothing → Filled field bytes count at place whole part
   filling-stops e = done (ranges-stop bytes place (count - i) e)
 
   -- one more
-  pub filling-goes : (n : Range) (next : ℕ) (more : List ℤ) → i < count → rangeAt bytes place ≡ got n next → more ≡ set part i (field n)
+  pub filling-goes : (n : Range) (next : ℕ) (more : List ℤ) → i < count → rangeHere bytes place ≡ got n next → more ≡ set part i (field n)
       → Filling field bytes count at (i + 1) next whole more
   filling-goes n next more l e q =
       let m : count - i ≡ suc (count - (i + 1)) = omega arith in
@@ -259,7 +259,7 @@ module _ {field : Range → ℤ} {bytes : List ℕ} {count at i place : ℕ} {wh
 -- ---- what a header that is accepted has
 
 ranges-stand : (bytes : List ℕ) (ns : List Range) (at end : ℕ) → RangesAt bytes at ns end → (rangesFrom bytes (length ns) at ≡ ns) × (rangesEnd bytes (length ns) at ≡ end)
-unfolding rangesFrom rangesEnd rangeAt
+unfolding rangesFrom rangesEnd rangeHere
 ranges-stand bytes [] at end r = (refl, r)
 ranges-stand bytes (n ∷ ns) at end r =
     let x = ranges-stand bytes ns (r .2) end (r .6) in

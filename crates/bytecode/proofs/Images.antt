@@ -14,7 +14,7 @@ use Rattle.bytecode.specs.Instructions.{Instruction, encode, encodeAll}
 use Rattle.bytecode.specs.Translation.{codeRules, encodeRanges, imageOf, Translatable}
 use Rattle.bytecode.specs.Check.{checkOf}
 use Rattle.bytecode.specs.Counting.{headerOf, codeOf}
-use Rattle.bytecode.specs.Sound.{Sound, Spells}
+use Rattle.bytecode.specs.Sound.{Sound, SpellsCode}
 use Rattle.bytecode.proofs.RoundTrip.{AllSmall, fetch-encoded}
 use Rattle.bytecode.proofs.Soundness.{programHeader, header-of, code-of, translated-small, check-translated, past-end}
 use Rattle.bytecode.proofs.Spelling.{spells-encoded, ranges-encoded}
@@ -31,7 +31,7 @@ check-exact bytes = record { sound-accepted = check-if-sound bytes; accepted-sou
 
 -- ---- reading what was encoded gives it back
 
-spelled : (code : List ℕ) (at : ℕ) (is : List Instruction) → AllSmall is → drop at code ≡ encodeAll is → Spells code at is
+spelled : (code : List ℕ) (at : ℕ) (is : List Instruction) → AllSmall is → drop at code ≡ encodeAll is → SpellsCode code at is
 spelled code at [] s h = past-end code at h
 spelled code at (i ∷ is) s h =
     (at + length (encode i), fetch-encoded code at i (encodeAll is) (s .0) h, spelled code (at + length (encode i)) is (s .1) (drop-behind code at (encode i) (encodeAll is) h))
@@ -40,7 +40,7 @@ spelled code at (i ∷ is) s h =
 pub record ReadBack (p : Program) : Type 0 where
   pub header : headerOf (imageOf p) ≡ programHeader p
   pub code : codeOf (imageOf p) ≡ encodeAll (codeRules (p .rules))
-  pub instructions : Spells (codeOf (imageOf p)) 0 (codeRules (p .rules))
+  pub instructions : SpellsCode (codeOf (imageOf p)) 0 (codeRules (p .rules))
 
 pub image-read-back : (p : Program) → Translatable p → ReadBack p
 image-read-back p t =

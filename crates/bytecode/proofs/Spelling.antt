@@ -19,7 +19,7 @@ use Rattle.leb128.proofs.Signs.{zigzag-unzigzag}
 use Rattle.leb128.proofs.RoundTrip.{one-spelling}
 use Rattle.bytecode.specs.Instructions.{Instruction, constant, current, previous, operation, negate, comparison, negated, both, either, gate, pick, assign, settle, operationCode, comparisonCode, encode, encodeAll, operationOf, comparisonOf, instructionOf, hasOperand, decoded, fetchCode, fetch}
 use Rattle.bytecode.specs.Translation.{encodeRanges}
-use Rattle.bytecode.specs.Sound.{RangesAt, Spells}
+use Rattle.bytecode.specs.Sound.{RangesAt, SpellsCode}
 
 -- ---- the encoding of an instruction is its code byte and its operand
 
@@ -159,7 +159,7 @@ module _ (bytes : List ℕ) (at : ℕ) (h : Bytes bytes) where
           let b : to ≡ next = cc in
           rw (← a, ← b, zigzag-unzigzag) (one-spelling bytes at h u to r)
 
-pub spells-encoded : (bytes : List ℕ) (at : ℕ) (is : List Instruction) → Bytes bytes → Spells bytes at is → drop at bytes ≡ encodeAll is
+pub spells-encoded : (bytes : List ℕ) (at : ℕ) (is : List Instruction) → Bytes bytes → SpellsCode bytes at is → drop at bytes ≡ encodeAll is
 spells-encoded bytes at [] h s = drop-of-length-le bytes s
 spells-encoded bytes at (i ∷ is) h s = fetch-spelled bytes at h i (s .0) (s .1) ∙ ap (λ (l : List ℕ). encode i ++ l) (spells-encoded bytes (s .0) is h (s .2))
 

@@ -64,12 +64,12 @@ pub record Header : Type 0 where
   pub ranges : List Range
   pub place : ℕ
 
-abbrev pub withInputs : ℕ → List Range → ℕ → Answer Header
-withInputs k = λ ns next. accepted (record { inputs = k; ranges = ns; place = next })
+abbrev pub headerWith : ℕ → List Range → ℕ → Answer Header
+headerWith k = λ ns next. accepted (record { inputs = k; ranges = ns; place = next })
 
 -- Header: the counts, then low, high, start of each name in declared order.
 unfoldable pub checkHeader : List ℕ → Answer Header
-checkHeader bytes = checkCounts bytes andThen λ c. checkRanges bytes (c .names) (c .place) (withInputs (c .inputs))
+checkHeader bytes = checkCounts bytes andThen λ c. checkRanges bytes (c .names) (c .place) (headerWith (c .inputs))
 
 -- ---- one instruction
 

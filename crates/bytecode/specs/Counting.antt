@@ -32,8 +32,8 @@ abbrev pub extentOf : Header → Answer Extent
 extentOf h = accepted (record { inputs = h .inputs; names = length (h .ranges); place = h .place })
 
 -- low, high, start (signed) of a name
-unfoldable pub rangeAt : List ℕ → ℕ → Read Range
-rangeAt bytes at =
+unfoldable pub rangeHere : List ℕ → ℕ → Read Range
+rangeHere bytes at =
     signedAt bytes at then λ l at₁. signedAt bytes at₁ then λ h at₂. signedAt bytes at₂ then λ z at₃. got (record { low = l; high = h; start = z }) at₃
 
 abbrev pub rangesThen : Read Range → (ℕ → List Range) → List Range
@@ -44,7 +44,7 @@ rangesThen (got n next) k = n ∷ k next
 -- are its ranges (proofs: Heading.header-parts).
 unfoldable pub rangesFrom : List ℕ → ℕ → ℕ → List Range
 rangesFrom bytes zero at = []
-rangesFrom bytes (suc m) at = rangesThen (rangeAt bytes at) λ next. rangesFrom bytes m next
+rangesFrom bytes (suc m) at = rangesThen (rangeHere bytes at) λ next. rangesFrom bytes m next
 
 abbrev pub lows : List Range → List ℤ
 lows ns = map (λ n. n .low) ns
@@ -62,7 +62,7 @@ behindThen (got n next) at k = k next
 -- the place behind those ranges: of a header that is accepted, the place where its code begins
 unfoldable pub rangesEnd : List ℕ → ℕ → ℕ → ℕ
 rangesEnd bytes zero at = at
-rangesEnd bytes (suc m) at = behindThen (rangeAt bytes at) at λ next. rangesEnd bytes m next
+rangesEnd bytes (suc m) at = behindThen (rangeHere bytes at) at λ next. rangesEnd bytes m next
 
 -- ---- the code
 

@@ -8,7 +8,7 @@ use Rattle.leb128.specs.Numbers.{got, numberAt}
 use Rattle.bytecode.specs.Instructions.{Instruction}
 use Rattle.bytecode.specs.Translation.{RangesFit}
 use Rattle.bytecode.specs.Check.{Header, atStart}
-use Rattle.bytecode.specs.Sound.{RangesAt, Spells}
+use Rattle.bytecode.specs.Sound.{RangesAt, SpellsCode}
 use Rattle.bytecode.specs.Allowed.{leftByAll, Allowed, Finished}
 
 pub record SoundByPlace (bytes : List ℕ) : Type 0 where
@@ -29,7 +29,7 @@ pub record SoundByPlace (bytes : List ℕ) : Type 0 where
   pub fit : RangesFit (header .ranges)
   -- the code is the rest of the image after the header
   pub code : List Instruction
-  pub spells : Spells (drop (header .place) bytes) 0 code
+  pub spells : SpellsCode (drop (header .place) bytes) 0 code
   -- what must hold at every instruction, after those before it
   pub places : (before : List Instruction) (i : Instruction) (after : List Instruction) → code ≡ before ++ i ∷ after → Allowed i (leftByAll before (atStart header))
   pub ends : Finished (leftByAll code (atStart header))

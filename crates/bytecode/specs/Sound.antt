@@ -133,9 +133,9 @@ RangesAt bytes at (n ∷ ns) end =
     (at₁ : ℕ) × (at₂ : ℕ) × (at₃ : ℕ) × (signedAt bytes at ≡ got (n .low) at₁) × (signedAt bytes at₁ ≡ got (n .high) at₂) × (signedAt bytes at₂ ≡ got (n .start) at₃) × RangesAt bytes at₃ ns end
 
 -- the code is these instructions, one behind the other, from a place on: only the codes listed
-abbrev pub Spells : List ℕ → ℕ → List Instruction → Type 0
-Spells code at [] = length code ≤ at
-Spells code at (i ∷ is) = (next : ℕ) × (fetch code at ≡ got i next) × Spells code next is
+abbrev pub SpellsCode : List ℕ → ℕ → List Instruction → Type 0
+SpellsCode code at [] = length code ≤ at
+SpellsCode code at (i ∷ is) = (next : ℕ) × (fetch code at ≡ got i next) × SpellsCode code next is
 
 pub record Sound (bytes : List ℕ) : Type 0 where
   -- at most 65,536 bytes
@@ -155,5 +155,5 @@ pub record Sound (bytes : List ℕ) : Type 0 where
   pub fit : RangesFit (header .ranges)
   -- only the codes listed: the rest of the image after the header is these instructions
   pub code : List Instruction
-  pub spells : Spells (drop (header .place) bytes) 0 code
+  pub spells : SpellsCode (drop (header .place) bytes) 0 code
   pub sound : SoundCode (knownFirst (header .inputs) (length (header .ranges))) code

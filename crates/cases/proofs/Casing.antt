@@ -18,7 +18,7 @@ use Rattle.grammar.specs.Parsed.{Parsed, accepted, refused, phrase, followed}
 use Rattle.grammar.specs.Expressions.{Scope, wholeExpression}
 use Rattle.grammar.specs.Conditions.{listed}
 use Rattle.grammar.specs.Rules.{Span, Spanned, caseAt, casesFrom}
-use Rattle.grammar.specs.Emitted.{codeC, codeK}
+use Rattle.grammar.specs.Emitted.{bytesC, bytesK}
 use Rattle.grammar.proofs.Combine.{then-prop, apart, same-value}
 use Rattle.grammar.proofs.Growth.{Grown, listed-grown}
 use Rattle.grammar.proofs.Size.{Pays, case-pays}
@@ -52,7 +52,7 @@ spans-append (d ∷ cs) c = ap (λ (l : List Span). d .span ∷ l) (spans-append
 -- ---- code
 
 code-append : (v : ℕ) (cs : List Spanned) (c : Spanned) → codeOfCases v (cs ++ (c ∷ [])) ≡ codeOfCases v cs ++ codeOfCase v c
-unfolding codeK
+unfolding bytesK
 code-append v [] c = refl
 code-append v (d ∷ cs) c = rw (code-append v cs c) (simp append-assoc)
 
@@ -78,7 +78,7 @@ case-inside sc few w at n h c m =
     (λ u n2 e2. then-prop P (wholeExpression sc n2) _ (λ k q e. apart (sym e))
     (λ v n3 e3. then-prop P (phrase (sc .text) _ n3) _ (λ k q e. apart (sym e))
     (λ u2 n4 e4 e.
-    let g = subst (Grown codeC (length (sc .text)) n) e1 (listed-grown sc few n h) in
+    let g = subst (Grown bytesC (length (sc .text)) n) e1 (listed-grown sc few n h) in
     subst (λ (x : Spanned). x .span .to ≤ length (sc .text)) (same-value e) (g .1)))))
   where
     P : Parsed Spanned → Type 0
@@ -152,7 +152,7 @@ refuse : (sc : Scope) (w : List ℕ) (v at to : ℕ) (out₀ : List ℕ) {from u
 refuse sc w v at to out₀ d e = (refuses d e, record { held = λ cs n f. apart (sym f ∙ e); listed = λ cs n f. apart (sym f ∙ e) })
 
 pub casing-first : (sc : Scope) (w : List ℕ) (v at to : ℕ) (out₀ from upto : List ℕ) → Room (sc .text) at to → caseLimit ≤ length from → caseLimit ≤ length upto → Casing sc w v at to out₀ from upto out₀ at to 0
-unfolding codeK
+unfolding bytesK
 casing-first sc w v at to out₀ from upto r hf hu = record {
   done = [];
   counted = refl;

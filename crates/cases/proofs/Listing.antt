@@ -18,10 +18,10 @@ use Rattle.grammar.specs.Parsed.{Parsed, accepted, refused, andThen, sign, expe
 use Rattle.grammar.specs.Expressions.{Scope}
 use Rattle.grammar.specs.Conditions.{listed}
 use Rattle.grammar.specs.Rules.{listFrom, plainList}
-use Rattle.grammar.specs.Emitted.{codeC}
+use Rattle.grammar.specs.Emitted.{bytesC}
 use Rattle.grammar.proofs.Growth.{listed-grown}
 use Rattle.expressions.specs.Steps.{Room}
-use Rattle.expressions.specs.Internal.{Stands}
+use Rattle.expressions.specs.Internal.{StandsAt}
 use Rattle.expressions.proofs.Steps.{Refuses, Accepted, told, untold, room-after, room-next}
 use Rattle.phrases.specs.Results.{parsedOf, nothing}
 use Rattle.cases.specs.Results.{placeOnly}
@@ -119,8 +119,8 @@ module _ {sc : Scope} {at a left : ℕ} (w : Listing sc at a left) where
         pub listing-refused : {s : Step} {l q : ℕ} → s ≡ Refused l q → Refuses (sc .text) (listed sc n) l q → parsedOf nothing s ≡ placeOnly (plainList sc at)
         listing-refused d r = rw d (sym (plain-refused sc at (w .same ∙ (some-left ∙ list-refused sc (w .done) a (f .read) (left - 1) i r))))
 
-        module _ {before after : List ℕ} {h : Place} {t : ℕ} (x : Accepted (sc .text) codeC (listed sc n) 0 before after h t) where
-          here : Stands (sc .text) h
+        module _ {before after : List ℕ} {h : Place} {t : ℕ} (x : Accepted (sc .text) bytesC (listed sc n) 0 before after h t) where
+          here : StandsAt (sc .text) h
           here = x .stands
 
           pub listing-last : (h .kind ≡ kindNumber bar → ⊥) → placeOnly (plainList sc at) ≡ expected (sc .text) (sign closeRound) (h .at)

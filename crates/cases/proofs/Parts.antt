@@ -3,7 +3,7 @@ use mathlib.Core.Path.{_≡_, refl, ap, sym, _∙_}
 use mathlib.Core.List.{List, _∷_}
 use Prim.Native.Nat.{ℕ}
 use Rattle.limits.specs.Limits.{noToken}
-use Rattle.lexer.specs.Token.{Read, token, fault}
+use Rattle.lexer.specs.Token.{TokenRead, token, fault}
 use Rattle.lexer.specs.Lexer.{tokenAt}
 use Rattle.lexer.specs.declared.Place.{Place}
 use Rattle.lexer.specs.declared.Step.{Step}
@@ -31,7 +31,7 @@ module _ {A B : Type 0} (text : List ℕ) (f : A → ℕ → Parsed B) (g : (a :
   unfolding lookedAhead
   behind-refused (accepted a n) {k} {q} e = go (tokenAt text n) refl (e .looked)
     where
-      go : (r : Read) → tokenAt text n ≡ r → _≡_ {A = Parsed (Followed A)} (onToken r (λ w s m. accepted (record { part = a; kind = w; start = s; end = m }) n)) (refused k q) → f a n ≡ refused k q
+      go : (r : TokenRead) → tokenAt text n ≡ r → _≡_ {A = Parsed (Followed A)} (onToken r (λ w s m. accepted (record { part = a; kind = w; start = s; end = m }) n)) (refused k q) → f a n ≡ refused k q
       go (token w s m) i d = apart d
       go (fault p) i d = g a n p i ∙ same-refusal d
   behind-refused (refused l r) e = same-refusal (e .looked)

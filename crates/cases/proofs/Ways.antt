@@ -14,7 +14,7 @@ use Rattle.grammar.specs.Parsed.{Parsed, accepted, refused, Wanted, sign, expec
 use Rattle.grammar.specs.Expressions.{Scope, wholeExpression}
 use Rattle.grammar.specs.Conditions.{listed}
 use Rattle.grammar.specs.Rules.{caseAt, Compared, differs, firstFound}
-use Rattle.grammar.specs.Emitted.{codeE, codeC, codeK}
+use Rattle.grammar.specs.Emitted.{bytesE, bytesC, bytesK}
 use Rattle.grammar.proofs.Size.{Solid, Long, phrase-long}
 use Rattle.expressions.specs.Steps.{Room}
 use Rattle.expressions.proofs.Steps.{Refuses}
@@ -56,16 +56,16 @@ pub then-bytes : (before : List ℕ) {mid after : List ℕ} (to : ℕ) {t : ℕ}
 then-bytes before to xs ys ht hm ha = ha ∙ rw (hm, ht) (sym (sets-append before to xs ys))
 
 -- the bytes of a case, written one after another
-pub case-bytes : (before : List ℕ) {mid1 mid2 mid3 after : List ℕ} (to : ℕ) {t u x : ℕ} (v : ℕ) (k : Case) → t ≡ to + length (codeC (k .condition)) → mid1 ≡ sets before to (codeC (k .condition)) → u ≡ t + 1 → mid2 ≡ set mid1 t 19 → x ≡ u + length (codeE (k .value)) → mid3 ≡ sets mid2 u (codeE (k .value)) → after ≡ sets mid3 x (20 ∷ number v) → after ≡ sets before to (codeK v (k ∷ []))
-unfolding codeK
+pub case-bytes : (before : List ℕ) {mid1 mid2 mid3 after : List ℕ} (to : ℕ) {t u x : ℕ} (v : ℕ) (k : Case) → t ≡ to + length (bytesC (k .condition)) → mid1 ≡ sets before to (bytesC (k .condition)) → u ≡ t + 1 → mid2 ≡ set mid1 t 19 → x ≡ u + length (bytesE (k .value)) → mid3 ≡ sets mid2 u (bytesE (k .value)) → after ≡ sets mid3 x (20 ∷ number v) → after ≡ sets before to (bytesK v (k ∷ []))
+unfolding bytesK
 case-bytes before {mid1} {mid2} to {t} {u} v k ht h1 hu h2 hx h3 h4 =
     rw (append-nil (number v))
-    (then-bytes before to (codeC (k .condition)) (19 ∷ (codeE (k .value) ++ (20 ∷ number v))) ht h1
-    (then-bytes mid1 t (19 ∷ []) (codeE (k .value) ++ (20 ∷ number v)) hu h2
-    (then-bytes mid2 u (codeE (k .value)) (20 ∷ number v) hx h3 h4)))
+    (then-bytes before to (bytesC (k .condition)) (19 ∷ (bytesE (k .value) ++ (20 ∷ number v))) ht h1
+    (then-bytes mid1 t (19 ∷ []) (bytesE (k .value) ++ (20 ∷ number v)) hu h2
+    (then-bytes mid2 u (bytesE (k .value)) (20 ∷ number v) hx h3 h4)))
 
-pub case-length : (to : ℕ) {t u x y : ℕ} (v : ℕ) (k : Case) → t ≡ to + length (codeC (k .condition)) → u ≡ t + 1 → x ≡ u + length (codeE (k .value)) → y ≡ x + length (20 ∷ number v) → y ≡ to + length (codeK v (k ∷ []))
-unfolding codeK
+pub case-length : (to : ℕ) {t u x y : ℕ} (v : ℕ) (k : Case) → t ≡ to + length (bytesC (k .condition)) → u ≡ t + 1 → x ≡ u + length (bytesE (k .value)) → y ≡ x + length (20 ∷ number v) → y ≡ to + length (bytesK v (k ∷ []))
+unfolding bytesK
 case-length to v k ht hu hx hy = simp length-append (omega arith)
 
 -- ---- room

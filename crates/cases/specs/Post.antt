@@ -7,15 +7,15 @@ use Rattle.grammar.specs.Parsed.{Parsed, accepted}
 use Rattle.limits.specs.Limits.{caseLimit}
 use Rattle.grammar.specs.Expressions.{Scope}
 use Rattle.grammar.specs.Rules.{Spanned, casesOf, casesFrom}
-use Rattle.grammar.specs.Emitted.{codeK}
+use Rattle.grammar.specs.Emitted.{bytesK}
 use Rattle.agreement.specs.Spans.{spansIn, spansOf, Spans}
 
 -- the code of a case of the variable v, and of cases
 abbrev pub codeOfCase : ℕ → Spanned → List ℕ
-codeOfCase v c = codeK v (c .case ∷ [])
+codeOfCase v c = bytesK v (c .case ∷ [])
 
 abbrev pub codeOfCases : ℕ → List Spanned → List ℕ
-codeOfCases v cs = codeK v (casesOf cs)
+codeOfCases v cs = bytesK v (casesOf cs)
 
 -- where the condition of a case ends
 abbrev pub endOfCondition : Spanned → ℕ

@@ -13,7 +13,7 @@ use lib.Seq.{drop-cons}
 use lib.Signed.{mag, leZ, ltZ}
 use Rattle.arith.proofs.Basics.{and-both}
 use Rattle.clock.specs.Clock.{Entry, entriesOf, isMinute, isOffset, entryFits, entriesFit, isTable, offsetFrom, offsetAt, localAt, repeats, repeatsIn, isAgain}
-use Rattle.clock.specs.Internal.{Small}
+use Rattle.clock.specs.Internal.{SmallNumbers}
 
 short : (l : List ℤ) → length l ≤ 1 → entriesOf l ≡ []
 unfolding entriesOf
@@ -89,7 +89,7 @@ module _ (l : List ℤ) (i : ℕ) where
     unfolding repeatsIn
     repeats-goes h e = rw (entries-step h, e)
 
-  pub small-step : i + 1 < length l → Small from → (mag offset ≤ 840) × Small next
+  pub small-step : i + 1 < length l → SmallNumbers from → (mag offset ≤ 840) × SmallNumbers next
   small-step h s = rw (entries-step h) at s
 
 -- ---- the loops' beginnings, and the definitions opened once
@@ -134,7 +134,7 @@ offset-small : (o : ℤ) → isOffset o ≡ true → mag o ≤ 840
 offset-small (pos n) e = leb-true n 840 e
 offset-small (negsuc n) e = let h : n ≤ 719 = leb-true n 719 (and-both (leb n 719) true e .0) in omega arith
 
-fit-small : (last : ℤ) (t : List Entry) → entriesFit last t ≡ true → Small t
+fit-small : (last : ℤ) (t : List Entry) → entriesFit last t ≡ true → SmallNumbers t
 unfolding entriesFit
 fit-small last [] e = tt
 fit-small last (x ∷ t) e =
@@ -143,7 +143,7 @@ fit-small last (x ∷ t) e =
     let d = and-both (isMinute (x .minute)) (isOffset (x .offset)) (c .1) in
     (offset-small (x .offset) (d .1), fit-small (x .minute) t (b .1))
 
-pub table-small : (l : List ℤ) → isTable l ≡ true → Small (entriesOf l)
+pub table-small : (l : List ℤ) → isTable l ≡ true → SmallNumbers (entriesOf l)
 unfolding isTable
 table-small l e =
     let b = and-both (eqb (length l % 2) 0) _ e in
@@ -151,7 +151,7 @@ table-small l e =
     let d = and-both (leb (length (entriesOf l)) 32) _ (c .1) in
     fit-small (negsuc 0) (entriesOf l) (d .1)
 
-from-small : (held : ℤ) (t : List Entry) (u : ℤ) → mag held ≤ 840 → Small t → mag (offsetFrom held t u) ≤ 840
+from-small : (held : ℤ) (t : List Entry) (u : ℤ) → mag held ≤ 840 → SmallNumbers t → mag (offsetFrom held t u) ≤ 840
 unfolding offsetFrom
 from-small held [] u h s = h
 from-small held (x ∷ t) u h s = from-small (cond (leZ (x .minute) u) (x .offset) held) t u (go (leZ (x .minute) u)) (s .1)
@@ -160,7 +160,7 @@ from-small held (x ∷ t) u h s = from-small (cond (leZ (x .minute) u) (x .offse
     go true = s .0
     go false = h
 
-pub at-small : (t : List Entry) (u : ℤ) → Small t → mag (offsetAt t u) ≤ 840
+pub at-small : (t : List Entry) (u : ℤ) → SmallNumbers t → mag (offsetAt t u) ≤ 840
 unfolding offsetAt
 at-small [] u s = from-small (pos 0) [] u (omega arith) s
 at-small (x ∷ t) u s = from-small (x .offset) (x ∷ t) u (s .0) s

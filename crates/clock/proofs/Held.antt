@@ -12,7 +12,7 @@ use mir.Val.{SFits, toZ, ofZ}
 use mir.Facts.{toZ-ofZ}
 use Rattle.arith.proofs.Laws.{mag-add, mag-neg, mag-mul, cast64, widened}
 use Rattle.clock.specs.Clock.{Entry, offsetAt, localAt, dayOf, minuteOf}
-use Rattle.clock.specs.Internal.{Small}
+use Rattle.clock.specs.Internal.{SmallNumbers}
 use Rattle.clock.proofs.Entries.{local-is, at-small}
 use Rattle.clock.proofs.Days.{minute-pos, minute-neg}
 
@@ -125,7 +125,7 @@ pub record Timed (t : List Entry) (u o : ℤ) : Type 0 where
   pub small : mag (held (held u +ℤ held o)) < 2 ^ 41
   pub time : held (held u +ℤ held o) ≡ localAt t u
 
-pub timed : (t : List Entry) (u o : ℤ) → Small t → mag u < 2 ^ 31 → SFits w64 o → o ≡ offsetAt t (held u) → Timed t u o
+pub timed : (t : List Entry) (u o : ℤ) → SmallNumbers t → mag u < 2 ^ 31 → SFits w64 o → o ≡ offsetAt t (held u) → Timed t u o
 timed t u o s h f e =
     let a : held u ≡ u = same64 (fits64 {z = u} (omega arith)) in
     let b : held o ≡ o = same64 f in

@@ -14,7 +14,7 @@ use Rattle.limits.specs.Limits.{textLimit, nameLimit, lastMinute}
 use Rattle.limits.specs.Answer as A
 use Rattle.arith.proofs.Basics.{and-both}
 use Rattle.lexer.specs.Bytes.{bytes, part}
-use Rattle.lexer.specs.Names.{namesOf, idOf}
+use Rattle.lexer.specs.Names.{tableNames, idOf}
 use Rattle.semantics.specs.Program.{Program}
 use Rattle.grammar.specs.Parsed.{Parsed, accepted, refused}
 use Rattle.grammar.specs.Parse.{parse, programOf}
@@ -23,7 +23,7 @@ use Rattle.grammar.proofs.Places.{Within}
 use Rattle.grammar.proofs.PlacesText.{parse-limited}
 use Rattle.translate.specs.declared.Analysis.{Analysis}
 use Rattle.translate.specs.declared.Analysis.the-variants as N
-use Rattle.translate.specs.Internal.{Counts, measuresOf, analysed, measured, Analyses}
+use Rattle.translate.specs.Internal.{HeaderCounts, measuresOf, analysed, measured, Analyses}
 use Rattle.translate.proofs.Service.{measured-refused}
 use Rattle.clock.specs.declared.Filled.the-variants as F
 use Rattle.clock.specs.Clock.{Entry, entriesOf, isMinute, isTable, localAt, dayOf, minuteOf, againOf}
@@ -32,8 +32,8 @@ use Rattle.clock.specs.Results.{afterFill, FilledWithin}
 
 -- ---- the inputs are the first names of the table
 
-names-take : (text starts ends : List ℕ) (k n : ℕ) → k ≤ n → namesOf text starts ends k ≡ take k (namesOf text starts ends n)
-unfolding namesOf
+names-take : (text starts ends : List ℕ) (k n : ℕ) → k ≤ n → tableNames text starts ends k ≡ take k (tableNames text starts ends n)
+unfolding tableNames
 names-take text [] ends k n h = sym (take-nil k)
 names-take text (s ∷ starts) [] k n h = sym (take-nil k)
 names-take text (s ∷ starts) (e ∷ ends) zero n h = refl
@@ -47,12 +47,12 @@ pub record Read (text starts ends : List ℕ) (inputs : ℕ) : Type 0 where
   pub parsed : parse text ≡ accepted program end
   pub counted : inputs ≡ program .inputs
   pub few : inputs ≤ nameLimit
-  pub spelled : namesOf text starts ends inputs ≡ inputsOf program
+  pub spelled : tableNames text starts ends inputs ≡ inputsOf program
 
 measured-inputs : (y : Parsed Program) (size inputs names : ℕ) → measured y ≡ A.accepted (record { end = size; inputs = inputs; names = names }) → (q : Program) × (n : ℕ) × (y ≡ accepted q n) × (inputs ≡ q .inputs)
 measured-inputs (accepted q n) size inputs names e =
     let c : measuresOf q ≡ record { end = size; inputs = inputs; names = names } = cc in
-    (q, n, refl, sym (ap {A = Counts} (λ z. z .inputs) c))
+    (q, n, refl, sym (ap {A = HeaderCounts} (λ z. z .inputs) c))
 measured-inputs (refused i j) size inputs names e = let z : _≡_ {A = ℕ} 0 1 = cc in let f : ⊥ = omega arith in absurd f
 
 module _ (text starts ends : List ℕ) (r : Analysis) (a : Analyses text (parse text) starts ends r) where
@@ -68,7 +68,7 @@ module _ (text starts ends : List ℕ) (r : Analysis) (a : Analyses text (parse 
         parsed = x .2;
         counted = x .3;
         few = omega (arith, x .3);
-        spelled = ap (namesOf text starts ends) (x .3) ∙ (names-take text starts ends (q .inputs) (length (q .names)) h ∙ ap (take (q .inputs)) (a .named q (x .1) (x .2) .spelled));
+        spelled = ap (tableNames text starts ends) (x .3) ∙ (names-take text starts ends (q .inputs) (length (q .names)) h ∙ ap (take (q .inputs)) (a .named q (x .1) (x .2) .spelled));
       }
 
   pub refused-text : (k x : ℕ) → r ≡ N.Refused k x → parse text ≡ refused k x
@@ -82,7 +82,7 @@ length-filled (some i) z row = simp length-set
 
 module _ (text starts ends : List ℕ) (t : List Entry) (u : ℤ) (row one two three : List ℤ) (d m a : ℤ) where
   abbrev named : List ℤ → List (List ℕ)
-  named l = namesOf text starts ends (length l)
+  named l = tableNames text starts ends (length l)
 
   pub row-filled : one ≡ filledAt (idOf (named row) (bytes "day")) d row → two ≡ filledAt (idOf (named one) (bytes "minute")) m one → three ≡ filledAt (idOf (named two) (bytes "again")) a two
       → d ≡ dayOf (localAt t u) → m ≡ minuteOf (localAt t u) → a ≡ againOf t u → three ≡ rowFilled (named row) t u row
@@ -118,6 +118,6 @@ module _ (text : List ℕ) (table : List ℤ) (utc : ℤ) (row : List ℤ) where
         unfolding fillOf programOf
         length-refused e = rw (d .parsed, ok, now, ne-eqb (length row) (d .program .inputs) (λ h. e (h ∙ sym (d .counted))))
 
-        pub all-filled : (left : List ℤ) → length row ≡ inputs → left ≡ rowFilled (namesOf text starts ends (length row)) (entriesOf table) utc row → afterFill F.Done left ≡ fillOf text table utc row
+        pub all-filled : (left : List ℤ) → length row ≡ inputs → left ≡ rowFilled (tableNames text starts ends (length row)) (entriesOf table) utc row → afterFill F.Done left ≡ fillOf text table utc row
         unfolding fillOf programOf
         all-filled left e w = rw (d .parsed, ok, now, eq-eqb (length row) (d .program .inputs) (e ∙ d .counted), w, e, d .spelled)

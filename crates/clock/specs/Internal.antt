@@ -5,6 +5,6 @@ use lib.Signed.{mag}
 use Rattle.clock.specs.Clock.{Entry}
 
 -- no offset is over 840 either way
-abbrev pub Small : List Entry → Type 0
-Small [] = Unit {0}
-Small (e ∷ t) = (mag (e .offset) ≤ 840) × Small t
+abbrev pub SmallNumbers : List Entry → Type 0
+SmallNumbers [] = Unit {0}
+SmallNumbers (e ∷ t) = (mag (e .offset) ≤ 840) × SmallNumbers t

@@ -4,12 +4,12 @@ ghost use mathlib.Core.Path.{_≡_};
 ghost use Prim.Native.Nat.{_<_, _^_};
 ghost use lib.ListN.{length};
 ghost use lib.Signed.{mag};
-ghost use Rattle.lexer.specs.Names.{namesOf, idOf, Table};
-ghost use Rattle.declarations.specs.Post.{Room};
+ghost use Rattle.lexer.specs.Names.{tableNames, idOf, Table};
+ghost use Rattle.declarations.specs.Post.{TableRoom};
 ghost use Rattle.clock.specs.Clock.{entriesOf};
 ghost use Rattle.clock.specs.Services.{filledAt, rowFilled, fillOf};
 ghost use Rattle.clock.specs.Results.{afterFill, FilledWithin};
-ghost use Rattle.clock.specs.Internal.{Small};
+ghost use Rattle.clock.specs.Internal.{SmallNumbers};
 
 mod local;
 
@@ -29,7 +29,7 @@ fn fill_named(
     value: i32,
 )
     requires { ⌜ Table (now starts) (now ends) (length (now row)) ⌝ }
-    ensures { λ _. ⌜ now (row .exit) ≡ filledAt (idOf (namesOf (now (text .entry)) (now (starts .entry)) (now (ends .entry)) (length (now (row .entry)))) (now (name .entry))) value (now (row .entry)) ⌝ }
+    ensures { λ _. ⌜ now (row .exit) ≡ filledAt (idOf (tableNames (now (text .entry)) (now (starts .entry)) (now (ends .entry)) (length (now (row .entry)))) (now (name .entry))) value (now (row .entry)) ⌝ }
 {
     let mut i = 0;
     while i < row.len() {
@@ -45,8 +45,8 @@ fn fill_named(
 
 // The three values into a row whose inputs the table of names holds first.
 fn fill_row(text: &[u8], starts: &[usize], ends: &[usize], table: &[i64], utc: i64, row: &mut [i32])
-    requires { ⌜ Table (now starts) (now ends) (length (now row)) × Small (entriesOf (now table)) × (mag utc < 2 ^ 31) ⌝ }
-    ensures { λ _. ⌜ now (row .exit) ≡ rowFilled (namesOf (now (text .entry)) (now (starts .entry)) (now (ends .entry)) (length (now (row .entry)))) (entriesOf (now (table .entry))) utc (now (row .entry)) ⌝ }
+    requires { ⌜ Table (now starts) (now ends) (length (now row)) × SmallNumbers (entriesOf (now table)) × (mag utc < 2 ^ 31) ⌝ }
+    ensures { λ _. ⌜ now (row .exit) ≡ rowFilled (tableNames (now (text .entry)) (now (starts .entry)) (now (ends .entry)) (length (now (row .entry)))) (entriesOf (now (table .entry))) utc (now (row .entry)) ⌝ }
 {
     let time = utc + local::offset_at(table, utc);
     fill_named(text, starts, ends, b"day", row, local::day_of(time));
@@ -70,7 +70,7 @@ fn fill_in(
     starts: &mut [usize],
     ends: &mut [usize],
 ) -> Filled
-    requires { ⌜ Room (now starts) (now ends) 0 ⌝ }
+    requires { ⌜ TableRoom (now starts) (now ends) 0 ⌝ }
     ensures { λ r. ⌜ afterFill r (now (row .exit)) ≡ fillOf (now (text .entry)) (now (table .entry)) utc (now (row .entry)) ⌝ }
     ensures { λ r. ⌜ FilledWithin r ⌝ }
 {

@@ -6,7 +6,7 @@ ghost use lib.IntN.{negsuc, _-ℤ_};
 ghost use lib.Signed.{leZ, ltZ, mag};
 ghost use Rattle.arith.specs.Values.{eqZ};
 ghost use Rattle.clock.specs.Clock.{entriesOf, isMinute, entryFits, entriesFit, isTable, offsetAt, localAt, dayOf, minuteOf, isAgain, againOf};
-ghost use Rattle.clock.specs.Internal.{Small};
+ghost use Rattle.clock.specs.Internal.{SmallNumbers};
 
 const DAY: i64 = 1440;
 
@@ -126,7 +126,7 @@ fn repeats(table: &[i64], utc: i64, local: i64, offset: i64) -> bool
 }
 
 fn is_again(table: &[i64], utc: i64, local: i64) -> bool
-    requires { ⌜ Small (entriesOf (now table)) × (mag local < 2 ^ 41) × (local ≡ localAt (entriesOf (now table)) utc) ⌝ }
+    requires { ⌜ SmallNumbers (entriesOf (now table)) × (mag local < 2 ^ 41) × (local ≡ localAt (entriesOf (now table)) utc) ⌝ }
     ensures { λ r. ⌜ r ≡ isAgain (entriesOf (now (table .entry))) utc ⌝ }
 {
     let mut i = 0;
@@ -141,7 +141,7 @@ fn is_again(table: &[i64], utc: i64, local: i64) -> bool
 
 // 1 where an earlier minute has this local time.
 pub fn again_of(table: &[i64], utc: i64, local: i64) -> i32
-    requires { ⌜ Small (entriesOf (now table)) × (mag local < 2 ^ 41) × (local ≡ localAt (entriesOf (now table)) utc) ⌝ }
+    requires { ⌜ SmallNumbers (entriesOf (now table)) × (mag local < 2 ^ 41) × (local ≡ localAt (entriesOf (now table)) utc) ⌝ }
     ensures { λ r. ⌜ r ≡ againOf (entriesOf (now (table .entry))) utc ⌝ }
 {
     if is_again(table, utc, local) {

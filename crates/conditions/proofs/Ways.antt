@@ -14,8 +14,8 @@ use Rattle.bytecode.specs.Instructions.{comparisonCode}
 use Rattle.semantics.specs.Program.{Expression, Condition, comparison, negated}
 use Rattle.grammar.specs.Parsed.{Parsed, accepted, refused, andThen, sign, followed}
 use Rattle.grammar.specs.Expressions.{Scope, expression}
-use Rattle.grammar.specs.Conditions.{comparisonOf, compared, comparisonAt, opposite, inverted, atom, Connective, andAlso, orElse, connect, connectiveCode, andOf, orOf, square, wholeCondition, listed}
-use Rattle.grammar.specs.Emitted.{codeE, codeC}
+use Rattle.grammar.specs.Conditions.{comparisonBy, compared, comparisonAt, opposite, inverted, atom, Connective, andAlso, orElse, connect, connectiveCode, andOf, orOf, square, wholeCondition, listed}
+use Rattle.grammar.specs.Emitted.{bytesE, bytesC}
 use Rattle.grammar.proofs.Growth.{Grown, not-end, connect-code, ands-end, ors-end, comparisons-end, atom-grown, conjunction-grown, square-grown}
 use Rattle.lexer.specs.declared.Place.{Place}
 use Rattle.expressions.specs.declared.scope.Names.{Names}
@@ -23,7 +23,7 @@ use Rattle.expressions.specs.Scopes.{scopeOf, Declared}
 use Rattle.lexer.specs.declared.Step.{Step}
 use Rattle.lexer.specs.declared.Step.the-variants.{Done, Refused}
 use Rattle.expressions.specs.Steps.{stepAt, lookedAhead, Parses, Room}
-use Rattle.expressions.specs.Internal.{Codes, Stands, closedStep}
+use Rattle.expressions.specs.Internal.{Codes, StandsAt, closedStep}
 use Rattle.expressions.proofs.Steps.{Refuses, refused-now, told, untold, upTo, Accepted, accepted-by, accepts-up-to, answers, same-part, passed, then-refused, ahead-at, ahead-stands, closing, closed-parses, one-more, room-fits, room-after, room-more, room-at}
 use Rattle.expressions.proofs.Scopes.{few-names}
 use Rattle.expressions.proofs.Chain.{Operators, Operator, operator-some, operator-none}
@@ -36,10 +36,10 @@ connective-some : (o : Connective) → connectiveCode o ≡ 0 → ⊥
 connective-some andAlso e = omega arith
 connective-some orElse e = omega arith
 
-pub ands : Operators codeC connect andOf connectiveCode
+pub ands : Operators bytesC connect andOf connectiveCode
 ands = record { joined = connect-code; none-ends = ands-end; some-code = connective-some }
 
-pub ors : Operators codeC connect orOf connectiveCode
+pub ors : Operators bytesC connect orOf connectiveCode
 ors = record { joined = connect-code; none-ends = ors-end; some-code = connective-some }
 
 comparison-some : (o : Comparison) → comparisonCode o ≡ 0 → ⊥
@@ -62,22 +62,22 @@ module _ (inner : ℕ → ℕ → Parsed Expression) (sc : Scope) (at : ℕ) whe
   unfolding comparisonAt
   comparison-refuses r = then-refused (sc .text) _ compared-fault (expression inner sc at) r
 
-  module _ {to : ℕ} {before mid : List ℕ} {h : Place} {t c : ℕ} (a : Accepted (sc .text) codeE (expression inner sc at) to before mid h t) (e : Codes comparisonCode comparisonOf (h .kind) c) where
-    here : Stands (sc .text) h
+  module _ {to : ℕ} {before mid : List ℕ} {h : Place} {t c : ℕ} (a : Accepted (sc .text) bytesE (expression inner sc at) to before mid h t) (e : Codes comparisonCode comparisonBy (h .kind) c) where
+    here : StandsAt (sc .text) h
     here = a .stands
 
     -- no comparison sign behind it
     pub comparison-none : c ≡ 0 → comparisonAt inner sc at ≡ refused notAllowed (h .start)
     unfolding comparisonAt compared
-    comparison-none z = rw (a .is, here .read, operator-none comparisonOf comparisonCode (here .kind) c (e (here .kind) (here .numbered)) comparison-some z)
+    comparison-none z = rw (a .is, here .read, operator-none comparisonBy comparisonCode (here .kind) c (e (here .kind) (here .numbered)) comparison-some z)
 
     module _ (z : c ≡ 0 → ⊥) where
-      sign-of : Operator comparisonOf comparisonCode (here .kind) c
-      sign-of = operator-some comparisonOf comparisonCode (here .kind) c (e (here .kind) (here .numbered)) z
+      sign-of : Operator comparisonBy comparisonCode (here .kind) c
+      sign-of = operator-some comparisonBy comparisonCode (here .kind) c (e (here .kind) (here .numbered)) z
 
       no-end : here .kind ≡ ending → ⊥
       no-end i =
-          let f : comparisonOf ending ≡ some (sign-of .which) = ap comparisonOf (sym i) ∙ sign-of .is in
+          let f : comparisonBy ending ≡ some (sign-of .which) = ap comparisonBy (sym i) ∙ sign-of .is in
           let y : _≡_ {A = ℕ} 0 1 = cc comparisons-end in
           omega arith
 
@@ -92,21 +92,21 @@ module _ (inner : ℕ → ℕ → Parsed Expression) (sc : Scope) (at : ℕ) whe
           subst (λ (p : Parsed Condition). Refuses (sc .text) p k q) (sym second)
           (then-refused (sc .text) _ (λ b n q e. record { looked = rw e }) (expression inner sc (h .end)) r)
 
-      module _ {after : List ℕ} {g : Place} {u : ℕ} (b : Accepted (sc .text) codeE (expression inner sc (h .end)) t mid after g u) where
-        pub second-room : Room (sc .text) (h .at) t → Grown codeE (length (sc .text)) (h .end) (expression inner sc (h .end)) → Room (sc .text) (g .at) (u + 1)
+      module _ {after : List ℕ} {g : Place} {u : ℕ} (b : Accepted (sc .text) bytesE (expression inner sc (h .end)) t mid after g u) where
+        pub second-room : Room (sc .text) (h .at) t → Grown bytesE (length (sc .text)) (h .end) (expression inner sc (h .end)) → Room (sc .text) (g .at) (u + 1)
         second-room r grown = room-more r here no-end grown b .0
 
-        compared-code : codeC (comparison (sign-of .which) (a .tree) (b .tree)) ≡ codeE (a .tree) ++ (codeE (b .tree) ++ (c ∷ []))
-        unfolding codeC
-        compared-code = ap (λ (x : ℕ). codeE (a .tree) ++ (codeE (b .tree) ++ (x ∷ []))) (sym (sign-of .code))
+        compared-code : bytesC (comparison (sign-of .which) (a .tree) (b .tree)) ≡ bytesE (a .tree) ++ (bytesE (b .tree) ++ (c ∷ []))
+        unfolding bytesC
+        compared-code = ap (λ (x : ℕ). bytesE (a .tree) ++ (bytesE (b .tree) ++ (x ∷ []))) (sym (sign-of .code))
 
-        pub comparison-accepts : {v : ℕ} {last : List ℕ} → v ≡ u + 1 → last ≡ set after u c → Accepted (sc .text) codeC (comparisonAt inner sc at) to before last g v
+        pub comparison-accepts : {v : ℕ} {last : List ℕ} → v ≡ u + 1 → last ≡ set after u c → Accepted (sc .text) bytesC (comparisonAt inner sc at) to before last g v
         comparison-accepts hv hl = record {
           tree = comparison (sign-of .which) (a .tree) (b .tree);
           is = second ∙ rw (b .is);
           stands = b .stands;
           count = rw compared-code (simp length-append (omega (arith, a .count, b .count)));
-          wrote = rw (compared-code, sets-append before to (codeE (a .tree)) (codeE (b .tree) ++ (c ∷ [])), ← a .wrote, ← a .count, sets-append mid t (codeE (b .tree)) (c ∷ []), ← b .wrote, ← b .count) hl;
+          wrote = rw (compared-code, sets-append before to (bytesE (a .tree)) (bytesE (b .tree) ++ (c ∷ [])), ← a .wrote, ← a .count, sets-append mid t (bytesE (b .tree)) (c ∷ []), ← b .wrote, ← b .count) hl;
         }
 
 -- ---- the opposite
@@ -116,8 +116,8 @@ module _ {text : List ℕ} {p : Parsed Condition} where
   unfolding opposite lookedAhead
   opposite-refuses r = then-refused text _ (λ a n q e. record { looked = rw e }) p r
 
-  opposite-accepts : {to : ℕ} {before after : List ℕ} {h : Place} {t u : ℕ} {last : List ℕ} → Accepted text codeC p to before after h t → u ≡ t + 1 → last ≡ set after t 16 → Accepted text codeC (opposite p) to before last h u
-  unfolding opposite codeC
+  opposite-accepts : {to : ℕ} {before after : List ℕ} {h : Place} {t u : ℕ} {last : List ℕ} → Accepted text bytesC p to before after h t → u ≡ t + 1 → last ≡ set after t 16 → Accepted text bytesC (opposite p) to before last h u
+  unfolding opposite bytesC
   opposite-accepts a e f = one-more a (negated (a .tree)) 16 (rw (a .is)) refl e f
 
 -- ---- atoms
@@ -136,7 +136,7 @@ module _ (text starts ends : List ℕ) (names : Names) (left at : ℕ) where
 
   -- `ahead` read the token h there
   module _ (to : ℕ) {r : Step} {h : Place} (d : r ≡ Done h) (e : r ≡ stepAt (tokenAt text at) at to) where
-    first : Stands text h
+    first : StandsAt text h
     first = ahead-stands text at to d e
 
     pub atom-inverted : h .kind ≡ kindNumber tilde → atomIn left sc at ≡ invertedIn left sc (h .end)
@@ -156,15 +156,15 @@ module _ (text starts ends : List ℕ) (names : Names) (left at : ℕ) where
     unfolding inverted
     inverted-none n = rw (← ahead-at text at to d e, first .read, untold first openSquare n)
 
-    module _ (m : h .kind ≡ kindNumber openSquare) {v : ℕ} {before after : List ℕ} {p : Step} (c : Parses text codeC (square left sc (h .start) (h .end)) v before after p) where
+    module _ (m : h .kind ≡ kindNumber openSquare) {v : ℕ} {before after : List ℕ} {p : Step} (c : Parses text bytesC (square left sc (h .start) (h .end)) v before after p) where
       inverted-square : invertedIn left sc at ≡ opposite (square left sc (h .start) (h .end))
       unfolding inverted
       inverted-square = rw (← ahead-at text at to d e, first .read, told first openSquare m)
 
-      pub inverted-refuses : {k q l : ℕ} {front last : List ℕ} → p ≡ Refused k q → Parses text codeC (invertedIn left sc at) l front last p
+      pub inverted-refuses : {k q l : ℕ} {front last : List ℕ} → p ≡ Refused k q → Parses text bytesC (invertedIn left sc at) l front last p
       inverted-refuses i = same-part inverted-square (passed c i opposite-refuses)
 
-      pub inverted-accepts : {l : Place} {x : ℕ} {last : List ℕ} → p ≡ Done l → (x ≡ l .to + 1) × (last ≡ set after (l .to) 16) → Parses text codeC (invertedIn left sc at) v before last (Done (upTo l x))
+      pub inverted-accepts : {l : Place} {x : ℕ} {last : List ℕ} → p ≡ Done l → (x ≡ l .to + 1) × (last ≡ set after (l .to) 16) → Parses text bytesC (invertedIn left sc at) v before last (Done (upTo l x))
       inverted-accepts i f = same-part inverted-square (accepts-up-to refl (opposite-accepts (accepted-by c i) (f .0) (f .1)))
 
 -- ---- brackets
@@ -182,7 +182,7 @@ module _ (sc : Scope) (s n : ℕ) where
   square-some zero e = absurd (e refl)
   square-some (suc d) e = ap (λ (x : ℕ). andThen (conditionIn x sc n) (λ a m. followed (sc .text) (sign closeSquare ∷ []) a m)) (sym (down d))
 
-pub square-closes : (text starts ends : List ℕ) (names : Names) (s n left : ℕ) {to : ℕ} {before after : List ℕ} {part r : Step} → (left ≡ 0 → ⊥) → r ≡ closedStep text (kindNumber closeSquare) part → Parses text codeC (conditionIn (left - 1) (scopeOf text starts ends names) n) to before after part → Parses text codeC (square left (scopeOf text starts ends names) s n) to before after r
+pub square-closes : (text starts ends : List ℕ) (names : Names) (s n left : ℕ) {to : ℕ} {before after : List ℕ} {part r : Step} → (left ≡ 0 → ⊥) → r ≡ closedStep text (kindNumber closeSquare) part → Parses text bytesC (conditionIn (left - 1) (scopeOf text starts ends names) n) to before after part → Parses text bytesC (square left (scopeOf text starts ends names) s n) to before after r
 square-closes text starts ends names s n left z e c = same-part (square-some (scopeOf text starts ends names) s n left z) (answers e (closed-parses closeSquare _ c))
 
 pub listed-is : (sc : Scope) (n : ℕ) → listed sc n ≡ closing (sc .text) closeSquare (wholeCondition sc n)
@@ -192,14 +192,14 @@ listed-is sc n = refl
 -- ---- growth
 
 module _ {text starts ends : List ℕ} {names : Names} (d : Declared starts ends names) (left : ℕ) {at to : ℕ} (r : Room text at to) where
-  pub atom-grows : Grown codeC (length text) at (atomIn left (scopeOf text starts ends names) at)
+  pub atom-grows : Grown bytesC (length text) at (atomIn left (scopeOf text starts ends names) at)
   atom-grows = atom-grown _ (few-names text d) left at (r .within)
 
-  pub conjunction-grows : Grown codeC (length text) at (conjunctionIn left (scopeOf text starts ends names) at)
+  pub conjunction-grows : Grown bytesC (length text) at (conjunctionIn left (scopeOf text starts ends names) at)
   conjunction-grows = conjunction-grown _ (few-names text d) left at (r .within)
 
 -- behind `[c]`, whose bracket is the token h, there is room for a byte
-pub square-fits : (text starts ends : List ℕ) (names : Names) (left at to : ℕ) {u : ℕ} {before after : List ℕ} {p r : Step} {g h : Place} → p ≡ Done g → Parses text codeC (square left (scopeOf text starts ends names) (h .start) (h .end)) u before after p → r ≡ Done h → r ≡ stepAt (tokenAt text at) at to → h .kind ≡ kindNumber openSquare → Declared starts ends names → Room text at u → g .to < 2 ^ 32
+pub square-fits : (text starts ends : List ℕ) (names : Names) (left at to : ℕ) {u : ℕ} {before after : List ℕ} {p r : Step} {g h : Place} → p ≡ Done g → Parses text bytesC (square left (scopeOf text starts ends names) (h .start) (h .end)) u before after p → r ≡ Done h → r ≡ stepAt (tokenAt text at) at to → h .kind ≡ kindNumber openSquare → Declared starts ends names → Room text at u → g .to < 2 ^ 32
 unfolding is kindNumber
 square-fits text starts ends names left at to {u = u} {h = h} i c d e m declared room =
     let k = ahead-stands text at to d e in

@@ -4,8 +4,8 @@ use bytecode::opcode;
 use expressions::scope::Names;
 use lexer::Step;
 ghost use Rattle.bytecode.specs.Instructions.{comparisonCode};
-ghost use Rattle.grammar.specs.Conditions.{comparisonOf, connectiveCode, andOf, orOf, square, wholeCondition, listed};
-ghost use Rattle.grammar.specs.Emitted.{codeC};
+ghost use Rattle.grammar.specs.Conditions.{comparisonBy, connectiveCode, andOf, orOf, square, wholeCondition, listed};
+ghost use Rattle.grammar.specs.Emitted.{bytesC};
 ghost use Rattle.expressions.specs.Scopes.{scopeOf, Declared};
 ghost use Rattle.expressions.specs.Steps.{Parses, Room};
 ghost use Rattle.expressions.specs.Internal.{Codes};
@@ -13,7 +13,7 @@ ghost use Rattle.conditions.specs.Internal.{comparisonIn, invertedIn, at
 
 // The code of a comparison sign, of `&` and of `|`; 0 for any other token.
 fn comparison_code(kind: u8) -> u8
-    ensures { λ r. ⌜ Codes comparisonCode comparisonOf kind r ⌝ }
+    ensures { λ r. ⌜ Codes comparisonCode comparisonBy kind r ⌝ }
 {
     if kind == lexer::EQUALS {
         return opcode::EQUAL;
@@ -67,7 +67,7 @@ fn comparison(
 ) -> Step
     requires { ⌜ Declared (now starts) (now ends) names ⌝ }
     requires { ⌜ Room (now text) at to ⌝ }
-    ensures { λ r. ⌜ Parses (now (text .entry)) codeC (comparisonIn left (scopeOf (now (text .entry)) (now (starts .entry)) (now (ends .entry)) names) at) to (now (out .entry)) (now (out .exit)) r ⌝ }
+    ensures { λ r. ⌜ Parses (now (text .entry)) bytesC (comparisonIn left (scopeOf (now (text .entry)) (now (starts .entry)) (now (ends .entry)) names) at) to (now (out .entry)) (now (out .exit)) r ⌝ }
 {
     let first = expressions::expression(text, starts, ends, names, at, left, out, to);
     let Step::Done(sign) = first else {
@@ -98,7 +98,7 @@ fn condition(
 ) -> Step
     requires { ⌜ Declared (now starts) (now ends) names ⌝ }
     requires { ⌜ Room (now text) at to ⌝ }
-    ensures { λ r. ⌜ Parses (now (text .entry)) codeC (conditionIn left (scopeOf (now (text .entry)) (now (starts .entry)) (now (ends .entry)) names) at) to (now (out .entry)) (now (out .exit)) r ⌝ }
+    ensures { λ r. ⌜ Parses (now (text .entry)) bytesC (conditionIn left (scopeOf (now (text .entry)) (now (starts .entry)) (now (ends .entry)) names) at) to (now (out .entry)) (now (out .exit)) r ⌝ }
 {
     let first = conjunction(text, starts, ends, names, at, left, out, to);
     let Step::Done(mut behind) = first else {
@@ -131,7 +131,7 @@ fn conjunction(
 ) -> Step
     requires { ⌜ Declared (now starts) (now ends) names ⌝ }
     requires { ⌜ Room (now text) at to ⌝ }
-    ensures { λ r. ⌜ Parses (now (text .entry)) codeC (conjunctionIn left (scopeOf (now (text .entry)) (now (starts .entry)) (now (ends .entry)) names) at) to (now (out .entry)) (now (out .exit)) r ⌝ }
+    ensures { λ r. ⌜ Parses (now (text .entry)) bytesC (conjunctionIn left (scopeOf (now (text .entry)) (now (starts .entry)) (now (ends .entry)) names) at) to (now (out .entry)) (now (out .exit)) r ⌝ }
 {
     let first = atom(text, starts, ends, names, at, left, out, to);
     let Step::Done(mut behind) = first else {
@@ -164,7 +164,7 @@ fn atom(
 ) -> Step
     requires { ⌜ Declared (now starts) (now ends) names ⌝ }
     requires { ⌜ Room (now text) at to ⌝ }
-    ensures { λ r. ⌜ Parses (now (text .entry)) codeC (atomIn left (scopeOf (now (text .entry)) (now (starts .entry)) (now (ends .entry)) names) at) to (now (out .entry)) (now (out .exit)) r ⌝ }
+    ensures { λ r. ⌜ Parses (now (text .entry)) bytesC (atomIn left (scopeOf (now (text .entry)) (now (starts .entry)) (now (ends .entry)) names) at) to (now (out .entry)) (now (out .exit)) r ⌝ }
 {
     let read = expressions::ahead(text, at, to);
     let Step::Done(here) = read else {
@@ -202,7 +202,7 @@ fn inverted(
 ) -> Step
     requires { ⌜ Declared (now starts) (now ends) names ⌝ }
     requires { ⌜ Room (now text) at to ⌝ }
-    ensures { λ r. ⌜ Parses (now (text .entry)) codeC (invertedIn left (scopeOf (now (text .entry)) (now (starts .entry)) (now (ends .entry)) names) at) to (now (out .entry)) (now (out .exit)) r ⌝ }
+    ensures { λ r. ⌜ Parses (now (text .entry)) bytesC (invertedIn left (scopeOf (now (text .entry)) (now (starts .entry)) (now (ends .entry)) names) at) to (now (out .entry)) (now (out .exit)) r ⌝ }
 {
     let read = expressions::ahead(text, at, to);
     let Step::Done(here) = read else {
@@ -243,7 +243,7 @@ fn square(
 ) -> Step
     requires { ⌜ Declared (now starts) (now ends) names ⌝ }
     requires { ⌜ Room (now text) end to ⌝ }
-    ensures { λ r. ⌜ Parses (now (text .entry)) codeC (square left (scopeOf (now (text .entry)) (now (starts .entry)) (now (ends .entry)) names) start end) to (now (out .entry)) (now (out .exit)) r ⌝ }
+    ensures { λ r. ⌜ Parses (now (text .entry)) bytesC (square left (scopeOf (now (text .entry)) (now (starts .entry)) (now (ends .entry)) names) start end) to (now (out .entry)) (now (out .exit)) r ⌝ }
 {
     if left == 0 {
         return Step::Refused(limits::TOO_MANY, start);
@@ -264,7 +264,7 @@ fn whole_condition(
 ) -> Step
     requires { ⌜ Declared (now starts) (now ends) names ⌝ }
     requires { ⌜ Room (now text) at to ⌝ }
-    ensures { λ r. ⌜ Parses (now (text .entry)) codeC (wholeCondition (scopeOf (now (text .entry)) (now (starts .entry)) (now (ends .entry)) names) at) to (now (out .entry)) (now (out .exit)) r ⌝ }
+    ensures { λ r. ⌜ Parses (now (text .entry)) bytesC (wholeCondition (scopeOf (now (text .entry)) (now (starts .entry)) (now (ends .entry)) names) at) to (now (out .entry)) (now (out .exit)) r ⌝ }
 {
     condition(
         text,
@@ -290,7 +290,7 @@ pub fn listed(
 ) -> Step
     requires { ⌜ Declared (now starts) (now ends) names ⌝ }
     requires { ⌜ Room (now text) at to ⌝ }
-    ensures { λ r. ⌜ Parses (now (text .entry)) codeC (listed (scopeOf (now (text .entry)) (now (starts .entry)) (now (ends .entry)) names) at) to (now (out .entry)) (now (out .exit)) r ⌝ }
+    ensures { λ r. ⌜ Parses (now (text .entry)) bytesC (listed (scopeOf (now (text .entry)) (now (starts .entry)) (now (ends .entry)) names) at) to (now (out .entry)) (now (out .exit)) r ⌝ }
 {
     let inner = whole_condition(text, starts, ends, names, at, out, to);
     expressions::closed(text, inner, lexer::CLOSE_SQUARE)

@@ -15,7 +15,7 @@ use Rattle.grammar.proofs.ConverseText.{accepted-exactly}
 use Rattle.translate.specs.Services as S
 use Rattle.translate.specs.Services.{AfterTranslation}
 use Rattle.translate.proofs.Kept.{image-stored, stored-image}
-use Rattle.correctness.specs.Examples.{written, examples}
+use Rattle.correctness.specs.Examples.{imageWritten, examples}
 use Rattle.correctness.specs.Demand2.{Demand2Of}
 use Rattle.correctness.proofs.Table.{examples-hold}
 
@@ -27,10 +27,10 @@ record WithImage (text image : List ℕ) : Type 0 where
   spelled : Spelled text program
   image-is : imageOf program ≡ image
 
-with-image : (text buffer image : List ℕ) → written (S.translationOf text buffer .answer) (S.translationOf text buffer .buffer) ≡ accepted image → WithImage text image
+with-image : (text buffer image : List ℕ) → imageWritten (S.translationOf text buffer .answer) (S.translationOf text buffer .buffer) ≡ accepted image → WithImage text image
 with-image text buffer image = go (S.translationOf text buffer .answer) refl
   where
-    go : (a : Answer ℕ) → S.translationOf text buffer .answer ≡ a → written a (S.translationOf text buffer .buffer) ≡ accepted image → WithImage text image
+    go : (a : Answer ℕ) → S.translationOf text buffer .answer ≡ a → imageWritten a (S.translationOf text buffer .buffer) ≡ accepted image → WithImage text image
     go (accepted n) h e =
         let x = image-stored text buffer n h in
         let b : take n (S.translationOf text buffer .buffer) ≡ image = cc in

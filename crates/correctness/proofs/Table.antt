@@ -21,10 +21,10 @@ use Rattle.correctness.specs.TraceCorrect.{scansOf}
 use Rattle.translate.specs.Services.{translationOf}
 use Rattle.grammar.specs.Parse.{program, parse, programOf}
 use Rattle.grammar.specs.Rules.{caseAt, casesFrom, listFrom, plainList, partFrom, kindAt, partsFrom, firstFound, agreeingList, functionAt, changeAt, formulas, ruleAt, rulesFrom}
-use Rattle.grammar.specs.Declarations.{inRange, signedAt as signedLiteralAt, boundAt, newName, startAt, declaration, declarationsFrom, declarations}
-use Rattle.grammar.specs.Conditions.{comparisonOf, compared, comparisonAt, opposite, inverted, atom, connect, andOf, orOf, conjunction, condition, square, wholeCondition, listed}
+use Rattle.grammar.specs.Declarations.{inRange, signedDigits as signedLiteralAt, boundAt, newName, startAt, declaration, declarationsFrom, declarations}
+use Rattle.grammar.specs.Conditions.{comparisonBy, compared, comparisonAt, opposite, inverted, atom, connect, andOf, orOf, conjunction, condition, square, wholeCondition, listed}
 use Rattle.lexer.specs.Names.{idFrom, idOf}
-use Rattle.grammar.specs.Expressions.{withId, currentAt, previousAt as previousValueAt, numberAt as literalAt, primary, negative, factor, productOf, sumOf, term, expression, bracket, wholeExpression}
+use Rattle.grammar.specs.Expressions.{withId, currentAt, previousValueAt, constantAt as literalAt, primary, negative, factor, productOf, sumOf, term, expression, bracket, wholeExpression}
 use Rattle.grammar.specs.Parsed.{expected, phrase, followed, rest, chain}
 use Rattle.lexer.specs.Lexer.{isSpace, isDigit, isLetter, isAlphanumeric, runOn, runEnd, sameName, wordOf, overLong, pairOf, signOf, readOf, signAt, wordAt, digitsAt, previousAt, tokenOf, tokenPast, tokenAt, sameToken, valueOn, valueOf}
 use Rattle.lexer.specs.Token.{kindNumber, is}
@@ -154,7 +154,7 @@ all-hold [] h = tt
 all-hold (e ∷ es) h = (test-holds e (and-left (test e) _ h), all-hold es (and-right (test e) _ h))
 
 computed : T (testAll examples)
-unfolding sameBytesOf kindNumber is isSpace isDigit isLetter isAlphanumeric runOn runEnd sameName wordOf overLong pairOf signOf readOf signAt wordAt digitsAt previousAt tokenOf tokenPast tokenAt sameToken valueOn valueOf expected phrase followed rest chain idFrom idOf withId currentAt previousValueAt literalAt primary negative factor productOf sumOf term expression bracket wholeExpression comparisonOf compared comparisonAt opposite inverted atom connect andOf orOf conjunction condition square wholeCondition listed inRange signedLiteralAt boundAt newName startAt declaration declarationsFrom declarations caseAt casesFrom listFrom plainList partFrom kindAt partsFrom firstFound agreeingList functionAt changeAt formulas ruleAt rulesFrom program parse groups number zigzag unzigzag grouped numberIn below32 numberAt signedAt instructionOf hasOperand fetch imageOf checkCounts checkRange checkHeader checkBody checkOf headerOf codeOf bit yes within picked arithmetic negation compares programOf translationOf startOf scanCode scanOf
+unfolding sameBytesOf kindNumber is isSpace isDigit isLetter isAlphanumeric runOn runEnd sameName wordOf overLong pairOf signOf readOf signAt wordAt digitsAt previousAt tokenOf tokenPast tokenAt sameToken valueOn valueOf expected phrase followed rest chain idFrom idOf withId currentAt previousValueAt literalAt primary negative factor productOf sumOf term expression bracket wholeExpression comparisonBy compared comparisonAt opposite inverted atom connect andOf orOf conjunction condition square wholeCondition listed inRange signedLiteralAt boundAt newName startAt declaration declarationsFrom declarations caseAt casesFrom listFrom plainList partFrom kindAt partsFrom firstFound agreeingList functionAt changeAt formulas ruleAt rulesFrom program parse groups number zigzag unzigzag grouped numberIn below32 numberAt signedAt instructionOf hasOperand fetch imageOf checkCounts checkRange checkHeader checkBody checkOf headerOf codeOf bit yes within picked arithmetic negation compares programOf translationOf startOf scanCode scanOf
 computed = tt
 
 pub examples-hold : AllHold examples

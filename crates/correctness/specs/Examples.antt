@@ -17,17 +17,17 @@ pub data Given : Type 0 where
   text : List ℕ → Given
   image : List ℕ → Given
 
--- the image written, the first bytes of the buffer left; or the refusal
-abbrev pub written : Answer ℕ → List ℕ → Answer (List ℕ)
-written (accepted n) buffer = accepted (take n buffer)
-written (refused number place) buffer = refused number place
+-- the image imageWritten, the first bytes of the buffer left; or the refusal
+abbrev pub imageWritten : Answer ℕ → List ℕ → Answer (List ℕ)
+imageWritten (accepted n) buffer = accepted (take n buffer)
+imageWritten (refused number place) buffer = refused number place
 
--- texts are translated into a buffer of 128 bytes
-abbrev pub translated : AfterTranslation → Answer (List ℕ)
-translated r = written (r .answer) (r .buffer)
+-- texts are translatedTo into a buffer of 128 bytes
+abbrev pub translatedTo : AfterTranslation → Answer (List ℕ)
+translatedTo r = imageWritten (r .answer) (r .buffer)
 
 abbrev pub imageGiven : Given → Answer (List ℕ)
-imageGiven (text t) = translated (translationOf t (replicate 128 255))
+imageGiven (text t) = translatedTo (translationOf t (replicate 128 255))
 imageGiven (image b) = accepted b
 
 -- the image, or the refusal of the text; what check and start answer of it; the state after start; the rows, and what each scan answers

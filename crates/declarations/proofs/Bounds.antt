@@ -21,12 +21,12 @@ use Rattle.lexer.specs.Token.{Kind, digits, initWord, semicolon, minus, is, tok
 use Rattle.lexer.specs.Lexer.{tokenAt, valueOf}
 use Rattle.lexer.proofs.Laws.{cond-prop}
 use Rattle.grammar.specs.Parsed.{Parsed, accepted, refused, sign, expected, phrase, followed}
-use Rattle.grammar.specs.Declarations.{inRange, signedAt, boundAt, startAt}
+use Rattle.grammar.specs.Declarations.{inRange, signedDigits, boundAt, startAt}
 use Rattle.lexer.specs.declared.Step.{Step}
 use Rattle.lexer.specs.declared.Step.the-variants.{Refused}
 use Rattle.phrases.specs.Results.{parsedOf, nothing, valueTold}
 use Rattle.declarations.specs.Internal.{signedBy}
-use Rattle.declarations.specs.Results.{numberOf}
+use Rattle.declarations.specs.Results.{boundedNumber}
 use Rattle.declarations.specs.declared.Number.{Number}
 use Rattle.declarations.specs.declared.Number.the-variants.{Is, Outside}
 use Rattle.declarations.proofs.Numbers.{kept, between}
@@ -93,24 +93,24 @@ module _ (low high : ℤ) (fl : SFits w32 low) (fh : SFits w32 high) where
   -- ---- the digits of a number
 
   module _ (text : List ℕ) (neg : Bool) (k : Kind) (s n : ℕ) where
-    pub no-digits : is k digits ≡ false → refused notAllowed s ≡ signedAt (inRange low high) (signedBy neg) text k s n
-    unfolding signedAt
+    pub no-digits : is k digits ≡ false → refused notAllowed s ≡ signedDigits (inRange low high) (signedBy neg) text k s n
+    unfolding signedDigits
     no-digits d = rw d
 
-    module _ (v : ℕ) (d : is k digits ≡ true) (hv : v ≡ min (valueOf (part text s n)) (2 ^ 32)) {num : Number} (hn : numberOf num ≡ cond (inRange low high (signedBy neg (pos v))) (some (signedBy neg (pos v))) none) where
-      pub digits-in : {z : ℤ} → num ≡ Is z → accepted z n ≡ signedAt (inRange low high) (signedBy neg) text k s n
-      unfolding signedAt
+    module _ (v : ℕ) (d : is k digits ≡ true) (hv : v ≡ min (valueOf (part text s n)) (2 ^ 32)) {num : Number} (hn : boundedNumber num ≡ cond (inRange low high (signedBy neg (pos v))) (some (signedBy neg (pos v))) none) where
+      pub digits-in : {z : ℤ} → num ≡ Is z → accepted z n ≡ signedDigits (inRange low high) (signedBy neg) text k s n
+      unfolding signedDigits
       digits-in {z} g =
-          let p = some-cond (inRange low high (signedBy neg (pos v))) (signedBy neg (pos v)) z (sym (ap numberOf g) ∙ hn) in
+          let p = some-cond (inRange low high (signedBy neg (pos v))) (signedBy neg (pos v)) z (sym (ap boundedNumber g) ∙ hn) in
           let c = capped-same neg (valueOf (part text s n)) in
           let i : inRange low high (capped neg (valueOf (part text s n))) ≡ true = rw hv at (p .0) in
           let w : z ≡ whole neg (valueOf (part text s n)) = p .1 ∙ ap (λ (m : ℕ). signedBy neg (pos m)) hv ∙ c .1 i in
           rw (d, c .0 ∙ i, w)
 
-      pub digits-out : num ≡ Outside → refused outOfLimit s ≡ signedAt (inRange low high) (signedBy neg) text k s n
-      unfolding signedAt
+      pub digits-out : num ≡ Outside → refused outOfLimit s ≡ signedDigits (inRange low high) (signedBy neg) text k s n
+      unfolding signedDigits
       digits-out g =
-          let p = none-cond (inRange low high (signedBy neg (pos v))) (signedBy neg (pos v)) (sym (ap numberOf g) ∙ hn) in
+          let p = none-cond (inRange low high (signedBy neg (pos v))) (signedBy neg (pos v)) (sym (ap boundedNumber g) ∙ hn) in
           let c = capped-same neg (valueOf (part text s n)) in
           let i : inRange low high (capped neg (valueOf (part text s n))) ≡ false = rw hv at p in
           rw (d, c .0 ∙ i)
@@ -140,12 +140,12 @@ module _ (test : ℤ → Bool) (text : List ℕ) (at : ℕ) where
   bound-fault p e = rw e
 
   module _ (k : Kind) (s n : ℕ) (e : tokenAt text at ≡ token k s n) where
-    pub bound-plain : is k minus ≡ false → boundAt test text at ≡ signedAt test (signedBy false) text k s n
+    pub bound-plain : is k minus ≡ false → boundAt test text at ≡ signedDigits test (signedBy false) text k s n
     unfolding boundAt
     bound-plain m = rw (e, m)
 
     module _ (m : is k minus ≡ true) where
-      pub bound-minus : (k2 : Kind) (s2 n2 : ℕ) → tokenAt text n ≡ token k2 s2 n2 → boundAt test text at ≡ signedAt test (signedBy true) text k2 s2 n2
+      pub bound-minus : (k2 : Kind) (s2 n2 : ℕ) → tokenAt text n ≡ token k2 s2 n2 → boundAt test text at ≡ signedDigits test (signedBy true) text k2 s2 n2
       unfolding boundAt
       bound-minus k2 s2 n2 f = rw (e, m, f)
 
@@ -155,12 +155,12 @@ module _ (test : ℤ → Bool) (text : List ℕ) (at : ℕ) where
 
 -- ---- the start and the `;`
 
-module _ (low high : ℤ) (s : ℕ) {num : Number} (hn : numberOf num ≡ cond (inRange low high (pos 0)) (some (pos 0)) none) where
+module _ (low high : ℤ) (s : ℕ) {num : Number} (hn : boundedNumber num ≡ cond (inRange low high (pos 0)) (some (pos 0)) none) where
   pub absent-out : (n : ℕ) → num ≡ Outside → refused outOfLimit s ≡ cond (inRange low high (pos 0)) (accepted (pos 0) n) (refused outOfLimit s)
-  absent-out n g = rw (none-cond (inRange low high (pos 0)) (pos 0) (sym (ap numberOf g) ∙ hn))
+  absent-out n g = rw (none-cond (inRange low high (pos 0)) (pos 0) (sym (ap boundedNumber g) ∙ hn))
 
   pub absent-in : {z : ℤ} (n : ℕ) → SFits w32 z → num ≡ Is z → accepted (kept z) n ≡ cond (inRange low high (pos 0)) (accepted (pos 0) n) (refused outOfLimit s)
-  absent-in {z} n f g = let p = some-cond (inRange low high (pos 0)) (pos 0) z (sym (ap numberOf g) ∙ hn) in rw (p .0, same32 f, p .1)
+  absent-in {z} n f g = let p = some-cond (inRange low high (pos 0)) (pos 0) z (sym (ap boundedNumber g) ∙ hn) in rw (p .0, same32 f, p .1)
 
 module _ (text : List ℕ) (low high : ℤ) (at : ℕ) where
   pub start-fault : (p : ℕ) → tokenAt text at ≡ fault p → startAt text low high at ≡ refused noToken p

@@ -14,8 +14,8 @@ use Rattle.lexer.specs.declared.Step.the-variants.{Done, Refused}
 use Rattle.phrases.specs.Results.{parsedOf, nothing, answered, Writes}
 use Rattle.phrases.proofs.Writing.{got, refuses}
 use Rattle.grammar.proofs.Combine.{then-then, never}
-use Rattle.declarations.specs.Internal.{rangeAt, rangeBytes}
-use Rattle.declarations.specs.Post.{Holds, Names, Declares}
+use Rattle.declarations.specs.Internal.{declaredRange, rangeBytes}
+use Rattle.declarations.specs.Post.{TableHolds, Names, DeclaresOne}
 use Rattle.declarations.proofs.Numbers.{range-bytes}
 use Rattle.declarations.proofs.Steps.{After, after, refused-then}
 
@@ -29,8 +29,8 @@ no-new-name : (text : List ℕ) (names : List Name) (at k p : ℕ) → newName t
 unfolding declaration
 no-new-name text names at k p e = rw e
 
-named-range : (text : List ℕ) (names : List Name) (at : ℕ) (w : List ℕ) (n : ℕ) → newName text names at ≡ accepted w n → declaration text names at ≡ andThen (rangeAt text n) (λ r m. accepted (spelledAs w r) m)
-unfolding declaration rangeAt
+named-range : (text : List ℕ) (names : List Name) (at : ℕ) (w : List ℕ) (n : ℕ) → newName text names at ≡ accepted w n → declaration text names at ≡ andThen (declaredRange text n) (λ r m. accepted (spelledAs w r) m)
+unfolding declaration declaredRange
 named-range text names at w n e = rw e (simp then-then)
 
 -- no more than fifteen bytes are written
@@ -48,9 +48,9 @@ step-refused k p x h = let z : _≡_ {A = ℕ} 0 1 = cc in absurd (omega arith)
 
 module _ (text starts ends : List ℕ) (at to count : ℕ) (before mid starts' ends' : List ℕ) where
   abbrev Answers : Step → Type 0
-  Answers r = ((names : List Name) → Holds text starts ends count names → Declares text names at to count before mid starts' ends' r) × ((x : Place) → r ≡ Done x → (count < 64) × (x .to ≤ to + 15))
+  Answers r = ((names : List Name) → TableHolds text starts ends count names → DeclaresOne text names at to count before mid starts' ends' r) × ((x : Place) → r ≡ Done x → (count < 64) × (x .to ≤ to + 15))
 
-  module _ {named : Step} (h : (names : List Name) → Holds text starts ends count names → Names text names at count starts' ends' named) where
+  module _ {named : Step} (h : (names : List Name) → TableHolds text starts ends count names → Names text names at count starts' ends' named) where
     pub unnamed : {k q : ℕ} → named ≡ Refused k q → Answers named
     unnamed {k} {q} g = (
       λ names held.
@@ -59,23 +59,23 @@ module _ (text starts ends : List ℕ) (at to count : ℕ) (before mid starts' e
       λ x f. step-refused k q x (sym g ∙ f),
     )
 
-    module _ {next : Place} (g : named ≡ Done next) {r : Step} (w : Writes rangeBytes nothing (λ _. tt) (rangeAt text (next .at)) to before mid r) where
-      module _ (names : List Name) (held : Holds text starts ends count names) where
+    module _ {next : Place} (g : named ≡ Done next) {r : Step} (w : Writes rangeBytes nothing (λ _. tt) (declaredRange text (next .at)) to before mid r) where
+      module _ (names : List Name) (held : TableHolds text starts ends count names) where
         new : After (λ (x : List ℕ). tt {0}) (newName text names at) tt (next .at)
         new = after (λ (x : List ℕ). tt {0}) (newName text names at) tt (next .at) (sym (h names held .answer) ∙ ap (parsedOf nothing) g)
 
-        is : declaration text names at ≡ andThen (rangeAt text (next .at)) (λ r m. accepted (spelledAs (new .0) r) m)
+        is : declaration text names at ≡ andThen (declaredRange text (next .at)) (λ r m. accepted (spelledAs (new .0) r) m)
         is = named-range text names at (new .0) (next .at) (new .1)
 
-        declared : Declares text names at to count before mid starts' ends' r
+        declared : DeclaresOne text names at to count before mid starts' ends' r
         unfolding header rangeBytes
         declared = record {
           writes = record {
-            answer = w .answer ∙ sym (ap (λ (p : Parsed Name). andThen p (answered (λ (x : Name). header (x ∷ [])) (λ (x : Name). tt {0}) to)) is ∙ then-then (rangeAt text (next .at)) _ _);
-            wrote = λ x m f. let a = after (spelledAs (new .0)) (rangeAt text (next .at)) x m (sym is ∙ f) in rw (a .2) (w .wrote (a .0) m (a .1));
+            answer = w .answer ∙ sym (ap (λ (p : Parsed Name). andThen p (answered (λ (x : Name). header (x ∷ [])) (λ (x : Name). tt {0}) to)) is ∙ then-then (declaredRange text (next .at)) _ _);
+            wrote = λ x m f. let a = after (spelledAs (new .0)) (declaredRange text (next .at)) x m (sym is ∙ f) in rw (a .2) (w .wrote (a .0) m (a .1));
           };
           named = λ x m f.
-              let a = after (spelledAs (new .0)) (rangeAt text (next .at)) x m (sym is ∙ f) in
+              let a = after (spelledAs (new .0)) (declaredRange text (next .at)) x m (sym is ∙ f) in
               record {
                 counted = simp length-append (omega (arith, held .counted));
                 spelled = h names held .named (new .0) (next .at) (new .1) ∙ sym (spellings-more names x ∙ ap (λ (y : Name). spellings names ++ (y .spelling ∷ [])) (a .2));
@@ -83,4 +83,4 @@ module _ (text starts ends : List ℕ) (at to count : ℕ) (before mid starts' e
         }
 
       pub entered : count < 64 → Answers r
-      entered few = (declared, λ x f. (few, few-bytes (rangeAt text (next .at)) to before mid r x w f))
+      entered few = (declared, λ x f. (few, few-bytes (declaredRange text (next .at)) to before mid r x w f))

@@ -7,7 +7,7 @@ use lib.ListN.{length}
 use lib.Seq.{sets, drop-append-seam}
 use Rattle.lexer.specs.Token.{Kind, is}
 use Rattle.lexer.specs.Lexer.{tokenAt}
-use Rattle.lexer.specs.Names.{namesOf}
+use Rattle.lexer.specs.Names.{tableNames}
 use Rattle.lexer.proofs.Laws.{cond-prop}
 use Rattle.semantics.specs.Program.{Name}
 use Rattle.grammar.specs.Parsed.{Parsed, accepted, refused}
@@ -18,12 +18,12 @@ use Rattle.lexer.specs.declared.Place.{Place}
 use Rattle.lexer.specs.declared.Step.{Step}
 use Rattle.lexer.specs.declared.Step.the-variants.{Done, Refused}
 use Rattle.phrases.proofs.Writing.{got, refused-part}
-use Rattle.declarations.specs.Post.{Holds, headerAfter, DeclaresAll}
+use Rattle.declarations.specs.Post.{TableHolds, headerAfter, DeclaresAll}
 use Rattle.declarations.proofs.Loop.{header-append}
 
 -- an empty table holds no names
-pub holds-none : (text starts ends : List ℕ) → Holds text starts ends 0 []
-unfolding namesOf
+pub holds-none : (text starts ends : List ℕ) → TableHolds text starts ends 0 []
+unfolding tableNames
 holds-none text [] ends = record { counted = refl; spelled = refl }
 holds-none text (s ∷ starts) [] = record { counted = refl; spelled = refl }
 holds-none text (s ∷ starts) (e ∷ ends) = record { counted = refl; spelled = refl }
@@ -37,7 +37,7 @@ pub record AllDeclared (word : Kind) (text : List ℕ) (names : List Name) (at t
   pub counted : c ≡ length all
   pub ended : t ≡ to + length (headerAfter names all)
   pub wrote : after ≡ sets before to (headerAfter names all)
-  pub held : Holds text starts ends c all
+  pub held : TableHolds text starts ends c all
 
 module _ (word : Kind) (text : List ℕ) (names : List Name) (at to : ℕ) (before after' starts ends : List ℕ) {r : Step} (d : DeclaresAll word text names at to before after' starts ends r) where
   pub all-declared : {x : Place} → r ≡ Done x → AllDeclared word text names at to before after' starts ends (x .at) (x .to) (x .number)
@@ -49,7 +49,7 @@ module _ (word : Kind) (text : List ℕ) (names : List Name) (at to : ℕ) (befo
         counted = a .tells-it;
         ended = a .ended;
         wrote = a .wrote;
-        held = subst (λ (m : ℕ). Holds text starts ends m (a .tree)) (sym (a .tells-it)) (d .named (a .tree) (x .at) (a .is));
+        held = subst (λ (m : ℕ). TableHolds text starts ends m (a .tree)) (sym (a .tells-it)) (d .named (a .tree) (x .at) (a .is));
       }
 
   pub not-declared : {k p : ℕ} → r ≡ Refused k p → declarations word text names at ≡ refused k p

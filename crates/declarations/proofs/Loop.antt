@@ -21,7 +21,7 @@ use Rattle.phrases.proofs.Writing.{got, refused-part, writes}
 use Rattle.phrases.proofs.Writing as W
 use Rattle.leb128.proofs.Stores.{sets-append}
 use Rattle.grammar.proofs.Combine.{same-value, never}
-use Rattle.declarations.specs.Post.{Room, Holds, Declares, headerAfter, DeclaresAll, Few}
+use Rattle.declarations.specs.Post.{TableRoom, TableHolds, DeclaresOne, headerAfter, DeclaresAll, FewDeclared}
 
 pub header-append : (l k : List Name) → header (l ++ k) ≡ header l ++ header k
 unfolding header
@@ -54,13 +54,13 @@ pub record Going (word : Kind) (text : List ℕ) (names : List Name) (at to : �
   pub fuel : ℕ
   pub enough : 64 ≤ fuel + known
   pub new : List Name
-  pub held : Holds text starts ends known (names ++ new)
+  pub held : TableHolds text starts ends known (names ++ new)
   pub goes : declarations word text names at ≡ declarationsFrom (suc fuel) word text (names ++ new) a
   pub ended : t ≡ to + length (header new)
   pub wrote : after ≡ sets before to (header new)
 
 module _ (word : Kind) (text : List ℕ) (names : List Name) (at to : ℕ) (before : List ℕ) where
-  pub begins : (starts₀ ends₀ : List ℕ) (count : ℕ) → Holds text starts₀ ends₀ count names → Going word text names at to before starts₀ ends₀ before at count to
+  pub begins : (starts₀ ends₀ : List ℕ) (count : ℕ) → TableHolds text starts₀ ends₀ count names → Going word text names at to before starts₀ ends₀ before at count to
   unfolding declarations header
   begins starts₀ ends₀ count h = record {
     fuel = 64;
@@ -87,11 +87,11 @@ module _ (word : Kind) (text : List ℕ) (names : List Name) (at to : ℕ) (befo
           let seam : drop (length names) (names ++ g .new) ≡ g .new = drop-append-seam names (g .new) in
           record {
             writes = writes i (record { tree = names ++ g .new; is = d; ended = rw seam (g .ended); tells-it = g .held .counted; wrote = rw seam (g .wrote) });
-            named = λ all m j. subst (λ (l : List Name). Holds text starts ends (length l) l) (same-value (sym d ∙ j)) (rw (g .held .counted) at (g .held));
+            named = λ all m j. subst (λ (l : List Name). TableHolds text starts ends (length l) l) (same-value (sym d ∙ j)) (rw (g .held .counted) at (g .held));
           }
 
       module _ (f : is k word ≡ true) (mid starts' ends' : List ℕ) where
-        module _ {one : Step} (d : Declares text (names ++ g .new) n t known after' mid starts' ends' one) where
+        module _ {one : Step} (d : DeclaresOne text (names ++ g .new) n t known after' mid starts' ends' one) where
           pub stops-at : {q p : ℕ} → one ≡ Refused q p → DeclaresAll word text names at to before mid starts' ends' one
           stops-at {q} {p} h = refuses mid starts' ends' q p h (g .goes ∙ turn-refused (g .fuel) word text (names ++ g .new) a k s n e q p f (refused-part (d .writes) h))
 
@@ -113,10 +113,10 @@ module _ (word : Kind) (text : List ℕ) (names : List Name) (at to : ℕ) (befo
               }
 
 -- a refusal says nothing of them, and the end of the loop what holds there
-pub few-refused : (to : ℕ) {r : Step} {k p : ℕ} → r ≡ Refused k p → Few to r
+pub few-refused : (to : ℕ) {r : Step} {k p : ℕ} → r ≡ Refused k p → FewDeclared to r
 few-refused to e = rw e tt
 
-pub few-reached : (to : ℕ) {r : Step} {a t known : ℕ} → r ≡ reachedAt a t known → known ≤ 64 → t ≤ to + 15 * known → Few to r
+pub few-reached : (to : ℕ) {r : Step} {a t known : ℕ} → r ≡ reachedAt a t known → known ≤ 64 → t ≤ to + 15 * known → FewDeclared to r
 few-reached to e h i = rw e (h, i)
 
 -- ---- the invariant: as many names as there may be, no more than fifteen bytes for each, and the loop going on from any list of names
@@ -128,10 +128,10 @@ pub record Turning (word : Kind) (text : List ℕ) (at to : ℕ) (before starts�
   pub starts-kept : length starts ≡ length starts₀
   pub ends-kept : length ends ≡ length ends₀
   pub after-kept : length after ≡ length before
-  pub going : (names : List Name) → Holds text starts₀ ends₀ count names → Going word text names at to before starts ends after a known t
+  pub going : (names : List Name) → TableHolds text starts₀ ends₀ count names → Going word text names at to before starts ends after a known t
 
 module _ (word : Kind) (text : List ℕ) (at to : ℕ) (before starts₀ ends₀ : List ℕ) (count : ℕ) where
-  pub turning : Room starts₀ ends₀ count → Turning word text at to before starts₀ ends₀ count starts₀ ends₀ before at count to
+  pub turning : TableRoom starts₀ ends₀ count → Turning word text at to before starts₀ ends₀ count starts₀ ends₀ before at count to
   turning r = record {
     few = r .few;
     bytes = omega arith;
@@ -142,14 +142,14 @@ module _ (word : Kind) (text : List ℕ) (at to : ℕ) (before starts₀ ends₀
   }
 
   module _ (starts ends after' : List ℕ) (a known t : ℕ) (g : Turning word text at to before starts₀ ends₀ count starts ends after' a known t) where
-    pub room : Room starts₀ ends₀ count → Room starts ends known
+    pub room : TableRoom starts₀ ends₀ count → TableRoom starts ends known
     room r = record { few = g .few; in-starts = omega (arith, r .in-starts, g .starts-kept); in-ends = omega (arith, r .in-ends, g .ends-kept) }
 
     module _ (k : Kind) (s n : ℕ) (e : tokenAt text a ≡ token k s n) (f : is k word ≡ true) (mid starts' ends' : List ℕ) {one : Step}
-        (d : (names : List Name) → Holds text starts ends known names → Declares text names n t known after' mid starts' ends' one)
+        (d : (names : List Name) → TableHolds text starts ends known names → DeclaresOne text names n t known after' mid starts' ends' one)
         (l : (x : Place) → one ≡ Done x → (known < 64) × (x .to ≤ t + 15))
       where
-        pub turns-out : {q p : ℕ} → one ≡ Refused q p → (names : List Name) → Holds text starts₀ ends₀ count names → DeclaresAll word text names at to before mid starts' ends' one
+        pub turns-out : {q p : ℕ} → one ≡ Refused q p → (names : List Name) → TableHolds text starts₀ ends₀ count names → DeclaresAll word text names at to before mid starts' ends' one
         turns-out h names held =
             let go = g .going names held in
             stops-at word text names at to before starts ends after' a known t go k s n e f mid starts' ends' (d (names ++ go .new) (go .held)) h

@@ -12,7 +12,7 @@ use Rattle.limits.specs.Limits.{nameLimit, noToken, notAllowed, wrongName, tooM
 use Rattle.lexer.specs.Bytes.{part}
 use Rattle.lexer.specs.Token.{Kind, name, is, token, fault}
 use Rattle.lexer.specs.Lexer.{tokenAt, overLong}
-use Rattle.lexer.specs.Names.{idOf, namesOf}
+use Rattle.lexer.specs.Names.{idOf, tableNames}
 use Rattle.lexer.proofs.Table.{names-add}
 use Rattle.semantics.specs.Program.{Name}
 use Rattle.grammar.specs.Parsed.{accepted, refused}
@@ -22,7 +22,7 @@ use Rattle.lexer.specs.declared.Place.{Place}
 use Rattle.lexer.specs.declared.Step.{Step}
 use Rattle.lexer.specs.declared.Step.the-variants.{Done, Refused}
 use Rattle.grammar.proofs.Combine.{same-value, never}
-use Rattle.declarations.specs.Post.{Room, Holds, Names}
+use Rattle.declarations.specs.Post.{TableRoom, TableHolds, Names}
 
 -- ---- the definition, test by test
 
@@ -61,9 +61,9 @@ not-done k p x h = let z : _≡_ {A = ℕ} 0 1 = cc in absurd (omega arith)
 
 module _ (text starts ends : List ℕ) (at count : ℕ) (starts' ends' : List ℕ) where
   abbrev Answers : Step → Type 0
-  Answers r = ((names : List Name) → Holds text starts ends count names → Names text names at count starts' ends' r) × ((x : Place) → r ≡ Done x → count < 64)
+  Answers r = ((names : List Name) → TableHolds text starts ends count names → Names text names at count starts' ends' r) × ((x : Place) → r ≡ Done x → count < 64)
 
-  refuses : {r : Step} (k p : ℕ) → r ≡ Refused k p → ((names : List Name) → Holds text starts ends count names → newName text names at ≡ refused k p) → Answers r
+  refuses : {r : Step} (k p : ℕ) → r ≡ Refused k p → ((names : List Name) → TableHolds text starts ends count names → newName text names at ≡ refused k p) → Answers r
   refuses k p g f =
       (λ names h. record { answer = rw (g, f names h); named = λ w n e. never k p n w (sym (f names h) ∙ e) }, λ x e. not-done k p x (sym g ∙ e))
 
@@ -75,17 +75,17 @@ module _ (text starts ends : List ℕ) (at count : ℕ) (starts' ends' : List �
     refuses-other f = refuses notAllowed s refl (λ names h. no-name text names at k s n e f)
 
     module _ (f : is k name ≡ true) where
-      pub refuses-known : (i : ℕ) → idOf (namesOf text starts ends count) (part text s n) ≡ some i → Answers (Refused wrongName s)
+      pub refuses-known : (i : ℕ) → idOf (tableNames text starts ends count) (part text s n) ≡ some i → Answers (Refused wrongName s)
       refuses-known i g = refuses wrongName s refl (λ names h. known-name text names at k s n e f i (rw (h .spelled) at g))
 
-      module _ (g : idOf (namesOf text starts ends count) (part text s n) ≡ none) where
+      module _ (g : idOf (tableNames text starts ends count) (part text s n) ≡ none) where
         pub refuses-long : overLong s n ≡ true → Answers (Refused tooMany s)
         refuses-long l = refuses tooMany s refl (λ names h. long-name text names at k s n e f (rw (h .spelled) at g) l)
 
         pub refuses-last : overLong s n ≡ false → nameLimit ≤ count → Answers (Refused tooMany s)
         refuses-last l m = refuses tooMany s refl (λ names h. last-name text names at k s n e f (rw (h .spelled) at g) l (omega (arith, h .counted)))
 
-        pub takes-name : overLong s n ≡ false → count < nameLimit → Room starts ends count → (starts' ≡ set starts count s) × (ends' ≡ set ends count n) → {r : Step} → r ≡ reachedAt n 0 0 → Answers r
+        pub takes-name : overLong s n ≡ false → count < nameLimit → TableRoom starts ends count → (starts' ≡ set starts count s) × (ends' ≡ set ends count n) → {r : Step} → r ≡ reachedAt n 0 0 → Answers r
         takes-name l m room a d = (
           λ names h.
               let fresh = fresh-name text names at k s n e f (rw (h .spelled) at g) l (omega (arith, h .counted)) in

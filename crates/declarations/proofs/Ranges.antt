@@ -7,20 +7,20 @@ use lib.IntN.{ℤ, pos, negℤ}
 use lib.Signed.{leZ}
 use Rattle.arith.specs.Values.{isInt32, lowest, highest}
 use Rattle.lexer.specs.Bytes.{part}
-use Rattle.lexer.specs.Token.{Kind, minus, dots, is, Read, token, fault}
+use Rattle.lexer.specs.Token.{Kind, minus, dots, is, TokenRead, token, fault}
 use Rattle.lexer.specs.Lexer.{tokenAt, valueOf}
 use Rattle.grammar.specs.Parsed.{Parsed, accepted, refused, onToken, sign, expected, phrase}
-use Rattle.grammar.specs.Declarations.{inRange, signedAt, boundAt, startAt}
-use Rattle.declarations.specs.Internal.{rangeAt}
+use Rattle.grammar.specs.Declarations.{inRange, signedDigits, boundAt, startAt}
+use Rattle.declarations.specs.Internal.{declaredRange}
 
 -- ---- a bound by one test or another
 
 module _ (t u : ℤ → Bool) (same : (z : ℤ) → (isInt32 z && t z) ≡ (isInt32 z && u z)) (text : List ℕ) where
-  signed-same : (sg : ℤ → ℤ) (k : Kind) (s n : ℕ) → signedAt t sg text k s n ≡ signedAt u sg text k s n
-  unfolding signedAt
+  signed-same : (sg : ℤ → ℤ) (k : Kind) (s n : ℕ) → signedDigits t sg text k s n ≡ signedDigits u sg text k s n
+  unfolding signedDigits
   signed-same sg k s n = rw (same (sg (pos (valueOf (part text s n)))))
 
-  read-same : (r : Read) (f g : Kind → ℕ → ℕ → Parsed ℤ) → ((k : Kind) (s n : ℕ) → f k s n ≡ g k s n) → onToken r f ≡ onToken r g
+  read-same : (r : TokenRead) (f g : Kind → ℕ → ℕ → Parsed ℤ) → ((k : Kind) (s n : ℕ) → f k s n ≡ g k s n) → onToken r f ≡ onToken r g
   read-same (token k s n) f g h = h k s n
   read-same (fault p) f g h = refl
 
@@ -53,25 +53,25 @@ bound-above low text at = bound-same (leZ low) (inRange low highest) (λ z. abov
 -- ---- low, `..`, high, start
 
 module _ (text : List ℕ) (at : ℕ) where
-  pub no-low : (k p : ℕ) → boundAt (inRange lowest highest) text at ≡ refused k p → rangeAt text at ≡ refused k p
-  unfolding rangeAt
+  pub no-low : (k p : ℕ) → boundAt (inRange lowest highest) text at ≡ refused k p → declaredRange text at ≡ refused k p
+  unfolding declaredRange
   no-low k p e = rw (bound-any text at, e)
 
   module _ (low : ℤ) (a : ℕ) (el : boundAt (inRange lowest highest) text at ≡ accepted low a) where
-    pub no-dots : (k p : ℕ) → expected text (sign dots) a ≡ refused k p → rangeAt text at ≡ refused k p
-    unfolding rangeAt phrase
+    pub no-dots : (k p : ℕ) → expected text (sign dots) a ≡ refused k p → declaredRange text at ≡ refused k p
+    unfolding declaredRange phrase
     no-dots k p e = rw (bound-any text at, el, e)
 
     module _ (b : ℕ) (ed : expected text (sign dots) a ≡ accepted tt b) where
-      pub no-high : (k p : ℕ) → boundAt (inRange low highest) text b ≡ refused k p → rangeAt text at ≡ refused k p
-      unfolding rangeAt phrase
+      pub no-high : (k p : ℕ) → boundAt (inRange low highest) text b ≡ refused k p → declaredRange text at ≡ refused k p
+      unfolding declaredRange phrase
       no-high k p e = rw (bound-any text at, el, ed, bound-above low text b, e)
 
       module _ (high : ℤ) (c : ℕ) (eh : boundAt (inRange low highest) text b ≡ accepted high c) where
-        pub no-start : (k p : ℕ) → startAt text low high c ≡ refused k p → rangeAt text at ≡ refused k p
-        unfolding rangeAt phrase
+        pub no-start : (k p : ℕ) → startAt text low high c ≡ refused k p → declaredRange text at ≡ refused k p
+        unfolding declaredRange phrase
         no-start k p e = rw (bound-any text at, el, ed, bound-above low text b, eh, e)
 
-        pub whole-range : (start : ℤ) (n : ℕ) → startAt text low high c ≡ accepted start n → rangeAt text at ≡ accepted (record { low = low; high = high; start = start }) n
-        unfolding rangeAt phrase
+        pub whole-range : (start : ℤ) (n : ℕ) → startAt text low high c ≡ accepted start n → declaredRange text at ≡ accepted (record { low = low; high = high; start = start }) n
+        unfolding declaredRange phrase
         whole-range start n e = rw (bound-any text at, el, ed, bound-above low text b, eh, e)

@@ -16,8 +16,8 @@ signedBy true = negℤ
 signedBy false = λ z. z
 
 -- low, high and start, after a declaration's name
-unfoldable pub rangeAt : List ℕ → ℕ → Parsed Range
-rangeAt text at =
+unfoldable pub declaredRange : List ℕ → ℕ → Parsed Range
+declaredRange text at =
     andThen (boundAt (λ z. true) text at) (λ low n1.
     andThen (phrase text (sign dots ∷ []) n1) (λ u n2.
     andThen (boundAt (leZ low) text n2) (λ high n3.

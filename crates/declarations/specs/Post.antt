@@ -5,7 +5,7 @@ use mathlib.Core.List.{List, [], _∷_, _++_}
 use lib.ListN.{length, drop}
 use Rattle.limits.specs.Limits.{nameLimit}
 use Rattle.lexer.specs.Token.{Kind}
-use Rattle.lexer.specs.Names.{namesOf}
+use Rattle.lexer.specs.Names.{tableNames}
 use Rattle.semantics.specs.Program.{Name}
 use Rattle.grammar.specs.Parsed.{Parsed, accepted, andThen}
 use Rattle.grammar.specs.Declarations.{spellings, newName, declaration, declarations}
@@ -15,25 +15,25 @@ use Rattle.lexer.specs.declared.Step.the-variants.{Done, Refused}
 use Rattle.phrases.specs.Results.{parsedOf, nothing, numberTold, Writes}
 
 -- a table with room for all names that a text may declare, of which so many are declared
-pub record Room (starts ends : List ℕ) (count : ℕ) : Type 0 where
+pub record TableRoom (starts ends : List ℕ) (count : ℕ) : Type 0 where
   pub few : count ≤ nameLimit
   pub in-starts : nameLimit ≤ length starts
   pub in-ends : nameLimit ≤ length ends
 
 -- the table's names are the names declared
-pub record Holds (text starts ends : List ℕ) (count : ℕ) (names : List Name) : Type 0 where
+pub record TableHolds (text starts ends : List ℕ) (count : ℕ) (names : List Name) : Type 0 where
   pub counted : count ≡ length names
-  pub spelled : namesOf text starts ends count ≡ spellings names
+  pub spelled : tableNames text starts ends count ≡ spellings names
 
 -- a new name: the answer, and where it is accepted the table with that name
 pub record Names (text : List ℕ) (names : List Name) (at count : ℕ) (starts ends : List ℕ) (r : Step) : Type 0 where
   pub answer : parsedOf nothing r ≡ andThen (newName text names at) (λ w n. accepted tt n)
-  pub named : (w : List ℕ) (n : ℕ) → newName text names at ≡ accepted w n → namesOf text starts ends (count + 1) ≡ spellings names ++ (w ∷ [])
+  pub named : (w : List ℕ) (n : ℕ) → newName text names at ≡ accepted w n → tableNames text starts ends (count + 1) ≡ spellings names ++ (w ∷ [])
 
 -- a declaration: the answer and the header's bytes of its name, and where it is accepted the table with that name
-pub record Declares (text : List ℕ) (names : List Name) (at to count : ℕ) (before after starts ends : List ℕ) (r : Step) : Type 0 where
+pub record DeclaresOne (text : List ℕ) (names : List Name) (at to count : ℕ) (before after starts ends : List ℕ) (r : Step) : Type 0 where
   pub writes : Writes (λ x. header (x ∷ [])) nothing (λ x. tt) (declaration text names at) to before after r
-  pub named : (x : Name) (n : ℕ) → declaration text names at ≡ accepted x n → Holds text starts ends (count + 1) (names ++ (x ∷ []))
+  pub named : (x : Name) (n : ℕ) → declaration text names at ≡ accepted x n → TableHolds text starts ends (count + 1) (names ++ (x ∷ []))
 
 -- the bytes of the names declared after those declared before
 unfoldable pub headerAfter : List Name → List Name → List ℕ
@@ -42,9 +42,9 @@ headerAfter names all = header (drop (length names) all)
 -- declarations that begin with a word: the answer, the header's bytes of the names declared here, and the table with all names
 pub record DeclaresAll (word : Kind) (text : List ℕ) (names : List Name) (at to : ℕ) (before after starts ends : List ℕ) (r : Step) : Type 0 where
   pub writes : Writes (headerAfter names) numberTold length (declarations word text names at) to before after r
-  pub named : (all : List Name) (n : ℕ) → declarations word text names at ≡ accepted all n → Holds text starts ends (length all) all
+  pub named : (all : List Name) (n : ℕ) → declarations word text names at ≡ accepted all n → TableHolds text starts ends (length all) all
 
 -- no more names than a text may declare, and no more than fifteen bytes for each
-abbrev pub Few : ℕ → Step → Type 0
-Few to (Done x) = (x .number ≤ nameLimit) × (x .to ≤ to + 15 * x .number)
-Few to (Refused k p) = Unit {0}
+abbrev pub FewDeclared : ℕ → Step → Type 0
+FewDeclared to (Done x) = (x .number ≤ nameLimit) × (x .to ≤ to + 15 * x .number)
+FewDeclared to (Refused k p) = Unit {0}

@@ -8,9 +8,9 @@ use Rattle.declarations.specs.declared.Number.{Number}
 use Rattle.declarations.specs.declared.Number.the-variants as N
 
 -- `Outside` is a number that does not lie between its bounds.
-abbrev pub numberOf : Number → Option ℤ
-numberOf (N.Is z) = some z
-numberOf N.Outside = none
+abbrev pub boundedNumber : Number → Option ℤ
+boundedNumber (N.Is z) = some z
+boundedNumber N.Outside = none
 
 -- the place after a number, with its value
 abbrev pub valuedAt : ℕ → ℤ → Step

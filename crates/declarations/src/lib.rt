@@ -13,15 +13,15 @@ ghost use lib.Seq.{sets};
 ghost use Rattle.lexer.specs.Results.{kindOf};
 ghost use Rattle.lexer.specs.Token.{lastKind};
 ghost use Rattle.semantics.specs.Program.{Name};
-ghost use Rattle.grammar.specs.Declarations.{inRange, signedAt, boundAt, startAt};
+ghost use Rattle.grammar.specs.Declarations.{inRange, signedDigits, boundAt, startAt};
 ghost use Rattle.lexer.specs.declared.Place.{Place};
 ghost use Rattle.lexer.specs.declared.Step.the-variants.{Done};
 ghost use Rattle.limits.specs.Limits.{nameLimit, outOfLimit};
 ghost use Rattle.grammar.specs.Parsed.{accepted, refused as refusedAt};
 ghost use Rattle.phrases.specs.Results.{parsedOf, nothing, valueTold, Writes};
-ghost use Rattle.declarations.specs.Internal.{signedBy, rangeAt, rangeBytes};
-ghost use Rattle.declarations.specs.Results.{numberOf, valuedAt};
-ghost use Rattle.declarations.specs.Post.{Room, Holds, Names, Declares, DeclaresAll, Few};
+ghost use Rattle.declarations.specs.Internal.{signedBy, declaredRange, rangeBytes};
+ghost use Rattle.declarations.specs.Results.{boundedNumber, valuedAt};
+ghost use Rattle.declarations.specs.Post.{TableRoom, TableHolds, Names, DeclaresOne, DeclaresAll, FewDeclared};
 
 const LOWEST: i32 = -2147483648;
 
@@ -49,7 +49,7 @@ fn valued(at: usize, value: i32) -> Step
 }
 
 fn within(z: i64, low: i32, high: i32) -> Number
-    ensures { λ r. ⌜ numberOf r ≡ cond (inRange low high z) (some z) none ⌝ }
+    ensures { λ r. ⌜ boundedNumber r ≡ cond (inRange low high z) (some z) none ⌝ }
 {
     if low as i64 <= z {
         if z <= high as i64 {
@@ -62,7 +62,7 @@ fn within(z: i64, low: i32, high: i32) -> Number
 // The number of that value and sign.
 fn signed(value: u64, negative: bool, low: i32, high: i32) -> Number
     requires { ⌜ value ≤ 2 ^ 32 ⌝ }
-    ensures { λ r. ⌜ numberOf r ≡ cond (inRange low high (signedBy negative (pos value))) (some (signedBy negative (pos value))) none ⌝ }
+    ensures { λ r. ⌜ boundedNumber r ≡ cond (inRange low high (signedBy negative (pos value))) (some (signedBy negative (pos value))) none ⌝ }
 {
     let z = value as i64;
     if negative {
@@ -82,7 +82,7 @@ fn digits(
     high: i32,
 ) -> Step
     requires { ⌜ kind ≤ lastKind ⌝ }
-    ensures { λ r. ⌜ parsedOf valueTold r ≡ signedAt (inRange low high) (signedBy negative) (now (text .entry)) (kindOf kind) start end ⌝ }
+    ensures { λ r. ⌜ parsedOf valueTold r ≡ signedDigits (inRange low high) (signedBy negative) (now (text .entry)) (kindOf kind) start end ⌝ }
 {
     if kind != lexer::DIGITS {
         return Step::Refused(limits::NOT_ALLOWED, start);
@@ -160,7 +160,7 @@ fn put_range(out: &mut [u8], to: usize, low: i32, high: i32, start: i32) -> usiz
 // Low, `..`, high, the start and the `;`.
 fn range(text: &[u8], at: usize, out: &mut [u8], to: usize) -> Step
     requires { ⌜ to < 2 ^ 30 ⌝ }
-    ensures { λ r. ⌜ Writes rangeBytes nothing (λ _. tt) (rangeAt (now (text .entry)) at) to (now (out .entry)) (now (out .exit)) r ⌝ }
+    ensures { λ r. ⌜ Writes rangeBytes nothing (λ _. tt) (declaredRange (now (text .entry)) at) to (now (out .entry)) (now (out .exit)) r ⌝ }
 {
     let first = bound_at(text, at, LOWEST, HIGHEST);
     let Step::Done(low) = first else {
@@ -183,8 +183,8 @@ fn range(text: &[u8], at: usize, out: &mut [u8], to: usize) -> Step
 
 // A new name into the table.
 fn new_name(text: &[u8], at: usize, starts: &mut [usize], ends: &mut [usize], count: usize) -> Step
-    requires { ⌜ Room (now starts) (now ends) count ⌝ }
-    ensures { λ r. ⌜ ((names : List Name) → Holds (now (text .entry)) (now (starts .entry)) (now (ends .entry)) count names → Names (now (text .entry)) names at count (now (starts .exit)) (now (ends .exit)) r) ⌝ }
+    requires { ⌜ TableRoom (now starts) (now ends) count ⌝ }
+    ensures { λ r. ⌜ ((names : List Name) → TableHolds (now (text .entry)) (now (starts .entry)) (now (ends .entry)) count names → Names (now (text .entry)) names at count (now (starts .exit)) (now (ends .exit)) r) ⌝ }
     ensures { λ r. ⌜ ((x : Place) → r ≡ Done x → count < nameLimit) ⌝ }
 {
     let read = lexer::token_at(text, at);
@@ -218,9 +218,9 @@ fn declaration(
     out: &mut [u8],
     to: usize,
 ) -> Step
-    requires { ⌜ Room (now starts) (now ends) count ⌝ }
+    requires { ⌜ TableRoom (now starts) (now ends) count ⌝ }
     requires { ⌜ to < 2 ^ 30 ⌝ }
-    ensures { λ r. ⌜ ((names : List Name) → Holds (now (text .entry)) (now (starts .entry)) (now (ends .entry)) count names → Declares (now (text .entry)) names at to count (now (out .entry)) (now (out .exit)) (now (starts .exit)) (now (ends .exit)) r) ⌝ }
+    ensures { λ r. ⌜ ((names : List Name) → TableHolds (now (text .entry)) (now (starts .entry)) (now (ends .entry)) count names → DeclaresOne (now (text .entry)) names at to count (now (out .entry)) (now (out .exit)) (now (starts .exit)) (now (ends .exit)) r) ⌝ }
     ensures { λ r. ⌜ ((x : Place) → r ≡ Done x → (count < nameLimit) × (x .to ≤ to + 15)) ⌝ }
 {
     let named = new_name(text, at, starts, ends, count);
@@ -242,9 +242,9 @@ pub fn declarations(
     to: usize,
 ) -> Step
     requires { ⌜ (word ≤ lastKind) × (to < 2 ^ 20) ⌝ }
-    requires { ⌜ Room (now starts) (now ends) count ⌝ }
-    ensures { λ r. ⌜ ((names : List Name) → Holds (now (text .entry)) (now (starts .entry)) (now (ends .entry)) count names → DeclaresAll (kindOf word) (now (text .entry)) names at to (now (out .entry)) (now (out .exit)) (now (starts .exit)) (now (ends .exit)) r) ⌝ }
-    ensures { λ r. ⌜ Few to r ⌝ }
+    requires { ⌜ TableRoom (now starts) (now ends) count ⌝ }
+    ensures { λ r. ⌜ ((names : List Name) → TableHolds (now (text .entry)) (now (starts .entry)) (now (ends .entry)) count names → DeclaresAll (kindOf word) (now (text .entry)) names at to (now (out .entry)) (now (out .exit)) (now (starts .exit)) (now (ends .exit)) r) ⌝ }
+    ensures { λ r. ⌜ FewDeclared to r ⌝ }
 {
     let mut a = at;
     let mut known = count;

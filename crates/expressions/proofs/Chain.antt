@@ -18,7 +18,7 @@ use Rattle.lexer.specs.declared.Place.{Place}
 use Rattle.lexer.specs.declared.Step.{Step}
 use Rattle.lexer.specs.declared.Step.the-variants.{Done, Refused}
 use Rattle.expressions.specs.Steps.{lookedAhead, Parses, Room}
-use Rattle.expressions.specs.Internal.{Stands, codeOf, Codes}
+use Rattle.expressions.specs.Internal.{StandsAt, codeOrNone, Codes}
 use Rattle.expressions.proofs.Steps.{Refuses, upTo, stands-up-to, Accepted, accepted-by, accepts, passed, then-refused, room-fits, room-after, room-next, room-more}
 
 -- ---- operators
@@ -35,18 +35,18 @@ pub record Operator {O : Type 0} (operator : Kind → Option O) (number : O → 
   pub is : operator k ≡ some which
   pub code : c ≡ number which
 
-module _ {O : Type 0} (operator : Kind → Option O) (number : O → ℕ) (k : Kind) (c : ℕ) (e : c ≡ codeOf number (operator k)) where
+module _ {O : Type 0} (operator : Kind → Option O) (number : O → ℕ) (k : Kind) (c : ℕ) (e : c ≡ codeOrNone number (operator k)) where
   pub operator-some : (c ≡ 0 → ⊥) → Operator operator number k c
   operator-some z = go (operator k) refl e
     where
-      go : (o : Option O) → operator k ≡ o → c ≡ codeOf number o → Operator operator number k c
+      go : (o : Option O) → operator k ≡ o → c ≡ codeOrNone number o → Operator operator number k c
       go none i f = absurd (z f)
       go (some o) i f = record { which = o; is = i; code = f }
 
   pub operator-none : ((o : O) → number o ≡ 0 → ⊥) → c ≡ 0 → operator k ≡ none
   operator-none g z = go (operator k) refl e
     where
-      go : (o : Option O) → operator k ≡ o → c ≡ codeOf number o → operator k ≡ none
+      go : (o : Option O) → operator k ≡ o → c ≡ codeOrNone number o → operator k ≡ none
       go none i f = i
       go (some o) i f = absurd (g o (sym f ∙ z))
 
@@ -70,7 +70,7 @@ Grows code operand text = (at to : ℕ) → Room text at to → Grown code (leng
 -- the invariant of the loop: h is the token behind what was read
 pub record Turn {O A : Type 0} (code : A → List ℕ) (join : O → A → A → A) (operator : Kind → Option O) (operand : ℕ → Parsed A) (text : List ℕ) (out₀ : List ℕ) (h₀ : Place) (out : List ℕ) (h : Place) : Type 0 where
   pub room : Room text (h .at) (h .to)
-  pub stands : Stands text h
+  pub stands : StandsAt text h
   pub size : length out ≡ length out₀
   pub grows : Grows code operand text
   pub chained : (a₀ : A) → Chained code join operator operand text a₀ (h₀ .at) (h₀ .to) out₀ (h .at) (h .to) out
@@ -78,12 +78,12 @@ pub record Turn {O A : Type 0} (code : A → List ℕ) (join : O → A → A →
 module _ {O A : Type 0} {code : A → List ℕ} {join : O → A → A → A} {operator : Kind → Option O} {number : O → ℕ} (ops : Operators code join operator number) (operand : ℕ → Parsed A) (text : List ℕ) where
   -- ---- the ways through `rest`
 
-  rest-none : (f : ℕ) (a : A) {h : Place} (k : Stands text h) → operator (k .kind) ≡ none → rest join operator operand text f a (h .at) ≡ accepted a (h .at)
+  rest-none : (f : ℕ) (a : A) {h : Place} (k : StandsAt text h) → operator (k .kind) ≡ none → rest join operator operand text f a (h .at) ≡ accepted a (h .at)
   unfolding rest
   rest-none zero a k e = refl
   rest-none (suc f) a k e = rw (k .read, e)
 
-  rest-some : (f : ℕ) (a : A) {h : Place} (k : Stands text h) (o : O) → operator (k .kind) ≡ some o → rest join operator operand text (suc f) a (h .at) ≡ andThen (operand (h .end)) (λ b l. rest join operator operand text f (join o a b) l)
+  rest-some : (f : ℕ) (a : A) {h : Place} (k : StandsAt text h) (o : O) → operator (k .kind) ≡ some o → rest join operator operand text (suc f) a (h .at) ≡ andThen (operand (h .end)) (λ b l. rest join operator operand text f (join o a b) l)
   unfolding rest
   rest-some f a k o e = rw (k .read, e)
 
@@ -122,7 +122,7 @@ module _ {O A : Type 0} {code : A → List ℕ} {join : O → A → A → A} {op
   }
 
   module _ {out₀ : List ℕ} {h₀ : Place} {out : List ℕ} {h : Place} (w : Turn code join operator operand text out₀ h₀ out h) where
-    here : Stands text h
+    here : StandsAt text h
     here = w .stands
 
     -- an operand may follow the token behind

@@ -11,28 +11,28 @@ use lib.ListN.{length, getD, set, drop, drop-of-length-le}
 use Rattle.arith.specs.Flags.{flagsOf}
 use Rattle.arith.proofs.Flags.{length-flags}
 use Rattle.semantics.specs.Program.{allTrue}
-use Rattle.lexer.specs.Names.{idOf, namesOf, Table}
+use Rattle.lexer.specs.Names.{idOf, tableNames, Table}
 use Rattle.grammar.specs.Rules.{ruled}
 use Rattle.grammar.proofs.Bytes.{id-of}
 use Rattle.expressions.specs.Scopes.{scopeOf, Declared}
 use Rattle.expressions.specs.declared.scope.Names.{Names}
 
-pub names-length : (text starts ends : List ℕ) (n : ℕ) → length (namesOf text starts ends n) ≤ n
-unfolding namesOf
+pub names-length : (text starts ends : List ℕ) (n : ℕ) → length (tableNames text starts ends n) ≤ n
+unfolding tableNames
 names-length text [] ends n = omega arith
 names-length text (s ∷ starts) [] n = omega arith
 names-length text (s ∷ starts) (e ∷ ends) zero = omega arith
 names-length text (s ∷ starts) (e ∷ ends) (suc n) = omega (arith, names-length text starts ends n)
 
 -- as many names as are counted
-counted-from : (text starts ends : List ℕ) (n : ℕ) → n ≤ length starts → n ≤ length ends → length (namesOf text starts ends n) ≡ n
-unfolding namesOf
+counted-from : (text starts ends : List ℕ) (n : ℕ) → n ≤ length starts → n ≤ length ends → length (tableNames text starts ends n) ≡ n
+unfolding tableNames
 counted-from text [] ends n hs he = omega arith
 counted-from text (s ∷ starts) [] n hs he = omega arith
 counted-from text (s ∷ starts) (e ∷ ends) zero hs he = refl
 counted-from text (s ∷ starts) (e ∷ ends) (suc n) hs he = ap suc (counted-from text starts ends n (omega arith) (omega arith))
 
-pub names-counted : (text starts ends : List ℕ) (n : ℕ) → Table starts ends n → length (namesOf text starts ends n) ≡ n
+pub names-counted : (text starts ends : List ℕ) (n : ℕ) → Table starts ends n → length (tableNames text starts ends n) ≡ n
 names-counted text starts ends n t = counted-from text starts ends n (t .in-starts) (t .in-ends)
 
 -- all known, from the name i on
@@ -62,7 +62,7 @@ module _ (text : List ℕ) {starts ends : List ℕ} {names : Names} (d : Declare
   -- the id of a name w
   module _ (w : List ℕ) {i : ℕ} (e : idOf (scopeOf text starts ends names .names) w ≡ some i) where
     pub id-below : i < names .count
-    id-below = omega (arith, id-of (namesOf text starts ends (names .count)) w i e, names-length text starts ends (names .count))
+    id-below = omega (arith, id-of (tableNames text starts ends (names .count)) w i e, names-length text starts ends (names .count))
 
     pub id-few : i < 64
     id-few = omega (arith, id-below, d .few)

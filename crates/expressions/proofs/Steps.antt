@@ -10,7 +10,7 @@ use lib.Seq.{sets}
 use lib.Dec.{eqb}
 use borrow.Author.Tests.{eq-eqb, ne-eqb, eqb-true, eqb-false}
 use Rattle.limits.specs.Limits.{noToken, notAllowed}
-use Rattle.lexer.specs.Token.{Kind, kindNumber, ending, is, Read, token, fault}
+use Rattle.lexer.specs.Token.{Kind, kindNumber, ending, is, TokenRead, token, fault}
 use Rattle.lexer.specs.Lexer.{tokenAt}
 use Rattle.lexer.specs.Results.{kindOf, tokenStep}
 use Rattle.lexer.specs.declared.Place.{Place}
@@ -24,7 +24,7 @@ use Rattle.grammar.proofs.Combine.{apart, same-value, same-end}
 use Rattle.phrases.proofs.Writing.{same-refusal, Got, got, refused-part}
 use Rattle.phrases.proofs.Writing as W
 use Rattle.expressions.specs.Steps.{stepAt, Followed, lookedAhead, Parses, Room}
-use Rattle.expressions.specs.Internal.{Stands, closedStep}
+use Rattle.expressions.specs.Internal.{StandsAt, closedStep}
 
 -- ---- the constructors of a step are apart, and keep what they hold
 
@@ -44,7 +44,7 @@ pub record Refuses {A : Type 0} (text : List ℕ) (p : Parsed A) (k q : ℕ) : T
   pub looked : lookedAhead text p ≡ refused k q
 
 -- the test of a token's kind by its number
-module _ {text : List ℕ} {h : Place} (k : Stands text h) (w : Kind) where
+module _ {text : List ℕ} {h : Place} (k : StandsAt text h) (w : Kind) where
   pub told : h .kind ≡ kindNumber w → is (k .kind) w ≡ true
   unfolding is
   told e = eq-eqb (kindNumber (k .kind)) (kindNumber w) (sym (k .numbered) ∙ e)
@@ -57,7 +57,7 @@ module _ {text : List ℕ} {h : Place} (k : Stands text h) (w : Kind) where
 abbrev pub upTo : Place → ℕ → Place
 upTo h t = record { at = h .at; kind = h .kind; start = h .start; end = h .end; to = t; number = h .number; value = h .value }
 
-pub stands-up-to : {text : List ℕ} {h : Place} (t : ℕ) → Stands text h → Stands text (upTo h t)
+pub stands-up-to : {text : List ℕ} {h : Place} (t : ℕ) → StandsAt text h → StandsAt text (upTo h t)
 stands-up-to t s = record { kind = s .kind; read = s .read; numbered = s .numbered }
 
 -- ---- an answer, taken apart by a `let .. else`
@@ -66,7 +66,7 @@ stands-up-to t s = record { kind = s .kind; read = s .read; numbered = s .number
 pub record Accepted {A : Type 0} (text : List ℕ) (code : A → List ℕ) (p : Parsed A) (to : ℕ) (before after : List ℕ) (h : Place) (t : ℕ) : Type 0 where
   pub tree : A
   pub is : p ≡ accepted tree (h .at)
-  pub stands : Stands text h
+  pub stands : StandsAt text h
   pub count : t ≡ to + length (code tree)
   pub wrote : after ≡ sets before to (code tree)
 
@@ -79,7 +79,7 @@ looked : {A : Type 0} (text : List ℕ) (p : Parsed A) (y : Followed A) (n : ℕ
 unfolding lookedAhead
 looked {A} text (accepted a m) y n e = go (tokenAt text m) refl e
   where
-    go : (r : Read) → tokenAt text m ≡ r → onToken r (λ k s l. accepted (record { part = a; kind = k; start = s; end = l }) m) ≡ accepted y n → Ahead text (accepted a m) y n
+    go : (r : TokenRead) → tokenAt text m ≡ r → onToken r (λ k s l. accepted (record { part = a; kind = k; start = s; end = l }) m) ≡ accepted y n → Ahead text (accepted a m) y n
     go (token k s l) i f =
         let v : _≡_ {A = Followed A} (record { part = a; kind = k; start = s; end = l }) y = same-value f in
         let j : m ≡ n = same-end f in
@@ -150,7 +150,7 @@ module _ {A B : Type 0} (text : List ℕ) (f : A → ℕ → Parsed B) (g : (a :
   unfolding lookedAhead
   then-refused (accepted a n) {k} {q} e = go (tokenAt text n) refl (e .looked)
     where
-      go : (r : Read) → tokenAt text n ≡ r → _≡_ {A = Parsed (Followed A)} (onToken r (λ w s m. accepted (record { part = a; kind = w; start = s; end = m }) n)) (refused k q) → Refuses text (f a n) k q
+      go : (r : TokenRead) → tokenAt text n ≡ r → _≡_ {A = Parsed (Followed A)} (onToken r (λ w s m. accepted (record { part = a; kind = w; start = s; end = m }) n)) (refused k q) → Refuses text (f a n) k q
       go (token w s m) i d = apart d
       go (fault p) i d = record { looked = g a n p i .looked ∙ same-refusal d }
   then-refused (refused l r) e = record { looked = same-refusal (e .looked) }
@@ -161,7 +161,7 @@ module _ (text : List ℕ) (at to : ℕ) {w : Step} (e : w ≡ tokenStep (tokenA
   pub ahead-done : {x : Place} → w ≡ Done x → Done (record { at = at; kind = x .kind; start = x .start; end = x .end; to = to; number = x .number; value = x .value }) ≡ stepAt (tokenAt text at) at to
   ahead-done {x} i = go (tokenAt text at) (sym i ∙ e)
     where
-      go : (r : Read) → Done x ≡ tokenStep r → Done (record { at = at; kind = x .kind; start = x .start; end = x .end; to = to; number = x .number; value = x .value }) ≡ stepAt r at to
+      go : (r : TokenRead) → Done x ≡ tokenStep r → Done (record { at = at; kind = x .kind; start = x .start; end = x .end; to = to; number = x .number; value = x .value }) ≡ stepAt r at to
       go (token k s n) d =
           let j : x ≡ record { at = s; kind = kindNumber k; start = s; end = n; to = 0; number = 0; value = pos 0 } = done-place d in
           ap (λ (y : Place). Done (record { at = at; kind = y .kind; start = y .start; end = y .end; to = to; number = y .number; value = y .value })) j
@@ -170,12 +170,12 @@ module _ (text : List ℕ) (at to : ℕ) {w : Step} (e : w ≡ tokenStep (tokenA
   pub ahead-none : {k q : ℕ} → w ≡ Refused k q → w ≡ stepAt (tokenAt text at) at to
   ahead-none {k} {q} i = i ∙ go (tokenAt text at) (sym i ∙ e)
     where
-      go : (r : Read) → Refused k q ≡ tokenStep r → Refused k q ≡ stepAt r at to
+      go : (r : TokenRead) → Refused k q ≡ tokenStep r → Refused k q ≡ stepAt r at to
       go (token k s n) d = done-refused (sym d)
       go (fault p) d = d
 
 -- a step at a token
-stands-at : {h : Place} (text : List ℕ) (n u : ℕ) (r : Read) → tokenAt text n ≡ r → Done h ≡ stepAt r n u → (h .at ≡ n) × (h .to ≡ u) × Stands text h
+stands-at : {h : Place} (text : List ℕ) (n u : ℕ) (r : TokenRead) → tokenAt text n ≡ r → Done h ≡ stepAt r n u → (h .at ≡ n) × (h .to ≡ u) × StandsAt text h
 stands-at {h} text n u (token k s m) i e =
     let j = done-place e in
     let ha : h .at ≡ n = ap (λ (x : Place). x .at) j in
@@ -189,14 +189,14 @@ module _ (text : List ℕ) (at to : ℕ) {r : Step} where
     pub ahead-at : h .at ≡ at
     ahead-at = stands-at text at to (tokenAt text at) refl (sym d ∙ e) .0
 
-    pub ahead-stands : Stands text h
+    pub ahead-stands : StandsAt text h
     ahead-stands = stands-at text at to (tokenAt text at) refl (sym d ∙ e) .2
 
   -- what stands there is no token, and the part that begins with it is refused
   pub ahead-fault : {A : Type 0} {code : A → List ℕ} {p : Parsed A} {u : ℕ} {before after : List ℕ} {k q : ℕ} → r ≡ Refused k q → r ≡ stepAt (tokenAt text at) at to → ((m : ℕ) → tokenAt text at ≡ fault m → p ≡ refused noToken m) → Parses text code p u before after r
   ahead-fault {p = p} {k = k} {q = q} d e f = answers d (refuses (refused-now (go (tokenAt text at) refl (sym d ∙ e))))
     where
-      go : (w : Read) → tokenAt text at ≡ w → Refused k q ≡ stepAt w at to → p ≡ refused k q
+      go : (w : TokenRead) → tokenAt text at ≡ w → Refused k q ≡ stepAt w at to → p ≡ refused k q
       go (token w s m) i c = done-refused (sym c)
       go (fault m) i c = f m i ∙ same-numbers c
 
@@ -205,7 +205,7 @@ pub ended : {A : Type 0} {text : List ℕ} {code : A → List ℕ} {p : Parsed A
 unfolding lookedAhead
 ended {A} {text} {code} {p} {to} {t} {n} {before} {after} {r} a hp ht hw e = go (tokenAt text n) refl e
   where
-    go : (w : Read) → tokenAt text n ≡ w → r ≡ stepAt w n t → Parses text code p to before after r
+    go : (w : TokenRead) → tokenAt text n ≡ w → r ≡ stepAt w n t → Parses text code p to before after r
     go (token k s m) i d = accepts d (record { tree = a; is = hp; stands = record { kind = k; read = i; numbered = refl }; count = ht; wrote = hw })
     go (fault q) i d = answers d (refuses (record { looked = rw (hp, i) }))
 
@@ -230,7 +230,7 @@ recoded {A} {B} {text} {code} {more} {to} {n} {before} {after} {r} {a} b c e = g
         behind : lookedAhead text (accepted a n) ≡ refused k q → lookedAhead text (accepted b n) ≡ refused k q
         behind f = by (tokenAt text n) f
           where
-            by : (w : Read) → _≡_ {A = Parsed (Followed A)} (onToken w (λ k s m. accepted (record { part = a; kind = k; start = s; end = m }) n)) (refused k q) → _≡_ {A = Parsed (Followed B)} (onToken w (λ k s m. accepted (record { part = b; kind = k; start = s; end = m }) n)) (refused k q)
+            by : (w : TokenRead) → _≡_ {A = Parsed (Followed A)} (onToken w (λ k s m. accepted (record { part = a; kind = k; start = s; end = m }) n)) (refused k q) → _≡_ {A = Parsed (Followed B)} (onToken w (λ k s m. accepted (record { part = b; kind = k; start = s; end = m }) n)) (refused k q)
             by (token w s m) f = apart f
             by (fault m) f = same-refusal f
 
@@ -297,7 +297,7 @@ room-after {text = text} {code = code} {at = at} r g a =
     let g′ = subst (Grown code (length text) at) (a .is) g in
     record { short = r .short; within = g′ .1; room = omega (arith, a .count) }
 
-module _ {text : List ℕ} {h : Place} {to : ℕ} (r : Room text (h .at) to) (k : Stands text h) where
+module _ {text : List ℕ} {h : Place} {to : ℕ} (r : Room text (h .at) to) (k : StandsAt text h) where
   -- behind a token
   pub room-next : Room text (h .end) to
   room-next =

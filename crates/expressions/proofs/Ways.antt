@@ -20,8 +20,8 @@ use Rattle.bytecode.specs.Instructions.{operationCode}
 use Rattle.arith.specs.Values.{Operation, add, subtract, multiply, divide, modulo}
 use Rattle.semantics.specs.Program.{Expression, constant, current, previous, operation, negate}
 use Rattle.grammar.specs.Parsed.{Parsed, accepted, refused, andThen, sign, followed}
-use Rattle.grammar.specs.Expressions.{Scope, withId, currentAt, previousAt, numberAt, primary, negative, factor, productOf, sumOf, bracket}
-use Rattle.grammar.specs.Emitted.{codeE}
+use Rattle.grammar.specs.Expressions.{Scope, withId, currentAt, previousValueAt, constantAt, primary, negative, factor, productOf, sumOf, bracket}
+use Rattle.grammar.specs.Emitted.{bytesE}
 use Rattle.grammar.proofs.Growth.{Grown, products-end, sums-end, primary-grown, factor-grown, term-grown, expression-grown}
 use Rattle.lexer.specs.declared.Place.{Place}
 use Rattle.lexer.specs.declared.Step.{Step}
@@ -29,7 +29,7 @@ use Rattle.lexer.specs.declared.Step.the-variants.{Done, Refused}
 use Rattle.expressions.specs.declared.scope.Names.{Names}
 use Rattle.expressions.specs.Scopes.{scopeOf, Declared}
 use Rattle.expressions.specs.Steps.{stepAt, lookedAhead, Parses, Room}
-use Rattle.expressions.specs.Internal.{textOnly, Stands, closedStep, primaryIn, factorIn, termIn, expressionIn}
+use Rattle.expressions.specs.Internal.{textOnly, StandsAt, closedStep, primaryIn, factorIn, termIn, expressionIn}
 use Rattle.expressions.proofs.Steps.{Refuses, told, untold, upTo, Accepted, accepted-by, accepts-up-to, answers, same-part, passed, then-refused, ahead-at, ahead-stands, closing, closed-parses, ended, one-more, room-fits, room-after}
 use Rattle.expressions.proofs.Scopes.{few-names}
 use Rattle.expressions.proofs.Chain.{Operators}
@@ -43,12 +43,12 @@ operation-some multiply e = omega arith
 operation-some divide e = omega arith
 operation-some modulo e = omega arith
 
-pub sums : Operators codeE operation sumOf operationCode
-unfolding codeE
+pub sums : Operators bytesE operation sumOf operationCode
+unfolding bytesE
 sums = record { joined = λ o a b. refl; none-ends = sums-end; some-code = operation-some }
 
-pub products : Operators codeE operation productOf operationCode
-unfolding codeE
+pub products : Operators bytesE operation productOf operationCode
+unfolding bytesE
 products = record { joined = λ o a b. refl; none-ends = products-end; some-code = operation-some }
 
 -- ---- names and numbers
@@ -72,8 +72,8 @@ module _ (sc : Scope) (s n : ℕ) where
   unfolding currentAt
   current-long e = with-long sc s s n _ e
 
-  pub previous-long : overLong (s + 1) n ≡ true → previousAt sc s n ≡ refused tooMany s
-  unfolding previousAt
+  pub previous-long : overLong (s + 1) n ≡ true → previousValueAt sc s n ≡ refused tooMany s
+  unfolding previousValueAt
   previous-long e = with-long sc s (s + 1) n _ e
 
   module _ (short : overLong s n ≡ false) where
@@ -91,23 +91,23 @@ module _ (sc : Scope) (s n : ℕ) where
       current-known k = with-known sc s s n _ short i e ∙ rw k
 
   module _ (short : overLong (s + 1) n ≡ false) where
-    pub previous-unknown : idOf (sc .names) (part (sc .text) (s + 1) n) ≡ none → previousAt sc s n ≡ refused wrongName s
-    unfolding previousAt
+    pub previous-unknown : idOf (sc .names) (part (sc .text) (s + 1) n) ≡ none → previousValueAt sc s n ≡ refused wrongName s
+    unfolding previousValueAt
     previous-unknown e = with-unknown sc s (s + 1) n _ short e
 
-    pub previous-known : (i : ℕ) → idOf (sc .names) (part (sc .text) (s + 1) n) ≡ some i → previousAt sc s n ≡ accepted (previous i) n
-    unfolding previousAt
+    pub previous-known : (i : ℕ) → idOf (sc .names) (part (sc .text) (s + 1) n) ≡ some i → previousValueAt sc s n ≡ accepted (previous i) n
+    unfolding previousValueAt
     previous-known i e = with-known sc s (s + 1) n _ short i e
 
   module _ (v : ℕ) (e : v ≡ min (valueOf (part (sc .text) s n)) (2 ^ 32)) where
-    pub number-large : numberLimit < v → numberAt sc s n ≡ refused outOfLimit s
-    unfolding numberAt
+    pub number-large : numberLimit < v → constantAt sc s n ≡ refused outOfLimit s
+    unfolding constantAt
     number-large h =
         let l : numberLimit < valueOf (part (sc .text) s n) = omega arith in
         rw (lt-ltb _ _ l)
 
-    pub number-fits : v ≤ numberLimit → numberAt sc s n ≡ accepted (constant (pos v)) n
-    unfolding numberAt
+    pub number-fits : v ≤ numberLimit → constantAt sc s n ≡ accepted (constant (pos v)) n
+    unfolding constantAt
     number-fits h =
         let i : valueOf (part (sc .text) s n) ≡ v = omega arith in
         rw (i, le-ltb _ _ h)
@@ -116,26 +116,26 @@ module _ (sc : Scope) (s n : ℕ) where
 pub written : {text : List ℕ} {n c o to u : ℕ} {before after : List ℕ} {r : Step} → (u ≡ to + length (c ∷ number o)) × (after ≡ sets before to (c ∷ number o)) → r ≡ stepAt (tokenAt text n) n u → Parses text (λ (x : ℕ). c ∷ number x) (accepted o n) to before after r
 written {o = o} w e = ended o refl (w .0) (w .1) e
 
-pub constant-code : (v : ℕ) {z : ℕ} → z ≡ zigzag (pos v) → codeE (constant (pos v)) ≡ 1 ∷ number z
-unfolding codeE
+pub constant-code : (v : ℕ) {z : ℕ} → z ≡ zigzag (pos v) → bytesE (constant (pos v)) ≡ 1 ∷ number z
+unfolding bytesE
 constant-code v e = rw e
 
-pub current-code : (i : ℕ) → codeE (current i) ≡ 2 ∷ number i
-unfolding codeE
+pub current-code : (i : ℕ) → bytesE (current i) ≡ 2 ∷ number i
+unfolding bytesE
 current-code i = refl
 
-pub previous-code : (i : ℕ) → codeE (previous i) ≡ 3 ∷ number i
-unfolding codeE
+pub previous-code : (i : ℕ) → bytesE (previous i) ≡ 3 ∷ number i
+unfolding bytesE
 previous-code i = refl
 
 -- ---- primaries
 
-number-text : (sc : Scope) (s n : ℕ) → numberAt sc s n ≡ numberAt (textOnly (sc .text)) s n
-unfolding numberAt
+number-text : (sc : Scope) (s n : ℕ) → constantAt sc s n ≡ constantAt (textOnly (sc .text)) s n
+unfolding constantAt
 number-text sc s n = refl
 
-module _ (inner : ℕ → ℕ → Parsed Expression) (sc : Scope) {h : Place} (k : Stands (sc .text) h) where
-  pub primary-number : h .kind ≡ kindNumber digits → primary inner sc (h .at) ≡ numberAt (textOnly (sc .text)) (h .start) (h .end)
+module _ (inner : ℕ → ℕ → Parsed Expression) (sc : Scope) {h : Place} (k : StandsAt (sc .text) h) where
+  pub primary-number : h .kind ≡ kindNumber digits → primary inner sc (h .at) ≡ constantAt (textOnly (sc .text)) (h .start) (h .end)
   unfolding primary
   primary-number e = rw (k .read, told k digits e) (number-text sc (h .start) (h .end))
 
@@ -145,7 +145,7 @@ module _ (inner : ℕ → ℕ → Parsed Expression) (sc : Scope) {h : Place} (k
     primary-current e = rw (k .read, untold k digits n1, told k name e)
 
     module _ (n2 : h .kind ≡ kindNumber name → ⊥) where
-      pub primary-previous : h .kind ≡ kindNumber T.previous → primary inner sc (h .at) ≡ previousAt sc (h .start) (h .end)
+      pub primary-previous : h .kind ≡ kindNumber T.previous → primary inner sc (h .at) ≡ previousValueAt sc (h .start) (h .end)
       unfolding primary
       primary-previous e = rw (k .read, untold k digits n1, untold k name n2, told k T.previous e)
 
@@ -173,7 +173,7 @@ module _ (sc : Scope) (s n : ℕ) where
   bracket-some zero e = absurd (e refl)
   bracket-some (suc d) e = ap (λ (x : ℕ). andThen (expressionIn x sc n) (λ a m. followed (sc .text) (sign closeRound ∷ []) a m)) (sym (down d))
 
-pub bracket-closes : (text starts ends : List ℕ) (names : Names) (s n left : ℕ) {to : ℕ} {before after : List ℕ} {part r : Step} → (left ≡ 0 → ⊥) → r ≡ closedStep text (kindNumber closeRound) part → Parses text codeE (expressionIn (left - 1) (scopeOf text starts ends names) n) to before after part → Parses text codeE (bracket left (scopeOf text starts ends names) s n) to before after r
+pub bracket-closes : (text starts ends : List ℕ) (names : Names) (s n left : ℕ) {to : ℕ} {before after : List ℕ} {part r : Step} → (left ≡ 0 → ⊥) → r ≡ closedStep text (kindNumber closeRound) part → Parses text bytesE (expressionIn (left - 1) (scopeOf text starts ends names) n) to before after part → Parses text bytesE (bracket left (scopeOf text starts ends names) s n) to before after r
 bracket-closes text starts ends names s n left z e c = same-part (bracket-some (scopeOf text starts ends names) s n left z) (answers e (closed-parses closeRound _ c))
 
 -- ---- the opposite
@@ -183,8 +183,8 @@ module _ {text : List ℕ} {p : Parsed Expression} where
   unfolding negative lookedAhead
   negative-refuses r = then-refused text _ (λ a n q e. record { looked = rw e }) p r
 
-  negative-accepts : {to : ℕ} {before after : List ℕ} {h : Place} {t u : ℕ} {last : List ℕ} → Accepted text codeE p to before after h t → u ≡ t + 1 → last ≡ set after t 9 → Accepted text codeE (negative p) to before last h u
-  unfolding negative codeE
+  negative-accepts : {to : ℕ} {before after : List ℕ} {h : Place} {t u : ℕ} {last : List ℕ} → Accepted text bytesE p to before after h t → u ≡ t + 1 → last ≡ set after t 9 → Accepted text bytesE (negative p) to before last h u
+  unfolding negative bytesE
   negative-accepts a e f = one-more a (negate (a .tree)) 9 (rw (a .is)) refl e f
 
 -- ---- factors
@@ -199,7 +199,7 @@ module _ (text starts ends : List ℕ) (names : Names) (left at : ℕ) where
 
   -- `ahead` read the token h there
   module _ (to : ℕ) {r : Step} {h : Place} (d : r ≡ Done h) (e : r ≡ stepAt (tokenAt text at) at to) where
-    here : Stands text h
+    here : StandsAt text h
     here = ahead-stands text at to d e
 
     pub factor-plain : (h .kind ≡ kindNumber minus → ⊥) → factorIn left sc at ≡ primaryIn left sc (h .at)
@@ -220,28 +220,28 @@ module _ (text starts ends : List ℕ) (names : Names) (left at : ℕ) where
         minus-operand : factorIn left sc at ≡ negative (primaryIn left sc (g .at))
         minus-operand = rw (ahead-at text (h .end) u d′ e′) factor-minus
 
-        module _ {v : ℕ} {before after : List ℕ} {p : Step} (c : Parses text codeE (primaryIn left sc (g .at)) v before after p) where
-          pub minus-refuses : {k q l : ℕ} {first last : List ℕ} → p ≡ Refused k q → Parses text codeE (factorIn left sc at) l first last p
+        module _ {v : ℕ} {before after : List ℕ} {p : Step} (c : Parses text bytesE (primaryIn left sc (g .at)) v before after p) where
+          pub minus-refuses : {k q l : ℕ} {first last : List ℕ} → p ≡ Refused k q → Parses text bytesE (factorIn left sc at) l first last p
           minus-refuses i = same-part minus-operand (passed c i negative-refuses)
 
-          pub minus-accepts : {l : Place} {x : ℕ} {last : List ℕ} → p ≡ Done l → (x ≡ l .to + 1) × (last ≡ set after (l .to) 9) → Parses text codeE (factorIn left sc at) v before last (Done (upTo l x))
+          pub minus-accepts : {l : Place} {x : ℕ} {last : List ℕ} → p ≡ Done l → (x ≡ l .to + 1) × (last ≡ set after (l .to) 9) → Parses text bytesE (factorIn left sc at) v before last (Done (upTo l x))
           minus-accepts i f = same-part minus-operand (accepts-up-to refl (negative-accepts (accepted-by c i) (f .0) (f .1)))
 
 -- ---- growth
 
 module _ {text starts ends : List ℕ} {names : Names} (d : Declared starts ends names) (left : ℕ) {at to : ℕ} (r : Room text at to) where
-  primary-grows : Grown codeE (length text) at (primaryIn left (scopeOf text starts ends names) at)
+  primary-grows : Grown bytesE (length text) at (primaryIn left (scopeOf text starts ends names) at)
   primary-grows = primary-grown _ (few-names text d) left at (r .within)
 
-  pub factor-grows : Grown codeE (length text) at (factorIn left (scopeOf text starts ends names) at)
+  pub factor-grows : Grown bytesE (length text) at (factorIn left (scopeOf text starts ends names) at)
   factor-grows = factor-grown _ (few-names text d) left at (r .within)
 
-  pub term-grows : Grown codeE (length text) at (termIn left (scopeOf text starts ends names) at)
+  pub term-grows : Grown bytesE (length text) at (termIn left (scopeOf text starts ends names) at)
   term-grows = term-grown _ (few-names text d) left at (r .within)
 
-  pub expression-grows : Grown codeE (length text) at (expressionIn left (scopeOf text starts ends names) at)
+  pub expression-grows : Grown bytesE (length text) at (expressionIn left (scopeOf text starts ends names) at)
   expression-grows = expression-grown _ (few-names text d) left at (r .within)
 
 -- behind a primary there is room for a byte
-pub primary-fits : (text starts ends : List ℕ) (names : Names) (left : ℕ) {at to : ℕ} {before after : List ℕ} {r : Step} {h : Place} → r ≡ Done h → Parses text codeE (primaryIn left (scopeOf text starts ends names) at) to before after r → Declared starts ends names → Room text at to → h .to < 2 ^ 32
+pub primary-fits : (text starts ends : List ℕ) (names : Names) (left : ℕ) {at to : ℕ} {before after : List ℕ} {r : Step} {h : Place} → r ≡ Done h → Parses text bytesE (primaryIn left (scopeOf text starts ends names) at) to before after r → Declared starts ends names → Room text at to → h .to < 2 ^ 32
 primary-fits text starts ends names left e c d m = omega (arith, room-fits (room-after m (primary-grows d left m) (accepted-by c e)))

@@ -34,16 +34,16 @@ abbrev pub expressionIn : ℕ → Scope → ℕ → Parsed Expression
 expressionIn left sc at = expression (λ s n. bracket left sc s n) sc at
 
 -- the code byte of an operator; 0 where there is none
-abbrev pub codeOf : {O : Type 0} → (O → ℕ) → Option O → ℕ
-codeOf code none = 0
-codeOf code (some o) = code o
+abbrev pub codeOrNone : {O : Type 0} → (O → ℕ) → Option O → ℕ
+codeOrNone code none = 0
+codeOrNone code (some o) = code o
 
 -- c is the code byte of an operator of the kind with the number n, and 0 if there is none of that kind
 abbrev pub Codes : {O : Type 0} → (O → ℕ) → (Kind → Option O) → ℕ → ℕ → Type 0
-Codes code operator n c = (k : Kind) → n ≡ kindNumber k → c ≡ codeOf code (operator k)
+Codes code operator n c = (k : Kind) → n ≡ kindNumber k → c ≡ codeOrNone code (operator k)
 
 -- the token h is the one read from its place
-pub record Stands (text : List ℕ) (h : Place) : Type 0 where
+pub record StandsAt (text : List ℕ) (h : Place) : Type 0 where
   pub kind : Kind
   pub read : tokenAt text (h .at) ≡ token kind (h .start) (h .end)
   pub numbered : h .kind ≡ kindNumber kind

@@ -4,14 +4,14 @@ use Prim.Native.Nat.{ℕ, _≤_}
 use mathlib.Core.List.{List}
 use Rattle.limits.specs.Limits.{nameLimit}
 use Rattle.arith.specs.Flags.{flagsOf}
-use Rattle.lexer.specs.Names.{namesOf, Table}
+use Rattle.lexer.specs.Names.{tableNames, Table}
 use Rattle.grammar.specs.Expressions.{Scope}
 use Rattle.expressions.specs.declared.scope.Names.{Names}
 
 -- bit i of `known` tells whether the current value of the name with id i may be used
 abbrev pub scopeOf : List ℕ → List ℕ → List ℕ → Names → Scope
 scopeOf text starts ends names =
-    record { text = text; names = namesOf text starts ends (names .count); known = flagsOf (names .count) (names .known) }
+    record { text = text; names = tableNames text starts ends (names .count); known = flagsOf (names .count) (names .known) }
 
 -- the table holds the names, and there are no more of them than a text may declare
 pub record Declared (starts ends : List ℕ) (names : Names) : Type 0 where

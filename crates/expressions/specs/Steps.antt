@@ -5,7 +5,7 @@ use mathlib.Core.List.{List}
 use lib.IntN.{pos}
 use lib.ListN.{length}
 use Rattle.limits.specs.Limits.{textLimit, noToken}
-use Rattle.lexer.specs.Token.{Kind, kindNumber, Read, token, fault}
+use Rattle.lexer.specs.Token.{Kind, kindNumber, TokenRead, token, fault}
 use Rattle.lexer.specs.Lexer.{tokenAt}
 use Rattle.lexer.specs.declared.Place.{Place}
 use Rattle.lexer.specs.declared.Step.{Step}
@@ -14,7 +14,7 @@ use Rattle.grammar.specs.Parsed.{Parsed, accepted, andThen, onToken}
 use Rattle.phrases.specs.Results.{Writes}
 
 -- the token read from the place n, with the bytes written up to t; what is no token is refused 1
-abbrev pub stepAt : Read → ℕ → ℕ → Step
+abbrev pub stepAt : TokenRead → ℕ → ℕ → Step
 stepAt (token k s m) n t = Done (record { at = n; kind = kindNumber k; start = s; end = m; to = t; number = 0; value = pos 0 })
 stepAt (fault q) n t = Refused noToken q
 
@@ -33,15 +33,15 @@ lookedAhead text p = andThen p (λ a n. onToken (tokenAt text n) (λ k s m. acce
 abbrev pub tokenTold : Place → ℕ × ℕ × ℕ
 tokenTold x = (x .kind, x .start, x .end)
 
-abbrev pub tokenOf : {A : Type 0} → Followed A → ℕ × ℕ × ℕ
-tokenOf x = (kindNumber (x .kind), x .start, x .end)
+abbrev pub tokenBehind : {A : Type 0} → Followed A → ℕ × ℕ × ℕ
+tokenBehind x = (kindNumber (x .kind), x .start, x .end)
 
 abbrev pub codeOfPart : {A : Type 0} → (A → List ℕ) → Followed A → List ℕ
 codeOfPart code x = code (x .part)
 
 -- a function answers the place after a part that reads as p, the token there and the end of the part's code, which it has written
 pub record Parses {A : Type 0} (text : List ℕ) (code : A → List ℕ) (p : Parsed A) (to : ℕ) (before after : List ℕ) (r : Step) : Type 0 where
-  pub writes : Writes (codeOfPart code) tokenTold tokenOf (lookedAhead text p) to before after r
+  pub writes : Writes (codeOfPart code) tokenTold tokenBehind (lookedAhead text p) to before after r
 
 -- a text within its limit, a place in it, and no more bytes written than two for each byte read, and the header's two counts
 pub record Room (text : List ℕ) (at to : ℕ) : Type 0 where

@@ -12,11 +12,11 @@ ghost use Rattle.leb128.specs.Numbers.{number as numberBytes};
 ghost use Rattle.lexer.specs.Lexer.{tokenAt};
 ghost use Rattle.bytecode.specs.Instructions.{operationCode};
 ghost use Rattle.grammar.specs.Parsed.{accepted};
-ghost use Rattle.grammar.specs.Expressions.{numberAt, currentAt, previousAt, productOf, sumOf, bracket, wholeExpression};
-ghost use Rattle.grammar.specs.Emitted.{codeE};
+ghost use Rattle.grammar.specs.Expressions.{constantAt, currentAt, previousValueAt, productOf, sumOf, bracket, wholeExpression};
+ghost use Rattle.grammar.specs.Emitted.{bytesE};
 ghost use Rattle.expressions.specs.Scopes.{scopeOf, Declared};
 ghost use Rattle.expressions.specs.Steps.{stepAt, Parses, Room};
-ghost use Rattle.expressions.specs.Internal.{textOnly, primaryIn, factorIn, termIn, expressionIn, Codes, Stands, closedStep};
+ghost use Rattle.expressions.specs.Internal.{textOnly, primaryIn, factorIn, termIn, expressionIn, Codes, StandsAt, closedStep};
 
 pub mod scope;
 
@@ -86,7 +86,7 @@ fn instruction(text: &[u8], end: usize, code: u8, operand: u64, out: &mut [u8], 
 // The number that the digits from `start` to `end` spell.
 fn number(text: &[u8], start: usize, end: usize, out: &mut [u8], to: usize) -> Step
     requires { ⌜ to + 1 < 2 ^ 31 ⌝ }
-    ensures { λ r. ⌜ Parses (now (text .entry)) codeE (numberAt (textOnly (now (text .entry))) start end) to (now (out .entry)) (now (out .exit)) r ⌝ }
+    ensures { λ r. ⌜ Parses (now (text .entry)) bytesE (constantAt (textOnly (now (text .entry))) start end) to (now (out .entry)) (now (out .exit)) r ⌝ }
 {
     let v = lexer::value(lexer::name(text, start, end));
     if limits::NUMBER_LIMIT < v {
@@ -115,7 +115,7 @@ fn current(
 ) -> Step
     requires { ⌜ Declared (now starts) (now ends) names ⌝ }
     requires { ⌜ to + 1 < 2 ^ 31 ⌝ }
-    ensures { λ r. ⌜ Parses (now (text .entry)) codeE (currentAt (scopeOf (now (text .entry)) (now (starts .entry)) (now (ends .entry)) names) start end) to (now (out .entry)) (now (out .exit)) r ⌝ }
+    ensures { λ r. ⌜ Parses (now (text .entry)) bytesE (currentAt (scopeOf (now (text .entry)) (now (starts .entry)) (now (ends .entry)) names) start end) to (now (out .entry)) (now (out .exit)) r ⌝ }
 {
     if lexer::is_over_long(start, end) {
         return Step::Refused(limits::TOO_MANY, start);
@@ -143,7 +143,7 @@ fn previous(
 ) -> Step
     requires { ⌜ Declared (now starts) (now ends) names ⌝ }
     requires { ⌜ (start < 2 ^ 31) × (to + 1 < 2 ^ 31) ⌝ }
-    ensures { λ r. ⌜ Parses (now (text .entry)) codeE (previousAt (scopeOf (now (text .entry)) (now (starts .entry)) (now (ends .entry)) names) start end) to (now (out .entry)) (now (out .exit)) r ⌝ }
+    ensures { λ r. ⌜ Parses (now (text .entry)) bytesE (previousValueAt (scopeOf (now (text .entry)) (now (starts .entry)) (now (ends .entry)) names) start end) to (now (out .entry)) (now (out .exit)) r ⌝ }
 {
     let from = start + 1;
     if lexer::is_over_long(from, end) {
@@ -169,7 +169,7 @@ pub fn expression(
 ) -> Step
     requires { ⌜ Declared (now starts) (now ends) names ⌝ }
     requires { ⌜ Room (now text) at to ⌝ }
-    ensures { λ r. ⌜ Parses (now (text .entry)) codeE (expressionIn left (scopeOf (now (text .entry)) (now (starts .entry)) (now (ends .entry)) names) at) to (now (out .entry)) (now (out .exit)) r ⌝ }
+    ensures { λ r. ⌜ Parses (now (text .entry)) bytesE (expressionIn left (scopeOf (now (text .entry)) (now (starts .entry)) (now (ends .entry)) names) at) to (now (out .entry)) (now (out .exit)) r ⌝ }
 {
     let first = term(text, starts, ends, names, at, left, out, to);
     let Step::Done(mut behind) = first else {
@@ -202,7 +202,7 @@ fn term(
 ) -> Step
     requires { ⌜ Declared (now starts) (now ends) names ⌝ }
     requires { ⌜ Room (now text) at to ⌝ }
-    ensures { λ r. ⌜ Parses (now (text .entry)) codeE (termIn left (scopeOf (now (text .entry)) (now (starts .entry)) (now (ends .entry)) names) at) to (now (out .entry)) (now (out .exit)) r ⌝ }
+    ensures { λ r. ⌜ Parses (now (text .entry)) bytesE (termIn left (scopeOf (now (text .entry)) (now (starts .entry)) (now (ends .entry)) names) at) to (now (out .entry)) (now (out .exit)) r ⌝ }
 {
     let first = factor(text, starts, ends, names, at, left, out, to);
     let Step::Done(mut behind) = first else {
@@ -235,7 +235,7 @@ fn factor(
 ) -> Step
     requires { ⌜ Declared (now starts) (now ends) names ⌝ }
     requires { ⌜ Room (now text) at to ⌝ }
-    ensures { λ r. ⌜ Parses (now (text .entry)) codeE (factorIn left (scopeOf (now (text .entry)) (now (starts .entry)) (now (ends .entry)) names) at) to (now (out .entry)) (now (out .exit)) r ⌝ }
+    ensures { λ r. ⌜ Parses (now (text .entry)) bytesE (factorIn left (scopeOf (now (text .entry)) (now (starts .entry)) (now (ends .entry)) names) at) to (now (out .entry)) (now (out .exit)) r ⌝ }
 {
     let read = ahead(text, at, to);
     let Step::Done(here) = read else {
@@ -269,8 +269,8 @@ fn primary(
 ) -> Step
     requires { ⌜ Declared (now starts) (now ends) names ⌝ }
     requires { ⌜ Room (now text) (here .at) to ⌝ }
-    requires { ⌜ Stands (now text) here ⌝ }
-    ensures { λ r. ⌜ Parses (now (text .entry)) codeE (primaryIn left (scopeOf (now (text .entry)) (now (starts .entry)) (now (ends .entry)) names) (here .at)) to (now (out .entry)) (now (out .exit)) r ⌝ }
+    requires { ⌜ StandsAt (now text) here ⌝ }
+    ensures { λ r. ⌜ Parses (now (text .entry)) bytesE (primaryIn left (scopeOf (now (text .entry)) (now (starts .entry)) (now (ends .entry)) names) (here .at)) to (now (out .entry)) (now (out .exit)) r ⌝ }
 {
     if here.kind == lexer::DIGITS {
         return number(text, here.start, here.end, out, to);
@@ -311,7 +311,7 @@ fn bracket(
 ) -> Step
     requires { ⌜ Declared (now starts) (now ends) names ⌝ }
     requires { ⌜ Room (now text) end to ⌝ }
-    ensures { λ r. ⌜ Parses (now (text .entry)) codeE (bracket left (scopeOf (now (text .entry)) (now (starts .entry)) (now (ends .entry)) names) start end) to (now (out .entry)) (now (out .exit)) r ⌝ }
+    ensures { λ r. ⌜ Parses (now (text .entry)) bytesE (bracket left (scopeOf (now (text .entry)) (now (starts .entry)) (now (ends .entry)) names) start end) to (now (out .entry)) (now (out .exit)) r ⌝ }
 {
     if left == 0 {
         return Step::Refused(limits::TOO_MANY, start);
@@ -332,7 +332,7 @@ pub fn whole_expression(
 ) -> Step
     requires { ⌜ Declared (now starts) (now ends) names ⌝ }
     requires { ⌜ Room (now text) at to ⌝ }
-    ensures { λ r. ⌜ Parses (now (text .entry)) codeE (wholeExpression (scopeOf (now (text .entry)) (now (starts .entry)) (now (ends .entry)) names) at) to (now (out .entry)) (now (out .exit)) r ⌝ }
+    ensures { λ r. ⌜ Parses (now (text .entry)) bytesE (wholeExpression (scopeOf (now (text .entry)) (now (starts .entry)) (now (ends .entry)) names) at) to (now (out .entry)) (now (out .exit)) r ⌝ }
 {
     expression(
         text,

@@ -9,7 +9,7 @@ use Prim.Native.Nat.{ℕ, _≤_, _<_}
 use native.Mathlib.Omega.{arith}
 use lib.ListN.{length, take}
 use Rattle.lexer.specs.Bytes.{part}
-use Rattle.lexer.specs.Token.{Kind, Read, token, fault}
+use Rattle.lexer.specs.Token.{Kind, TokenRead, token, fault}
 use Rattle.lexer.specs.Lexer.{tokenAt}
 use Rattle.grammar.specs.Parsed.{Parsed, accepted, refused, andThen, onToken, onOption}
 use Rattle.faults.specs.Texts.{readEnd}
@@ -25,7 +25,7 @@ pub record Setting : Type 0 where
   pub place : ℕ
   pub end : ℕ
   pub b : ℕ
-  pub found : Read
+  pub found : TokenRead
   pub is-found : tokenAt text b ≡ found
   pub starts : readStart found ≡ place
   pub ends : readEnd found ≡ end
@@ -66,9 +66,9 @@ pub reads-after : {A : Type 0} {t : List ℕ} {at : ℕ} {r : Parsed A} → Read
 reads-after {t = t} {r = accepted a n} h = reaches-le t (h .found)
 reads-after {t = t} {at = at} {r = refused k q} h = go (tokenAt t (h .found .0)) refl (h .found .2)
   where
-    go : (x : Read) → tokenAt t (h .found .0) ≡ x → RefusalOf k q x → at ≤ q
+    go : (x : TokenRead) → tokenAt t (h .found .0) ≡ x → RefusalOf k q x → at ≤ q
     go (token k2 s n) e g = omega (arith, reaches-le t (h .found .1), token-after t (h .found .0) k2 s n e .0, g .2)
-    go (fault p) e g = let l = subst (λ (y : Read). h .found .0 ≤ readStart y) e (starts-after t (h .found .0)) in omega (arith, reaches-le t (h .found .1), g .1)
+    go (fault p) e g = let l = subst (λ (y : TokenRead). h .found .0 ≤ readStart y) e (starts-after t (h .found .0)) in omega (arith, reaches-le t (h .found .1), g .1)
 
 pub read-after : {A : Type 0} {t : List ℕ} {at n : ℕ} {a : A} {r : Parsed A} → ReadsFrom t at r → r ≡ accepted a n → at ≤ n
 read-after h e = rw e at (reads-after h)
@@ -202,9 +202,9 @@ step-in {S = S} {k = k} {s = s} {n = n} tok f x = record { reads = λ t h. step 
 pub token-same : {A : Type 0} (S : Setting) (at : ℕ) (f f' : Kind → ℕ → ℕ → Parsed A) → Reaches (S .text) at (S .b) → ((k : Kind) (s n : ℕ) → TokenIn at k s n (S .text) → TokenIn at k s n (S .twin) → Same S (f k s n) (f' k s n))
     → Same S (onToken (tokenAt (S .text) at) f) (onToken (tokenAt (S .twin) at) f')
 token-same {A} S at f f' c g =
-    subst (λ (x : Read). Same S (onToken (tokenAt (S .text) at) f) (onToken x f')) (sym (on-way S c .twin-reads)) (go (tokenAt (S .text) at) refl (on-way S c .twin-reads))
+    subst (λ (x : TokenRead). Same S (onToken (tokenAt (S .text) at) f) (onToken x f')) (sym (on-way S c .twin-reads)) (go (tokenAt (S .text) at) refl (on-way S c .twin-reads))
   where
-    go : (r : Read) → tokenAt (S .text) at ≡ r → tokenAt (S .twin) at ≡ r → Same S (onToken r f) (onToken r f')
+    go : (r : TokenRead) → tokenAt (S .text) at ≡ r → tokenAt (S .twin) at ≡ r → Same S (onToken r f) (onToken r f')
     go (token k s n) e e' = g k s n e e'
     go (fault p) e e' = refuses 1 p (omega (arith, ap readStart e, on-way S c .early))
 

@@ -8,7 +8,7 @@ use native.Mathlib.Omega.{arith}
 use lib.ListN.{length}
 use lib.Dec.{ltb, leb, eqb}
 use borrow.Author.Tests.{lt-ltb, le-ltb, eqb-true}
-use Rattle.lexer.specs.Token.{Kind, closeRound, bar, Read, token, fault}
+use Rattle.lexer.specs.Token.{Kind, closeRound, bar, TokenRead, token, fault}
 use Rattle.lexer.specs.Lexer.{tokenAt, sameToken}
 use Rattle.semantics.specs.Program.{Condition}
 use Rattle.grammar.specs.Parsed.{Parsed, accepted, refused}
@@ -60,13 +60,13 @@ module _ (S : Setting) where
   found-agrees : (at : ℕ) (test test' : Kind → ℕ → ℕ → Bool) (f f' : ℕ → Compared) → Reaches (S .text) at (S .b) → ((k : Kind) (s n : ℕ) → TokenIn at k s n (S .text) → test k s n ≡ test' k s n) → ((n : ℕ) → OnOrBeyond S n → SameCompared S (f n) (f' n))
       → SameCompared S (onFound (tokenAt (S .text) at) test f) (onFound (tokenAt (S .twin) at) test' f')
   found-agrees at test test' f f' c g h =
-      subst (λ (x : Read). SameCompared S (onFound (tokenAt (S .text) at) test f) (onFound x test' f')) (sym (on-way S c .twin-reads)) (go (tokenAt (S .text) at) refl)
+      subst (λ (x : TokenRead). SameCompared S (onFound (tokenAt (S .text) at) test f) (onFound x test' f')) (sym (on-way S c .twin-reads)) (go (tokenAt (S .text) at) refl)
     where
       choice : (t : Bool) (s : ℕ) (x y : Compared) → s ≤ S .place → SameCompared S x y → SameCompared S (cond t x (differs s)) (cond t y (differs s))
       choice true s x y l a = a
       choice false s x y l a = differ s l
 
-      go : (r : Read) → tokenAt (S .text) at ≡ r → SameCompared S (onFound r test f) (onFound r test' f')
+      go : (r : TokenRead) → tokenAt (S .text) at ≡ r → SameCompared S (onFound r test f) (onFound r test' f')
       go (token k s n) e =
           subst (λ (t : Bool). SameCompared S (cond (test k s n) (f n) (differs s)) (cond t (f' n) (differs s))) (g k s n e)
           (choice (test k s n) s (f n) (f' n) (omega (arith, ap readStart e, on-way S c .early)) (h n (on-way S c .next k s n e .0)))

@@ -15,8 +15,8 @@ use Rattle.lexer.specs.Lexer.{sameName, overLong, valueOf}
 use Rattle.lexer.specs.Names.{idOf}
 use Rattle.semantics.specs.Program.{Expression, Condition, operation, constant}
 use Rattle.grammar.specs.Parsed.{Parsed, accepted, refused, onOption, Wanted, sign, own, ownPrevious, expected, phrase, followed, rest, chain}
-use Rattle.grammar.specs.Expressions.{Scope, withId, currentAt, previousAt, numberAt, primary, negative, factor, productOf, sumOf, term, expression, bracket, wholeExpression}
-use Rattle.grammar.specs.Conditions.{comparisonOf, compared, comparisonAt, opposite, inverted, atom, connect, andOf, orOf, conjunction, condition, square, wholeCondition, listed}
+use Rattle.grammar.specs.Expressions.{Scope, withId, currentAt, previousValueAt, constantAt, primary, negative, factor, productOf, sumOf, term, expression, bracket, wholeExpression}
+use Rattle.grammar.specs.Conditions.{comparisonBy, compared, comparisonAt, opposite, inverted, atom, connect, andOf, orOf, conjunction, condition, square, wholeCondition, listed}
 use Rattle.faults.proofs.Reaching.{reaches-le}
 use Rattle.faults.proofs.Readings.{rest-reads, chain-reads}
 use Rattle.faults.proofs.Alike.{Setting, OnOrBeyond, placeOf, Same, yields, beyond, Alike, Any, TokenIn, reads-after, b-within, on-way, run, plain, done-alike, past-alike, here-alike, not-allowed, step-alike, cond-alike, option-same, option-alike, then-same, then-alike, word-alike, token-same, token-alike}
@@ -108,12 +108,12 @@ module _ (S : Setting) (names : List (List ℕ)) (known : List Bool) where
     unfolding currentAt
     current-alike = id-alike s _ (λ i. cond-alike (getD known i false) (past-alike _) (here-alike 5 (omega arith) (omega arith)))
 
-    previous-alike : Alike S (TokenIn at k s n) at (λ t. previousAt (scope names known t) s n)
-    unfolding previousAt
+    previous-alike : Alike S (TokenIn at k s n) at (λ t. previousValueAt (scope names known t) s n)
+    unfolding previousValueAt
     previous-alike = id-alike (s + 1) _ (λ i. past-alike _)
 
-    number-alike : Alike S (TokenIn at k s n) at (λ t. numberAt (scope names known t) s n)
-    unfolding numberAt
+    number-alike : Alike S (TokenIn at k s n) at (λ t. constantAt (scope names known t) s n)
+    unfolding constantAt
     number-alike =
         word-alike {G = λ w t. cond (ltb numberLimit (valueOf w)) (refused 3 s) (accepted (constant (pos (valueOf w))) n)} s
         (λ w. cond-alike (ltb numberLimit (valueOf w)) (here-alike 3 (omega arith) (omega arith)) (past-alike _))
@@ -153,7 +153,7 @@ module _ (S : Setting) (names : List (List ℕ)) (known : List Bool) where
   module _ (inner : List ℕ → ℕ → ℕ → Parsed Expression) (hi : Inside inner) (inside : List ℕ → ℕ → ℕ → Parsed Condition) (hc : Inside inside) where
     compared-alike : (a : Expression) → Anywhere (λ t at. compared (inner t) (scope names known t) a at)
     unfolding compared
-    compared-alike a n = token-alike n (λ k s m. option-alike (comparisonOf k) not-allowed (λ o. step-alike (then-alike (expression-alike inner hi m) (λ b j. done-alike _))))
+    compared-alike a n = token-alike n (λ k s m. option-alike (comparisonBy k) not-allowed (λ o. step-alike (then-alike (expression-alike inner hi m) (λ b j. done-alike _))))
 
     comparison-alike : Anywhere (λ t at. comparisonAt (inner t) (scope names known t) at)
     unfolding comparisonAt

@@ -19,7 +19,7 @@ use Rattle.semantics.specs.Program.{Name, Condition, Rule, target, allTrue, kno
 use Rattle.grammar.specs.Parsed.{Parsed, accepted, refused, onOption, phrase}
 use Rattle.grammar.specs.Expressions.{withId, wholeExpression}
 use Rattle.grammar.specs.Conditions.{listed}
-use Rattle.grammar.specs.Declarations.{inRange, signedAt, boundAt, spellings, newName, startAt, declaration, declarationsFrom, declarations}
+use Rattle.grammar.specs.Declarations.{inRange, signedDigits, boundAt, spellings, newName, startAt, declaration, declarationsFrom, declarations}
 use Rattle.grammar.specs.Rules.{Spanned, caseAt, casesFrom, listFrom, plainList, partsFrom, agreeingList, functionAt, changeAt, formulas, ruleAt, rulesFrom}
 use Rattle.grammar.specs.Forms.{changeOpening, noChangeOpening, ruleOpening}
 use Rattle.grammar.specs.Parsed.{followed}
@@ -41,8 +41,8 @@ use Rattle.faults.proofs.AlikeParts.{scope, phrase-alike, followed-alik
 -- ---- declarations
 
 module _ (S : Setting) where
-  signed-alike : (test : ℤ → Bool) (signed : ℤ → ℤ) (at : ℕ) (k : Kind) (s n : ℕ) → Alike S (TokenIn at k s n) at (λ t. signedAt test signed t k s n)
-  unfolding signedAt
+  signed-alike : (test : ℤ → Bool) (signed : ℤ → ℤ) (at : ℕ) (k : Kind) (s n : ℕ) → Alike S (TokenIn at k s n) at (λ t. signedDigits test signed t k s n)
+  unfolding signedDigits
   signed-alike test signed at k s n =
       cond-alike (is k digits)
       (word-alike {G = λ w t. cond (isInt32 (signed (pos (valueOf w))) && test (signed (pos (valueOf w)))) (accepted (signed (pos (valueOf w))) n) (refused 3 s)} s

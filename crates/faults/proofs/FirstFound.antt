@@ -7,7 +7,7 @@ use native.Mathlib.Omega.{arith}
 use lib.ListN.{length, length-take}
 use Rattle.limits.specs.Limits.{textLimit}
 use Rattle.limits.specs.Answer as Answer
-use Rattle.lexer.specs.Token.{Kind, ending, is, Read, token, fault}
+use Rattle.lexer.specs.Token.{Kind, ending, is, TokenRead, token, fault}
 use Rattle.lexer.specs.Lexer.{tokenAt}
 use Rattle.lexer.proofs.Laws.{token-at-moved, token-faulted, Faulted}
 use Rattle.lexer.proofs.Same.{same-kind}
@@ -23,7 +23,7 @@ use Rattle.faults.proofs.AlikeText.{program-alike}
 use Rattle.faults.proofs.TextPlaces.{refused-parse, ParseRefusal, over, read, parse-refusal}
 
 -- what stands before the end of the text has bytes, within the text
-bounds : (text : List ℕ) (place : ℕ) (r : Read) → tokenAt text place ≡ r → readStart r ≡ place → place < length text → (place < readEnd r) × (readEnd r ≤ length text)
+bounds : (text : List ℕ) (place : ℕ) (r : TokenRead) → tokenAt text place ≡ r → readStart r ≡ place → place < length text → (place < readEnd r) × (readEnd r ≤ length text)
 bounds text place (token k s n) e q l = go (is k ending) refl
   where
     go : (t : Bool) → is k ending ≡ t → (place < n) × (n ≤ length text)
@@ -31,7 +31,7 @@ bounds text place (token k s n) e q l = go (is k ending) refl
     go false t = let m = token-at-moved text place k s n (omega arith) e in (omega (arith, m .3 (not-ending k t)), m .2)
 bounds text place (fault p) e q l = let f = subst (Faulted (length text)) e (token-faulted text place) in (omega arith, omega arith)
 
-told-start : (number place : ℕ) (r : Read) → RefusalOf number place r → readStart r ≡ place
+told-start : (number place : ℕ) (r : TokenRead) → RefusalOf number place r → readStart r ≡ place
 told-start number place (token k s n) h = h .2
 told-start number place (fault p) h = h .1
 

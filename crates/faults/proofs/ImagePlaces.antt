@@ -19,7 +19,7 @@ use Rattle.semantics.specs.Program.{Range}
 use Rattle.leb128.specs.Numbers.{Read, got, nothing, numberAt, signedAt}
 use Rattle.bytecode.specs.Instructions.{Instruction, fetch}
 use Rattle.bytecode.specs.Translation.{RangesFit}
-use Rattle.bytecode.specs.Check.{Known, advance, complete, tested, item, Placed, checkRange, checkRanges, Counts, checkCounts, Header, withInputs, checkHeader, ends, ifSome, checkCode, atStart, checkBody, checkOf}
+use Rattle.bytecode.specs.Check.{Known, advance, complete, tested, item, Placed, checkRange, checkRanges, Counts, checkCounts, Header, headerWith, checkHeader, ends, ifSome, checkCode, atStart, checkBody, checkOf}
 use Rattle.bytecode.specs.Sound.{RangesAt, Sound}
 use Rattle.bytecode.specs.Allowed.{leftBy, Allowed, Finished}
 use Rattle.bytecode.proofs.Fetching.{number-within}
@@ -149,11 +149,11 @@ header-fails : (bytes : List ℕ) (place : ℕ) → checkHeader bytes ≡ refuse
 unfolding checkHeader
 header-fails bytes place e = go (checkCounts bytes) refl e
   where
-    go : (a : Answer Counts) → checkCounts bytes ≡ a → (a andThen λ c. checkRanges bytes (c .names) (c .place) (withInputs (c .inputs))) ≡ refused 11 place → Breaks bytes place
+    go : (a : Answer Counts) → checkCounts bytes ≡ a → (a andThen λ c. checkRanges bytes (c .names) (c .place) (headerWith (c .inputs))) ≡ refused 11 place → Breaks bytes place
     go (refused n q) h f = let i : n ≡ 11 = cc in let j : q ≡ place = cc in counts-fail bytes place (h ∙ rw (i, j))
     go (accepted c) h f =
         let x = counts-fit bytes c h in
-        let y = ranges-fail bytes (c .names) (c .place) place (withInputs (c .inputs)) (λ ns next q. refused≢accepted (record { inputs = c .inputs; ranges = ns; place = next }) 11 place (sym q)) f in
+        let y = ranges-fail bytes (c .names) (c .place) place (headerWith (c .inputs)) (λ ns next q. refused≢accepted (record { inputs = c .inputs; ranges = ns; place = next }) 11 place (sym q)) f in
         let s = x .size in
         let w = x .few in
         I.range (c .inputs) (x .variables) (y .ranges) (y .to)
@@ -164,7 +164,7 @@ unfolding checkHeader
 header-of bytes h x =
     let r = x .ranges in
     rw (counts-pass bytes (h .inputs) (x .variables) (r .at₁) (r .at₂) (r .inputs-read) (r .variables-read) (r .few))
-    (rw (← (x .size)) (ranges-pass bytes (r .at₂) (h .ranges) (h .place) (withInputs (h .inputs)) (r .ranges-read) (r .fit)))
+    (rw (← (x .size)) (ranges-pass bytes (r .at₂) (h .ranges) (h .place) (headerWith (h .inputs)) (r .ranges-read) (r .fit)))
 
 kept-header : (bytes : List ℕ) (h : Header) → checkHeader bytes ≡ accepted h → HeaderKept bytes h
 kept-header bytes h e =
@@ -288,7 +288,7 @@ unfolding checkHeader
 broken-answer bytes place (I.inputs f) = counts-stop bytes 0 (inputs-broken bytes f)
 broken-answer bytes place (I.variables k at e l f) = counts-stop bytes at (variables-broken bytes k at e l f)
 broken-answer bytes place (I.range k m ns at x l b) =
-    rw (counts-pass bytes k m (x .at₁) (x .at₂) (x .inputs-read) (x .variables-read) (x .few)) (rw (ranges-broken bytes (k + m) (x .at₂) ns at place (withInputs k) (x .ranges-read) (x .fit) l b))
+    rw (counts-pass bytes k m (x .at₁) (x .at₂) (x .inputs-read) (x .variables-read) (x .few)) (rw (ranges-broken bytes (k + m) (x .at₂) ns at place (headerWith k) (x .ranges-read) (x .fit) l b))
 broken-answer bytes place (I.instruction h at c x r l n) =
     let code = drop (h .place) bytes in
     let g = code-kept (h .place) code (length code) r (omega arith) in

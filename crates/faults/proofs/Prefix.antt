@@ -9,7 +9,7 @@ use lib.Seq.{getD-take}
 use lib.Dec.{ltb, eqb}
 use borrow.Author.Tests.{lt-ltb, ltb-true, ltb-false}
 use Rattle.lexer.specs.Bytes.{part}
-use Rattle.lexer.specs.Token.{Kind, ending, name, is, Read, token, fault}
+use Rattle.lexer.specs.Token.{Kind, ending, name, is, TokenRead, token, fault}
 use Rattle.lexer.specs.Token as T
 use Rattle.lexer.specs.Lexer.{isSpace, isDigit, isLetter, isAlphanumeric, runEnd, wordOf, wordAt, digitsAt, previousAt, tokenOf, tokenPast, tokenAt}
 use Rattle.lexer.proofs.Laws.{run-stop, run-step, run-from, token-at-moved}
@@ -52,10 +52,10 @@ module _ (text twin : List ℕ) (size : ℕ) (in-text : size ≤ length text) (i
   -- ---- tokens
 
   -- what is a token that ends before `size` there is the same here
-  abbrev Stays : Read → Read → Type 0
+  abbrev Stays : TokenRead → TokenRead → Type 0
   Stays r q = (k : Kind) (s n : ℕ) → r ≡ token k s n → n < size → q ≡ token k s n
 
-  cond-stays : (t : Bool) (a b c d : Read) → (t ≡ true → Stays a c) → (t ≡ false → Stays b d) → Stays (cond t a b) (cond t c d)
+  cond-stays : (t : Bool) (a b c d : TokenRead) → (t ≡ true → Stays a c) → (t ≡ false → Stays b d) → Stays (cond t a b) (cond t c d)
   cond-stays true a b c d f g = f refl
   cond-stays false a b c d f g = g refl
 
@@ -124,7 +124,7 @@ module _ (text twin : List ℕ) (size : ℕ) (in-text : size ≤ length text) (i
       rw (g, lt-ltb s (length twin) (omega arith)) (of-stays s (omega arith) k s n e2 l)
 
   -- what is read at p in both is read from every place from which only space comes before p
-  pub read-stays : (a : ℕ) (r : Read) → tokenAt text a ≡ r → readStart r < size → tokenAt twin (readStart r) ≡ r → tokenAt twin a ≡ r
+  pub read-stays : (a : ℕ) (r : TokenRead) → tokenAt text a ≡ r → readStart r < size → tokenAt twin (readStart r) ≡ r → tokenAt twin a ≡ r
   unfolding tokenAt
   read-stays a r e l q =
       let f : runEnd isSpace text a ≡ readStart r = sym (starts-past text a) ∙ ap readStart e in

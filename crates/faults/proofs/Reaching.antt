@@ -10,7 +10,7 @@ use lib.ListN.{length, getD}
 use lib.Dec.{ltb, eqb}
 use borrow.Author.Tests.{le-ltb, ltb-true, ltb-false}
 use Rattle.lexer.specs.Bytes.{part}
-use Rattle.lexer.specs.Token.{Kind, kindNumber, unknown, ending, name, is, Read, token, fault}
+use Rattle.lexer.specs.Token.{Kind, kindNumber, unknown, ending, name, is, TokenRead, token, fault}
 use Rattle.lexer.specs.Lexer.{isSpace, isDigit, isLetter, isAlphanumeric, runEnd, wordOf, pairOf, signOf, readOf, signAt, wordAt, digitsAt, previousAt, tokenOf, tokenPast, tokenAt}
 use Rattle.lexer.proofs.Laws.{cond-prop, run-out, run-from, token-past-space, Moved, token-moved, token-at-moved}
 use Rattle.lexer.proofs.Same.{same-kind}
@@ -19,7 +19,7 @@ use Rattle.lexer.proofs.Spellings.{end-place}
 use Rattle.grammar.proofs.Standing.{stands, stands-in}
 
 -- where what is read begins
-abbrev pub readStart : Read → ℕ
+abbrev pub readStart : TokenRead → ℕ
 readStart (token k s n) = s
 readStart (fault p) = p
 
@@ -78,7 +78,7 @@ module _ (text : List ℕ) where
   unfolding tokenOf wordAt digitsAt previousAt signAt readOf
   of-starts s b =
       let c = getD text (s + 1) 0 in
-      let P : Read → Type 0 = λ r. readStart r ≡ s in
+      let P : TokenRead → Type 0 = λ r. readStart r ≡ s in
       cond-prop P (isLetter b) _ _ (λ e. refl)
       (λ e. cond-prop P (isDigit b) _ _ (λ e. refl)
       (λ e. cond-prop P (eqb b 95) _ _
@@ -89,12 +89,12 @@ module _ (text : List ℕ) where
   unfolding tokenAt tokenPast
   starts-past a =
       let s = runEnd isSpace text a in
-      cond-prop (λ (r : Read). readStart r ≡ s) (ltb s (length text)) _ _ (λ e. of-starts s (getD text s 0)) (λ e. refl)
+      cond-prop (λ (r : TokenRead). readStart r ≡ s) (ltb s (length text)) _ _ (λ e. of-starts s (getD text s 0)) (λ e. refl)
 
   pub starts-after : (a : ℕ) → a ≤ readStart (tokenAt text a)
   starts-after a = rw (starts-past a) (run-from isSpace text a)
 
-  pub token-again : (a : ℕ) (r : Read) → tokenAt text a ≡ r → tokenAt text (readStart r) ≡ r
+  pub token-again : (a : ℕ) (r : TokenRead) → tokenAt text a ≡ r → tokenAt text (readStart r) ≡ r
   token-again a r e = ap (λ (x : ℕ). tokenAt text x) (ap readStart (sym e) ∙ starts-past a) ∙ token-past-space text a ∙ e
 
   -- ---- as tokens: only the end of the text has no bytes, and behind it nothing else is read

@@ -10,19 +10,19 @@ use lib.ListN.{length, getD}
 use lib.Dec.{ltb}
 use Rattle.limits.specs.Limits.{bracketLimit, numberLimit}
 use Rattle.lexer.specs.Bytes.{part}
-use Rattle.lexer.specs.Token.{Kind, name, digits, openRound, openSquare, tilde, minus, is, Read, token, fault}
+use Rattle.lexer.specs.Token.{Kind, name, digits, openRound, openSquare, tilde, minus, is, TokenRead, token, fault}
 use Rattle.lexer.specs.Token as T
 use Rattle.lexer.specs.Lexer.{tokenAt, overLong, valueOf}
 use Rattle.lexer.specs.Names.{idOf}
 use Rattle.semantics.specs.Program.{Expression, Condition, operation}
 use Rattle.grammar.specs.Parsed.{Parsed, accepted, refused, andThen, onToken, onOption, Wanted, isWanted, expected, phrase, followed, rest, chain}
-use Rattle.grammar.specs.Expressions.{Scope, withId, currentAt, previousAt, numberAt, primary, negative, factor, productOf, sumOf, term, expression, bracket, wholeExpression}
-use Rattle.grammar.specs.Conditions.{comparisonOf, compared, comparisonAt, opposite, inverted, atom, connect, andOf, orOf, conjunction, condition, square, wholeCondition, listed}
+use Rattle.grammar.specs.Expressions.{Scope, withId, currentAt, previousValueAt, constantAt, primary, negative, factor, productOf, sumOf, term, expression, bracket, wholeExpression}
+use Rattle.grammar.specs.Conditions.{comparisonBy, compared, comparisonAt, opposite, inverted, atom, connect, andOf, orOf, conjunction, condition, square, wholeCondition, listed}
 use Rattle.faults.proofs.Reaching as Reach
 use Rattle.faults.proofs.Reaching.{Reaches, joined, reaches-within}
 
 -- the refusal of what is read
-abbrev pub RefusalOf : ℕ → ℕ → Read → Type 0
+abbrev pub RefusalOf : ℕ → ℕ → TokenRead → Type 0
 RefusalOf number place (token k s n) = (2 ≤ number) × (number ≤ 8) × (s ≡ place)
 RefusalOf number place (fault p) = (number ≡ 1) × (p ≡ place)
 
@@ -78,7 +78,7 @@ option-reads (some a) g h = h a
 pub token-reads : {A : Type 0} (text : List ℕ) (at : ℕ) {f : Kind → ℕ → ℕ → Parsed A} → ((k : Kind) (s n : ℕ) → tokenAt text at ≡ token k s n → ReadsFrom text at (f k s n)) → ReadsFrom text at (onToken (tokenAt text at) f)
 token-reads {A} text at {f} g = go (tokenAt text at) refl
   where
-    go : (r : Read) → tokenAt text at ≡ r → ReadsFrom text at (onToken r f)
+    go : (r : TokenRead) → tokenAt text at ≡ r → ReadsFrom text at (onToken r f)
     go (token k s n) e = g k s n e
     go (fault p) e = record { found = (at, Reach.none, rw e (refl, refl)) }
 
@@ -125,12 +125,12 @@ module _ (sc : Scope) where
     unfolding currentAt
     current-reads = id-reads s (λ i. cond-reads (getD (sc .known) i false) (past _ e) (here 5 e (omega arith) (omega arith)))
 
-    previous-reads : ReadsFrom (sc .text) at (previousAt sc s n)
-    unfolding previousAt
+    previous-reads : ReadsFrom (sc .text) at (previousValueAt sc s n)
+    unfolding previousValueAt
     previous-reads = id-reads (s + 1) (λ i. past _ e)
 
-    number-reads : ReadsFrom (sc .text) at (numberAt sc s n)
-    unfolding numberAt
+    number-reads : ReadsFrom (sc .text) at (constantAt sc s n)
+    unfolding constantAt
     number-reads = cond-reads (ltb numberLimit (valueOf (part (sc .text) s n))) (here 3 e (omega arith) (omega arith)) (past _ e)
 
   module _ (inner : ℕ → ℕ → Parsed Expression) (hi : Inside inner) where
@@ -168,7 +168,7 @@ module _ (sc : Scope) where
   module _ (inner : ℕ → ℕ → Parsed Expression) (hi : Inside inner) (inside : ℕ → ℕ → Parsed Condition) (hc : Inside inside) where
     compared-reads : (a : Expression) → Anywhere (λ at. compared inner sc a at)
     unfolding compared
-    compared-reads a n = token-reads (sc .text) n (λ k s m e. option-reads (comparisonOf k) (not-allowed e) (λ o. step e (then-reads (expression-reads inner hi m) (λ b j q. ends-at _ Reach.none))))
+    compared-reads a n = token-reads (sc .text) n (λ k s m e. option-reads (comparisonBy k) (not-allowed e) (λ o. step e (then-reads (expression-reads inner hi m) (λ b j q. ends-at _ Reach.none))))
 
     comparison-reads : Anywhere (λ at. comparisonAt inner sc at)
     unfolding comparisonAt

@@ -15,7 +15,7 @@ use borrow.Author.Tests.{lt-ltb, le-ltb, ltb-false, eqb-false}
 use Rattle.limits.specs.Limits.{caseLimit, nameLimit, textLimit}
 use Rattle.arith.specs.Values.{isInt32}
 use Rattle.lexer.specs.Bytes.{part}
-use Rattle.lexer.specs.Token.{Kind, name, ending, digits, openSquare, closeRound, bar, tilde, minus, initWord, semicolon, inputWord, varWord, is, Read, token, fault}
+use Rattle.lexer.specs.Token.{Kind, name, ending, digits, openSquare, closeRound, bar, tilde, minus, initWord, semicolon, inputWord, varWord, is, TokenRead, token, fault}
 use Rattle.lexer.specs.Lexer.{tokenAt, sameToken, overLong, valueOf}
 use Rattle.lexer.specs.Names.{idOf}
 use Rattle.lexer.proofs.Laws.{cond-prop, token-at-moved}
@@ -23,7 +23,7 @@ use Rattle.semantics.specs.Program.{Name, Condition, Rule, target, allTrue, kno
 use Rattle.semantics.proofs.Reference.{length-known}
 use Rattle.grammar.specs.Parsed.{Parsed, accepted, refused}
 use Rattle.grammar.specs.Expressions.{Scope}
-use Rattle.grammar.specs.Declarations.{inRange, signedAt, boundAt, spellings, newName, startAt, declaration, declarationsFrom, declarations}
+use Rattle.grammar.specs.Declarations.{inRange, signedDigits, boundAt, spellings, newName, startAt, declaration, declarationsFrom, declarations}
 use Rattle.grammar.specs.Rules.{Spanned, caseAt, casesFrom, listFrom, plainList, Compared, agrees, differs, onCompared, onFound, partFrom, kindAt, partsFrom, firstFound, agreeingList, functionAt, changeAt, formulas, ruleAt, ruled, rulesFrom}
 use Rattle.grammar.specs.Parse.{program, parse}
 use Rattle.grammar.specs.Derivation.{Tokens, Spells}
@@ -41,8 +41,8 @@ use Rattle.faults.proofs.Closing.{MeetsAt, plain-meets}
 -- ---- declarations
 
 module _ (text : List ℕ) where
-  signed-reads : (test : ℤ → Bool) (signed : ℤ → ℤ) (at : ℕ) (k : Kind) (s n : ℕ) → tokenAt text at ≡ token k s n → ReadsFrom text at (signedAt test signed text k s n)
-  unfolding signedAt
+  signed-reads : (test : ℤ → Bool) (signed : ℤ → ℤ) (at : ℕ) (k : Kind) (s n : ℕ) → tokenAt text at ≡ token k s n → ReadsFrom text at (signedDigits test signed text k s n)
+  unfolding signedDigits
   signed-reads test signed at k s n e =
       let z = signed (pos (valueOf (part text s n))) in
       cond-reads (is k digits) (cond-reads (isInt32 z && test z) (past _ e) (here 3 e (omega arith) (omega arith))) (not-allowed e)
@@ -104,7 +104,7 @@ module _ (text : List ℕ) where
   found-comes : (at : ℕ) (test : Kind → ℕ → ℕ → Bool) (f : ℕ → Compared) → ((m : ℕ) → ComesTo m (f m)) → ComesTo at (onFound (tokenAt text at) test f)
   found-comes at test f g = go (tokenAt text at) refl
     where
-      go : (r : Read) → tokenAt text at ≡ r → ComesTo at (onFound r test f)
+      go : (r : TokenRead) → tokenAt text at ≡ r → ComesTo at (onFound r test f)
       go (token k s n) e = cond-prop (ComesTo at) (test k s n) _ _ (λ t. comes-behind at n (Reach.more k s n e Reach.none) (f n) (g n)) (λ t. (at, Reach.none, ap readStart e))
       go (fault p) e = (at, Reach.none, ap readStart e)
 
@@ -143,7 +143,7 @@ module _ (text : List ℕ) where
         let h : RefusalOf k q (token k' s' n') = subst (RefusalOf k q) e' t in
         let a = token-after text b1 k' s' n' e' in
         let b = reaches-le text r in
-        let c = subst (λ (x : Read). b2 ≤ readStart x) e (starts-after text b2) in
+        let c = subst (λ (x : TokenRead). b2 ≤ readStart x) e (starts-after text b2) in
         let d : s' ≡ p = omega (arith, h .2, a .1) in
         no-fault k' s' n' p (sym (token-again text b1 (token k' s' n') e') ∙ ap (tokenAt text) d ∙ token-again text b2 (fault p) e)
 
@@ -168,7 +168,7 @@ module _ (text : List ℕ) where
       over-five : leb k 5 ≡ false → k ≡ 1 → ⊥
       over-five v e = let z : true ≡ false = ap (λ (x : ℕ). leb x 5) (sym e) ∙ v in let y : _≡_ {A = ℕ} 0 1 = cc in omega arith
 
-      differing : (x : Read) → tokenAt text (g .0) ≡ x → m ≤ q → ((k ≡ 1) × (q ≡ m) → ⊥) → ReadsFrom {A = List Condition} text at (refused 7 m)
+      differing : (x : TokenRead) → tokenAt text (g .0) ≡ x → m ≤ q → ((k ≡ 1) × (q ≡ m) → ⊥) → ReadsFrom {A = List Condition} text at (refused 7 m)
       differing (token k2 s2 n2) e l w = record { found = (g .0, g .1, rw e (omega arith, omega arith, ap readStart (sym e) ∙ g .2)) }
       differing (fault p) e l w =
           let i : p ≡ m = ap readStart (sym e) ∙ g .2 in

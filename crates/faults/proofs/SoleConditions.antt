@@ -14,7 +14,7 @@ use Rattle.semantics.specs.Program.{Expression, Condition, comparison, negated}
 use Rattle.bytecode.proofs.Soundness.{none≢some}
 use Rattle.grammar.specs.Parsed.{Parsed}
 use Rattle.grammar.specs.Expressions.{Scope, productOf, sumOf, expression, bracket}
-use Rattle.grammar.specs.Conditions.{comparisonOf, compared, comparisonAt, opposite as opposed, inverted, atom, andAlso, orElse, connect, andOf, orOf, conjunction, condition, square, wholeCondition}
+use Rattle.grammar.specs.Conditions.{comparisonBy, compared, comparisonAt, opposite as opposed, inverted, atom, andAlso, orElse, connect, andOf, orOf, conjunction, condition, square, wholeCondition}
 use Rattle.grammar.specs.Derivation as D
 use Rattle.grammar.specs.Derivation.{Tokens, LevelC, SpellsC, not-square, one-atom, conjoined, one-conjunction, disjoined}
 use Rattle.grammar.proofs.Bytes.{heads}
@@ -129,12 +129,12 @@ module _ (names : List (List ℕ)) (good : AreNames names) where
     unfolding compared
     compared-sole a n h =
         token-sole (sc .text) n
-        (λ k s m e. option-sole (comparisonOf k)
+        (λ k s m e. option-sole (comparisonBy k)
         (λ z. refused-sole e (λ us xs ys ah q l t.
         let c = compares-of (l .0) (l .3) in
-        first-ahead (sc .text) n k s m h e us (l .1 ++ ys) (l .0) ah (q ∙ ap (λ (y : Tokens). y ++ ys) (l .2)) (c .0) (c .2) (λ i. none≢some (c .1) (sym z ∙ (ap comparisonOf i ∙ c .3)))))
+        first-ahead (sc .text) n k s m h e us (l .1 ++ ys) (l .0) ah (q ∙ ap (λ (y : Tokens). y ++ ys) (l .2)) (c .0) (c .2) (λ i. none≢some (c .1) (sym z ∙ (ap comparisonBy i ∙ c .3)))))
         (λ o eo.
-        let ne = operator-end comparisonOf comparisons-end k o eo in
+        let ne = operator-end comparisonBy comparisons-end k o eo in
         behind (part (sc .text) s m) (stands (sc .text) n k s m h ne e) (λ us xs ys q l t. (l .1, l .2 ∙ ap (λ (y : List ℕ). y ∷ l .1) (heads (sym (q ∙ ap (λ (y : Tokens). y ++ ys) (l .2)))), l .4))
         (with-value (λ b. comparison o a b) (expression-sole names good sc inner hi m (token-at-moved (sc .text) n k s m h e .2)))))
 

@@ -18,7 +18,7 @@ use Rattle.lexer.specs.Names.{idOf}
 use Rattle.lexer.proofs.Laws.{cond-prop, token-at-moved}
 use Rattle.semantics.specs.Program.{Name}
 use Rattle.grammar.specs.Parsed.{Parsed, accepted, refused, Wanted, sign, isWanted, expected, phrase, followed}
-use Rattle.grammar.specs.Declarations.{inRange, signedAt, boundAt, spellings, newName, startAt, declaration, declarationsFrom}
+use Rattle.grammar.specs.Declarations.{inRange, signedDigits, boundAt, spellings, newName, startAt, declaration, declarationsFrom}
 use Rattle.lexer.specs.Spelling.{IsDigits, SpellsName}
 use Rattle.grammar.specs.Derivation.{Tokens, Stands}
 use Rattle.grammar.specs.Spelled.{positive, negative, absent, given}
@@ -70,8 +70,8 @@ module _ (text : List ℕ) where
 
   -- ---- declarations
 
-  signed-sole : (test : ℤ → Bool) (signed : ℤ → ℤ) (at : ℕ) (k : Kind) (s n : ℕ) → at ≤ length text → tokenAt text at ≡ token k s n → Sole (OneOf IsDigits) Anything text at (signedAt test signed text k s n)
-  unfolding signedAt is kindNumber
+  signed-sole : (test : ℤ → Bool) (signed : ℤ → ℤ) (at : ℕ) (k : Kind) (s n : ℕ) → at ≤ length text → tokenAt text at ≡ token k s n → Sole (OneOf IsDigits) Anything text at (signedDigits test signed text k s n)
+  unfolding signedDigits is kindNumber
   signed-sole test signed at k s n h e =
       let z = signed (pos (valueOf (part text s n))) in
       cond-sole (is k digits)

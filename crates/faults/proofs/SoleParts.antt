@@ -18,8 +18,8 @@ use Rattle.arith.specs.Values.{Operation, Comparison}
 use Rattle.semantics.specs.Program.{Expression, operation, negate}
 use Rattle.bytecode.proofs.Soundness.{none≢some}
 use Rattle.grammar.specs.Parsed.{Parsed, refused, sign, expected, followed}
-use Rattle.grammar.specs.Expressions.{Scope, withId, currentAt, previousAt, numberAt, primary, negative, factor, productOf, sumOf, term, expression, bracket, wholeExpression}
-use Rattle.grammar.specs.Conditions.{comparisonOf, condition}
+use Rattle.grammar.specs.Expressions.{Scope, withId, currentAt, previousValueAt, constantAt, primary, negative, factor, productOf, sumOf, term, expression, bracket, wholeExpression}
+use Rattle.grammar.specs.Conditions.{comparisonBy, condition}
 use Rattle.grammar.specs.Derivation as D
 use Rattle.grammar.specs.Derivation.{Tokens, ProductSign, SumSign, ComparisonSign, Level, SpellsE, a-number, a-current, a-previous, brackets, plain, opposite, one-factor, product, one-term, sum}
 use Rattle.grammar.proofs.Combine.{one-sign}
@@ -57,7 +57,7 @@ product-of w (o, p) = let c = product-kind w o p in (c .kind, o, c .spelling, c 
 sum-of : (w : List ℕ) → Sum w → Of sumOf w
 sum-of w (o, p) = let c = sum-kind w o p .0 in (c .kind, o, c .spelling, c .is-operator)
 
-pub compares-of : (w : List ℕ) → Compares w → Of comparisonOf w
+pub compares-of : (w : List ℕ) → Compares w → Of comparisonBy w
 compares-of w (o, p) = let c = comparison-kind w o p .0 in (c .kind, o, c .spelling, c .is-operator)
 
 -- a token of another kind than an operator's
@@ -250,7 +250,7 @@ module _ (names : List (List ℕ)) (good : AreNames names) where
 
     module _ (inner : ℕ → ℕ → Parsed Expression) (hi : Inside (InRound names) inner) where
       primary-sole : Anywhere (E D.primary) Anything (λ at. primary inner sc at)
-      unfolding primary numberAt currentAt previousAt is kindNumber
+      unfolding primary constantAt currentAt previousValueAt is kindNumber
       primary-sole at h =
           token-sole (sc .text) at
           (λ k s n e.

@@ -9,7 +9,7 @@ use lib.Dec.{ltb}
 use borrow.Author.Tests.{ltb-false}
 use Rattle.limits.specs.Limits.{textLimit}
 use Rattle.lexer.specs.Bytes.{bytes, part}
-use Rattle.lexer.specs.Token.{Kind, kindNumber, ending, name, inputWord, varWord, is, Read, token, fault, spellingOf}
+use Rattle.lexer.specs.Token.{Kind, kindNumber, ending, name, inputWord, varWord, is, TokenRead, token, fault, spellingOf}
 use Rattle.lexer.specs.Lexer.{overLong, tokenAt}
 use Rattle.lexer.proofs.Laws.{cond-prop, token-at-moved}
 use Rattle.semantics.specs.Program.{Rule, target, allTrue, knownFirst}
@@ -109,7 +109,7 @@ module _ (names : List (List ℕ)) (good : AreNames names) where
           let y = rule-of names good ts x in
           first-ahead (sc .text) at k s n h e us ((y .1 ++ vs) ++ ys) (y .0) ah (q ∙ ap (λ (l : Tokens). (l ++ vs) ++ ys) (y .2)) name (y .3) (apart k name refl t)
 
-      go : (x : Read) → tokenAt (sc .text) at ≡ x → Ih → P (onToken x (λ k s n. cond (is k name) (andThen (ruleAt sc s n) (λ r m. rulesFrom f (ruled sc (target r)) (done ++ (r ∷ [])) m)) (cond (is k ending) (cond (allTrue (sc .known)) (accepted done n) (refused 6 s)) (refused 2 s))))
+      go : (x : TokenRead) → tokenAt (sc .text) at ≡ x → Ih → P (onToken x (λ k s n. cond (is k name) (andThen (ruleAt sc s n) (λ r m. rulesFrom f (ruled sc (target r)) (done ++ (r ∷ [])) m)) (cond (is k ending) (cond (allTrue (sc .known)) (accepted done n) (refused 6 s)) (refused 2 s))))
       go (fault p) e ih = λ q. absurd (omega (arith, q))
       go (token k s n) e ih =
           cond-prop P (is k name) _ _

@@ -9,7 +9,7 @@ use lib.Dec.{ltb}
 use borrow.Author.Tests.{lt-ltb, ltb-true, ltb-false}
 use Rattle.limits.specs.Limits.{textLimit, noToken, tooLong}
 use Rattle.limits.specs.Answer as A
-use Rattle.lexer.specs.Token.{Kind, Read, token, fault}
+use Rattle.lexer.specs.Token.{Kind, TokenRead, token, fault}
 use Rattle.lexer.specs.Lexer.{tokenAt}
 use Rattle.semantics.specs.Program.{Program}
 use Rattle.grammar.specs.Parsed.{Parsed, accepted, refused}
@@ -50,7 +50,7 @@ parse-refusal text number place e = go (ltb textLimit (length text)) refl
         over l (cc) (cc)
     go false t = let l = ltb-false textLimit (length text) t in read l ((rw q at (parse-reads text l)) .found)
 
-behind-of : (text : List ℕ) (b : ℕ) (r : Read) → Reaches text 0 b → tokenAt text b ≡ r → Behind text r
+behind-of : (text : List ℕ) (b : ℕ) (r : TokenRead) → Reaches text 0 b → tokenAt text b ≡ r → Behind text r
 behind-of text b r c e = let x = spelt-to text (omega arith) c in record { before = x .before; end = x .end; spells = x .spells; next = x .same ∙ e }
 
 pub fault-places : FaultPlaces
@@ -67,7 +67,7 @@ fault-places = record {
     nine text place (over l e f) = (l, f)
     nine text place (read l (b, c, t)) = go (tokenAt text b) t
       where
-        go : (r : Read) → RefusalOf tooLong place r → (textLimit < length text) × (place ≡ 0)
+        go : (r : TokenRead) → RefusalOf tooLong place r → (textLimit < length text) × (place ≡ 0)
         go (token k s n) h = absurd (omega (arith, h .1))
         go (fault p) h = absurd (omega (arith, h .0))
 
@@ -75,7 +75,7 @@ fault-places = record {
     one text place (over l e f) = absurd (omega (arith, e))
     one text place (read l x) = go (tokenAt text (x .0)) refl (x .2)
       where
-        go : (r : Read) → tokenAt text (x .0) ≡ r → RefusalOf noToken place r → (tokenAt text place ≡ fault place) × Behind text (fault place)
+        go : (r : TokenRead) → tokenAt text (x .0) ≡ r → RefusalOf noToken place r → (tokenAt text place ≡ fault place) × Behind text (fault place)
         go (token k s n) e h = absurd (omega (arith, h .0))
         go (fault p) e h =
             let f : tokenAt text (x .0) ≡ fault place = e ∙ ap fault (h .1) in
@@ -85,7 +85,7 @@ fault-places = record {
     only text number place f g (over l e h) = absurd (f e)
     only text number place f g (read l x) = go (tokenAt text (x .0)) refl (x .2)
       where
-        go : (r : Read) → tokenAt text (x .0) ≡ r → RefusalOf number place r → number ≡ noToken
+        go : (r : TokenRead) → tokenAt text (x .0) ≡ r → RefusalOf number place r → number ≡ noToken
         go (token k s n) e h =
             let q : token k s n ≡ fault place = sym (token-again text (x .0) (token k s n) e) ∙ (ap (tokenAt text) (h .2) ∙ g) in
             let z : _≡_ {A = ℕ} 0 1 = cc in
@@ -96,7 +96,7 @@ fault-places = record {
     others text number place f g (over l e h) = absurd (g e)
     others text number place f g (read l x) = go (tokenAt text (x .0)) refl (x .2)
       where
-        go : (r : Read) → tokenAt text (x .0) ≡ r → RefusalOf number place r → TokenBegins text place
+        go : (r : TokenRead) → tokenAt text (x .0) ≡ r → RefusalOf number place r → TokenBegins text place
         go (token k s n) e h =
             let q : tokenAt text (x .0) ≡ token k place n = e ∙ ap (λ (y : ℕ). token k y n) (h .2) in
             let w = reaches-within text (omega arith) (x .1) in

@@ -17,7 +17,7 @@ use Rattle.lexer.specs.Names.{idOf}
 use Rattle.lexer.proofs.Laws.{token-at-moved}
 use Rattle.semantics.specs.Program.{Name}
 use Rattle.grammar.specs.Parsed.{Parsed, accepted, refused, andThen, Wanted, sign, isWanted, expected, phrase, followed}
-use Rattle.grammar.specs.Declarations.{inRange, signedAt, boundAt, spellings, newName, startAt, declaration, declarationsFrom, declarations}
+use Rattle.grammar.specs.Declarations.{inRange, signedDigits, boundAt, spellings, newName, startAt, declaration, declarationsFrom, declarations}
 use Rattle.lexer.specs.Spelling.{IsDigits, SpellsName}
 use Rattle.grammar.specs.Derivation.{Tokens}
 use Rattle.grammar.specs.Spelled.{SpellsZ, positive, negative, absent, given}
@@ -66,8 +66,8 @@ module _ (text : List ℕ) where
   unfolding isLetter wordOf sameBytes
   a-name = (bytes "a", refl, record { is-word = (refl, tt); no-word = name-word (bytes "a") refl })
 
-  signed-viable : (test : ℤ → Bool) (signed : ℤ → ℤ) (at : ℕ) (k : Kind) (s n : ℕ) → at ≤ length text → tokenAt text at ≡ token k s n → Viable (OneOf IsDigits) text at (signedAt test signed text k s n)
-  unfolding signedAt is kindNumber
+  signed-viable : (test : ℤ → Bool) (signed : ℤ → ℤ) (at : ℕ) (k : Kind) (s n : ℕ) → at ≤ length text → tokenAt text at ≡ token k s n → Viable (OneOf IsDigits) text at (signedDigits test signed text k s n)
+  unfolding signedDigits is kindNumber
   signed-viable test signed at k s n h e =
       let z = signed (pos (valueOf (part text s n))) in
       cond-viable (is k digits)

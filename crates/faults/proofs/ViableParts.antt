@@ -19,8 +19,8 @@ use Rattle.lexer.proofs.Laws.{token-at-moved}
 use Rattle.arith.specs.Values.{Operation, Comparison, equal}
 use Rattle.semantics.specs.Program.{Expression, constant, current, previous, operation, negate, Condition, comparison, negated, both, either}
 use Rattle.grammar.specs.Parsed.{Parsed, refused, sign}
-use Rattle.grammar.specs.Expressions.{Scope, withId, currentAt, previousAt, numberAt, primary, negative, factor, productOf, sumOf, term, expression, bracket, wholeExpression}
-use Rattle.grammar.specs.Conditions.{comparisonOf, compared, comparisonAt, opposite as opposed, inverted, atom, Connective, andAlso, orElse, connect, andOf, orOf, conjunction, condition, square, wholeCondition}
+use Rattle.grammar.specs.Expressions.{Scope, withId, currentAt, previousValueAt, constantAt, primary, negative, factor, productOf, sumOf, term, expression, bracket, wholeExpression}
+use Rattle.grammar.specs.Conditions.{comparisonBy, compared, comparisonAt, opposite as opposed, inverted, atom, Connective, andAlso, orElse, connect, andOf, orOf, conjunction, condition, square, wholeCondition}
 use Rattle.grammar.specs.Derivation as D
 use Rattle.grammar.specs.Derivation.{Tokens, Stands, ComparisonSign, Level, LevelC, SpellsE, a-number, a-current, a-previous, brackets, plain, opposite, one-factor, product, one-term, sum, SpellsC, not-square, one-atom, conjoined, one-conjunction, disjoined}
 use Rattle.grammar.proofs.Bytes.{part-cons, heads}
@@ -167,7 +167,7 @@ module _ (sc : Scope) where
 
   module _ (inner : ℕ → ℕ → Parsed Expression) (hi : Inside InRound inner) where
     primary-viable : Anywhere (E (sc .names) D.primary) (λ at. primary inner sc at)
-    unfolding primary numberAt currentAt previousAt is kindNumber
+    unfolding primary constantAt currentAt previousValueAt is kindNumber
     primary-viable at h =
         token-viable (sc .text) at
         (λ k s n e.
@@ -229,9 +229,9 @@ module _ (sc : Scope) where
     unfolding compared
     compared-viable a n h =
         token-viable (sc .text) n
-        (λ k s m e. option-viable (comparisonOf k) (λ z. refused-here (bytes "=" ∷ zeros (sc .names)) (bytes "=", equal, zeros (sc .names), refl, D.equals, zero-in-expression (sc .names)) e)
+        (λ k s m e. option-viable (comparisonBy k) (λ z. refused-here (bytes "=" ∷ zeros (sc .names)) (bytes "=", equal, zeros (sc .names), refl, D.equals, zero-in-expression (sc .names)) e)
         (λ o eo.
-        let ne = operator-end comparisonOf comparisons-end k o eo in
+        let ne = operator-end comparisonBy comparisons-end k o eo in
         let w = part (sc .text) s m in
         behind (w ∷ []) (m, stands (sc .text) n k s m h ne e, refl) (λ us g. (w, o, us, refl, comparison-sign k w (stands-spelled (sc .text) n k s m h ne e) o eo, g))
         (with-value (λ b. comparison o a b) (expression-viable inner hi m (token-at-moved (sc .text) n k s m h e .2)))))

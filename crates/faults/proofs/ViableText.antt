@@ -10,7 +10,7 @@ use lib.ListN.{length}
 use lib.Dec.{ltb}
 use Rattle.limits.specs.Limits.{textLimit}
 use Rattle.lexer.specs.Bytes.{bytes}
-use Rattle.lexer.specs.Token.{kindNumber, ending, name, inputWord, varWord, is, Read, token, fault}
+use Rattle.lexer.specs.Token.{kindNumber, ending, name, inputWord, varWord, is, TokenRead, token, fault}
 use Rattle.lexer.specs.Lexer.{tokenAt}
 use Rattle.lexer.proofs.Laws.{cond-prop}
 use Rattle.semantics.specs.Program.{Rule, target, allTrue, knownFirst}
@@ -65,7 +65,7 @@ rules-failing (suc f) sc done at h = go (tokenAt (sc .text) at) refl (λ r m i. 
     Ih : Type 0
     Ih = (r : Rule) (m : ℕ) → m ≤ length (sc .text) → Failing (AreRules (sc .names)) (sc .text) m (rulesFrom f (ruled sc (target r)) (done ++ (r ∷ [])) m)
 
-    go : (x : Read) → tokenAt (sc .text) at ≡ x → Ih → P (onToken x (λ k s n. cond (is k name) (andThen (ruleAt sc s n) (λ r m. rulesFrom f (ruled sc (target r)) (done ++ (r ∷ [])) m)) (cond (is k ending) (cond (allTrue (sc .known)) (accepted done n) (refused 6 s)) (refused 2 s))))
+    go : (x : TokenRead) → tokenAt (sc .text) at ≡ x → Ih → P (onToken x (λ k s n. cond (is k name) (andThen (ruleAt sc s n) (λ r m. rulesFrom f (ruled sc (target r)) (done ++ (r ∷ [])) m)) (cond (is k ending) (cond (allTrue (sc .known)) (accepted done n) (refused 6 s)) (refused 2 s))))
     go (fault p) e ih = λ q. absurd (omega (arith, q))
     go (token k s n) e ih =
         cond-prop P (is k name) _ _

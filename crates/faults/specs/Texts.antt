@@ -5,13 +5,13 @@ use mathlib.Core.List.{List}
 use lib.ListN.{length, take}
 use Rattle.limits.specs.Limits.{textLimit, noToken, tooLong}
 use Rattle.limits.specs.Answer.{refused}
-use Rattle.lexer.specs.Token.{Kind, ending, Read, token, fault}
+use Rattle.lexer.specs.Token.{Kind, ending, TokenRead, token, fault}
 use Rattle.lexer.specs.Lexer.{tokenAt}
 use Rattle.grammar.specs.Parse.{programOf}
 use Rattle.grammar.specs.Derivation.{Tokens, Spells}
 
 -- from the beginning of the text up to `end` stand just the tokens `before`; the next, `found`, is a token or none
-pub record Behind (text : List ℕ) (found : Read) : Type 0 where
+pub record Behind (text : List ℕ) (found : TokenRead) : Type 0 where
   pub before : Tokens
   pub end : ℕ
   pub spells : Spells text 0 end before
@@ -39,13 +39,13 @@ pub record FaultPlaces : Type 0 where
 -- ---- the first found is answered
 
 -- the end of a token; of what is no token, the end of its first byte
-abbrev pub readEnd : Read → ℕ
+abbrev pub readEnd : TokenRead → ℕ
 readEnd (token k s n) = n
 readEnd (fault p) = suc p
 
 -- Two texts are the same up to and including what stands at a place. (Tokens are read by longest match, so it must end there in both.)
 pub record SameThrough (text other : List ℕ) (place : ℕ) : Type 0 where
-  pub found : Read
+  pub found : TokenRead
   pub stands : tokenAt text place ≡ found
   pub stands-there : tokenAt other place ≡ found
   pub same : take (readEnd found) text ≡ take (readEnd found) other

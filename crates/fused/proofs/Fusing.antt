@@ -22,14 +22,14 @@ use Rattle.checker.specs.Results.{verdictAnswer, Judges}
 use Rattle.checker.proofs.Walking.{WalksTo, walks-here, walks-on, walks-step, judges-on, judges-end, judges-whole, initial-small}
 use Rattle.machine.specs.declared.Registers.{Registers}
 use Rattle.machine.specs.declared.Stepped.the-variants.{Next, Refused}
-use Rattle.machine.specs.Memory.{heldOf, Named}
+use Rattle.machine.specs.Memory.{heldOf, OneEach}
 use Rattle.machine.proofs.Loop.{Going, ended, again, refused}
 use Rattle.fused.specs.declared.Progress.{Progress}
 use Rattle.fused.specs.declared.Moved.{Moved}
 use Rattle.fused.specs.declared.Moved.the-variants as M
 use Rattle.fused.specs.declared.Ended.{Ended}
 use Rattle.fused.specs.declared.Ended.the-variants as E
-use Rattle.fused.specs.Together.{registersOf, Ready, BreaksAt, Moves, Refuses, MovesBy, RefusedBy, SoundCode, BrokenCode, Succeeds, Fails, RunBy}
+use Rattle.fused.specs.Together.{registersOf, Ready, BreaksAt, Moves, Refuses, MovesBy, RefusedBy, CheckedCode, BrokenCode, Succeeds, Fails, RunBy}
 
 -- nothing held, nothing picked, nothing passed over
 abbrev idle : Registers
@@ -45,7 +45,7 @@ pub record Fusing (code : List ℕ) (low high prev : List ℤ) (inputs : ℕ) (c
   pub going : Going code low high prev cur₀ vals₀ 0 (length code) idle cur vals (registersOf b) (b .at) steps
   pub few : steps ≤ b .at
 
-pub fusing-begins : (code : List ℕ) (low high prev : List ℤ) (inputs : ℕ) (cur vals : List ℤ) → Named low high prev cur → inputs ≤ length low → length low ≤ 64 → 40 ≤ length vals
+pub fusing-begins : (code : List ℕ) (low high prev : List ℤ) (inputs : ℕ) (cur vals : List ℤ) → OneEach low high prev cur → inputs ≤ length low → length low ≤ 64 → 40 ≤ length vals
     → Fusing code low high prev inputs cur vals cur vals (fresh inputs (length low)) 0
 fusing-begins code low high prev inputs cur vals named l m room =
     let e : length code - 0 ≡ length code = omega arith in
@@ -100,7 +100,7 @@ module _ {code : List ℕ} {low high prev : List ℤ} {inputs : ℕ} {cur₀ val
   pub fusing-breaks : (at : ℕ) → Judges code (b .at) (knownOf (b .walk)) (J.Broken at) → BrokenCode code inputs (length low) at
   fusing-breaks at j base = sym (whole (J.Broken at) j base)
 
-  fusing-sound : Judges code (b .at) (knownOf (b .walk)) J.Sound → SoundCode code inputs (length low)
+  fusing-sound : Judges code (b .at) (knownOf (b .walk)) J.Sound → CheckedCode code inputs (length low)
   fusing-sound j base = sym (whole J.Sound j base)
 
   -- with what is answered of the rest of the code

@@ -24,7 +24,7 @@ use Rattle.machine.specs.declared.Stepped.{Stepped}
 use Rattle.machine.specs.declared.Stepped.the-variants as S
 use Rattle.machine.specs.Step.{machine, isPick, step}
 use Rattle.machine.specs.Runs.{ran, run}
-use Rattle.machine.specs.Memory.{machineOf, RangesIn, Named}
+use Rattle.machine.specs.Memory.{machineOf, RangesIn, OneEach}
 use Rattle.fused.specs.declared.Progress.{Progress}
 use Rattle.fused.specs.declared.Moved.{Moved}
 use Rattle.fused.specs.declared.Moved.the-variants as M
@@ -52,7 +52,7 @@ pub record Ready (low high prev cur vals : List ℤ) (b : Progress) : Type 0 whe
   pub small : Small (b .walk)
   pub sized : b .walk .names ≡ length low
   pub room : stackLimit ≤ length vals
-  pub named : Named low high prev cur
+  pub named : OneEach low high prev cur
   pub opened : b .passing ≡ true → openOf (b .walk .gate) ≡ true
 
 -- the instruction at hand breaks soundness
@@ -107,8 +107,8 @@ RefusedBy code behind w number steps (E.Refused m n) = (m ≡ number) × (n ≡ 
 RefusedBy code behind w number steps (E.Broken at) = Judges code behind (knownOf w) (J.Broken at) × (at ≤ length code)
 
 -- the walk finds the code sound
-abbrev pub SoundCode : List ℕ → ℕ → ℕ → Type 0
-SoundCode code inputs names = (base : ℕ) → checkCode base code (length code) 0 (known [] false none (knownFirst inputs names)) ≡ accepted tt
+abbrev pub CheckedCode : List ℕ → ℕ → ℕ → Type 0
+CheckedCode code inputs names = (base : ℕ) → checkCode base code (length code) 0 (known [] false none (knownFirst inputs names)) ≡ accepted tt
 
 -- the walk finds it broken at a place
 abbrev pub BrokenCode : List ℕ → ℕ → ℕ → ℕ → Type 0
@@ -116,7 +116,7 @@ BrokenCode code inputs names at = (base : ℕ) → checkCode base code (length c
 
 -- sound code, and its run succeeds after n steps and leaves these current values
 pub record Succeeds (code : List ℕ) (low high prev : List ℤ) (inputs : ℕ) (cur cur₁ : List ℤ) (n : ℕ) : Type 0 where
-  pub sound : SoundCode code inputs (length low)
+  pub sound : CheckedCode code inputs (length low)
   pub place : ℕ
   pub passing : Bool
   pub picked : Bool
@@ -126,7 +126,7 @@ pub record Succeeds (code : List ℕ) (low high prev : List ℤ) (inputs : ℕ) 
 
 -- sound code, and its run is refused at the step n
 pub record Fails (code : List ℕ) (low high prev : List ℤ) (inputs : ℕ) (cur : List ℤ) (number n : ℕ) : Type 0 where
-  pub sound : SoundCode code inputs (length low)
+  pub sound : CheckedCode code inputs (length low)
   pub place : ℕ
   pub went : (ns : List Range) → RangesIn ns low high → run ns prev code (length code) 0 0 (machine false false [] cur) ≡ ran n place (refusal number)
   pub within : n ≤ length code

@@ -15,7 +15,7 @@ ghost use Rattle.limits.specs.Limits.{nameLimit, stackLimit};
 ghost use Rattle.leb128.specs.Numbers.{numberAt};
 ghost use Rattle.leb128.specs.Results.{unsignedRead};
 ghost use Rattle.checker.specs.Represented.{openOf, Small};
-ghost use Rattle.machine.specs.Memory.{Named};
+ghost use Rattle.machine.specs.Memory.{OneEach};
 ghost use Rattle.fused.specs.Together.{passedOver, movedOf, PassesBy, Ready, MovesBy, RefusedBy, RunBy};
 
 pub mod header;
@@ -303,7 +303,7 @@ fn run_in(
     vals: &mut [i32],
     inputs: usize,
 ) -> Ended
-    requires { ⌜ Named (now low) (now high) (now prev) (now cur) ⌝ }
+    requires { ⌜ OneEach (now low) (now high) (now prev) (now cur) ⌝ }
     requires { ⌜ (inputs ≤ length (now low)) × (length (now low) ≤ nameLimit) × (stackLimit ≤ length (now vals)) ⌝ }
     ensures { λ r. ⌜ RunBy (now (code .entry)) (now (low .entry)) (now (high .entry)) (now (prev .entry)) inputs (now (cur .entry)) (now (cur .exit)) r ⌝ }
 {
@@ -347,7 +347,7 @@ pub fn run(
     cur: &mut [i32],
     inputs: usize,
 ) -> Ended
-    requires { ⌜ Named (now low) (now high) (now prev) (now cur) ⌝ }
+    requires { ⌜ OneEach (now low) (now high) (now prev) (now cur) ⌝ }
     requires { ⌜ (inputs ≤ length (now low)) × (length (now low) ≤ nameLimit) ⌝ }
     ensures { λ r. ⌜ RunBy (now (code .entry)) (now (low .entry)) (now (high .entry)) (now (prev .entry)) inputs (now (cur .entry)) (now (cur .exit)) r ⌝ }
 {

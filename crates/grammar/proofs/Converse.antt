@@ -11,7 +11,7 @@ use lib.IntN.{pos}
 use borrow.Author.Tests.{le-ltb}
 use Rattle.limits.specs.Limits.{bracketLimit, numberLimit}
 use Rattle.lexer.specs.Bytes.{bytes, part}
-use Rattle.lexer.specs.Token.{Kind, kindNumber, name, digits, openRound, closeRound, openSquare, closeSquare, tilde, ampersand, bar, minus, plus, star, slash, modWord, is, Read, token, fault}
+use Rattle.lexer.specs.Token.{Kind, kindNumber, name, digits, openRound, closeRound, openSquare, closeSquare, tilde, ampersand, bar, minus, plus, star, slash, modWord, is, TokenRead, token, fault}
 use Rattle.lexer.specs.Token as T
 use Rattle.lexer.specs.Lexer.{tokenAt, overLong, valueOf}
 use Rattle.lexer.proofs.Laws.{token-at-moved}
@@ -19,8 +19,8 @@ use Rattle.lexer.proofs.Same.{same-kind}
 use Rattle.arith.specs.Values.{Operation, Comparison}
 use Rattle.semantics.specs.Program.{Expression, constant, current, previous, operation, negate, Condition, comparison, negated, both, either, UsableE, UsableC}
 use Rattle.grammar.specs.Parsed.{Parsed, accepted, refused, expected, rest, chain}
-use Rattle.grammar.specs.Expressions.{Scope, withId, currentAt, previousAt, numberAt, primary, negative, factor, productOf, sumOf, term, expression, bracket, wholeExpression}
-use Rattle.grammar.specs.Conditions.{comparisonOf, compared, comparisonAt, opposite as opposed, inverted, atom, andAlso, orElse, connect, andOf, orOf, conjunction, condition, square, wholeCondition, listed}
+use Rattle.grammar.specs.Expressions.{Scope, withId, currentAt, previousValueAt, constantAt, primary, negative, factor, productOf, sumOf, term, expression, bracket, wholeExpression}
+use Rattle.grammar.specs.Conditions.{comparisonBy, compared, comparisonAt, opposite as opposed, inverted, atom, andAlso, orElse, connect, andOf, orOf, conjunction, condition, square, wholeCondition, listed}
 use Rattle.lexer.specs.Spelling.{IsDigits, Spelling}
 use Rattle.grammar.specs.Derivation.{Spells, ProductSign, SumSign, ComparisonSign, Level, SpellsE, a-number, a-current, a-previous, brackets, plain, opposite, one-factor, product, one-term, sum, LevelC, SpellsC, not-square, one-atom, conjoined, one-conjunction, disjoined}
 use Rattle.grammar.specs.Derivation as D
@@ -101,8 +101,8 @@ sum-kind w o D.minus = (record { kind = minus; spelling = refl; is-operator = re
 abbrev pub Stop : Kind → Type 0
 Stop k = (productOf k ≡ none) × (sumOf k ≡ none)
 
-pub comparison-kind : (w : List ℕ) (o : Comparison) → ComparisonSign w o → (k : SignKind comparisonOf w o) × Stop (k .kind)
-unfolding comparisonOf sumOf productOf is kindNumber
+pub comparison-kind : (w : List ℕ) (o : Comparison) → ComparisonSign w o → (k : SignKind comparisonBy w o) × Stop (k .kind)
+unfolding comparisonBy sumOf productOf is kindNumber
 comparison-kind w o D.equals = (record { kind = T.equals; spelling = refl; is-operator = refl }, (refl, refl))
 comparison-kind w o D.differs = (record { kind = T.notEqual; spelling = refl; is-operator = refl }, (refl, refl))
 comparison-kind w o D.below = (record { kind = T.less; spelling = refl; is-operator = refl }, (refl, refl))
@@ -124,7 +124,7 @@ module _ (sc : Scope) (good : Named (sc .names)) where
   Reader D.expression l ts e = (a n : ℕ) → a ≤ length (sc .text) → Spells (sc .text) a n ts → (k : Kind) (s m : ℕ) → tokenAt (sc .text) n ≡ token k s m → productOf k ≡ none → Loops operation sumOf (term (In l) sc) (sc .text) (expression (In l) sc a) e a n
 
   number-reads : (l : ℕ) (w : List ℕ) → IsDigits w → valueOf w ≤ numberLimit → Reader D.primary l (w ∷ []) (constant (pos (valueOf w)))
-  unfolding primary numberAt is kindNumber
+  unfolding primary constantAt is kindNumber
   number-reads l w d h a n i g =
       let st = g .1 in
       rw (at-kind (sc .text) digits w d a (g .0) i st, st .spelled, le-ltb numberLimit (valueOf w) h, g .2)
@@ -146,7 +146,7 @@ module _ (sc : Scope) (good : Named (sc .names)) where
       rw (at-kind (sc .text) name w (record { is-word = nm .is-word; no-word = nm .no-word }) a (g .0) j st, named-id {A = Expression} (st .start) (st .start) (g .0) i w _ (mv .1) (mv .2) (st .spelled) ei, ek, g .2)
 
   previous-reads : (l : ℕ) (w : List ℕ) (i : ℕ) → getElem? (sc .names) i ≡ some w → Reader D.primary l ((bytes "_" ++ w) ∷ []) (previous i)
-  unfolding primary previousAt is kindNumber
+  unfolding primary previousValueAt is kindNumber
   previous-reads l w i ei a n j g =
       let st = g .1 in
       let nm = good .each i w ei in
@@ -183,7 +183,7 @@ module _ (sc : Scope) (good : Named (sc .names)) where
   unfolding factor
   plain-reads l ts e r a n i g = go (tokenAt (sc .text) a) refl (r a n i g)
     where
-      go : (t : Read) → tokenAt (sc .text) a ≡ t → primary (In l) sc a ≡ accepted e n → factor (In l) sc a ≡ accepted e n
+      go : (t : TokenRead) → tokenAt (sc .text) a ≡ t → primary (In l) sc a ≡ accepted e n → factor (In l) sc a ≡ accepted e n
       go (fault p) et h = never 1 p n e (sym (primary-fault l a p et) ∙ h)
       go (token k s m) et h = by (is k minus) refl
         where
@@ -261,7 +261,7 @@ module _ (sc : Scope) (good : Named (sc .names)) where
   unfolding atom
   comparison-atom l a x n h = go (tokenAt (sc .text) a) refl
     where
-      go : (t : Read) → tokenAt (sc .text) a ≡ t → atom (In l) (Sq l) sc a ≡ comparisonAt (In l) sc a
+      go : (t : TokenRead) → tokenAt (sc .text) a ≡ t → atom (In l) (Sq l) sc a ≡ comparisonAt (In l) sc a
       go (fault p) et = never 1 p n x (sym (expression-fault l a p et) ∙ h)
       go (token k s m) et = by (is k tilde) refl (is k openSquare) refl
         where

@@ -18,7 +18,7 @@ use Rattle.lexer.specs.Lexer.{tokenAt, overLong}
 use Rattle.lexer.proofs.Laws.{token-at-moved}
 use Rattle.semantics.specs.Program.{Range, Name, RangeFits}
 use Rattle.grammar.specs.Parsed.{accepted, sign, phrase}
-use Rattle.grammar.specs.Declarations.{inRange, signedAt, boundAt, spellings, newName, startAt, declaration, declarationsFrom}
+use Rattle.grammar.specs.Declarations.{inRange, signedDigits, boundAt, spellings, newName, startAt, declaration, declarationsFrom}
 use Rattle.grammar.specs.Derivation.{Stands, Spells, IsName}
 use Rattle.grammar.specs.Spelled.{SpellsZ, positive, negative, SpellsStart, absent, given, Declares, declares, DeclareAll, Apart, Distinct}
 use Rattle.grammar.specs.Spelled as S
@@ -32,7 +32,7 @@ module _ (text : List ℕ) where
   -- ---- bounds
 
   bound-reads : (test : ℤ → Bool) (ts : List (List ℕ)) (z : ℤ) → SpellsZ ts z → isInt32 z ≡ true → test z ≡ true → (a n : ℕ) → a ≤ length text → Spells text a n ts → boundAt test text a ≡ accepted z n
-  unfolding boundAt signedAt isFixed is kindNumber
+  unfolding boundAt signedDigits isFixed is kindNumber
   bound-reads test ts z (positive w d) fit pass a n h g =
       let st = g .1 in
       rw (at-kind text digits w d a (g .0) h st, st .spelled, fit, pass, g .2)

@@ -12,7 +12,7 @@ use lib.IntN.{pos}
 use borrow.Author.Tests.{ltb-false}
 use Rattle.limits.specs.Limits.{bracketLimit, numberLimit}
 use Rattle.lexer.specs.Bytes.{bytes, part}
-use Rattle.lexer.specs.Token.{Kind, kindNumber, ending, name, digits, openRound, closeRound, openSquare, closeSquare, tilde, ampersand, bar, minus, is, Read, token, fault}
+use Rattle.lexer.specs.Token.{Kind, kindNumber, ending, name, digits, openRound, closeRound, openSquare, closeSquare, tilde, ampersand, bar, minus, is, TokenRead, token, fault}
 use Rattle.lexer.specs.Token as T
 use Rattle.lexer.specs.Spelling.{Spelling}
 use Rattle.lexer.specs.Lexer.{tokenAt, overLong, valueOf}
@@ -22,8 +22,8 @@ use Rattle.lexer.proofs.Same.{same-kind}
 use Rattle.arith.proofs.Laws.{mag-int32}
 use Rattle.semantics.specs.Program.{Expression, previous, operation, negate, Condition, negated, UsableE, UsableC}
 use Rattle.grammar.specs.Parsed.{Parsed, accepted, refused, andThen, onToken, sign, expected, rest, chain}
-use Rattle.grammar.specs.Expressions.{Scope, withId, currentAt, previousAt, numberAt, primary, negative, factor, productOf, sumOf, term, expression, bracket, wholeExpression}
-use Rattle.grammar.specs.Conditions.{comparisonOf, compared, comparisonAt, opposite as opposed, inverted, atom, Connective, andAlso, orElse, connect, andOf, orOf, conjunction, condition, square, wholeCondition, listed}
+use Rattle.grammar.specs.Expressions.{Scope, withId, currentAt, previousValueAt, constantAt, primary, negative, factor, productOf, sumOf, term, expression, bracket, wholeExpression}
+use Rattle.grammar.specs.Conditions.{comparisonBy, compared, comparisonAt, opposite as opposed, inverted, atom, Connective, andAlso, orElse, connect, andOf, orOf, conjunction, condition, square, wholeCondition, listed}
 use Rattle.grammar.specs.Derivation.{Stands, Spells, Level, LevelC, SpellsE, a-number, a-current, a-previous, brackets, plain, opposite, one-factor, product, one-term, sum, SpellsC, not-square, one-atom, conjoined, one-conjunction, disjoined}
 use Rattle.grammar.specs.Derivation as D
 use Rattle.grammar.proofs.Combine.{token-prop, then-prop, option-prop, one-sign}
@@ -110,7 +110,7 @@ module _ (text : List ℕ) where
   unfolding expected
   sign-derives Q w v f ne at x n h d = go (tokenAt text n) refl
     where
-      go : (r : Read) → tokenAt text n ≡ r → Derives (Closed Q v) at (andThen (onToken r (λ k s n. cond (is k w) (accepted (tt {0}) n) (refused 2 s))) (λ u m. accepted x m))
+      go : (r : TokenRead) → tokenAt text n ≡ r → Derives (Closed Q v) at (andThen (onToken r (λ k s n. cond (is k w) (accepted (tt {0}) n) (refused 2 s))) (λ u m. accepted x m))
       go (fault p) e = tt
       go (token k s m) e = close (is k w) refl
         where
@@ -154,7 +154,7 @@ module _ (sc : Scope) where
     P at p = Derives (sc .text) (ScopedE D.primary l) at p
 
     pub primary-derives : (at : ℕ) → at ≤ length (sc .text) → P at (primary inner sc at)
-    unfolding primary numberAt currentAt previousAt is kindNumber
+    unfolding primary constantAt currentAt previousValueAt is kindNumber
     primary-derives at h =
         token-prop (P at) (tokenAt (sc .text) at) _ (λ k q. tt)
         (λ k s n et.
@@ -256,9 +256,9 @@ module _ (sc : Scope) where
     unfolding compared
     compared-derives at a n h d =
         token-prop (A at) (tokenAt (sc .text) n) _ (λ k q. tt)
-        (λ k s m et. option-prop (A at) (comparisonOf k) _ _ (λ z. tt)
+        (λ k s m et. option-prop (A at) (comparisonBy k) _ _ (λ z. tt)
         (λ o eo.
-        let ne = operator-end comparisonOf comparisons-end k o eo in
+        let ne = operator-end comparisonBy comparisons-end k o eo in
         let mv = token-at-moved (sc .text) n k s m h et in
         then-prop (A at) (expression inner sc m) _ (λ k q. tt)
         (λ b n2 es.

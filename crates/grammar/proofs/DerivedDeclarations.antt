@@ -20,7 +20,7 @@ use Rattle.lexer.specs.Names.{idOf}
 use Rattle.lexer.proofs.Laws.{cond-prop, token-at-moved}
 use Rattle.semantics.specs.Program.{Name, RangeFits}
 use Rattle.grammar.specs.Parsed.{Parsed, accepted, refused, andThen, sign, phrase, followed}
-use Rattle.grammar.specs.Declarations.{inRange, signedAt, boundAt, spellings, newName, startAt, declaration, declarationsFrom}
+use Rattle.grammar.specs.Declarations.{inRange, signedDigits, boundAt, spellings, newName, startAt, declaration, declarationsFrom}
 use Rattle.lexer.specs.Spelling.{IsDigits}
 use Rattle.grammar.specs.Derivation.{Stands, Spells, IsName}
 use Rattle.grammar.specs.Spelled.{SpellsZ, positive, negative, SpellsStart, absent, given, Declares, declares, DeclareAll, Apart}
@@ -41,8 +41,8 @@ module _ (text : List ℕ) where
   abbrev Bound : (ℤ → Bool) → ℤ → Type 0
   Bound test z = (isInt32 z ≡ true) × (test z ≡ true)
 
-  signed-derives : (R : List (List ℕ) → ℤ → Type 0) (signed : ℤ → ℤ) → ((w : List ℕ) → IsDigits w → R (w ∷ []) (signed (pos (valueOf w)))) → (test : ℤ → Bool) (a : ℕ) (k : Kind) (s n : ℕ) → a ≤ length text → tokenAt text a ≡ token k s n → Derives text (λ ts z. R ts z × Bound test z) a (signedAt test signed text k s n)
-  unfolding signedAt is kindNumber
+  signed-derives : (R : List (List ℕ) → ℤ → Type 0) (signed : ℤ → ℤ) → ((w : List ℕ) → IsDigits w → R (w ∷ []) (signed (pos (valueOf w)))) → (test : ℤ → Bool) (a : ℕ) (k : Kind) (s n : ℕ) → a ≤ length text → tokenAt text a ≡ token k s n → Derives text (λ ts z. R ts z × Bound test z) a (signedDigits test signed text k s n)
+  unfolding signedDigits is kindNumber
   signed-derives R signed f test a k s n h et =
       let w = part text s n in
       let z = signed (pos (valueOf w)) in
@@ -66,7 +66,7 @@ module _ (text : List ℕ) where
       (λ e.
       let st = fixed-stands text minus refl a k s n h et e in
       token-prop (Derives text (TestedZ test) a) (tokenAt text n) _ (λ k q. tt)
-      (λ k2 s2 n2 et2. before text (λ ts z. TestedZ test (bytes "-" ∷ ts) z) (TestedZ test) (bytes "-") (λ ts z d. d) a n st (signedAt test negℤ text k2 s2 n2)
+      (λ k2 s2 n2 et2. before text (λ ts z. TestedZ test (bytes "-" ∷ ts) z) (TestedZ test) (bytes "-") (λ ts z d. d) a n st (signedDigits test negℤ text k2 s2 n2)
       (signed-derives (λ ts z. SpellsZ (bytes "-" ∷ ts) z) negℤ (λ w d. negative w d) test n k2 s2 n2 (mv .2) et2)))
       (λ e. signed-derives SpellsZ (λ z. z) (λ w d. positive w d) test a k s n h et))
 

@@ -15,9 +15,9 @@ use Rattle.leb128.specs.Numbers.{number, groups, zigzag}
 use Rattle.semantics.specs.Program.{Program}
 use Rattle.bytecode.specs.Translation.{imageOf}
 use Rattle.grammar.specs.Parsed.{expected, phrase, followed, rest, chain}
-use Rattle.grammar.specs.Expressions.{withId, currentAt, previousAt as previousIn, numberAt, primary, negative, factor, productOf, sumOf, term, expression, bracket, wholeExpression}
-use Rattle.grammar.specs.Conditions.{comparisonOf, compared, comparisonAt, opposite, inverted, atom, connect, andOf, orOf, conjunction, condition, square, wholeCondition, listed}
-use Rattle.grammar.specs.Declarations.{inRange, signedAt, boundAt, newName, startAt, declaration, declarationsFrom, declarations}
+use Rattle.grammar.specs.Expressions.{withId, currentAt, previousValueAt as previousIn, constantAt, primary, negative, factor, productOf, sumOf, term, expression, bracket, wholeExpression}
+use Rattle.grammar.specs.Conditions.{comparisonBy, compared, comparisonAt, opposite, inverted, atom, connect, andOf, orOf, conjunction, condition, square, wholeCondition, listed}
+use Rattle.grammar.specs.Declarations.{inRange, signedDigits, boundAt, newName, startAt, declaration, declarationsFrom, declarations}
 use Rattle.grammar.specs.Rules.{caseAt, casesFrom, listFrom, plainList, partFrom, kindAt, partsFrom, firstFound, agreeingList, functionAt, changeAt, formulas, ruleAt, rulesFrom}
 use Rattle.grammar.specs.Parse.{program, parse, programOf}
 use Rattle.grammar.proofs.ExampleTexts.{Example, numberOrder, afterChange, otherTokens, longNames, manyNames, missingRules, numbers, longestMatch, manyBrackets, manyCases, examples, round, computing}
@@ -66,7 +66,7 @@ hold (e ∷ es) h = (heads h, hold es (tails h))
 
 -- what a computation opens
 opened : Unit {0}
-unfolding isSpace isDigit isLetter isAlphanumeric runOn runEnd sameName sameBytes wordOf overLong pairOf signOf readOf signAt wordAt digitsAt previousAt tokenOf tokenPast tokenAt sameToken valueOn valueOf is kindNumber idFrom idOf expected phrase followed rest chain withId currentAt previousIn numberAt primary negative factor productOf sumOf term expression bracket wholeExpression comparisonOf compared comparisonAt opposite inverted atom connect andOf orOf conjunction condition square wholeCondition listed inRange signedAt boundAt newName startAt declaration declarationsFrom declarations caseAt casesFrom listFrom plainList partFrom kindAt partsFrom firstFound agreeingList functionAt changeAt formulas ruleAt rulesFrom program parse programOf imageOf number groups zigzag
+unfolding isSpace isDigit isLetter isAlphanumeric runOn runEnd sameName sameBytes wordOf overLong pairOf signOf readOf signAt wordAt digitsAt previousAt tokenOf tokenPast tokenAt sameToken valueOn valueOf is kindNumber idFrom idOf expected phrase followed rest chain withId currentAt previousIn constantAt primary negative factor productOf sumOf term expression bracket wholeExpression comparisonBy compared comparisonAt opposite inverted atom connect andOf orOf conjunction condition square wholeCondition listed inRange signedDigits boundAt newName startAt declaration declarationsFrom declarations caseAt casesFrom listFrom plainList partFrom kindAt partsFrom firstFound agreeingList functionAt changeAt formulas ruleAt rulesFrom program parse programOf imageOf number groups zigzag
 opened = tt
 
 numberOrder-computed : answersOf numberOrder ≡ wanted numberOrder

@@ -16,7 +16,7 @@ use Rattle.grammar.specs.Conditions.{Connective, andAlso, orElse, connec
 use Rattle.lexer.specs.Spelling.{IsDigits}
 use Rattle.grammar.specs.Derivation.{Stands, Spells, Level, SpellsE, a-number, a-current, a-previous, brackets, plain, opposite, one-factor, product, one-term, sum, LevelC, SpellsC, not-square, one-atom, conjoined, one-conjunction, disjoined}
 use Rattle.grammar.specs.Derivation as D
-use Rattle.grammar.specs.Emitted.{codeE, codeC}
+use Rattle.grammar.specs.Emitted.{bytesE, bytesC}
 use Rattle.grammar.proofs.Combine.{token-prop, then-prop}
 use Rattle.grammar.proofs.Bytes.{digits-bytes, id-bytes, place-in, part-length}
 use Rattle.grammar.proofs.Standing.{is-read, stands-in, spells-in}
@@ -110,34 +110,34 @@ pub digits-some : (w : List ℕ) → IsDigits w → 1 ≤ length w
 digits-some [] d = absurd d
 digits-some (b ∷ l) d = omega arith
 
-pub connect-code : (o : Connective) (a b : Condition) → codeC (connect o a b) ≡ codeC a ++ (codeC b ++ (connectiveCode o ∷ []))
-unfolding codeC connect
+pub connect-code : (o : Connective) (a b : Condition) → bytesC (connect o a b) ≡ bytesC a ++ (bytesC b ++ (connectiveCode o ∷ []))
+unfolding bytesC connect
 connect-code andAlso a b = refl
 connect-code orElse a b = refl
 
 module _ (names : List (List ℕ)) (few : length names ≤ 64) where
-  pub expression-makes : (v : Level) (l : ℕ) (ts : List (List ℕ)) (e : Expression) → SpellsE names v l ts e → Makes codeE ts e
-  unfolding codeE
+  pub expression-makes : (v : Level) (l : ℕ) (ts : List (List ℕ)) (e : Expression) → SpellsE names v l ts e → Makes bytesE ts e
+  unfolding bytesE
   expression-makes v l ts e (a-number w d h) = (omega arith, omega (arith, digits-bytes w (digits-some w d), token-bytes w (digits-some w d), digits-some w d))
   expression-makes v l ts e (a-current w i ei) = (omega arith, omega (arith, id-bytes i (omega (arith, place-in names i w ei))))
   expression-makes v l ts e (a-previous w i ei) = (omega arith, omega (arith, id-bytes i (omega (arith, place-in names i w ei))))
-  expression-makes v l ts e (brackets us x d) = bracket-makes codeE x us _ _ (expression-makes D.expression _ us x d)
+  expression-makes v l ts e (brackets us x d) = bracket-makes bytesE x us _ _ (expression-makes D.expression _ us x d)
   expression-makes v l ts e (plain us x d) = expression-makes D.primary _ us x d
-  expression-makes v l ts e (opposite us x d) = before-makes codeE codeE x (negate x) 9 us _ refl (expression-makes D.primary _ us x d)
+  expression-makes v l ts e (opposite us x d) = before-makes bytesE bytesE x (negate x) 9 us _ refl (expression-makes D.primary _ us x d)
   expression-makes v l ts e (one-factor us x d) = expression-makes D.factor _ us x d
-  expression-makes v l ts e (product w o us ws x y ps d f) = join-makes codeE codeE codeE x y (operation o x y) (operationCode o) us ws w refl (expression-makes D.term _ us x d) (expression-makes D.factor _ ws y f)
+  expression-makes v l ts e (product w o us ws x y ps d f) = join-makes bytesE bytesE bytesE x y (operation o x y) (operationCode o) us ws w refl (expression-makes D.term _ us x d) (expression-makes D.factor _ ws y f)
   expression-makes v l ts e (one-term us x d) = expression-makes D.term _ us x d
-  expression-makes v l ts e (sum w o us ws x y ps d f) = join-makes codeE codeE codeE x y (operation o x y) (operationCode o) us ws w refl (expression-makes D.expression _ us x d) (expression-makes D.term _ ws y f)
+  expression-makes v l ts e (sum w o us ws x y ps d f) = join-makes bytesE bytesE bytesE x y (operation o x y) (operationCode o) us ws w refl (expression-makes D.expression _ us x d) (expression-makes D.term _ ws y f)
 
-  pub condition-makes : (v : LevelC) (l : ℕ) (ts : List (List ℕ)) (c : Condition) → SpellsC names v l ts c → Makes codeC ts c
-  unfolding codeC
-  condition-makes v l ts c (D.SpellsC.compared w o us ws x y ps d f) = join-makes codeE codeE codeC x y (comparison o x y) (comparisonCode o) us ws w refl (expression-makes D.expression _ us x d) (expression-makes D.expression _ ws y f)
-  condition-makes v l ts c (D.SpellsC.square us x d) = bracket-makes codeC x us _ _ (condition-makes D.condition _ us x d)
-  condition-makes v l ts c (not-square us x d) = before-makes codeC codeC x (negated x) 16 (bytes "[" ∷ us ++ bytes "]" ∷ []) (bytes "~") refl (bracket-makes codeC x us (bytes "[") (bytes "]") (condition-makes D.condition _ us x d))
+  pub condition-makes : (v : LevelC) (l : ℕ) (ts : List (List ℕ)) (c : Condition) → SpellsC names v l ts c → Makes bytesC ts c
+  unfolding bytesC
+  condition-makes v l ts c (D.SpellsC.compared w o us ws x y ps d f) = join-makes bytesE bytesE bytesC x y (comparison o x y) (comparisonCode o) us ws w refl (expression-makes D.expression _ us x d) (expression-makes D.expression _ ws y f)
+  condition-makes v l ts c (D.SpellsC.square us x d) = bracket-makes bytesC x us _ _ (condition-makes D.condition _ us x d)
+  condition-makes v l ts c (not-square us x d) = before-makes bytesC bytesC x (negated x) 16 (bytes "[" ∷ us ++ bytes "]" ∷ []) (bytes "~") refl (bracket-makes bytesC x us (bytes "[") (bytes "]") (condition-makes D.condition _ us x d))
   condition-makes v l ts c (one-atom us x d) = condition-makes D.atom _ us x d
-  condition-makes v l ts c (conjoined us ws x y d f) = join-makes codeC codeC codeC x y (both x y) 17 us ws _ refl (condition-makes D.conjunction _ us x d) (condition-makes D.atom _ ws y f)
+  condition-makes v l ts c (conjoined us ws x y d f) = join-makes bytesC bytesC bytesC x y (both x y) 17 us ws _ refl (condition-makes D.conjunction _ us x d) (condition-makes D.atom _ ws y f)
   condition-makes v l ts c (one-conjunction us x d) = condition-makes D.conjunction _ us x d
-  condition-makes v l ts c (disjoined us ws x y d f) = join-makes codeC codeC codeC x y (either x y) 18 us ws _ refl (condition-makes D.condition _ us x d) (condition-makes D.conjunction _ ws y f)
+  condition-makes v l ts c (disjoined us ws x y d f) = join-makes bytesC bytesC bytesC x y (either x y) 18 us ws _ refl (condition-makes D.condition _ us x d) (condition-makes D.conjunction _ ws y f)
 
 -- ---- what is accepted
 
@@ -159,43 +159,43 @@ module _ (sc : Scope) (few : length (sc .names) ≤ 64) where
   abbrev inside : ℕ → ℕ → ℕ → Parsed Condition
   inside left s n = square left sc s n
 
-  grownE : (v : Level) (left at : ℕ) (p : Parsed Expression) → at ≤ length (sc .text) → Derives (sc .text) (ScopedE sc v left) at p → Grown codeE (length (sc .text)) at p
-  grownE v left at p h d = grown-by (ScopedE sc v left) codeE (λ ts e d. expression-makes (sc .names) few v left ts e (d .0)) (sc .text) at at (omega arith) h p d
+  grownE : (v : Level) (left at : ℕ) (p : Parsed Expression) → at ≤ length (sc .text) → Derives (sc .text) (ScopedE sc v left) at p → Grown bytesE (length (sc .text)) at p
+  grownE v left at p h d = grown-by (ScopedE sc v left) bytesE (λ ts e d. expression-makes (sc .names) few v left ts e (d .0)) (sc .text) at at (omega arith) h p d
 
-  grownC : (v : LevelC) (left at : ℕ) (p : Parsed Condition) → at ≤ length (sc .text) → Derives (sc .text) (ScopedC sc v left) at p → Grown codeC (length (sc .text)) at p
-  grownC v left at p h d = grown-by (ScopedC sc v left) codeC (λ ts c d. condition-makes (sc .names) few v left ts c (d .0)) (sc .text) at at (omega arith) h p d
+  grownC : (v : LevelC) (left at : ℕ) (p : Parsed Condition) → at ≤ length (sc .text) → Derives (sc .text) (ScopedC sc v left) at p → Grown bytesC (length (sc .text)) at p
+  grownC v left at p h d = grown-by (ScopedC sc v left) bytesC (λ ts c d. condition-makes (sc .names) few v left ts c (d .0)) (sc .text) at at (omega arith) h p d
 
-  pub primary-grown : (left : ℕ) → Reads codeE (λ at. primary (inner left) sc at)
+  pub primary-grown : (left : ℕ) → Reads bytesE (λ at. primary (inner left) sc at)
   primary-grown left at h = grownE D.primary left at (primary (inner left) sc at) h (primary-derives sc left (inner left) (bracket-derives sc left) at h)
 
-  pub factor-grown : (left : ℕ) → Reads codeE (λ at. factor (inner left) sc at)
+  pub factor-grown : (left : ℕ) → Reads bytesE (λ at. factor (inner left) sc at)
   factor-grown left at h = grownE D.factor left at (factor (inner left) sc at) h (factor-derives sc left (inner left) (bracket-derives sc left) at h)
 
-  pub term-grown : (left : ℕ) → Reads codeE (λ at. term (inner left) sc at)
+  pub term-grown : (left : ℕ) → Reads bytesE (λ at. term (inner left) sc at)
   term-grown left at h = grownE D.term left at (term (inner left) sc at) h (term-derives sc left (inner left) (bracket-derives sc left) at h)
 
-  pub expression-grown : (left : ℕ) → Reads codeE (λ at. expression (inner left) sc at)
+  pub expression-grown : (left : ℕ) → Reads bytesE (λ at. expression (inner left) sc at)
   expression-grown left at h = grownE D.expression left at (expression (inner left) sc at) h (expression-derives sc left (inner left) (bracket-derives sc left) at h)
 
-  pub whole-expression-grown : Reads codeE (λ at. wholeExpression sc at)
+  pub whole-expression-grown : Reads bytesE (λ at. wholeExpression sc at)
   whole-expression-grown at h = grownE D.expression bracketLimit at (wholeExpression sc at) h (whole-expression-derives sc at h)
 
-  pub atom-grown : (left : ℕ) → Reads codeC (λ at. atom (inner left) (inside left) sc at)
+  pub atom-grown : (left : ℕ) → Reads bytesC (λ at. atom (inner left) (inside left) sc at)
   atom-grown left at h = grownC D.atom left at (atom (inner left) (inside left) sc at) h (atom-derives sc left (inner left) (bracket-derives sc left) (inside left) (square-derives sc left) at h)
 
-  pub conjunction-grown : (left : ℕ) → Reads codeC (λ at. conjunction (inner left) (inside left) sc at)
+  pub conjunction-grown : (left : ℕ) → Reads bytesC (λ at. conjunction (inner left) (inside left) sc at)
   conjunction-grown left at h = grownC D.conjunction left at (conjunction (inner left) (inside left) sc at) h (conjunction-derives sc left (inner left) (bracket-derives sc left) (inside left) (square-derives sc left) at h)
 
   -- the `]` after a condition makes nothing
-  closed-makes : (left : ℕ) (ts : List (List ℕ)) (c : Condition) → ClosedC sc left ts c → Makes codeC ts c
+  closed-makes : (left : ℕ) (ts : List (List ℕ)) (c : Condition) → ClosedC sc left ts c → Makes bytesC ts c
   closed-makes zero ts c d = absurd d
   closed-makes (suc left) ts c d =
       let g = condition-makes (sc .names) few D.condition left (d .inner) c (d .derives .0) in
       let b = bytes-append (d .inner) (bytes "]" ∷ []) in
       rw (d .is-closed) (omega (arith, b, g .0), omega (arith, b, g .1))
 
-  pub square-grown : (left s n : ℕ) → s < n → n ≤ length (sc .text) → Grown codeC (length (sc .text)) s (square left sc s n)
-  square-grown left s n i h = grown-by (ClosedC sc left) codeC (closed-makes left) (sc .text) s n (omega arith) h (square left sc s n) (square-derives sc left s n h)
+  pub square-grown : (left s n : ℕ) → s < n → n ≤ length (sc .text) → Grown bytesC (length (sc .text)) s (square left sc s n)
+  square-grown left s n i h = grown-by (ClosedC sc left) bytesC (closed-makes left) (sc .text) s n (omega arith) h (square left sc s n) (square-derives sc left s n h)
 
-  pub listed-grown : Reads codeC (λ at. listed sc at)
-  listed-grown at h = grown-by (ClosedC sc (suc bracketLimit)) codeC (closed-makes (suc bracketLimit)) (sc .text) at at (omega arith) h (listed sc at) (listed-scoped sc at h)
+  pub listed-grown : Reads bytesC (λ at. listed sc at)
+  listed-grown at h = grown-by (ClosedC sc (suc bracketLimit)) bytesC (closed-makes (suc bracketLimit)) (sc .text) at at (omega arith) h (listed sc at) (listed-scoped sc at h)

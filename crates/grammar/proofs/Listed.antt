@@ -9,7 +9,7 @@ use native.Mathlib.Omega.{arith}
 use lib.ListN.{length}
 use borrow.Author.Tests.{lt-ltb, le-ltb, eq-eqb}
 use Rattle.lexer.specs.Bytes.{bytes}
-use Rattle.lexer.specs.Token.{Kind, kindNumber, closeRound, bar, is, Read, token, fault, spellingOf}
+use Rattle.lexer.specs.Token.{Kind, kindNumber, closeRound, bar, is, TokenRead, token, fault, spellingOf}
 use Rattle.lexer.specs.Lexer.{tokenAt, sameToken}
 use Rattle.lexer.proofs.Laws.{token-at-moved}
 use Rattle.lexer.proofs.Same.{same-token}
@@ -23,7 +23,7 @@ use Rattle.grammar.proofs.Phrases.{fixed-stands, fixed-at}
 
 -- ---- a comparison that agrees
 
-record Found (r : Read) (test : Kind → ℕ → ℕ → Bool) (next : ℕ → Compared) (c : ℕ) : Type 0 where
+record Found (r : TokenRead) (test : Kind → ℕ → ℕ → Bool) (next : ℕ → Compared) (c : ℕ) : Type 0 where
   pub kind : Kind
   pub start : ℕ
   pub end : ℕ
@@ -31,7 +31,7 @@ record Found (r : Read) (test : Kind → ℕ → ℕ → Bool) (next : ℕ → C
   pub passes : test kind start end ≡ true
   pub more : next end ≡ agrees c
 
-found : (r : Read) (test : Kind → ℕ → ℕ → Bool) (next : ℕ → Compared) (c : ℕ) → onFound r test next ≡ agrees c → Found r test next c
+found : (r : TokenRead) (test : Kind → ℕ → ℕ → Bool) (next : ℕ → Compared) (c : ℕ) → onFound r test next ≡ agrees c → Found r test next c
 found (token k s n) test next c h = go (test k s n) refl h
   where
     go : (t : Bool) → test k s n ≡ t → cond t (next n) (differs s) ≡ agrees c → Found (token k s n) test next c

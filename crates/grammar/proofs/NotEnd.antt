@@ -7,7 +7,7 @@ use native.Mathlib.Omega.{arith}
 use Rattle.lexer.specs.Token.{Kind, kindNumber, ending, is}
 use Rattle.lexer.proofs.Laws.{apart}
 use Rattle.grammar.specs.Expressions.{productOf, sumOf}
-use Rattle.grammar.specs.Conditions.{comparisonOf, andOf, orOf}
+use Rattle.grammar.specs.Conditions.{comparisonBy, andOf, orOf}
 
 -- an operator is not the end
 pub operator-end : {O : Type 0} (operator : Kind → Option O) → operator ending ≡ none → (k : Kind) (o : O) → operator k ≡ some o → k ≡ ending → ⊥
@@ -29,8 +29,8 @@ pub ors-end : orOf ending ≡ none
 unfolding orOf is kindNumber
 ors-end = refl
 
-pub comparisons-end : comparisonOf ending ≡ none
-unfolding comparisonOf is kindNumber
+pub comparisons-end : comparisonBy ending ≡ none
+unfolding comparisonBy is kindNumber
 comparisons-end = refl
 
 -- a token that is told as one of these kinds is not the end

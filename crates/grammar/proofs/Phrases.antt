@@ -8,7 +8,7 @@ use lib.ListN.{length, getD}
 use borrow.Author.Tests.{eq-eqb}
 use Rattle.arith.proofs.Basics.{and-both}
 use Rattle.lexer.specs.Bytes.{bytes, part}
-use Rattle.lexer.specs.Token.{Kind, kindNumber, ending, name, previous, is, Read, token, fault, spellingOf}
+use Rattle.lexer.specs.Token.{Kind, kindNumber, ending, name, previous, is, TokenRead, token, fault, spellingOf}
 use Rattle.lexer.specs.Spelling.{Spelling}
 use Rattle.lexer.specs.Lexer.{tokenAt, sameName}
 use Rattle.lexer.proofs.Laws.{token-at-moved}
@@ -91,7 +91,7 @@ module _ (text : List ℕ) where
   unfolding expected
   expected-stands w ws f a u n h e = read (tokenAt text a) refl e
     where
-      read : (r : Read) → tokenAt text a ≡ r → onToken r (λ k s n. cond (isWanted text w k s n) (accepted tt n) (refused 2 s)) ≡ accepted u n → Stands text a n (wantedToken w)
+      read : (r : TokenRead) → tokenAt text a ≡ r → onToken r (λ k s n. cond (isWanted text w k s n) (accepted tt n) (refused 2 s)) ≡ accepted u n → Stands text a n (wantedToken w)
       read (fault p) et q = never 1 p n u q
       read (token k s m) et q = test (isWanted text w k s m) refl q
         where

@@ -9,15 +9,15 @@ use lib.ListN.{length, getD}
 use lib.Dec.{ltb}
 use Rattle.limits.specs.Limits.{bracketLimit, numberLimit}
 use Rattle.lexer.specs.Bytes.{part}
-use Rattle.lexer.specs.Token.{Kind, name, digits, openRound, openSquare, tilde, minus, is, Read, token, fault}
+use Rattle.lexer.specs.Token.{Kind, name, digits, openRound, openSquare, tilde, minus, is, TokenRead, token, fault}
 use Rattle.lexer.specs.Token as T
 use Rattle.lexer.specs.Lexer.{tokenAt, overLong, valueOf}
 use Rattle.lexer.specs.Names.{idOf}
 use Rattle.lexer.proofs.Laws.{Moved, token-moved, Faulted, token-faulted}
 use Rattle.semantics.specs.Program.{Expression, Condition, operation}
 use Rattle.grammar.specs.Parsed.{Parsed, accepted, refused, andThen, onToken, onOption, Wanted, isWanted, expected, phrase, followed, rest, chain}
-use Rattle.grammar.specs.Expressions.{Scope, withId, currentAt, previousAt, numberAt, primary, negative, factor, productOf, sumOf, term, expression, bracket, wholeExpression}
-use Rattle.grammar.specs.Conditions.{comparisonOf, compared, comparisonAt, opposite, inverted, atom, connect, andOf, orOf, conjunction, condition, square, wholeCondition, listed}
+use Rattle.grammar.specs.Expressions.{Scope, withId, currentAt, previousValueAt, constantAt, primary, negative, factor, productOf, sumOf, term, expression, bracket, wholeExpression}
+use Rattle.grammar.specs.Conditions.{comparisonBy, compared, comparisonAt, opposite, inverted, atom, connect, andOf, orOf, conjunction, condition, square, wholeCondition, listed}
 
 -- what is accepted ends within len bytes; a refusal has a number of 1 to 9 and its place is within them, or at their end
 abbrev pub Within : {A : Type 0} → ℕ → Parsed A → Type 0
@@ -42,7 +42,7 @@ module _ (text : List ℕ) where
   pub token-within : {A : Type 0} (at : ℕ) (f : Kind → ℕ → ℕ → Parsed A) → at ≤ length text → ((k : Kind) (s n : ℕ) → s ≤ length text → n ≤ length text → Within (length text) (f k s n)) → Within (length text) (onToken (tokenAt text at) f)
   token-within at f h g = go (tokenAt text at) (token-moved text at h) (token-faulted text at)
     where
-      go : (r : Read) → Moved at (length text) r → Faulted (length text) r → Within (length text) (onToken r f)
+      go : (r : TokenRead) → Moved at (length text) r → Faulted (length text) r → Within (length text) (onToken r f)
       go (token k s n) m e = g k s n (omega (arith, m .1, m .2)) (m .2)
       go (fault p) m e = (omega arith, omega arith, omega arith)
 
@@ -84,12 +84,12 @@ module _ (sc : Scope) where
   unfolding currentAt
   current-within s n l m = id-within s s n _ l (λ i. cond-within (length (sc .text)) (getD (sc .known) i false) _ _ m (omega arith, omega arith, l))
 
-  previous-within : (s n : ℕ) → s ≤ length (sc .text) → n ≤ length (sc .text) → Within (length (sc .text)) (previousAt sc s n)
-  unfolding previousAt
+  previous-within : (s n : ℕ) → s ≤ length (sc .text) → n ≤ length (sc .text) → Within (length (sc .text)) (previousValueAt sc s n)
+  unfolding previousValueAt
   previous-within s n l m = id-within s (s + 1) n _ l (λ i. m)
 
-  number-within : (s n : ℕ) → s ≤ length (sc .text) → n ≤ length (sc .text) → Within (length (sc .text)) (numberAt sc s n)
-  unfolding numberAt
+  number-within : (s n : ℕ) → s ≤ length (sc .text) → n ≤ length (sc .text) → Within (length (sc .text)) (constantAt sc s n)
+  unfolding constantAt
   number-within s n l m = cond-within (length (sc .text)) (ltb numberLimit (valueOf (part (sc .text) s n))) _ _ (omega arith, omega arith, l) m
 
   -- a parser of what stands from s on, and of the rest of a bracket from s to n
@@ -141,7 +141,7 @@ module _ (sc : Scope) where
     unfolding compared
     compared-within a n h =
         token-within (sc .text) n _ h
-        (λ k s m l i. option-within (length (sc .text)) (comparisonOf k) _ _ (omega arith, omega arith, l)
+        (λ k s m l i. option-within (length (sc .text)) (comparisonBy k) _ _ (omega arith, omega arith, l)
         (λ o. then-within (length (sc .text)) (expression inner sc m) _ (expression-within inner hi m i) (λ b e j. j)))
 
     comparison-within : Reads (λ at. comparisonAt inner sc at)

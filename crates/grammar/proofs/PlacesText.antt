@@ -14,7 +14,7 @@ use Rattle.limits.specs.Limits.{caseLimit, textLimit, nameLimit}
 use Rattle.limits.specs.Answer as A
 use Rattle.arith.specs.Values.{isInt32}
 use Rattle.lexer.specs.Bytes.{part}
-use Rattle.lexer.specs.Token.{Kind, name, ending, digits, openSquare, tilde, bar, minus, initWord, semicolon, closeRound, is, Read, token, fault, inputWord, varWord}
+use Rattle.lexer.specs.Token.{Kind, name, ending, digits, openSquare, tilde, bar, minus, initWord, semicolon, closeRound, is, TokenRead, token, fault, inputWord, varWord}
 use Rattle.lexer.specs.Lexer.{tokenAt, sameToken, overLong, valueOf}
 use Rattle.lexer.specs.Names.{idOf}
 use Rattle.lexer.proofs.Laws.{cond-prop, Moved, token-moved, Faulted, token-faulted}
@@ -22,7 +22,7 @@ use Rattle.semantics.specs.Program.{Name, Condition, Rule, Program, target, all
 use Rattle.grammar.specs.Parsed.{Parsed, accepted, refused, phrase, itemBound}
 use Rattle.grammar.specs.Expressions.{Scope, wholeExpression}
 use Rattle.grammar.specs.Conditions.{listed}
-use Rattle.grammar.specs.Declarations.{inRange, signedAt, boundAt, spellings, newName, startAt, declaration, declarationsFrom, declarations}
+use Rattle.grammar.specs.Declarations.{inRange, signedDigits, boundAt, spellings, newName, startAt, declaration, declarationsFrom, declarations}
 use Rattle.grammar.specs.Rules.{Spanned, caseAt, casesFrom, listFrom, plainList, Compared, agrees, differs, onCompared, onFound, onWanted, partFrom, kindAt, partsFrom, firstFound, agreeingList, functionAt, changeAt, formulas, ruleAt, ruled, rulesFrom}
 use Rattle.grammar.specs.Parse.{program, parse, answerOf, programOf}
 use Rattle.grammar.proofs.Places.{Within, then-within, cond-within, option-within, token-within, phrase-within, followed-within, id-within, whole-expression-within, listed-within}
@@ -30,8 +30,8 @@ use Rattle.grammar.proofs.Places.{Within, then-within, cond-within, opt
 -- ---- declarations
 
 module _ (text : List ℕ) where
-  signed-within : (test : ℤ → Bool) (signed : ℤ → ℤ) (k : Kind) (s n : ℕ) → s ≤ length text → n ≤ length text → Within (length text) (signedAt test signed text k s n)
-  unfolding signedAt
+  signed-within : (test : ℤ → Bool) (signed : ℤ → ℤ) (k : Kind) (s n : ℕ) → s ≤ length text → n ≤ length text → Within (length text) (signedDigits test signed text k s n)
+  unfolding signedDigits
   signed-within test signed k s n l m =
       let z = signed (pos (valueOf (part text s n))) in
       cond-within (length text) (is k digits) _ _ (cond-within (length text) (isInt32 z && test z) _ _ m (omega arith, omega arith, l)) (omega arith, omega arith, l)
@@ -95,7 +95,7 @@ module _ (text : List ℕ) where
   found-near : (at : ℕ) (test : Kind → ℕ → ℕ → Bool) (next : ℕ → Compared) → at ≤ length text → ((n : ℕ) → n ≤ length text → Near (next n)) → Near (onFound (tokenAt text at) test next)
   found-near at test next h g = go (tokenAt text at) (token-moved text at h) (token-faulted text at)
     where
-      go : (r : Read) → Moved at (length text) r → Faulted (length text) r → Near (onFound r test next)
+      go : (r : TokenRead) → Moved at (length text) r → Faulted (length text) r → Near (onFound r test next)
       go (token k s n) m e = cond-prop Near (test k s n) _ _ (λ t. g n (m .2)) (λ t. omega (arith, m .1, m .2))
       go (fault p) m e = omega arith
 
@@ -103,7 +103,7 @@ module _ (text : List ℕ) where
   wanted-near : (from : ℕ) (f : Kind → ℕ → ℕ → Compared) → ((k : Kind) (s n : ℕ) → Near (f k s n)) → Near (onWanted (tokenAt text from) f)
   wanted-near from f g = go (tokenAt text from) (token-faulted text from)
     where
-      go : (r : Read) → Faulted (length text) r → Near (onWanted r f)
+      go : (r : TokenRead) → Faulted (length text) r → Near (onWanted r f)
       go (token k s n) e = g k s n
       go (fault p) e = omega arith
 

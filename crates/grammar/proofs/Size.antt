@@ -24,7 +24,7 @@ use Rattle.grammar.specs.Derivation.{SpellsE, SpellsC}
 use Rattle.grammar.specs.Derivation as D
 use Rattle.grammar.specs.Spelled.{SpellsZ, positive, negative, SpellsStart, absent, given, Declares, declares, DeclareAll, cased, SpellsCases, one-case, more-cases, changeForm, SpellsR, a-change, a-function, SpellsRules, namesOf, Spelled}
 use Rattle.grammar.specs.Spelled as S
-use Rattle.grammar.specs.Emitted.{codeE, codeK, codeR, header, image}
+use Rattle.grammar.specs.Emitted.{bytesE, bytesK, bytesR, header, image}
 use Rattle.grammar.proofs.Combine.{token-prop, then-prop, option-prop}
 use Rattle.grammar.proofs.Bytes.{digits-bytes, value-bytes, id-bytes, id-of, place-in}
 use Rattle.grammar.proofs.Standing.{spells-in}
@@ -89,42 +89,42 @@ case-bytes w ts us =
     let front = (ts ++ bytes "]" ∷ []) ++ bytes "&" ∷ w ∷ bytes "=" ∷ bytes "(" ∷ us in
     omega (arith, bytes-append front (bytes ")" ∷ []), bytes-append (ts ++ bytes "]" ∷ []) (bytes "&" ∷ w ∷ bytes "=" ∷ bytes "(" ∷ us), bytes-append ts (bytes "]" ∷ []))
 
-cases-code : (v : ℕ) (k : Case) (ks : List Case) → length (codeK v (k ∷ ks)) ≡ length (codeK v (k ∷ [])) + length (codeK v ks)
-unfolding codeK
+cases-code : (v : ℕ) (k : Case) (ks : List Case) → length (bytesK v (k ∷ ks)) ≡ length (bytesK v (k ∷ [])) + length (bytesK v ks)
+unfolding bytesK
 cases-code v k ks = simp length-append (omega arith)
 
-cases-append : (v : ℕ) (cs ds : List Spanned) → length (codeK v (casesOf (cs ++ ds))) ≡ length (codeK v (casesOf cs)) + length (codeK v (casesOf ds))
-unfolding codeK
+cases-append : (v : ℕ) (cs ds : List Spanned) → length (bytesK v (casesOf (cs ++ ds))) ≡ length (bytesK v (casesOf cs)) + length (bytesK v (casesOf ds))
+unfolding bytesK
 cases-append v [] ds = omega arith
 cases-append v (c ∷ cs) ds = simp length-append (omega (arith, cases-append v cs ds))
 
 module _ (names : List (List ℕ)) (few : length names ≤ 64) (v : ℕ) (hv : v < 64) where
-  case-makes : (ts us : List (List ℕ)) (k : Case) → SpellsC names D.condition bracketLimit ts (k .condition) → SpellsE names D.expression bracketLimit us (k .value) → 2 * length (codeK v (k ∷ [])) ≤ 3 * (bytesOf ts + bytesOf us) + 8
-  unfolding codeK
+  case-makes : (ts us : List (List ℕ)) (k : Case) → SpellsC names D.condition bracketLimit ts (k .condition) → SpellsE names D.expression bracketLimit us (k .value) → 2 * length (bytesK v (k ∷ [])) ≤ 3 * (bytesOf ts + bytesOf us) + 8
+  unfolding bytesK
   case-makes ts us k c e =
       let g = condition-makes names few D.condition bracketLimit ts (k .condition) c in
       let f = expression-makes names few D.expression bracketLimit us (k .value) e in
       simp length-append (omega (arith, g .1, f .1, id-bytes v (omega arith)))
 
-  cases-make : (w : List ℕ) (ts ls : List (List ℕ)) (ks : List Case) → SpellsCases names w ts ls ks → 2 * length (codeK v ks) ≤ 3 * bytesOf ts
+  cases-make : (w : List ℕ) (ts ls : List (List ℕ)) (ks : List Case) → SpellsCases names w ts ls ks → 2 * length (bytesK v ks) ≤ 3 * bytesOf ts
   cases-make w ts ls ks (one-case us vs k c e) = omega (arith, case-makes us vs k c e, case-bytes w us vs)
   cases-make w ts ls ks (more-cases us vs cs ms k js c e r) =
       omega (arith, case-makes us vs k c e, case-bytes w us vs, cases-code v k js, cases-make w cs ms js r, bytes-append (cased w us vs) (bytes "|" ∷ cs))
 
 module _ (sc : Scope) (few : length (sc .names) ≤ 64) (v : ℕ) (hv : v < 64) where
-  pub case-pays : (w : List ℕ) (at n : ℕ) → n ≤ length (sc .text) → Pays (λ c. length (codeK v (casesOf (c ∷ [])))) (length (sc .text)) n (caseAt sc w at n)
+  pub case-pays : (w : List ℕ) (at n : ℕ) → n ≤ length (sc .text) → Pays (λ c. length (bytesK v (casesOf (c ∷ [])))) (length (sc .text)) n (caseAt sc w at n)
   case-pays w at n h = pays (caseAt sc w at n) (case-derives sc w at n h)
     where
-      pays : (p : Parsed Spanned) → CaseReads sc w at n p → Pays (λ c. length (codeK v (casesOf (c ∷ [])))) (length (sc .text)) n p
+      pays : (p : Parsed Spanned) → CaseReads sc w at n p → Pays (λ c. length (bytesK v (casesOf (c ∷ [])))) (length (sc .text)) n p
       pays (accepted c m) r =
           let ts = caseRest w (r .conditions) (r .values) in
           (omega (arith, spells-bytes (sc .text) n m ts h (r .spells), case-bytes w (r .conditions) (r .values), case-makes (sc .names) few v hv (r .conditions) (r .values) (c .case) (r .condition .0) (r .value .0)), spells-in (sc .text) n m ts h (r .spells) .1)
       pays (refused k q) r = tt
 
-  pub cases-pay : (w : List ℕ) (left : ℕ) (done : List Spanned) (from at : ℕ) → at ≤ length (sc .text) → 2 * length (codeK v (casesOf done)) + 3 * from ≤ 3 * at → Pays (λ cs. length (codeK v (casesOf cs))) (length (sc .text)) from (casesFrom left sc w done at)
+  pub cases-pay : (w : List ℕ) (left : ℕ) (done : List Spanned) (from at : ℕ) → at ≤ length (sc .text) → 2 * length (bytesK v (casesOf done)) + 3 * from ≤ 3 * at → Pays (λ cs. length (bytesK v (casesOf cs))) (length (sc .text)) from (casesFrom left sc w done at)
   cases-pay w left done from at h g = pays (casesFrom left sc w done at) (cases-derive sc w left done at h)
     where
-      pays : (p : Parsed (List Spanned)) → CasesReads sc w left done at p → Pays (λ cs. length (codeK v (casesOf cs))) (length (sc .text)) from p
+      pays : (p : Parsed (List Spanned)) → CasesReads sc w left done at p → Pays (λ cs. length (bytesK v (casesOf cs))) (length (sc .text)) from p
       pays (accepted cs n) r =
           (rw (r .is-more) (omega (arith, cases-append v done (r .more), cases-make (sc .names) few v hv w (r .tokens) (r .list) (casesOf (r .more)) (r .derives), spells-bytes (sc .text) at n (r .tokens) h (r .spells))), spells-in (sc .text) at n (r .tokens) h (r .spells) .1)
       pays (refused k q) r = tt
@@ -196,38 +196,38 @@ module _ (text : List ℕ) where
 -- ---- rules
 
 abbrev pub ruleBytes : Rule → ℕ
-ruleBytes r = length (codeR (r ∷ []))
+ruleBytes r = length (bytesR (r ∷ []))
 
-rules-code : (r : Rule) (rs : List Rule) → length (codeR (r ∷ rs)) ≡ ruleBytes r + length (codeR rs)
-unfolding codeR
+rules-code : (r : Rule) (rs : List Rule) → length (bytesR (r ∷ rs)) ≡ ruleBytes r + length (bytesR rs)
+unfolding bytesR
 rules-code (function v e) rs = simp length-append (omega arith)
 rules-code (change v ks cs) rs = simp length-append (omega arith)
 
 module _ (sc : Scope) (few : length (sc .names) ≤ 64) (lengths : length (sc .names) ≡ length (sc .known)) where
   module _ (v : ℕ) (hv : v < 64) where
     pub function-pays : (w : List ℕ) (at : ℕ) → at ≤ length (sc .text) → Pays ruleBytes (length (sc .text)) at (functionAt sc w v at)
-    unfolding functionAt followed codeR is kindNumber
+    unfolding functionAt followed bytesR is kindNumber
     function-pays w at h =
         then-prop (Pays ruleBytes (length (sc .text)) at) (phrase (sc .text) _ at) _ (λ k q. tt)
         (λ u n1 e1.
         let g1 = subst (Long 3 (length (sc .text)) at) e1 (phrase-long (sc .text) _ (refl, (refl, tt)) at h) in
         then-prop (Pays ruleBytes (length (sc .text)) at) (wholeExpression sc n1) _ (λ k q. tt)
         (λ e n2 e2.
-        let g2 = subst (Grown codeE (length (sc .text)) n1) e2 (whole-expression-grown sc few n1 (g1 .1)) in
+        let g2 = subst (Grown bytesE (length (sc .text)) n1) e2 (whole-expression-grown sc few n1 (g1 .1)) in
         then-prop (Pays ruleBytes (length (sc .text)) at) (phrase (sc .text) _ n2) _ (λ k q. tt)
         (λ u2 n3 e3.
         let g3 = subst (Long 3 (length (sc .text)) n2) e3 (phrase-long (sc .text) _ (refl, (refl, (refl, tt))) n2 (g2 .1)) in
         (simp length-append (omega (arith, g1 .0, g2 .2, g3 .0, id-bytes v (omega arith))), g3 .1))))
 
     pub change-pays : (w : List ℕ) (at : ℕ) → at ≤ length (sc .text) → Pays ruleBytes (length (sc .text)) at (changeAt sc w v at)
-    unfolding changeAt followed codeR codeK is kindNumber
+    unfolding changeAt followed bytesR bytesK is kindNumber
     change-pays w at h =
         then-prop (Pays ruleBytes (length (sc .text)) at) (phrase (sc .text) _ at) _ (λ k q. tt)
         (λ u n1 e1.
         let g1 = subst (Kept (length (sc .text)) at) e1 (phrase-kept (sc .text) _ at h) in
         then-prop (Pays ruleBytes (length (sc .text)) at) (casesFrom caseLimit sc w [] n1) _ (λ k q. tt)
         (λ cases n2 e2.
-        let g2 = subst (Pays (λ (cs : List Spanned). length (codeK v (casesOf cs))) (length (sc .text)) n1) e2 (cases-pay sc few v hv w caseLimit [] n1 n1 (g1 .1) (omega arith)) in
+        let g2 = subst (Pays (λ (cs : List Spanned). length (bytesK v (casesOf cs))) (length (sc .text)) n1) e2 (cases-pay sc few v hv w caseLimit [] n1 n1 (g1 .1) (omega arith)) in
         then-prop (Pays ruleBytes (length (sc .text)) at) (phrase (sc .text) _ n2) _ (λ k q. tt)
         (λ u2 n3 e3.
         let g3 = subst (Kept (length (sc .text)) n2) e3 (phrase-kept (sc .text) _ n2 (g2 .1)) in
@@ -273,7 +273,7 @@ module _ (names : List (List ℕ)) (few : length names ≤ 64) where
       omega (arith, bytes-append ((opening ++ ts) ++ (middleTokens v ++ ls)) closing, bytes-append (opening ++ ts) (middleTokens v ++ ls), bytes-append opening ts)
 
   rule-makes : (ts : List (List ℕ)) (r : Rule) → SpellsR names ts r → 2 * ruleBytes r ≤ 3 * bytesOf ts
-  unfolding codeR
+  unfolding bytesR
   rule-makes ts r (a-change v i us ls ks cs ei d room e) =
       let hi : i < 64 = omega (arith, place-in names i v ei) in
       simp length-append (omega (arith, cases-make names few i hi v us ls ks d, change-form-bytes v us ls, id-bytes i (omega arith)))
@@ -283,8 +283,8 @@ module _ (names : List (List ℕ)) (few : length names ≤ 64) where
       let b = bytes-append (v ∷ bytes ":" ∷ bytes "GX" ∷ bytes "(" ∷ v ∷ bytes "=" ∷ bytes "(" ∷ us) (bytes ")" ∷ bytes ")" ∷ bytes ";" ∷ []) in
       simp length-append (omega (arith, g .1, b, id-bytes i (omega arith)))
 
-  rules-make : (ts : List (List ℕ)) (rs : List Rule) → SpellsRules names ts rs → 2 * length (codeR rs) ≤ 3 * bytesOf ts
-  unfolding codeR
+  rules-make : (ts : List (List ℕ)) (rs : List Rule) → SpellsRules names ts rs → 2 * length (bytesR rs) ≤ 3 * bytesOf ts
+  unfolding bytesR
   rules-make ts rs S.SpellsRules.none = omega arith
   rules-make ts rs (S.SpellsRules.more us vs r qs d q) = omega (arith, rule-makes us r d, rules-make vs qs q, rules-code r qs, bytes-append us vs)
 

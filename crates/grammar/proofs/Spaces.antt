@@ -9,7 +9,7 @@ use lib.Seq.{take-all}
 use Rattle.limits.specs.Limits.{textLimit, tooLong}
 use Rattle.limits.specs.Answer.{refused}
 use Rattle.lexer.specs.Lexer.{isSpace}
-use Rattle.lexer.specs.Spelling.{All}
+use Rattle.lexer.specs.Spelling.{AllBytes}
 use Rattle.semantics.specs.Program.{Program}
 use Rattle.grammar.specs.Spelled.{Spelled}
 use Rattle.grammar.specs.Spelled as S
@@ -21,7 +21,7 @@ length-spaces : (n : ℕ) → length (spaces n) ≡ n
 length-spaces zero = refl
 length-spaces (suc n) = ap suc (length-spaces n)
 
-all-spaces : (n : ℕ) → All isSpace (spaces n)
+all-spaces : (n : ℕ) → AllBytes isSpace (spaces n)
 unfolding isSpace
 all-spaces zero = tt
 all-spaces (suc n) = (refl, all-spaces n)

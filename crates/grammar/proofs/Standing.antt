@@ -7,7 +7,7 @@ use Prim.Native.Nat.{ℕ, suc, _+_, _≤_, _<_}
 use native.Mathlib.Omega.{arith}
 use lib.ListN.{length, getElem?}
 use Rattle.lexer.specs.Bytes.{part}
-use Rattle.lexer.specs.Token.{Kind, ending, is, Read, token}
+use Rattle.lexer.specs.Token.{Kind, ending, is, TokenRead, token}
 use Rattle.lexer.specs.Token as T
 use Rattle.lexer.specs.Spelling.{Spelling, TokenFrom, Separated, FirstRead, a-token, the-end, no-token}
 use Rattle.lexer.specs.Lexer.{tokenAt, sameName}
@@ -17,7 +17,7 @@ use Rattle.lexer.proofs.Same.{same-kind, same-name}
 use Rattle.lexer.proofs.Longest.{tokens-exactly}
 use Rattle.arith.specs.Values.{Operation, add, subtract, multiply, divide, modulo, Comparison, equal, notEqual, less, lessEqual, greater, greaterEqual}
 use Rattle.grammar.specs.Expressions.{productOf, sumOf}
-use Rattle.grammar.specs.Conditions.{comparisonOf}
+use Rattle.grammar.specs.Conditions.{comparisonBy}
 use Rattle.grammar.specs.Derivation.{Stands, Spells, SumSign, ProductSign, ComparisonSign}
 use Rattle.grammar.specs.Derivation as D
 use Rattle.lexer.proofs.Spellings.{token-spelled, one-kind}
@@ -29,7 +29,7 @@ pub is-read : {text : List ℕ} {a n : ℕ} {w : List ℕ} (st : Stands text a n
 is-read {text} {a} {n} st = tokens-exactly .only text a _ (a-token (st .kind) (st .start) n (st .separated) (st .is-token))
 
 module _ (text : List ℕ) where
-  first-token : (a : ℕ) (k : Kind) (s n : ℕ) (r : Read) → FirstRead text a r → r ≡ token k s n → s < n → Separated text a s × TokenFrom text s n k
+  first-token : (a : ℕ) (k : Kind) (s n : ℕ) (r : TokenRead) → FirstRead text a r → r ≡ token k s n → s < n → Separated text a s × TokenFrom text s n k
   first-token a k s n r (a-token j p m sep t) e l =
       let i : j ≡ k = cc in
       let q : p ≡ s = cc in
@@ -48,7 +48,7 @@ module _ (text : List ℕ) where
   pub end-read : (a : ℕ) → Separated text a (length text) → tokenAt text a ≡ token ending (length text) (length text)
   end-read a sep = tokens-exactly .only text a _ (the-end sep)
 
-  end-first : (a s n : ℕ) (r : Read) → FirstRead text a r → r ≡ token ending s n → Separated text a (length text)
+  end-first : (a s n : ℕ) (r : TokenRead) → FirstRead text a r → r ≡ token ending s n → Separated text a (length text)
   end-first a s n r (a-token j p m sep t) e = let i : j ≡ ending = cc in absurd (subst (λ (x : Kind). Spelling x (part text p m)) i (t .spells))
   end-first a s n r (the-end sep) e = sep
   end-first a s n r (no-token p sep l2 f g) e = let z : _≡_ {A = ℕ} 0 1 = cc in absurd (omega arith)
@@ -147,8 +147,8 @@ module _ (k : Kind) (w : List ℕ) (sp : Spelling k w) where
       P : Option Operation → Type 0
       P x = x ≡ some o → SumSign w o
 
-  pub comparison-sign : (o : Comparison) → comparisonOf k ≡ some o → ComparisonSign w o
-  unfolding comparisonOf
+  pub comparison-sign : (o : Comparison) → comparisonBy k ≡ some o → ComparisonSign w o
+  unfolding comparisonBy
   comparison-sign o =
       cond-prop P (is k T.equals) _ _ (λ e h. let q : equal ≡ o = cc in rw (told T.equals e, ← q) D.equals)
       (λ n. cond-prop P (is k T.notEqual) _ _ (λ e h. let q : notEqual ≡ o = cc in rw (told T.notEqual e, ← q) D.differs)

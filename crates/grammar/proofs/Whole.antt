@@ -17,7 +17,7 @@ use Rattle.grammar.specs.Expressions.{Scope}
 use Rattle.grammar.specs.Conditions.{listed}
 use Rattle.grammar.specs.Declarations.{spellings, declaration, declarationsFrom}
 use Rattle.grammar.specs.Rules.{Spanned, listFrom, plainList, Compared, agrees, differs, partsFrom, firstFound, agreeingList, ruleAt}
-use Rattle.grammar.specs.Emitted.{codeC}
+use Rattle.grammar.specs.Emitted.{bytesC}
 use Rattle.grammar.specs.Derivation.{IsName}
 use Rattle.grammar.specs.Spelled.{declares, DeclareAll, Distinct, SpellsR, Spelled}
 use Rattle.grammar.specs.Spelled as S
@@ -54,7 +54,7 @@ module _ (sc : Scope) (few : length (sc .names) ≤ 64) (lengths : length (sc .n
       cond-prop (Kept (length (sc .text)) at) (is k openSquare) _ _
       (λ e. then-prop (Kept (length (sc .text)) at) (listed sc n) _ (λ k q. tt)
       (λ c n1 e1.
-      let g = subst (Grown codeC (length (sc .text)) n) e1 (listed-grown sc few n (mv .2)) in
+      let g = subst (Grown bytesC (length (sc .text)) n) e1 (listed-grown sc few n (mv .2)) in
       token-prop (Kept (length (sc .text)) at) (tokenAt (sc .text) n1) _ (λ k q. tt)
       (λ k2 s2 n2 et2.
       let mw = token-at-moved (sc .text) n1 k2 s2 n2 (g .1) et2 in

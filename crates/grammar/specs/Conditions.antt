@@ -13,8 +13,8 @@ use Rattle.grammar.specs.Parsed.{Parsed, accepted, refused, andThen, onT
 use Rattle.grammar.specs.Expressions.{Scope, expression, bracket}
 
 -- `=` `<>` `<` `<=` `>` `>=`
-unfoldable pub comparisonOf : Kind → Option Comparison
-comparisonOf k =
+unfoldable pub comparisonBy : Kind → Option Comparison
+comparisonBy k =
     cond (is k T.equals) (some equal)
     (cond (is k T.notEqual) (some notEqual)
     (cond (is k T.less) (some less)
@@ -26,7 +26,7 @@ comparisonOf k =
 unfoldable pub compared : (ℕ → ℕ → Parsed Expression) → Scope → Expression → ℕ → Parsed Condition
 compared inner sc a n =
     onToken (tokenAt (sc .text) n)
-    (λ k s m. onOption (comparisonOf k) (refused notAllowed s) (λ o. andThen (expression inner sc m) (λ b l. accepted (comparison o a b) l)))
+    (λ k s m. onOption (comparisonBy k) (refused notAllowed s) (λ o. andThen (expression inner sc m) (λ b l. accepted (comparison o a b) l)))
 
 unfoldable pub comparisonAt : (ℕ → ℕ → Parsed Expression) → Scope → ℕ → Parsed Condition
 comparisonAt inner sc at = andThen (expression inner sc at) (λ a n. compared inner sc a n)

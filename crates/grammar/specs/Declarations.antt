@@ -21,8 +21,8 @@ inRange low high z = leZ low z && leZ z high
 -- ---- signed numbers, refused by 3 at their digits unless they are in limit and pass a test
 
 -- the digits' token of kind k from s to n; `signed` puts the sign to their value
-unfoldable pub signedAt : (ℤ → Bool) → (ℤ → ℤ) → List ℕ → Kind → ℕ → ℕ → Parsed ℤ
-signedAt test signed text k s n =
+unfoldable pub signedDigits : (ℤ → Bool) → (ℤ → ℤ) → List ℕ → Kind → ℕ → ℕ → Parsed ℤ
+signedDigits test signed text k s n =
     let z = signed (pos (valueOf (part text s n))) in
     let tested = cond (isInt32 z && test z) (accepted z n) (refused outOfLimit s) in
     cond (is k digits) tested (refused notAllowed s)
@@ -31,8 +31,8 @@ unfoldable pub boundAt : (ℤ → Bool) → List ℕ → ℕ → Parsed ℤ
 boundAt test text at =
     onToken (tokenAt text at)
     (λ k s n.
-    let below = onToken (tokenAt text n) (λ k s n. signedAt test negℤ text k s n) in
-    let above = signedAt test (λ z. z) text k s n in
+    let below = onToken (tokenAt text n) (λ k s n. signedDigits test negℤ text k s n) in
+    let above = signedDigits test (λ z. z) text k s n in
     cond (is k minus) below above)
 
 -- ---- a declaration, after its word

@@ -8,31 +8,31 @@ use Rattle.bytecode.specs.Instructions.{operationCode, comparisonCode}
 use Rattle.semantics.specs.Program.{Name, Expression, constant, current, previous, operation, negate, Condition, comparison, negated, both, either, Case, Rule, function, change, Program}
 
 -- operands before their operation, left first
-unfoldable pub codeE : Expression → List ℕ
-codeE (constant z) = 1 ∷ number (zigzag z)
-codeE (current i) = 2 ∷ number i
-codeE (previous i) = 3 ∷ number i
-codeE (operation o a b) = codeE a ++ (codeE b ++ (operationCode o ∷ []))
-codeE (negate a) = codeE a ++ (9 ∷ [])
+unfoldable pub bytesE : Expression → List ℕ
+bytesE (constant z) = 1 ∷ number (zigzag z)
+bytesE (current i) = 2 ∷ number i
+bytesE (previous i) = 3 ∷ number i
+bytesE (operation o a b) = bytesE a ++ (bytesE b ++ (operationCode o ∷ []))
+bytesE (negate a) = bytesE a ++ (9 ∷ [])
 
-unfoldable pub codeC : Condition → List ℕ
-codeC (comparison o a b) = codeE a ++ (codeE b ++ (comparisonCode o ∷ []))
-codeC (negated a) = codeC a ++ (16 ∷ [])
-codeC (both a b) = codeC a ++ (codeC b ++ (17 ∷ []))
-codeC (either a b) = codeC a ++ (codeC b ++ (18 ∷ []))
+unfoldable pub bytesC : Condition → List ℕ
+bytesC (comparison o a b) = bytesE a ++ (bytesE b ++ (comparisonCode o ∷ []))
+bytesC (negated a) = bytesC a ++ (16 ∷ [])
+bytesC (both a b) = bytesC a ++ (bytesC b ++ (17 ∷ []))
+bytesC (either a b) = bytesC a ++ (bytesC b ++ (18 ∷ []))
 
-unfoldable pub codeK : ℕ → List Case → List ℕ
-codeK v [] = []
-codeK v (k ∷ ks) = codeC (k .condition) ++ (19 ∷ (codeE (k .value) ++ (20 ∷ (number v ++ codeK v ks))))
+unfoldable pub bytesK : ℕ → List Case → List ℕ
+bytesK v [] = []
+bytesK v (k ∷ ks) = bytesC (k .condition) ++ (19 ∷ (bytesE (k .value) ++ (20 ∷ (number v ++ bytesK v ks))))
 
-unfoldable pub codeR : List Rule → List ℕ
-codeR [] = []
-codeR (function v e ∷ rs) = codeE e ++ (21 ∷ (number v ++ codeR rs))
-codeR (change v ks cs ∷ rs) = codeK v ks ++ (22 ∷ (number v ++ codeR rs))
+unfoldable pub bytesR : List Rule → List ℕ
+bytesR [] = []
+bytesR (function v e ∷ rs) = bytesE e ++ (21 ∷ (number v ++ bytesR rs))
+bytesR (change v ks cs ∷ rs) = bytesK v ks ++ (22 ∷ (number v ++ bytesR rs))
 
 unfoldable pub header : List Name → List ℕ
 header [] = []
 header (x ∷ l) = number (zigzag (x .range .low)) ++ (number (zigzag (x .range .high)) ++ (number (zigzag (x .range .start)) ++ header l))
 
 unfoldable pub image : Program → List ℕ
-image p = number (p .inputs) ++ (number (length (p .names) - p .inputs) ++ (header (p .names) ++ codeR (p .rules)))
+image p = number (p .inputs) ++ (number (length (p .names) - p .inputs) ++ (header (p .names) ++ bytesR (p .rules)))

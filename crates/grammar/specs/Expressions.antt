@@ -35,12 +35,12 @@ unfoldable pub currentAt : Scope → ℕ → ℕ → Parsed Expression
 currentAt sc s n = withId sc s s n (λ i. cond (getD (sc .known) i false) (accepted (current i) n) (refused tooEarly s))
 
 -- a previous value; its name stands after the `_`
-unfoldable pub previousAt : Scope → ℕ → ℕ → Parsed Expression
-previousAt sc s n = withId sc s (s + 1) n (λ i. accepted (previous i) n)
+unfoldable pub previousValueAt : Scope → ℕ → ℕ → Parsed Expression
+previousValueAt sc s n = withId sc s (s + 1) n (λ i. accepted (previous i) n)
 
 -- a number up to 2,147,483,647
-unfoldable pub numberAt : Scope → ℕ → ℕ → Parsed Expression
-numberAt sc s n =
+unfoldable pub constantAt : Scope → ℕ → ℕ → Parsed Expression
+constantAt sc s n =
     let v = valueOf (part (sc .text) s n) in
     cond (ltb numberLimit v) (refused outOfLimit s) (accepted (constant (pos v)) n)
 
@@ -49,9 +49,9 @@ unfoldable pub primary : (ℕ → ℕ → Parsed Expression) → Scope → ℕ �
 primary inner sc at =
     onToken (tokenAt (sc .text) at)
     (λ k s n.
-    let number = numberAt sc s n in
+    let number = constantAt sc s n in
     let now = currentAt sc s n in
-    let before = previousAt sc s n in
+    let before = previousValueAt sc s n in
     let brackets = inner s n in
     cond (is k digits) number (cond (is k name) now (cond (is k T.previous) before (cond (is k openRound) brackets (refused notAllowed s)))))
 

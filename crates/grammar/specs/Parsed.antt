@@ -6,7 +6,7 @@ use mathlib.Core.Option.{Option, none, some}
 use lib.ListN.{length}
 use Rattle.limits.specs.Limits.{nameLimit, noToken, notAllowed}
 use Rattle.lexer.specs.Bytes.{part}
-use Rattle.lexer.specs.Token.{Kind, name, previous, is, Read, token, fault}
+use Rattle.lexer.specs.Token.{Kind, name, previous, is, TokenRead, token, fault}
 use Rattle.lexer.specs.Lexer.{tokenAt, sameName}
 
 -- what was read and the place after it, or a refusal's number and place
@@ -19,7 +19,7 @@ andThen (accepted a n) f = f a n
 andThen (refused k p) f = refused k p
 
 -- refusal 1 comes before any other of a token
-abbrev pub onToken : {A : Type 0} → Read → (Kind → ℕ → ℕ → Parsed A) → Parsed A
+abbrev pub onToken : {A : Type 0} → TokenRead → (Kind → ℕ → ℕ → Parsed A) → Parsed A
 onToken (token k s n) f = f k s n
 onToken (fault p) f = refused noToken p
 

@@ -6,7 +6,7 @@ use lib.ListN.{length, getD, set}
 use lib.Dec.{ltb, leb, eqb}
 use Rattle.limits.specs.Limits.{caseLimit, notAllowed, wrongRule, listsDiffer, tooMany}
 use Rattle.lexer.specs.Bytes.{part}
-use Rattle.lexer.specs.Token.{Kind, name, ending, closeRound, openSquare, tilde, bar, is, Read, token, fault}
+use Rattle.lexer.specs.Token.{Kind, name, ending, closeRound, openSquare, tilde, bar, is, TokenRead, token, fault}
 use Rattle.lexer.specs.Lexer.{tokenAt, sameToken}
 use Rattle.semantics.specs.Program.{Condition, Case, Rule, function, change, target, allTrue}
 use Rattle.grammar.specs.Parsed.{Parsed, accepted, refused, andThen, onToken, sign, phrase, followed}
@@ -79,12 +79,12 @@ onCompared (agrees n) f = f n
 onCompared (differs p) f = differs p
 
 -- the token found: if it passes the test, `next` from the place after it; else it is the first that differs
-abbrev pub onFound : Read → (Kind → ℕ → ℕ → Bool) → (ℕ → Compared) → Compared
+abbrev pub onFound : TokenRead → (Kind → ℕ → ℕ → Bool) → (ℕ → Compared) → Compared
 onFound (token k s n) test next = let more = next n in cond (test k s n) more (differs s)
 onFound (fault p) test next = differs p
 
 -- the token wanted, from the first list (which was accepted, so it is a token)
-abbrev pub onWanted : Read → (Kind → ℕ → ℕ → Compared) → Compared
+abbrev pub onWanted : TokenRead → (Kind → ℕ → ℕ → Compared) → Compared
 onWanted (token k s n) f = f k s n
 onWanted (fault p) f = differs p
 

@@ -12,7 +12,7 @@ use lib.ListN.{length, getD, drop, drop-of-length-le}
 use lib.Seq.{drop-cons, getD-drop}
 use borrow.Author.Tests.{lt-ltb, le-ltb, le-leb, ne-eqb, ltb-true}
 use Rattle.leb128.specs.Numbers.{groups, number, Found, found, none, grouped, numberIn, Read, got, nothing, below32, numberAt}
-use Rattle.leb128.specs.Internal.{joined}
+use Rattle.leb128.specs.Internal.{joinedGroups}
 
 -- ---- the writer
 
@@ -108,15 +108,15 @@ pub low-below : (low scale g : ℕ) → low < scale → g < 128 → low + g * sc
 low-below low scale g l h = let m : g * scale ≤ 127 * scale = mul-le-mul-right scale (omega arith) in omega arith
 
 -- before the first group
-pub joined-first : (f : Found) → joined 0 1 f ≡ f
-unfolding joined
+pub joined-first : (f : Found) → joinedGroups 0 1 f ≡ f
+unfolding joinedGroups
 joined-first none = refl
 joined-first (found zero k) = refl
 joined-first (found (suc v) k) = let n : 0 + suc v * 1 ≡ suc v = omega arith in rw (le-leb 1 (suc v) (omega arith), n)
 
 -- one group further
-joined-more : (low scale g at : ℕ) (f : Found) → below32 at (joined low scale (grouped g f)) ≡ below32 (at + 1) (joined (low + g * scale) (scale * 128) f)
-unfolding joined grouped below32
+joined-more : (low scale g at : ℕ) (f : Found) → below32 at (joinedGroups low scale (grouped g f)) ≡ below32 (at + 1) (joinedGroups (low + g * scale) (scale * 128) f)
+unfolding joinedGroups grouped below32
 joined-more low scale g at none = refl
 joined-more low scale g at (found zero k) = rw (ne-eqb (scale * 128) 1 (λ e. omega arith))
 joined-more low scale g at (found (suc v) k) =
@@ -126,7 +126,7 @@ joined-more low scale g at (found (suc v) k) =
     rw (le-leb 1 (g + suc v * 128) (omega arith), le-leb 1 (suc v) (omega arith), n, p)
 
 pub joined-at : (s : List ℕ) (at low scale : ℕ) → at < length s → 128 ≤ getD s at 0
-    → below32 at (joined low scale (numberIn (drop at s))) ≡ below32 (at + 1) (joined (low + (getD s at 0 - 128) * scale) (scale * 128) (numberIn (drop (at + 1) s)))
+    → below32 at (joinedGroups low scale (numberIn (drop at s))) ≡ below32 (at + 1) (joinedGroups (low + (getD s at 0 - 128) * scale) (scale * 128) (numberIn (drop (at + 1) s)))
 joined-at s at low scale h l = rw (at-more s at h l) (joined-more low scale (getD s at 0 - 128) at (numberIn (drop (at + 1) s)))
 
 -- a number of 2 ^ 32 or more is none, whatever its last group
@@ -135,13 +135,13 @@ unfolding below32
 large true v at k h = rw (le-ltb v (2 ^ 32) h)
 large false v at k h = refl
 
-pub joined-large : (low scale v at k : ℕ) → 2 ^ 32 ≤ low + v * scale → below32 at (joined low scale (found v k)) ≡ nothing
-unfolding joined
+pub joined-large : (low scale v at k : ℕ) → 2 ^ 32 ≤ low + v * scale → below32 at (joinedGroups low scale (found v k)) ≡ nothing
+unfolding joinedGroups
 joined-large low scale v at k h = large (leb 1 v || eqb scale 1) (low + v * scale) at k h
 
 -- where a 1 counts 2 ^ 32 or more, there is no number below that
-pub joined-over : (low scale at : ℕ) (f : Found) → 2 ^ 32 ≤ scale → below32 at (joined low scale f) ≡ nothing
-unfolding joined below32
+pub joined-over : (low scale at : ℕ) (f : Found) → 2 ^ 32 ≤ scale → below32 at (joinedGroups low scale f) ≡ nothing
+unfolding joinedGroups below32
 joined-over low scale at none h = refl
 joined-over low scale at (found zero k) h = rw (ne-eqb scale 1 (λ e. omega arith))
 joined-over low scale at (found (suc v) k) h = joined-large low scale (suc v) at k (omega (arith, suc-mul v scale))

@@ -4,8 +4,8 @@ use mathlib.Core.Bool.{_||_, cond}
 use lib.Dec.{leb, eqb}
 use Rattle.leb128.specs.Numbers.{Found, found, none}
 
--- groups of value `low`, joined to what is found behind them, where a 1 counts `scale`; shortest form only: 0 there is none, but for
+-- groups of value `low`, joinedGroups to what is found behind them, where a 1 counts `scale`; shortest form only: 0 there is none, but for
 -- the first group, whose scale is 1
-unfoldable pub joined : ℕ → ℕ → Found → Found
-joined low scale none = none
-joined low scale (found v k) = cond (leb 1 v || eqb scale 1) (found (low + v * scale) k) none
+unfoldable pub joinedGroups : ℕ → ℕ → Found → Found
+joinedGroups low scale none = none
+joinedGroups low scale (found v k) = cond (leb 1 v || eqb scale 1) (found (low + v * scale) k) none

@@ -5,7 +5,7 @@ ghost use lib.ListN.{length, set};
 ghost use lib.Seq.{sets};
 ghost use Rattle.leb128.specs.Numbers.{number, found, below32, numberAt, signedAt, zigzag as zigzagOf, unzigzag as unzigzagOf};
 ghost use Rattle.leb128.specs.Results.{unsignedRead, signedRead};
-ghost use Rattle.leb128.specs.Internal.{joined};
+ghost use Rattle.leb128.specs.Internal.{joinedGroups};
 
 // A number and the place behind it, or no number below 2 ^ 32 in shortest form.
 pub enum Unsigned {
@@ -31,7 +31,7 @@ const FIFTH: u64 = 268435456;
 // The number whose last group, at `at`, is b, behind groups of value `low`: shortest form only, and below 2 ^ 32.
 fn last(low: u64, scale: u64, b: u64, at: usize) -> Unsigned
     requires { ⌜ (low < scale) × (scale < 2 ^ 35) × (b < 128) × (at + 1 < 2 ^ 64) ⌝ }
-    ensures { λ r. ⌜ unsignedRead r ≡ below32 at (joined low scale (found b 1)) ⌝ }
+    ensures { λ r. ⌜ unsignedRead r ≡ below32 at (joinedGroups low scale (found b 1)) ⌝ }
 {
     let v = low + b * scale;
     if 4294967296 <= v {

@@ -10,7 +10,7 @@ use borrow.Author.Tests.{eq-eqb, ltb-true, ltb-false}
 use Rattle.lexer.specs.Bytes.{part, sameBytes}
 use Rattle.lexer.specs.Token.{Kind, kindNumber, unknown, ending, name, previous, digits, inputWord, varWord, initWord, modWord, nextWord, dots, arrow, lessEqual, greaterEqual, notEqual, semicolon, colon, openRound, closeRound, openSquare, closeSquare, tilde, ampersand, bar, equals, less, greater, plus, minus, star, slash, is, token}
 use Rattle.lexer.specs.Lexer.{isDigit, isLetter, isAlphanumeric, runEnd, pairOf, signOf}
-use Rattle.lexer.specs.Spelling.{All, IsWord, IsDigits, SpellsName, IsPrevious, Spelling}
+use Rattle.lexer.specs.Spelling.{AllBytes, IsWord, IsDigits, SpellsName, IsPrevious, Spelling}
 use Rattle.lexer.proofs.Laws.{letter-in-run, run-stop, run-step, run-from}
 use Rattle.lexer.proofs.Values.{part-length, part-cons}
 
@@ -63,16 +63,16 @@ class-of slash w h = single 47 h refl refl refl refl
 -- ---- runs
 
 -- bytes that all pass a test are within one run
-through : (p : ℕ → Bool) (text : List ℕ) (left s m : ℕ) → m ≡ s + left → m ≤ length text → All p (part text s m) → runEnd p text s ≡ runEnd p text m
+through : (p : ℕ → Bool) (text : List ℕ) (left s m : ℕ) → m ≡ s + left → m ≤ length text → AllBytes p (part text s m) → runEnd p text s ≡ runEnd p text m
 through p text zero s m e l h = let q : s ≡ m = omega arith in ap (runEnd p text) q
 through p text (suc left) s m e l h =
-    let h2 : (p (getD text s 0) ≡ true) × All p (part text (s + 1) m) = subst (All p) (part-cons text s m (omega arith) l) h in
+    let h2 : (p (getD text s 0) ≡ true) × AllBytes p (part text (s + 1) m) = subst (AllBytes p) (part-cons text s m (omega arith) l) h in
     run-step p text s (omega arith) (h2 .0) ∙ through p text left (s + 1) m (omega arith) l (h2 .1)
 
-pub run-through : (p : ℕ → Bool) (text : List ℕ) (s m : ℕ) → s ≤ m → m ≤ length text → All p (part text s m) → runEnd p text s ≡ runEnd p text m
+pub run-through : (p : ℕ → Bool) (text : List ℕ) (s m : ℕ) → s ≤ m → m ≤ length text → AllBytes p (part text s m) → runEnd p text s ≡ runEnd p text m
 run-through p text s m h l a = through p text (m - s) s m (omega arith) l a
 
-pub in-run : (p : ℕ → Bool) (text : List ℕ) (s m : ℕ) → s ≤ m → m ≤ length text → All p (part text s m) → m ≤ runEnd p text s
+pub in-run : (p : ℕ → Bool) (text : List ℕ) (s m : ℕ) → s ≤ m → m ≤ length text → AllBytes p (part text s m) → m ≤ runEnd p text s
 in-run p text s m h l a = rw (run-through p text s m h l a) (run-from p text m)
 
 -- behind a run stands no byte of it
@@ -113,12 +113,12 @@ module _ (text : List ℕ) (s : ℕ) where
       where
         by : Class (part text s m) → Begins m
         by (lettered w) =
-            let v : (isLetter b ≡ true) × All isAlphanumeric (part text (s + 1) m) = subst IsWord first w in
-            let all : All isAlphanumeric (part text s m) = rw first (letter-in-run b (v .0), v .1) in
+            let v : (isLetter b ≡ true) × AllBytes isAlphanumeric (part text (s + 1) m) = subst IsWord first w in
+            let all : AllBytes isAlphanumeric (part text s m) = rw first (letter-in-run b (v .0), v .1) in
             letters (v .0) (in-run isAlphanumeric text s m (omega arith) l all)
         by (numbered w) =
-            let v : (isDigit b ≡ true) × All isDigit (part text (s + 1) m) = subst IsDigits first w in
-            let all : All isDigit (part text s m) = rw first v in
+            let v : (isDigit b ≡ true) × AllBytes isDigit (part text (s + 1) m) = subst IsDigits first w in
+            let all : AllBytes isDigit (part text s m) = rw first v in
             numerals (v .0) (in-run isDigit text s m (omega arith) l all)
         by (underscored w) =
             let e : b ∷ part text (s + 1) m ≡ 95 ∷ w .rest = sym first ∙ w .is-cons in

@@ -11,9 +11,9 @@ use native.Mathlib.Nat.{le-refl}
 use borrow.Author.Tests.{eqb-true, eq-eqb, ltb-true, ltb-false, lt-ltb, le-ltb}
 use mathlib.Core.Logic.{_⊎_, inl, inr}
 use Rattle.lexer.specs.Bytes.{part, sameBytes}
-use Rattle.lexer.specs.Token.{Kind, kindNumber, unknown, ending, name, previous, digits, less, is, Read, token, fault}
+use Rattle.lexer.specs.Token.{Kind, kindNumber, unknown, ending, name, previous, digits, less, is, TokenRead, token, fault}
 use Rattle.lexer.specs.Lexer.{isSpace, isDigit, isLetter, isAlphanumeric, runEnd, wordOf, pairOf, signOf, readOf, signAt, wordAt, digitsAt, previousAt, tokenOf, tokenPast, tokenAt}
-use Rattle.lexer.specs.Spelling.{All, IsWord, SpellsName, Spelling, TokenFrom, Separated, FirstRead, a-token, the-end, no-token, ReadsTokens}
+use Rattle.lexer.specs.Spelling.{AllBytes, IsWord, SpellsName, Spelling, TokenFrom, Separated, FirstRead, a-token, the-end, no-token, ReadsTokens}
 use Rattle.lexer.proofs.Laws.{cond-prop, second-byte, letter-in-run, run-out, run-stop, run-from, run-within, run-some}
 use Rattle.lexer.proofs.Same.{same-kind}
 use Rattle.lexer.proofs.Values.{part-none, part-cons}
@@ -48,7 +48,7 @@ digit-underscore b e = no-underscore isDigit underscore-no-digit b e
 
 -- ---- the token that is read at s, where the text goes on
 
-abbrev ReadFrom : List ℕ → ℕ → Read → Type 0
+abbrev ReadFrom : List ℕ → ℕ → TokenRead → Type 0
 ReadFrom text s (token k t n) = (t ≡ s) × TokenFrom text s n k
 ReadFrom text s (fault p) = (p ≡ s) × ((k : Kind) (n : ℕ) → TokenFrom text s n k → ⊥)
 
@@ -135,8 +135,8 @@ module _ (text : List ℕ) (s : ℕ) (l : s < length text) where
         go true t =
             let q = ltb-true (s + 1) m t in
             let p = part-cons text (s + 1) m q i in
-            let v : (isLetter a2 ≡ true) × All isAlphanumeric (part text (s + 1 + 1) m) = subst IsWord p (w .is-word) in
-            let all : All isAlphanumeric (part text (s + 1) m) = rw p (letter-in-run a2 (v .0), v .1) in
+            let v : (isLetter a2 ≡ true) × AllBytes isAlphanumeric (part text (s + 1 + 1) m) = subst IsWord p (w .is-word) in
+            let all : AllBytes isAlphanumeric (part text (s + 1) m) = rw p (letter-in-run a2 (v .0), v .1) in
             (v .0, q, in-run isAlphanumeric text (s + 1) m (omega arith) i all)
         go false t =
             let q = ltb-false (s + 1) m t in
@@ -331,12 +331,12 @@ module _ (text : List ℕ) where
   past-end a e = rw (e, le-ltb (length text) (length text) (le-refl (length text)))
 
   module _ (a : ℕ) where
-    only : (r : Read) → FirstRead text a r → tokenAt text a ≡ r
+    only : (r : TokenRead) → FirstRead text a r → tokenAt text a ≡ r
     only r (a-token k s n sep t) =
         let l : s < length text = omega (arith, t .some-bytes, t .within) in
         past-read a s (ends-at a s sep (run-stop isSpace text s l (token-no-space s n k t))) l ∙ same (tokenOf text s (getD text s 0)) (read-from text s l)
       where
-        same : (x : Read) → ReadFrom text s x → x ≡ token k s n
+        same : (x : TokenRead) → ReadFrom text s x → x ≡ token k s n
         same (token j p m) h =
             let q = one-token-from s n m k j t (h .1) in
             rw (h .0, q .0, q .1)
@@ -345,7 +345,7 @@ module _ (text : List ℕ) where
     only r (no-token s sep l f none) =
         past-read a s (ends-at a s sep (run-stop isSpace text s l f)) l ∙ same (tokenOf text s (getD text s 0)) (read-from text s l)
       where
-        same : (x : Read) → ReadFrom text s x → x ≡ fault s
+        same : (x : TokenRead) → ReadFrom text s x → x ≡ fault s
         same (token j p m) h = absurd (none j m (h .1))
         same (fault p) h = ap fault (h .0)
 
@@ -357,7 +357,7 @@ module _ (text : List ℕ) where
       unfolding tokenAt tokenPast
       reads = cond-prop (FirstRead text a) (ltb (runEnd isSpace text a) (length text)) _ _ (λ t. inside (ltb-true _ _ t)) (λ t. outside (ltb-false _ _ t))
         where
-          found : (s : ℕ) → Separated text a s → s < length text → isSpace (getD text s 0) ≡ false → (x : Read) → ReadFrom text s x → FirstRead text a x
+          found : (s : ℕ) → Separated text a s → s < length text → isSpace (getD text s 0) ≡ false → (x : TokenRead) → ReadFrom text s x → FirstRead text a x
           found s sep l f (token k p n) r = subst (λ (q : ℕ). FirstRead text a (token k q n)) (sym (r .0)) (a-token k s n sep (r .1))
           found s sep l f (fault p) r = subst (λ (q : ℕ). FirstRead text a (fault q)) (sym (r .0)) (no-token s sep l f (r .1))
 

@@ -9,7 +9,7 @@ use lib.Seq.{getD-take, getD-drop, take-take, drop-drop, take-add, drop-at}
 use lib.Dec.{eqb, ltb}
 use borrow.Author.Tests.{lt-ltb, ltb-true, ltb-false, eqb-true, eqb-false}
 use Rattle.lexer.specs.Bytes.{part, sameBytes}
-use Rattle.lexer.specs.Token.{Kind, kindNumber, unknown, name, is, Read, token, fault}
+use Rattle.lexer.specs.Token.{Kind, kindNumber, unknown, name, is, TokenRead, token, fault}
 use Rattle.lexer.specs.Lexer.{isSpace, isDigit, isLetter, isAlphanumeric, runEnd, wordOf, pairOf, signOf, readOf, signAt, wordAt, digitsAt, previousAt, tokenOf, tokenPast, tokenAt}
 use Rattle.lexer.proofs.Laws.{run-stop, run-step}
 
@@ -100,7 +100,7 @@ module _ (text : List ℕ) (f g last : ℕ) (in-f : f + last < length text) (in-
   abbrev pub behind : ℕ → ℕ
   behind n = g + (n - f)
 
-  abbrev pub moved : Read → Read
+  abbrev pub moved : TokenRead → TokenRead
   moved (token k s n) = token k (behind s) (behind n)
   moved (fault p) = fault (behind p)
 
@@ -114,7 +114,7 @@ module _ (text : List ℕ) (f g last : ℕ) (in-f : f + last < length text) (in-
   fault-here i = rw (behind-at i)
 
   -- both choose by the same test
-  chosen : (t : Bool) (a b a' b' : Read) → (t ≡ true → a' ≡ moved a) → (t ≡ false → b' ≡ moved b) → cond t a' b' ≡ moved (cond t a b)
+  chosen : (t : Bool) (a b a' b' : TokenRead) → (t ≡ true → a' ≡ moved a) → (t ≡ false → b' ≡ moved b) → cond t a' b' ≡ moved (cond t a b)
   chosen true a b a' b' p q = p refl
   chosen false a b a' b' p q = q refl
 

@@ -8,9 +8,9 @@ use lib.ListN.{length, getD, take, drop, List·getD-eq-default}
 use lib.Dec.{eqb, ltb, leb}
 use borrow.Author.Tests.{eqb-true, ltb-true, ltb-false, lt-leb}
 use Rattle.lexer.specs.Bytes.{bytes, part, sameBytes}
-use Rattle.lexer.specs.Token.{Kind, kindNumber, unknown, ending, name, previous, digits, inputWord, varWord, initWord, modWord, nextWord, dots, arrow, lessEqual, greaterEqual, notEqual, semicolon, colon, openRound, closeRound, openSquare, closeSquare, tilde, ampersand, bar, equals, less, greater, plus, minus, star, slash, spellingOf, wordKinds, pairKinds, signKinds, is, Read, token, fault}
+use Rattle.lexer.specs.Token.{Kind, kindNumber, unknown, ending, name, previous, digits, inputWord, varWord, initWord, modWord, nextWord, dots, arrow, lessEqual, greaterEqual, notEqual, semicolon, colon, openRound, closeRound, openSquare, closeSquare, tilde, ampersand, bar, equals, less, greater, plus, minus, star, slash, spellingOf, wordKinds, pairKinds, signKinds, is, TokenRead, token, fault}
 use Rattle.lexer.specs.Lexer.{isSpace, isDigit, isLetter, isAlphanumeric, runOn, runEnd, kindIn, wordOf, pairOf, signOf, readOf, signAt, wordAt, digitsAt, previousAt, tokenOf, tokenPast, tokenAt}
-use Rattle.lexer.specs.Spelling.{All, IsWord, IsDigits, NoneOf, Spelling}
+use Rattle.lexer.specs.Spelling.{AllBytes, IsWord, IsDigits, NoneOf, Spelling}
 use Rattle.lexer.proofs.Laws.{cond-prop, run-on-ge, run-from, run-within, run-some, token-at-moved}
 use Rattle.lexer.proofs.Same.{same-bytes, same-kind}
 use Rattle.lexer.proofs.Values.{part-cons}
@@ -87,20 +87,20 @@ name-word w e = (
 
 -- ---- from kind to spelling
 
-none-run : (p : ℕ → Bool) (n : ℕ) → All p (take n [])
+none-run : (p : ℕ → Bool) (n : ℕ) → AllBytes p (take n [])
 none-run p zero = tt
 none-run p (suc n) = tt
 
 -- a run's bytes all pass its test
-all-run : (p : ℕ → Bool) (l : List ℕ) (i : ℕ) → All p (take (runOn p l i - i) l)
+all-run : (p : ℕ → Bool) (l : List ℕ) (i : ℕ) → AllBytes p (take (runOn p l i - i) l)
 unfolding runOn
 all-run p [] i = none-run p (runOn p [] i - i)
 all-run p (b ∷ l) i =
-    cond-prop (λ (x : ℕ). All p (take (x - i) (b ∷ l))) (p b) _ _
+    cond-prop (λ (x : ℕ). AllBytes p (take (x - i) (b ∷ l))) (p b) _ _
     (λ e. let h : runOn p l (i + 1) - i ≡ suc (runOn p l (i + 1) - (i + 1)) = omega (arith, run-on-ge p l (i + 1)) in rw h (e, all-run p l (i + 1)))
     (λ e. let h : i - i ≡ 0 = omega arith in rw h tt)
 
-pub part-all : (p : ℕ → Bool) (text : List ℕ) (s : ℕ) → All p (part text s (runEnd p text s))
+pub part-all : (p : ℕ → Bool) (text : List ℕ) (s : ℕ) → AllBytes p (part text s (runEnd p text s))
 unfolding runEnd
 part-all p text s = all-run p (drop s text) s
 
@@ -117,16 +117,16 @@ pub run-word : (text : List ℕ) (s : ℕ) → s < length text → isLetter (get
 unfolding isAlphanumeric
 run-word text s h e =
     let lt = run-some isAlphanumeric text s h (rw e) in
-    let w : All isAlphanumeric (part text s (runEnd isAlphanumeric text s)) = part-all isAlphanumeric text s in
+    let w : AllBytes isAlphanumeric (part text s (runEnd isAlphanumeric text s)) = part-all isAlphanumeric text s in
     let q = part-cons text s (runEnd isAlphanumeric text s) lt (run-within isAlphanumeric text s (omega arith)) in
-    rw q (e, subst (All isAlphanumeric) q w .1)
+    rw q (e, subst (AllBytes isAlphanumeric) q w .1)
 
 pub run-digits : (text : List ℕ) (s : ℕ) → s < length text → isDigit (getD text s 0) ≡ true → IsDigits (part text s (runEnd isDigit text s))
 run-digits text s h e =
     let lt = run-some isDigit text s h e in
-    let w : All isDigit (part text s (runEnd isDigit text s)) = part-all isDigit text s in
+    let w : AllBytes isDigit (part text s (runEnd isDigit text s)) = part-all isDigit text s in
     let q = part-cons text s (runEnd isDigit text s) lt (run-within isDigit text s (omega arith)) in
-    rw q (subst (All isDigit) q w)
+    rw q (subst (AllBytes isDigit) q w)
 
 -- a word of the grammar is spelled as its kind says, and any other is a name
 pub word-spelled : (w : List ℕ) → IsWord w → Spelling (wordOf w) w
@@ -165,7 +165,7 @@ unfolding pairOf isFixed kindNumber
 pair-spelled a b = in-spelled pairKinds (a ∷ b ∷ []) (refl, (refl, (refl, (refl, (refl, tt)))))
 
 -- what is read within the text is spelled as its kind says
-abbrev Told : List ℕ → Read → Type 0
+abbrev Told : List ℕ → TokenRead → Type 0
 Told text (token k s n) = n ≤ length text → Spelling k (part text s n)
 Told text (fault p) = Unit {0}
 

@@ -11,10 +11,10 @@ use lib.ListN.{length, getD, drop, set}
 use lib.Seq.{drop-cons}
 use Rattle.lexer.specs.Bytes.{part}
 use Rattle.lexer.specs.Lexer.{sameName}
-use Rattle.lexer.specs.Names.{idFrom, idOf, namesOf, Table}
+use Rattle.lexer.specs.Names.{idFrom, idOf, tableNames, Table}
 
-pub names-none : (text starts ends : List ℕ) → namesOf text starts ends 0 ≡ []
-unfolding namesOf
+pub names-none : (text starts ends : List ℕ) → tableNames text starts ends 0 ≡ []
+unfolding tableNames
 names-none text [] ends = refl
 names-none text (s ∷ starts) [] = refl
 names-none text (s ∷ starts) (e ∷ ends) = refl
@@ -22,10 +22,10 @@ names-none text (s ∷ starts) (e ∷ ends) = refl
 module _ (text starts ends : List ℕ) (n i : ℕ) (t : Table starts ends n) where
   -- the names from i on
   abbrev pub from : List (List ℕ)
-  from = namesOf text (drop i starts) (drop i ends) (n - i)
+  from = tableNames text (drop i starts) (drop i ends) (n - i)
 
-  names-step : i < n → from ≡ part text (getD starts i 0) (getD ends i 0) ∷ namesOf text (drop (i + 1) starts) (drop (i + 1) ends) (n - (i + 1))
-  unfolding namesOf
+  names-step : i < n → from ≡ part text (getD starts i 0) (getD ends i 0) ∷ tableNames text (drop (i + 1) starts) (drop (i + 1) ends) (n - (i + 1))
+  unfolding tableNames
   names-step h =
       let m : n - i ≡ suc (n - (i + 1)) = omega arith in
       rw (drop-cons starts i 0 (omega (arith, t .in-starts)), drop-cons ends i 0 (omega (arith, t .in-ends)), m, add-one i)
@@ -35,7 +35,7 @@ module _ (text starts ends : List ℕ) (n i : ℕ) (t : Table starts ends n) whe
     unfolding idFrom
     id-here h e = rw (names-step h, e)
 
-    pub id-next : i < n → sameName w (part text (getD starts i 0) (getD ends i 0)) ≡ false → idFrom from w i ≡ idFrom (namesOf text (drop (i + 1) starts) (drop (i + 1) ends) (n - (i + 1))) w (i + 1)
+    pub id-next : i < n → sameName w (part text (getD starts i 0) (getD ends i 0)) ≡ false → idFrom from w i ≡ idFrom (tableNames text (drop (i + 1) starts) (drop (i + 1) ends) (n - (i + 1))) w (i + 1)
     unfolding idFrom
     id-next h e = rw (names-step h, e)
 
@@ -46,13 +46,13 @@ module _ (text starts ends : List ℕ) (n i : ℕ) (t : Table starts ends n) whe
         rw (z, names-none text (drop i starts) (drop i ends))
 
 -- all of them
-pub id-start : (text starts ends : List ℕ) (n : ℕ) (w : List ℕ) → idFrom (namesOf text (drop 0 starts) (drop 0 ends) (n - 0)) w 0 ≡ idOf (namesOf text starts ends n) w
+pub id-start : (text starts ends : List ℕ) (n : ℕ) (w : List ℕ) → idFrom (tableNames text (drop 0 starts) (drop 0 ends) (n - 0)) w 0 ≡ idOf (tableNames text starts ends n) w
 unfolding idOf
-id-start text starts ends n w = ap (λ (m : ℕ). idFrom (namesOf text starts ends m) w 0) (sub-zero n)
+id-start text starts ends n w = ap (λ (m : ℕ). idFrom (tableNames text starts ends m) w 0) (sub-zero n)
 
 -- a name more
-pub names-add : (text starts ends : List ℕ) (n s e : ℕ) → n < length starts → n < length ends → namesOf text (set starts n s) (set ends n e) (suc n) ≡ namesOf text starts ends n ++ (part text s e ∷ [])
-unfolding namesOf
+pub names-add : (text starts ends : List ℕ) (n s e : ℕ) → n < length starts → n < length ends → tableNames text (set starts n s) (set ends n e) (suc n) ≡ tableNames text starts ends n ++ (part text s e ∷ [])
+unfolding tableNames
 names-add text [] ends n s e hs he = absurd (omega arith)
 names-add text (a ∷ starts) [] n s e hs he = absurd (omega arith)
 names-add text (a ∷ starts) (b ∷ ends) zero s e hs he = ap (λ (l : List (List ℕ)). part text s e ∷ l) (names-none text starts ends)

@@ -10,9 +10,9 @@ use lib.IntN.{pos}
 use borrow.Author.Tests.{eq-eqb, ne-eqb, lt-ltb, le-ltb, leb-true, leb-false}
 use Rattle.limits.specs.Limits.{noToken}
 use Rattle.lexer.specs.Bytes.{part, sameBytes}
-use Rattle.lexer.specs.Token.{Kind, kindNumber, unknown, ending, name, digits, is, Read, token, fault, lastKind, spellingOf, wordKinds}
+use Rattle.lexer.specs.Token.{Kind, kindNumber, unknown, ending, name, digits, is, TokenRead, token, fault, lastKind, spellingOf, wordKinds}
 use Rattle.lexer.specs.Lexer.{isSpace, isDigit, isLetter, isAlphanumeric, runEnd, kindIn, wordOf, pairOf, signOf, readOf, signAt, wordAt, digitsAt, previousAt, tokenOf, tokenPast, tokenAt}
-use Rattle.lexer.specs.Results.{kindOf, tokenIs, tokenStep, Lies, Placed}
+use Rattle.lexer.specs.Results.{kindOf, tokenIs, tokenStep, Lies, PlacedIn}
 use Rattle.lexer.specs.declared.Place.{Place}
 use Rattle.lexer.specs.declared.Step.{Step}
 use Rattle.lexer.specs.declared.Step.the-variants.{Done, Refused}
@@ -57,7 +57,7 @@ module _ (text : List ℕ) (s b : ℕ) (hb : b ≡ getD text (s + 1) 0) where
 
 -- ---- no token is of no kind
 
-abbrev Known : Read → Type 0
+abbrev Known : TokenRead → Type 0
 Known (token k s n) = is k unknown ≡ false
 Known (fault p) = Unit {0}
 
@@ -155,7 +155,7 @@ module _ (text : List ℕ) (at : ℕ) where
   token-is : (p : Place) → Done p ≡ tokenStep (tokenAt text at) → token (kindOf (p .kind)) (p .start) (p .end) ≡ tokenAt text at
   token-is p e = go (tokenAt text at) e
     where
-      go : (r : Read) → Done p ≡ tokenStep r → token (kindOf (p .kind)) (p .start) (p .end) ≡ r
+      go : (r : TokenRead) → Done p ≡ tokenStep r → token (kindOf (p .kind)) (p .start) (p .end) ≡ r
       go (token k s n) e =
           let i : p ≡ record { at = s; kind = kindNumber k; start = s; end = n; to = 0; number = 0; value = pos 0 } = cc in
           rw (i, number-kind k)
@@ -164,11 +164,11 @@ module _ (text : List ℕ) (at : ℕ) where
   fault-is : (k q : ℕ) → Refused k q ≡ tokenStep (tokenAt text at) → (tokenAt text at ≡ fault q) × (k ≡ noToken)
   fault-is k q e = go (tokenAt text at) e
     where
-      go : (r : Read) → Refused k q ≡ tokenStep r → (r ≡ fault q) × (k ≡ noToken)
+      go : (r : TokenRead) → Refused k q ≡ tokenStep r → (r ≡ fault q) × (k ≡ noToken)
       go (token w s n) e = let z : _≡_ {A = ℕ} 0 1 = cc in absurd (omega arith)
       go (fault p) e = (cc, cc)
 
-  placed : (t : Step) → t ≡ tokenStep (tokenAt text at) → Placed (length text) at t
+  placed : (t : Step) → t ≡ tokenStep (tokenAt text at) → PlacedIn (length text) at t
   placed (Done p) e = lies text at (p .kind) (p .start) (p .end) (token-is p e)
   placed (Refused k q) e = tt
 
@@ -176,7 +176,7 @@ module _ (text : List ℕ) (at : ℕ) where
 
 -- what the reader promises of its answer
 abbrev pub Answers : List ℕ → ℕ → Step → Type 0
-Answers text at t = (t ≡ tokenStep (tokenAt text at)) × Placed (length text) at t
+Answers text at t = (t ≡ tokenStep (tokenAt text at)) × PlacedIn (length text) at t
 
 pub answered : (text : List ℕ) (at : ℕ) {t u : Step} → t ≡ u → Answers text at u → Answers text at t
 answered text at e a = subst (Answers text at) (sym e) a
@@ -216,7 +216,7 @@ module _ (text : List ℕ) (at s : ℕ) (hs : s ≡ runEnd isSpace text at) wher
 
 module _ (text : List ℕ) (at : ℕ) (t : Step) (a : Answers text at t) where
   pub is-token : (p : Place) → t ≡ Done p → (tokenAt text at ≡ token (kindOf (p .kind)) (p .start) (p .end)) × Lies (length text) at (p .kind) (p .start) (p .end)
-  is-token p e = (sym (token-is text at p (sym e ∙ a .0)), subst (Placed (length text) at) e (a .1))
+  is-token p e = (sym (token-is text at p (sym e ∙ a .0)), subst (PlacedIn (length text) at) e (a .1))
 
   pub is-fault : (k q : ℕ) → t ≡ Refused k q → (tokenAt text at ≡ fault q) × (k ≡ noToken)
   is-fault k q e = fault-is text at k q (sym e ∙ a .0)

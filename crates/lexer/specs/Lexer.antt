@@ -6,7 +6,7 @@ use lib.ListN.{length, getD, drop}
 use lib.Dec.{ltb, leb, eqb}
 use Rattle.limits.specs.Limits.{spellingLimit}
 use Rattle.lexer.specs.Bytes.{part, sameBytes}
-use Rattle.lexer.specs.Token.{Kind, unknown, ending, name, previous, digits, spellingOf, wordKinds, pairKinds, signKinds, is, Read, token, fault}
+use Rattle.lexer.specs.Token.{Kind, unknown, ending, name, previous, digits, spellingOf, wordKinds, pairKinds, signKinds, is, TokenRead, token, fault}
 
 -- ---- bytes
 
@@ -64,11 +64,11 @@ unfoldable pub signOf : ℕ → Kind
 signOf b = kindIn signKinds (b ∷ []) unknown
 
 -- a token, unless it is of no kind
-unfoldable pub readOf : Kind → ℕ → ℕ → Read
+unfoldable pub readOf : Kind → ℕ → ℕ → TokenRead
 readOf k s n = cond (is k unknown) (fault s) (token k s n)
 
 -- Tokens are read by longest match: a sign of two bytes before one of one byte. At s stands a, then b.
-unfoldable pub signAt : ℕ → ℕ → ℕ → Read
+unfoldable pub signAt : ℕ → ℕ → ℕ → TokenRead
 signAt a b s =
     let one = readOf (signOf a) s (s + 1) in
     let two = token (pairOf a b) s (s + 2) in
@@ -77,22 +77,22 @@ signAt a b s =
 -- ---- tokens
 
 -- a run of letters and digits at s, which begins with a letter
-unfoldable pub wordAt : List ℕ → ℕ → Read
+unfoldable pub wordAt : List ℕ → ℕ → TokenRead
 wordAt text s = let e = runEnd isAlphanumeric text s in token (wordOf (part text s e)) s e
 
 -- runs of digits
-unfoldable pub digitsAt : List ℕ → ℕ → Read
+unfoldable pub digitsAt : List ℕ → ℕ → TokenRead
 digitsAt text s = token digits s (runEnd isDigit text s)
 
 -- `_` directly before a name makes a previous-value token; before anything else, a word of the grammar included, it is lone.
-unfoldable pub previousAt : List ℕ → ℕ → Read
+unfoldable pub previousAt : List ℕ → ℕ → TokenRead
 previousAt text s =
     let e = runEnd isAlphanumeric text (s + 1) in
     let named = cond (is (wordOf (part text (s + 1) e)) name) (token previous s e) (fault s) in
     cond (isLetter (getD text (s + 1) 0)) named (fault s)
 
 -- the token whose first byte, b, is at s
-unfoldable pub tokenOf : List ℕ → ℕ → ℕ → Read
+unfoldable pub tokenOf : List ℕ → ℕ → ℕ → TokenRead
 tokenOf text s b =
     let word = wordAt text s in
     let number = digitsAt text s in
@@ -101,13 +101,13 @@ tokenOf text s b =
     cond (isLetter b) word (cond (isDigit b) number (cond (eqb b 95) underscore sign))
 
 -- the token at s, past the space
-unfoldable pub tokenPast : List ℕ → ℕ → Read
+unfoldable pub tokenPast : List ℕ → ℕ → TokenRead
 tokenPast text s =
     let t = tokenOf text s (getD text s 0) in
     cond (ltb s (length text)) t (token ending s s)
 
 -- the first token at or after `at`
-unfoldable pub tokenAt : List ℕ → ℕ → Read
+unfoldable pub tokenAt : List ℕ → ℕ → TokenRead
 tokenAt text at = tokenPast text (runEnd isSpace text at)
 
 -- ---- equality of tokens: the same kind, the same spelling. (Names, numbers and signs are compared as names are.)

@@ -16,11 +16,11 @@ unfoldable pub idOf : List (List ℕ) → List ℕ → Option ℕ
 idOf names w = idFrom names w 0
 
 -- the names that the first n entries of the table spell: each is the part of the text from its start to its end
-unfoldable pub namesOf : List ℕ → List ℕ → List ℕ → ℕ → List (List ℕ)
-namesOf text [] ends n = []
-namesOf text (s ∷ starts) [] n = []
-namesOf text (s ∷ starts) (e ∷ ends) zero = []
-namesOf text (s ∷ starts) (e ∷ ends) (suc n) = part text s e ∷ namesOf text starts ends n
+unfoldable pub tableNames : List ℕ → List ℕ → List ℕ → ℕ → List (List ℕ)
+tableNames text [] ends n = []
+tableNames text (s ∷ starts) [] n = []
+tableNames text (s ∷ starts) (e ∷ ends) zero = []
+tableNames text (s ∷ starts) (e ∷ ends) (suc n) = part text s e ∷ tableNames text starts ends n
 
 -- the table has room for the n names that it holds
 pub record Table (starts ends : List ℕ) (n : ℕ) : Type 0 where

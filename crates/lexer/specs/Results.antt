@@ -6,7 +6,7 @@ use mathlib.Core.Option.{Option, none, some}
 use lib.ListN.{getD}
 use lib.IntN.{pos}
 use Rattle.limits.specs.Limits.{noToken}
-use Rattle.lexer.specs.Token.{Kind, kindNumber, unknown, ending, name, previous, digits, inputWord, varWord, initWord, modWord, nextWord, dots, arrow, lessEqual, greaterEqual, notEqual, semicolon, colon, openRound, closeRound, openSquare, closeSquare, tilde, ampersand, bar, equals, less, greater, plus, minus, star, slash, lastKind, Read, token, fault}
+use Rattle.lexer.specs.Token.{Kind, kindNumber, unknown, ending, name, previous, digits, inputWord, varWord, initWord, modWord, nextWord, dots, arrow, lessEqual, greaterEqual, notEqual, semicolon, colon, openRound, closeRound, openSquare, closeSquare, tilde, ampersand, bar, equals, less, greater, plus, minus, star, slash, lastKind, TokenRead, token, fault}
 use Rattle.lexer.specs.declared.Place.{Place}
 use Rattle.lexer.specs.declared.Step.{Step}
 use Rattle.lexer.specs.declared.Step.the-variants.{Done, Refused}
@@ -30,7 +30,7 @@ abbrev pub tokenIs : ℕ → ℕ → ℕ → Step
 tokenIs k s n = Done (record { at = s; kind = k; start = s; end = n; to = 0; number = 0; value = pos 0 })
 
 -- what stands at a place: a token, or what is none, which is refused 1
-abbrev pub tokenStep : Read → Step
+abbrev pub tokenStep : TokenRead → Step
 tokenStep (token k s n) = tokenIs (kindNumber k) s n
 tokenStep (fault q) = Refused noToken q
 
@@ -49,6 +49,6 @@ pub record Lies (len at k s n : ℕ) : Type 0 where
   -- all but the end have a byte
   pub moved : (k ≡ 1 → ⊥) → s < n
 
-abbrev pub Placed : ℕ → ℕ → Step → Type 0
-Placed len at (Done p) = Lies len at (p .kind) (p .start) (p .end)
-Placed len at (Refused k q) = Unit {0}
+abbrev pub PlacedIn : ℕ → ℕ → Step → Type 0
+PlacedIn len at (Done p) = Lies len at (p .kind) (p .start) (p .end)
+PlacedIn len at (Refused k q) = Unit {0}

@@ -6,24 +6,24 @@ use mathlib.Core.Bool.{Bool, true, false}
 use mathlib.Core.List.{List, [], _∷_, _++_}
 use lib.ListN.{length, getD}
 use Rattle.lexer.specs.Bytes.{bytes, part}
-use Rattle.lexer.specs.Token.{Kind, unknown, ending, name, previous, digits, inputWord, varWord, initWord, modWord, nextWord, dots, arrow, lessEqual, greaterEqual, notEqual, semicolon, colon, openRound, closeRound, openSquare, closeSquare, tilde, ampersand, bar, equals, less, greater, plus, minus, star, slash, spellingOf, wordKinds, Read, token, fault}
+use Rattle.lexer.specs.Token.{Kind, unknown, ending, name, previous, digits, inputWord, varWord, initWord, modWord, nextWord, dots, arrow, lessEqual, greaterEqual, notEqual, semicolon, colon, openRound, closeRound, openSquare, closeSquare, tilde, ampersand, bar, equals, less, greater, plus, minus, star, slash, spellingOf, wordKinds, TokenRead, token, fault}
 use Rattle.lexer.specs.Lexer.{isSpace, isDigit, isLetter, isAlphanumeric, tokenAt}
 
 -- ---- spellings
 
-abbrev pub All : (ℕ → Bool) → List ℕ → Type 0
-All test [] = Unit {0}
-All test (b ∷ l) = (test b ≡ true) × All test l
+abbrev pub AllBytes : (ℕ → Bool) → List ℕ → Type 0
+AllBytes test [] = Unit {0}
+AllBytes test (b ∷ l) = (test b ≡ true) × AllBytes test l
 
 -- a letter, then letters or digits
 abbrev pub IsWord : List ℕ → Type 0
 IsWord [] = ⊥
-IsWord (b ∷ l) = (isLetter b ≡ true) × All isAlphanumeric l
+IsWord (b ∷ l) = (isLetter b ≡ true) × AllBytes isAlphanumeric l
 
 -- a run of digits
 abbrev pub IsDigits : List ℕ → Type 0
 IsDigits [] = ⊥
-IsDigits (b ∷ l) = (isDigit b ≡ true) × All isDigit l
+IsDigits (b ∷ l) = (isDigit b ≡ true) × AllBytes isDigit l
 
 -- the bytes spell none of the kinds listed
 abbrev pub NoneOf : List Kind → List ℕ → Type 0
@@ -92,10 +92,10 @@ pub record TokenFrom (text : List ℕ) (s n : ℕ) (k : Kind) : Type 0 where
 pub record Separated (text : List ℕ) (a s : ℕ) : Type 0 where
   pub ordered : a ≤ s
   pub within : s ≤ length text
-  pub spaces : All isSpace (part text a s)
+  pub spaces : AllBytes isSpace (part text a s)
 
 -- What is first at or after a: a token, the end of the text, or a byte of no token.
-pub data FirstRead (text : List ℕ) (a : ℕ) : Read → Type 0 where
+pub data FirstRead (text : List ℕ) (a : ℕ) : TokenRead → Type 0 where
   a-token : (k : Kind) (s n : ℕ) → Separated text a s → TokenFrom text s n k → FirstRead text a (token k s n)
   the-end : Separated text a (length text) → FirstRead text a (token ending (length text) (length text))
   no-token : (s : ℕ) → Separated text a s → s < length text → isSpace (getD text s 0) ≡ false → ((k : Kind) (n : ℕ) → TokenFrom text s n k → ⊥) → FirstRead text a (fault s)
@@ -103,4 +103,4 @@ pub data FirstRead (text : List ℕ) (a : ℕ) : Read → Type 0 where
 -- The claim on tokens: `tokenAt` answers what is first, and nothing else is.
 pub record ReadsTokens : Type 0 where
   pub reads : (text : List ℕ) (a : ℕ) → a ≤ length text → FirstRead text a (tokenAt text a)
-  pub only : (text : List ℕ) (a : ℕ) (r : Read) → FirstRead text a r → tokenAt text a ≡ r
+  pub only : (text : List ℕ) (a : ℕ) (r : TokenRead) → FirstRead text a r → tokenAt text a ≡ r

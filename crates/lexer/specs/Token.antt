@@ -106,6 +106,6 @@ unfoldable pub is : Kind → Kind → Bool
 is a b = eqb (kindNumber a) (kindNumber b)
 
 -- what stands at a place: a token with its first byte's place and the place after it, or what is no token
-pub data Read : Type 0 where
-  token : Kind → ℕ → ℕ → Read
-  fault : ℕ → Read
+pub data TokenRead : Type 0 where
+  token : Kind → ℕ → ℕ → TokenRead
+  fault : ℕ → TokenRead

@@ -17,13 +17,13 @@ use Rattle.machine.specs.declared.Stepped.{Stepped}
 use Rattle.machine.specs.declared.Stepped.the-variants.{Next, Refused}
 use Rattle.machine.specs.Step.{Machine}
 use Rattle.machine.specs.Runs.{ran, afterStep, run}
-use Rattle.machine.specs.Memory.{machineOf, stepOutcome, stepped, RangesIn, Stack, Few, Named}
+use Rattle.machine.specs.Memory.{machineOf, stepOutcome, stepped, RangesIn, Stack, Few, OneEach}
 use Rattle.machine.proofs.Laws.{run-end, run-broken}
 
 -- the memory fits, and what is left to do makes the whole run
 pub record Going (code : List ℕ) (low high prev cur₀ vals₀ : List ℤ) (from budget : ℕ) (m : Registers) (cur vals : List ℤ) (k : Registers) (at done : ℕ) : Type 0 where
   pub stack : Stack k vals
-  pub named : Named low high prev cur
+  pub named : OneEach low high prev cur
   pub wide : length cur ≡ length cur₀
   pub deep : length vals ≡ length vals₀
   pub within : done ≤ budget

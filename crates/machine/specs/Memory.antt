@@ -55,7 +55,7 @@ Few (Next m) = m .held ≤ stackLimit
 Few (Refused k) = Unit {0}
 
 -- a low, a high, a previous and a current value of each name
-pub record Named (low high prev cur : List ℤ) : Type 0 where
+pub record OneEach (low high prev cur : List ℤ) : Type 0 where
   pub highs : length high ≡ length low
   pub previous : length prev ≡ length low
   pub current : length cur ≡ length low

@@ -12,7 +12,7 @@ ghost use Rattle.semantics.specs.Program.{Range};
 ghost use Rattle.semantics.specs.Formula.{State};
 ghost use Rattle.bytecode.specs.Instructions.{gate as gating, pick as picking, assign as assigning, settle as settling};
 ghost use Rattle.machine.specs.Step.{perform};
-ghost use Rattle.machine.specs.Memory.{heldOf, stepOutcome, RangesIn, Stack, Few, Named};
+ghost use Rattle.machine.specs.Memory.{heldOf, stepOutcome, RangesIn, Stack, Few, OneEach};
 ghost use Rattle.machine.specs.Internal.{OnStack};
 
 // A false condition passes over what stands up to the next pick; a true one after a pick is refused.
@@ -91,7 +91,7 @@ pub fn pick(
     id: u64,
 ) -> Stepped
     requires { ⌜ Stack m (now vals) ⌝ }
-    requires { ⌜ Named (now low) (now high) (now prev) (now cur) ⌝ }
+    requires { ⌜ OneEach (now low) (now high) (now prev) (now cur) ⌝ }
     ensures { λ r. ⌜ ((ns : List Range) → RangesIn ns (now (low .entry)) (now (high .entry))
         → stepOutcome r (now (vals .entry)) (now (cur .exit))
         ≡ perform ns (now (prev .entry)) (picking id) (m .picked) (heldOf (now (vals .entry)) (m .held)) (now (cur .entry))) ⌝ }

@@ -22,7 +22,7 @@ use Rattle.scan.specs.Results.{afterStart}
 use Rattle.correctness.specs.TraceCorrect.{scansOf, verdictOf, replyOf}
 use Rattle.leb128.proofs.Stores.{sets-clip}
 use Rattle.replay.specs.declared.Replayed.the-variants as R
-use Rattle.replay.specs.Replay.{numberOf, stepsOf, valuesOf, replayRows}
+use Rattle.replay.specs.Replay.{answerNumber, stepsOf, valuesOf, replayRows}
 use Rattle.replay.specs.Results.{lent, afterReplay}
 use Rattle.replay.specs.Internal.{Records, records, addedBy, recordScan, scanRows}
 
@@ -41,7 +41,7 @@ module _ (image : List ℕ) where
   rows-state [] i m = refl
   rows-state (r ∷ rs) i m = rows-state rs (i + 1) (recordScan i (scanOf image (m .state) r) m)
 
-  pub rows-numbers : (rows : List (List ℤ)) (i : ℕ) (m : Records) → scanRows image i rows m .numbers ≡ sets (m .numbers) i (map numberOf (scansOf image (m .state) rows))
+  pub rows-numbers : (rows : List (List ℤ)) (i : ℕ) (m : Records) → scanRows image i rows m .numbers ≡ sets (m .numbers) i (map answerNumber (scansOf image (m .state) rows))
   unfolding recordScan
   rows-numbers [] i m = refl
   rows-numbers (r ∷ rs) i m = rows-numbers rs (i + 1) (recordScan i (scanOf image (m .state) r) m) ∙ rw (add-one i)
@@ -89,7 +89,7 @@ module _ (image buffer : List ℕ) (rows : List (List ℤ)) (s s₁ : State) (nu
       let m = records s₁ numbers steps trace₁ at in
       let values = valuesOf (acceptedStates (map replyOf (scansOf image s₁ rows))) in
       let a : s₂ ≡ finalState s₁ (map replyOf (scansOf image s₁ rows)) = ap {A = Records} (λ r. r .state) h ∙ rows-state image rows 0 m in
-      let b : numbers₂ ≡ sets numbers 0 (map numberOf (scansOf image s₁ rows)) = ap {A = Records} (λ r. r .numbers) h ∙ rows-numbers image rows 0 m in
+      let b : numbers₂ ≡ sets numbers 0 (map answerNumber (scansOf image s₁ rows)) = ap {A = Records} (λ r. r .numbers) h ∙ rows-numbers image rows 0 m in
       let c : steps₂ ≡ sets steps 0 (map stepsOf (scansOf image s₁ rows)) = ap {A = Records} (λ r. r .steps) h ∙ rows-steps image rows 0 m in
       let d : trace₂ ≡ sets trace 0 (s₁ ++ values) = ap {A = Records} (λ r. r .trace) h ∙ rows-trace image rows 0 m ∙ rw (t, l) (sets-behind trace 0 s₁ values) in
       rw (← e, a, b, c, d)

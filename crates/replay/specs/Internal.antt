@@ -9,7 +9,7 @@ use Rattle.limits.specs.Answer.{Answer, accepted, refused}
 use Rattle.semantics.specs.Formula.{State}
 use Rattle.scan.specs.Services.{AfterScan, scanOf}
 use Rattle.replay.specs.declared.Cursor.{Cursor}
-use Rattle.replay.specs.Replay.{numberOf}
+use Rattle.replay.specs.Replay.{answerNumber}
 
 -- the memory that scans and their records are written to, and the place behind the trace so far, no further than there is room
 pub record Records : Type 0 where
@@ -32,7 +32,7 @@ unfoldable pub recordScan : ℕ → AfterScan → Records → Records
 recordScan i a m =
     record {
       state = a .state;
-      numbers = set (m .numbers) i (numberOf a);
+      numbers = set (m .numbers) i (answerNumber a);
       steps = set (m .steps) i (a .steps);
       trace = sets (m .trace) (m .place) (addedBy (a .answer) (a .state));
       place = min (m .place + length (addedBy (a .answer) (a .state))) (length (m .trace));
@@ -44,7 +44,7 @@ scanRows image i [] m = m
 scanRows image i (r ∷ rs) m = scanRows image (i + 1) rs (recordScan i (scanOf image (m .state) r) m)
 
 -- a row is left, and the cursor's places are no further than cells and trace go
-pub record Within (c : Cursor) (cells : List ℤ) (lengths : List ℕ) (trace : List ℤ) : Type 0 where
+pub record RecordWithin (c : Cursor) (cells : List ℤ) (lengths : List ℕ) (trace : List ℤ) : Type 0 where
   pub row : c .row < length lengths
   pub cell : c .cell ≤ length cells
   pub place : c .place ≤ length trace

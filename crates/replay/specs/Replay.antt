@@ -38,8 +38,8 @@ pub record AfterReplay : Type 0 where
   pub left : Lent
 
 -- 0 for an accepted row
-abbrev pub numberOf : AfterScan → ℕ
-numberOf a = go (a .answer)
+abbrev pub answerNumber : AfterScan → ℕ
+answerNumber a = go (a .answer)
   where
     go : Answer (Unit {0}) → ℕ
     go (accepted u) = 0
@@ -58,7 +58,7 @@ recorded m s scans =
     record {
       image = m .image;
       state = finalState s (map replyOf scans);
-      numbers = sets (m .numbers) 0 (map numberOf scans);
+      numbers = sets (m .numbers) 0 (map answerNumber scans);
       steps = sets (m .steps) 0 (map stepsOf scans);
       trace = sets (m .trace) 0 (valuesOf (traceOf s (map replyOf scans)));
     }
@@ -94,7 +94,7 @@ StandIn memory values = length values ≤ length memory → take (length values)
 pub record Standing (image : List ℕ) (s : State) (rows : List (List ℤ)) (left : Lent) : Type 0 where
   pub last : left .state ≡ finalState (begun image s) (found image s rows)
   pub trace : StandIn (left .trace) (valuesOf (traceOf (begun image s) (found image s rows)))
-  pub numbers : StandIn (left .numbers) (map numberOf (scansOf image (begun image s) rows))
+  pub numbers : StandIn (left .numbers) (map answerNumber (scansOf image (begun image s) rows))
   pub steps : StandIn (left .steps) (map stepsOf (scansOf image (begun image s) rows))
 
 -- A replay that was not refused: the text's program, the image in the buffer, a state lent that was of the right length, and the

@@ -10,7 +10,7 @@ ghost use lib.Seq.{sets};
 ghost use Rattle.scan.specs.Services.{startOf};
 ghost use Rattle.replay.specs.Replay.{rowsOf, replayRows, replayOf};
 ghost use Rattle.replay.specs.Results.{lent, afterReplay, ShownBy};
-ghost use Rattle.replay.specs.Internal.{records, scanRows, Within, RowScanned};
+ghost use Rattle.replay.specs.Internal.{records, scanRows, RecordWithin, RowScanned};
 
 // The image's length; or the number and place of the refusal of translation or start.
 pub enum Replayed {
@@ -80,7 +80,7 @@ fn scan_row(
     steps: &mut [usize],
     trace: &mut [i32],
 ) -> Cursor
-    requires { ⌜ Within cursor (now cells) (now lengths) (now trace) ⌝ }
+    requires { ⌜ RecordWithin cursor (now cells) (now lengths) (now trace) ⌝ }
     ensures { λ r. ⌜ RowScanned (now (image .entry)) (now (cells .entry)) (now (lengths .entry)) cursor r
         (records (now (state .entry)) (now (numbers .entry)) (now (steps .entry)) (now (trace .entry)) (cursor .place))
         (records (now (state .exit)) (now (numbers .exit)) (now (steps .exit)) (now (trace .exit)) (r .place)) ⌝ }

@@ -11,14 +11,14 @@ use borrow.Author.Tests.{eqb-true, eqb-false}
 use Rattle.limits.specs.Limits.{noToken, notAllowed, wrongRule}
 use Rattle.lexer.specs.Token.{Kind, name, ending, is, token, fault}
 use Rattle.lexer.specs.Lexer.{tokenAt}
-use Rattle.lexer.specs.Names.{namesOf, Table}
+use Rattle.lexer.specs.Names.{tableNames, Table}
 use Rattle.lexer.specs.Results.{kindOf}
 use Rattle.lexer.proofs.Laws.{cond-prop}
 use Rattle.semantics.specs.Program.{Rule, function, change, target, allTrue}
 use Rattle.grammar.specs.Parsed.{accepted, refused}
 use Rattle.grammar.specs.Expressions.{Scope}
 use Rattle.grammar.specs.Rules.{ruleAt, ruled, rulesFrom}
-use Rattle.grammar.specs.Emitted.{codeR}
+use Rattle.grammar.specs.Emitted.{bytesR}
 use Rattle.grammar.proofs.Size.{Pays, ruleBytes, rule-pays}
 use Rattle.grammar.proofs.ConverseRules.{unruled, rule-counts, unruled-few}
 use Rattle.expressions.specs.declared.scope.Names.{Names}
@@ -69,8 +69,8 @@ module _ (f : ℕ) (sc : Scope) (done : List Rule) (a : ℕ) where
       unfolding rulesFrom
       rules-more g = rw (e, i, g)
 
-code-append : (rs : List Rule) (r : Rule) → codeR (rs ++ (r ∷ [])) ≡ codeR rs ++ codeOfRule r
-unfolding codeR
+code-append : (rs : List Rule) (r : Rule) → bytesR (rs ++ (r ∷ [])) ≡ bytesR rs ++ codeOfRule r
+unfolding bytesR
 code-append [] r = refl
 code-append (function v e ∷ rs) r = rw (code-append rs r) (simp append-assoc)
 code-append (change v ks cs ∷ rs) r = rw (code-append rs r) (simp append-assoc)
@@ -90,11 +90,11 @@ pub record Ruling (text starts ends : List ℕ) (count known₀ at to : ℕ) (ou
   pub same : rulesFrom 65 (scopeOf text starts ends (naming count known₀)) [] at ≡ rulesFrom (65 - done) (scopeOf text starts ends (naming count known)) rules a
   pub fuel : unruled (flagsOf count known) + done ≤ count
   pub room : Room text a t
-  pub ended : t ≡ to + length (codeR rules)
-  pub wrote : out ≡ sets out₀ to (codeR rules)
+  pub ended : t ≡ to + length (bytesR rules)
+  pub wrote : out ≡ sets out₀ to (bytesR rules)
 
 pub ruling-first : (text starts ends : List ℕ) (count known at to : ℕ) (out : List ℕ) → Room text at to → Ruling text starts ends count known at to out out known at to 0
-unfolding codeR
+unfolding bytesR
 ruling-first text starts ends count known at to out r = record {
   rules = [];
   counted = refl;
@@ -110,7 +110,7 @@ module _ {text starts ends : List ℕ} {count known₀ at to : ℕ} {out₀ out 
   sc = scopeOf text starts ends (naming count known)
 
   abbrev Answer : List ℕ → Step → Type 0
-  Answer out′ r = Writes codeR numberTold length (rulesFrom 65 (scopeOf text starts ends (naming count known₀)) [] at) to out₀ out′ r
+  Answer out′ r = Writes bytesR numberTold length (rulesFrom 65 (scopeOf text starts ends (naming count known₀)) [] at) to out₀ out′ r
 
   pub ruling-fuel : done < 65
   ruling-fuel = omega (arith, x .fuel, d .few)
@@ -169,7 +169,7 @@ module _ {text starts ends : List ℕ} {count known₀ at to : ℕ} {out₀ out 
           fuel = omega (arith, x .fuel, rule-counts (flagsOf count known) (o .number) (omega (arith, fresh .0, length-flags count known)) (fresh .1), ap unruled ek);
           room = record { short = x .room .short; within = paid .1; room = omega (arith, g .ended, paid .0, ruling-room .room) };
           ended = rw (code-append (x .rules) (g .tree)) (simp length-append (omega (arith, g .ended, x .ended)));
-          wrote = rw (code-append (x .rules) (g .tree)) (then-bytes out₀ to (codeR (x .rules)) (codeOfRule (g .tree)) (x .ended) (x .wrote) (g .wrote));
+          wrote = rw (code-append (x .rules) (g .tree)) (then-bytes out₀ to (bytesR (x .rules)) (codeOfRule (g .tree)) (x .ended) (x .wrote) (g .wrote));
         }
           where
             turned : rulesFrom (64 - done) (ruled sc (target (g .tree))) (x .rules ++ (g .tree ∷ [])) (o .at) ≡ rulesFrom (65 - (done + 1)) (scopeOf text starts ends (naming count (more .known))) (x .rules ++ (g .tree ∷ [])) (o .at)

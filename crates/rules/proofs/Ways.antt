@@ -18,7 +18,7 @@ use Rattle.semantics.specs.Program.{Expression, Condition, Rule, function, chan
 use Rattle.grammar.specs.Parsed.{Parsed, accepted, refused, Wanted, phrase, followed}
 use Rattle.grammar.specs.Expressions.{Scope, withId, wholeExpression}
 use Rattle.grammar.specs.Rules.{Spanned, casesFrom, agreeingList, casesOf, functionAt, changeAt, formulas, ruleAt}
-use Rattle.grammar.specs.Emitted.{codeE, codeK, codeR}
+use Rattle.grammar.specs.Emitted.{bytesE, bytesK, bytesR}
 use Rattle.grammar.proofs.Bytes.{id-of}
 use Rattle.grammar.proofs.Combine.{token-prop, then-prop, option-prop}
 use Rattle.grammar.proofs.Growth.{Kept, phrase-kept}
@@ -57,12 +57,12 @@ module _ (sc : Scope) (w : List ℕ) (v at : ℕ) where
       function-accepted e3 = rw (e1, e2, e3)
 
 -- its bytes
-pub function-bytes : (before : List ℕ) {mid after : List ℕ} (to : ℕ) {t : ℕ} (v : ℕ) (e : Expression) → t ≡ to + length (codeE e) → mid ≡ sets before to (codeE e) → after ≡ sets mid t (21 ∷ number v) → after ≡ sets before to (codeOfRule (function v e))
-unfolding codeR
-function-bytes before to v e ht hm ha = rw (append-nil (number v)) (then-bytes before to (codeE e) (21 ∷ number v) ht hm ha)
+pub function-bytes : (before : List ℕ) {mid after : List ℕ} (to : ℕ) {t : ℕ} (v : ℕ) (e : Expression) → t ≡ to + length (bytesE e) → mid ≡ sets before to (bytesE e) → after ≡ sets mid t (21 ∷ number v) → after ≡ sets before to (codeOfRule (function v e))
+unfolding bytesR
+function-bytes before to v e ht hm ha = rw (append-nil (number v)) (then-bytes before to (bytesE e) (21 ∷ number v) ht hm ha)
 
-pub function-length : (to : ℕ) {t u : ℕ} (v : ℕ) (e : Expression) → t ≡ to + length (codeE e) → u ≡ t + length (21 ∷ number v) → u ≡ to + length (codeOfRule (function v e))
-unfolding codeR
+pub function-length : (to : ℕ) {t u : ℕ} (v : ℕ) (e : Expression) → t ≡ to + length (bytesE e) → u ≡ t + length (21 ∷ number v) → u ≡ to + length (codeOfRule (function v e))
+unfolding bytesR
 function-length to v e ht hu = simp length-append (omega arith)
 
 -- ---- a change formula and its no-change formula
@@ -96,18 +96,18 @@ module _ (sc : Scope) (w : List ℕ) (v at : ℕ) where
           unfolding changeAt followed
           change-accepted e5 = rw (e1, e2, e3, e4, e5)
 
-pub change-bytes : (before : List ℕ) {mid after : List ℕ} (to : ℕ) {t : ℕ} (v : ℕ) (cs : List Spanned) (ds : List Condition) → t ≡ to + length (codeK v (casesOf cs)) → mid ≡ sets before to (codeK v (casesOf cs)) → after ≡ sets mid t (22 ∷ number v) → after ≡ sets before to (codeOfRule (change v (casesOf cs) ds))
-unfolding codeR
-change-bytes before to v cs ds ht hm ha = rw (append-nil (number v)) (then-bytes before to (codeK v (casesOf cs)) (22 ∷ number v) ht hm ha)
+pub change-bytes : (before : List ℕ) {mid after : List ℕ} (to : ℕ) {t : ℕ} (v : ℕ) (cs : List Spanned) (ds : List Condition) → t ≡ to + length (bytesK v (casesOf cs)) → mid ≡ sets before to (bytesK v (casesOf cs)) → after ≡ sets mid t (22 ∷ number v) → after ≡ sets before to (codeOfRule (change v (casesOf cs) ds))
+unfolding bytesR
+change-bytes before to v cs ds ht hm ha = rw (append-nil (number v)) (then-bytes before to (bytesK v (casesOf cs)) (22 ∷ number v) ht hm ha)
 
-pub change-length : (to : ℕ) {t u : ℕ} (v : ℕ) (cs : List Spanned) (ds : List Condition) → t ≡ to + length (codeK v (casesOf cs)) → u ≡ t + length (22 ∷ number v) → u ≡ to + length (codeOfRule (change v (casesOf cs) ds))
-unfolding codeR
+pub change-length : (to : ℕ) {t u : ℕ} (v : ℕ) (cs : List Spanned) (ds : List Condition) → t ≡ to + length (bytesK v (casesOf cs)) → u ≡ t + length (22 ∷ number v) → u ≡ to + length (codeOfRule (change v (casesOf cs) ds))
+unfolding bytesR
 change-length to v cs ds ht hu = simp length-append (omega arith)
 
 module _ (sc : Scope) (w : List ℕ) (v n1 to : ℕ) {before after : List ℕ} {x : Place} where
   -- room behind the cases, and behind the tokens that follow them
   pub room-cases : (few : length (sc .names) ≤ 64) → v < 64 → Room (sc .text) n1 to → Got (codeOfCases v) numberTold length (casesFrom caseLimit sc w [] n1) to before after x → Room (sc .text) (x .at) (x .to)
-  unfolding codeK
+  unfolding bytesK
   room-cases few hv r g =
       let p = subst (Pays (λ (cs : List Spanned). length (codeOfCases v cs)) (length (sc .text)) n1) (g .is) (cases-pay sc few v hv w caseLimit [] n1 n1 (r .within) (omega arith)) in
       record { short = r .short; within = p .1; room = omega (arith, g .ended, p .0, r .room) }

@@ -6,7 +6,7 @@ use lib.Dec.{eqb}
 use lib.ListN.{length}
 use Rattle.limits.specs.Limits.{caseLimit, notAllowed, wrongRule}
 use Rattle.semantics.specs.Program.{Rule, allTrue}
-use Rattle.grammar.specs.Emitted.{codeR}
+use Rattle.grammar.specs.Emitted.{bytesR}
 use Rattle.expressions.specs.declared.scope.Names.{Names}
 use Rattle.arith.specs.Flags.{flagsOf}
 use Rattle.lexer.specs.Results.{reachedAt}
@@ -15,7 +15,7 @@ use Rattle.lexer.specs.declared.Step.the-variants.{Refused}
 
 -- the code of a rule
 abbrev pub codeOfRule : Rule → List ℕ
-codeOfRule r = codeR (r ∷ [])
+codeOfRule r = bytesR (r ∷ [])
 
 -- room for where as many conditions stand as a rule may have
 pub record SpanRoom (from upto : List ℕ) : Type 0 where

@@ -13,7 +13,7 @@ ghost use Rattle.lexer.specs.Bytes.{part};
 ghost use Rattle.grammar.specs.Parsed.{itemBound};
 ghost use Rattle.grammar.specs.Rules.{functionAt, changeAt, formulas as formulasAt, ruleAt, rulesFrom};
 ghost use Rattle.grammar.specs.Internal.{Named};
-ghost use Rattle.grammar.specs.Emitted.{codeR};
+ghost use Rattle.grammar.specs.Emitted.{bytesR};
 ghost use Rattle.semantics.specs.Program.{target};
 ghost use Rattle.expressions.specs.Scopes.{scopeOf, Declared};
 ghost use Rattle.expressions.specs.Steps.{Room};
@@ -203,7 +203,7 @@ fn rules_in(
     requires { ⌜ Room (now text) at to ⌝ }
     requires { ⌜ SpanRoom (now from) (now upto) ⌝ }
     requires { ⌜ Named (scopeOf (now text) (now starts) (now ends) names .names) ⌝ }
-    ensures { λ r. ⌜ Writes codeR numberTold length (rulesFrom itemBound (scopeOf (now (text .entry)) (now (starts .entry)) (now (ends .entry)) names) [] at) to (now (out .entry)) (now (out .exit)) r ⌝ }
+    ensures { λ r. ⌜ Writes bytesR numberTold length (rulesFrom itemBound (scopeOf (now (text .entry)) (now (starts .entry)) (now (ends .entry)) names) [] at) to (now (out .entry)) (now (out .exit)) r ⌝ }
 {
     let count = names.count;
     let mut known = names.known;
@@ -260,7 +260,7 @@ pub fn rules(
     requires { ⌜ Declared (now starts) (now ends) names ⌝ }
     requires { ⌜ Room (now text) at to ⌝ }
     requires { ⌜ Named (scopeOf (now text) (now starts) (now ends) names .names) ⌝ }
-    ensures { λ r. ⌜ Writes codeR numberTold length (rulesFrom itemBound (scopeOf (now (text .entry)) (now (starts .entry)) (now (ends .entry)) names) [] at) to (now (out .entry)) (now (out .exit)) r ⌝ }
+    ensures { λ r. ⌜ Writes bytesR numberTold length (rulesFrom itemBound (scopeOf (now (text .entry)) (now (starts .entry)) (now (ends .entry)) names) [] at) to (now (out .entry)) (now (out .exit)) r ⌝ }
 {
     let mut from = [0usize; limits::CASE_LIMIT];
     let mut upto = [0usize; limits::CASE_LIMIT];

@@ -10,7 +10,7 @@ use Rattle.limits.specs.Answer.{Answer, accepted, refused, _andThen_}
 use Rattle.semantics.specs.Program.{Range, knownFirst}
 use Rattle.semantics.specs.Formula.{State}
 use Rattle.semantics.specs.ReferenceScan.{allWithin, withInputs}
-use Rattle.bytecode.specs.Check.{known, checkCounts, checkRanges, withInputs as withCounted, checkHeader, checkCode, checkOf}
+use Rattle.bytecode.specs.Check.{known, checkCounts, checkRanges, headerWith as withCounted, checkHeader, checkCode, checkOf}
 use Rattle.bytecode.specs.Counting.{extentOf, rangesFrom, rangesEnd}
 use Rattle.bytecode.specs.Results.{Extends}
 use Rattle.bytecode.proofs.SoundHeader.{sound-counts}

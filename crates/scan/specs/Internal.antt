@@ -21,7 +21,7 @@ use Rattle.scan.specs.Services.{AfterScan, refusedScan, finished, tested
 -- ---- the memory
 
 -- A low, a high and a copy for each value of the state, no more inputs than names.
-pub record Fitting (state row low high copy : List ℤ) : Type 0 where
+pub record FittingMemory (state row low high copy : List ℤ) : Type 0 where
   pub rows : length row ≤ length state
   pub lows : length low ≡ length state
   pub highs : length high ≡ length state

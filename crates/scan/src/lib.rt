@@ -17,7 +17,7 @@ ghost use Rattle.bytecode.specs.Check.{checkOf};
 ghost use Rattle.machine.specs.Memory.{RangesIn};
 ghost use Rattle.scan.specs.Services.{startOf, refusedScan, scanOf};
 ghost use Rattle.scan.specs.Results.{afterStart, StartedWithin, afterScan, ScannedWithin};
-ghost use Rattle.scan.specs.Internal.{Fitting, scannedCode, scannedIn, scannedBy, scannedAt, KnownHeader, KnownCounts, Scratch};
+ghost use Rattle.scan.specs.Internal.{FittingMemory, scannedCode, scannedIn, scannedBy, scannedAt, KnownHeader, KnownCounts, Scratch};
 
 // Done, or the number of a refusal and its place.
 pub enum Started {
@@ -41,7 +41,7 @@ fn scan_sound_in(
     work: &mut [i32],
     vals: &mut [i32],
 ) -> Scanned
-    requires { ⌜ Fitting (now state) (now row) (now low) (now high) (now work) ⌝ }
+    requires { ⌜ FittingMemory (now state) (now row) (now low) (now high) (now work) ⌝ }
     requires { ⌜ stackLimit ≤ length (now vals) ⌝ }
     ensures { λ r. ⌜ ((ns : List Range) → RangesIn ns (now (low .entry)) (now (high .entry))
         → afterScan r (now (state .exit)) ≡ scannedCode ns (now (code .entry)) (now (state .entry)) (now (row .entry))) ⌝ }
@@ -73,7 +73,7 @@ pub fn scan_sound(
     high: &[i32],
     work: &mut [i32],
 ) -> Scanned
-    requires { ⌜ Fitting (now state) (now row) (now low) (now high) (now work) ⌝ }
+    requires { ⌜ FittingMemory (now state) (now row) (now low) (now high) (now work) ⌝ }
     ensures { λ r. ⌜ ((ns : List Range) → RangesIn ns (now (low .entry)) (now (high .entry))
         → afterScan r (now (state .exit)) ≡ scannedCode ns (now (code .entry)) (now (state .entry)) (now (row .entry))) ⌝ }
     ensures { λ r. ⌜ ScannedWithin (length (now (code .entry))) r ⌝ }
@@ -103,7 +103,7 @@ fn scan_code(
     high: &[i32],
     copy: &mut [i32],
 ) -> Scanned
-    requires { ⌜ Fitting (now state) (now row) (now low) (now high) (now copy) ⌝ }
+    requires { ⌜ FittingMemory (now state) (now row) (now low) (now high) (now copy) ⌝ }
     requires { ⌜ (length (now low) ≤ nameLimit) × (base + length (now code) ≤ imageLimit) ⌝ }
     ensures { λ r. ⌜ ((ns : List Range) → RangesIn ns (now (low .entry)) (now (high .entry))
         → afterScan r (now (state .exit)) ≡ scannedAt base ns (now (code .entry)) (now (state .entry)) (now (row .entry))) ⌝ }
@@ -131,7 +131,7 @@ fn scan_values(
     high: &[i32],
     copy: &mut [i32],
 ) -> Scanned
-    requires { ⌜ Fitting (now state) (now row) (now low) (now high) (now copy) ⌝ }
+    requires { ⌜ FittingMemory (now state) (now row) (now low) (now high) (now copy) ⌝ }
     requires { ⌜ KnownHeader (now image) place (length (now row)) (length (now state)) ⌝ }
     ensures { λ r. ⌜ ((ns : List Range) → RangesIn ns (now (low .entry)) (now (high .entry))
         → afterScan r (now (state .exit))

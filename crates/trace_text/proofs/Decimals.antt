@@ -13,7 +13,7 @@ use Rattle.arith.proofs.Laws.{same-bool}
 use Rattle.lexer.specs.Lexer.{isDigit, valueOf, valueOn}
 use Rattle.lexer.proofs.Values.{value-grows}
 use Rattle.trace_text.specs.Row.{allDigits, within32, numberOf}
-use Rattle.trace_text.specs.Internal.{signed, inRange}
+use Rattle.trace_text.specs.Internal.{signed, inWord32}
 
 -- ---- digits
 
@@ -89,7 +89,7 @@ none-lone = refl
 leb-same : (a b c d : ℕ) → (a ≤ b → c ≤ d) → (c ≤ d → a ≤ b) → leb a b ≡ leb c d
 leb-same a b c d p q = same-bool (leb a b) (leb c d) (λ e. le-leb c d (p (leb-true a b e))) (λ e. le-leb a b (q (leb-true c d e)))
 
-pub range-is : (negative : Bool) (v : ℕ) → inRange negative v ≡ isInt32 (signed negative v)
+pub range-is : (negative : Bool) (v : ℕ) → inWord32 negative v ≡ isInt32 (signed negative v)
 range-is false v = refl
 range-is true zero = refl
 range-is true (suc v) = by (leb v 2147483647) (leb-same (suc v) 2147483648 v 2147483647 (λ h. omega arith) (λ h. omega arith)) where
@@ -97,15 +97,15 @@ range-is true (suc v) = by (leb v 2147483647) (leb-same (suc v) 2147483648 v 214
   by true e = e
   by false e = e
 
-pub number-in : (negative : Bool) (d : ℕ) (ds : List ℕ) → allDigits (d ∷ ds) ≡ true → inRange negative (valueOf (d ∷ ds)) ≡ true
+pub number-in : (negative : Bool) (d : ℕ) (ds : List ℕ) → allDigits (d ∷ ds) ≡ true → inWord32 negative (valueOf (d ∷ ds)) ≡ true
     → numberOf (signs negative (d ∷ ds)) ≡ some (signed negative (valueOf (d ∷ ds)))
 number-in negative d ds e r = number-signs negative d ds e ∙ (rw (sym (range-is negative (valueOf (d ∷ ds))) ∙ r))
 
-pub number-out : (negative : Bool) (d : ℕ) (ds : List ℕ) → allDigits (d ∷ ds) ≡ true → inRange negative (valueOf (d ∷ ds)) ≡ false
+pub number-out : (negative : Bool) (d : ℕ) (ds : List ℕ) → allDigits (d ∷ ds) ≡ true → inWord32 negative (valueOf (d ∷ ds)) ≡ false
     → numberOf (signs negative (d ∷ ds)) ≡ none
 number-out negative d ds e r = number-signs negative d ds e ∙ (rw (sym (range-is negative (valueOf (d ∷ ds))) ∙ r))
 
-pub out-of-range : (negative : Bool) (v : ℕ) → 2147483648 < v → inRange negative v ≡ false
+pub out-of-range : (negative : Bool) (v : ℕ) → 2147483648 < v → inWord32 negative v ≡ false
 out-of-range true v h = lt-leb v 2147483648 h
 out-of-range false v h = lt-leb v 2147483647 (omega arith)
 

@@ -7,7 +7,7 @@ use lib.Dec.{eqb, ltb}
 use lib.IntN.{ℤ}
 use borrow.Author.Tests.{ltb-true}
 use Rattle.trace_text.specs.declared.Line.{Line}
-use Rattle.trace_text.specs.Internal.{lineAfter, cellsAfter, inRange, counts, cellsEnd}
+use Rattle.trace_text.specs.Internal.{lineAfter, cellsAfter, inWord32, counts, cellsEnd}
 
 -- ---- the bytes of a line, and of one that may go on
 
@@ -64,7 +64,7 @@ and-right true b e = e
 and-right false b e = absurd (false≢true e)
 
 pub counted : (n : ℕ) (negative : Bool) (v : ℕ) → counts n negative v ≡ true → n < 64
-counted n negative v e = ltb-true n 64 (and-right (inRange negative v) (ltb n 64) e)
+counted n negative v e = ltb-true n 64 (and-right (inWord32 negative v) (ltb n 64) e)
 
 pub not-counted : (n : ℕ) (negative : Bool) (v : ℕ) (cells : List ℤ) → counts n negative v ≡ false → cellsEnd n negative v cells ≡ cells
 unfolding cellsEnd

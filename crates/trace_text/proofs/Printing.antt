@@ -14,7 +14,7 @@ use Rattle.lexer.specs.Bytes.{bytes, part}
 use Rattle.lexer.specs.Lexer.{isDigit, valueOf, valueOn}
 use Rattle.trace_text.specs.Row.{allDigits, within32, numberOf}
 use Rattle.trace_text.specs.Output.{digitsUpTo, unsignedDecimal, decimalOf, spaced, headLine, rowLine, refusedLine}
-use Rattle.lexer.specs.Names.{namesOf}
+use Rattle.lexer.specs.Names.{tableNames}
 use Rattle.trace_text.specs.Internal.{signed}
 use Rattle.trace_text.proofs.Decimals.{all-append, value-append, signs, number-signs}
 
@@ -109,19 +109,19 @@ refused-is number place = simp (append-assoc, append-nil)
 
 -- ---- a table of names
 
-pub no-starts : (text ends : List ℕ) (n : ℕ) → namesOf text [] ends n ≡ []
-unfolding namesOf
+pub no-starts : (text ends : List ℕ) (n : ℕ) → tableNames text [] ends n ≡ []
+unfolding tableNames
 no-starts text ends n = refl
 
-pub no-ends : (text starts : List ℕ) (n : ℕ) → namesOf text starts [] n ≡ []
-unfolding namesOf
+pub no-ends : (text starts : List ℕ) (n : ℕ) → tableNames text starts [] n ≡ []
+unfolding tableNames
 no-ends text [] n = refl
 no-ends text (s ∷ starts) n = refl
 
 pub spelled-next : (text starts ends : List ℕ) (n i : ℕ) → i < n → i < length starts → i < length ends
-    → namesOf text (drop i starts) (drop i ends) (n - i)
-    ≡ part text (getD starts i 0) (getD ends i 0) ∷ namesOf text (drop (i + 1) starts) (drop (i + 1) ends) (n - (i + 1))
-unfolding namesOf
+    → tableNames text (drop i starts) (drop i ends) (n - i)
+    ≡ part text (getD starts i 0) (getD ends i 0) ∷ tableNames text (drop (i + 1) starts) (drop (i + 1) ends) (n - (i + 1))
+unfolding tableNames
 spelled-next text starts ends n i h s e =
     let k : n - i ≡ suc (n - (i + 1)) = omega arith in
     rw (drop-cons starts i 0 s, drop-cons ends i 0 e, k, add-one)

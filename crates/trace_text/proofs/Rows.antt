@@ -15,7 +15,7 @@ use Rattle.trace_text.specs.declared.Line.{Line}
 use Rattle.trace_text.specs.declared.Line.the-variants.{Start, Wanted, Minus, Number, NoRow}
 use Rattle.trace_text.specs.Input.{before}
 use Rattle.trace_text.specs.Row.{_andIf_, allDigits, numberOf, fieldsOf, numbersOf, rowOf, longRow, handed, handedOf}
-use Rattle.trace_text.specs.Internal.{longerBy, digitAfter, numberBegins, signed, inRange, cellsEnd, lineAfter, cellsAfter, countOf, cellsOf}
+use Rattle.trace_text.specs.Internal.{longerBy, digitAfter, numberBegins, signed, inWord32, cellsEnd, lineAfter, cellsAfter, countOf, cellsOf}
 use Rattle.leb128.proofs.Stores.{sets-append, set-before}
 use Rattle.trace_text.proofs.Lines.{lineOver, cellsOver, over-cons, cells-cons, over-nil, cells-nil}
 use Rattle.trace_text.proofs.Decimals.{all-append, value-append, signs, signs-append, number-in, number-out, none-first, none-minus, none-empty, none-lone, none-large, none-byte}
@@ -207,17 +207,17 @@ module _ (cells : List ℤ) (b : ℕ) (l : List ℕ) (go : Goes cells l) (zs : L
     -- a space ends the number
     after-space : b ≡ 32 → Comes cells (b ∷ l) (Number (length zs) negative (valueOf (d ∷ ds))) (signs negative (d ∷ ds)) zs
     unfolding lineAfter cellsAfter cellsEnd
-    after-space e = by (inRange negative (valueOf (d ∷ ds))) (ltb (length zs) 64) refl refl where
+    after-space e = by (inWord32 negative (valueOf (d ∷ ds))) (ltb (length zs) 64) refl refl where
       sp : eqb b 32 ≡ true
       sp = eq-eqb b 32 e
 
       z : ℤ
       z = signed negative (valueOf (d ∷ ds))
 
-      found : inRange negative (valueOf (d ∷ ds)) ≡ true → numbersAfter (signs negative (d ∷ ds)) (b ∷ l) ≡ (numbersAfter [] l andIf λ ys. some (z ∷ ys))
+      found : inWord32 negative (valueOf (d ∷ ds)) ≡ true → numbersAfter (signs negative (d ∷ ds)) (b ∷ l) ≡ (numbersAfter [] l andIf λ ys. some (z ∷ ys))
       found r = numbers-space (signs negative (d ∷ ds)) b l e ∙ (rw (number-in negative d ds all r))
 
-      by : (s t : Bool) → inRange negative (valueOf (d ∷ ds)) ≡ s → ltb (length zs) 64 ≡ t
+      by : (s t : Bool) → inWord32 negative (valueOf (d ∷ ds)) ≡ s → ltb (length zs) 64 ≡ t
           → Comes cells (b ∷ l) (Number (length zs) negative (valueOf (d ∷ ds))) (signs negative (d ∷ ds)) zs
       by true true r m =
           let h = ltb-true (length zs) 64 m in
@@ -275,17 +275,17 @@ module _ (cells zs : List ℤ) (few : length zs ≤ 64) where
 
   end-number : (negative : Bool) (d : ℕ) (ds : List ℕ) → allDigits (d ∷ ds) ≡ true → Comes cells [] (Number (length zs) negative (valueOf (d ∷ ds))) (signs negative (d ∷ ds)) zs
   unfolding countOf cellsOf cellsEnd
-  end-number negative d ds all = by (inRange negative (valueOf (d ∷ ds))) (ltb (length zs) 64) refl refl where
+  end-number negative d ds all = by (inWord32 negative (valueOf (d ∷ ds))) (ltb (length zs) 64) refl refl where
     z : ℤ
     z = signed negative (valueOf (d ∷ ds))
 
-    found : inRange negative (valueOf (d ∷ ds)) ≡ true → numbersAfter (signs negative (d ∷ ds)) [] ≡ some (z ∷ [])
+    found : inWord32 negative (valueOf (d ∷ ds)) ≡ true → numbersAfter (signs negative (d ∷ ds)) [] ≡ some (z ∷ [])
     found r = numbers-end (signs negative (d ∷ ds)) ∙ (rw (number-in negative d ds all r))
 
     grows : length (zs ++ (z ∷ [])) ≡ length zs + 1
     grows = length-append zs (z ∷ [])
 
-    by : (s t : Bool) → inRange negative (valueOf (d ∷ ds)) ≡ s → ltb (length zs) 64 ≡ t
+    by : (s t : Bool) → inWord32 negative (valueOf (d ∷ ds)) ≡ s → ltb (length zs) 64 ≡ t
         → Comes cells [] (Number (length zs) negative (valueOf (d ∷ ds))) (signs negative (d ∷ ds)) zs
     by true true r m =
         let h = ltb-true (length zs) 64 m in

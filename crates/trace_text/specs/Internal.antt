@@ -70,13 +70,13 @@ signed true v = negℤ (pos v)
 signed false v = pos v
 
 -- a number that is in the 32-bit signed range
-abbrev pub inRange : Bool → ℕ → Bool
-inRange true v = leb v 2147483648
-inRange false v = leb v 2147483647
+abbrev pub inWord32 : Bool → ℕ → Bool
+inWord32 true v = leb v 2147483648
+inWord32 false v = leb v 2147483647
 
 -- the n + 1st number of the line is whole, and counts
 abbrev pub counts : ℕ → Bool → ℕ → Bool
-counts n negative v = inRange negative v && ltb n nameLimit
+counts n negative v = inWord32 negative v && ltb n nameLimit
 
 -- the cells then
 unfoldable pub cellsEnd : ℕ → Bool → ℕ → List ℤ → List ℤ

@@ -7,7 +7,7 @@ ghost use lib.ListN.{drop, set};
 ghost use lib.Seq.{sets};
 ghost use Rattle.trace_text.specs.Row.{longRow};
 ghost use Rattle.trace_text.specs.Output.{Put};
-ghost use Rattle.trace_text.specs.Internal.{textStage, stageAfter, textAfter, stageOver, textOver, isRows, bytesBefore, longerBy, digitAfter, numberBegins, signed as signedOf, inRange, counts, cellsEnd, lineAfter, cellsAfter, countOf, cellsOf, isBegun};
+ghost use Rattle.trace_text.specs.Internal.{textStage, stageAfter, textAfter, stageOver, textOver, isRows, bytesBefore, longerBy, digitAfter, numberBegins, signed as signedOf, inWord32, counts, cellsEnd, lineAfter, cellsAfter, countOf, cellsOf, isBegun};
 use lexer::classes;
 
 pub mod print;
@@ -200,7 +200,7 @@ fn begin(n: usize, b: u8) -> Line
 }
 
 fn in_range(negative: bool, v: u64) -> bool
-    ensures { λ r. ⌜ r ≡ inRange negative v ⌝ }
+    ensures { λ r. ⌜ r ≡ inWord32 negative v ⌝ }
 {
     if negative {
         return v <= 2147483648;
@@ -209,7 +209,7 @@ fn in_range(negative: bool, v: u64) -> bool
 }
 
 fn signed(negative: bool, v: u64) -> i32
-    requires { ⌜ inRange negative v ≡ true ⌝ }
+    requires { ⌜ inWord32 negative v ≡ true ⌝ }
     ensures { λ r. ⌜ r ≡ signedOf negative v ⌝ }
 {
     if v == 0 {

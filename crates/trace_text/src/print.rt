@@ -5,7 +5,7 @@ ghost use mathlib.Core.List.{[], _∷_, map};
 ghost use Prim.Native.Nat.{_+_, _*_, _≤_, min};
 ghost use lib.ListN.{length};
 ghost use Rattle.lexer.specs.Bytes.{part};
-ghost use Rattle.lexer.specs.Names.{namesOf};
+ghost use Rattle.lexer.specs.Names.{tableNames};
 ghost use Rattle.trace_text.specs.Output.{Put, unsignedDecimal, decimalOf, spaced, refusedLine, headLine, rowLine};
 
 // The place, or the end where the place is past it.
@@ -88,7 +88,7 @@ fn put_names(
     ends: &[usize],
     count: usize,
 ) -> usize
-    ensures { λ r. ⌜ Put (now (out .entry)) at (spaced (namesOf (now (text .entry)) (now (starts .entry)) (now (ends .entry)) count)) (now (out .exit)) r ⌝ }
+    ensures { λ r. ⌜ Put (now (out .entry)) at (spaced (tableNames (now (text .entry)) (now (starts .entry)) (now (ends .entry)) count)) (now (out .exit)) r ⌝ }
 {
     let mut place = clip(out.len(), at);
     let mut i = 0;
@@ -116,7 +116,7 @@ pub fn put_head(
     ends: &[usize],
     count: usize,
 ) -> usize
-    ensures { λ r. ⌜ Put (now (out .entry)) at (headLine (namesOf (now (text .entry)) (now (starts .entry)) (now (ends .entry)) count)) (now (out .exit)) r ⌝ }
+    ensures { λ r. ⌜ Put (now (out .entry)) at (headLine (tableNames (now (text .entry)) (now (starts .entry)) (now (ends .entry)) count)) (now (out .exit)) r ⌝ }
 {
     let first = put_bytes(out, at, b"scan");
     let second = put_names(out, first, text, starts, ends, count);

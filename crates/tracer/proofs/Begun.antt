@@ -13,7 +13,7 @@ use Rattle.semantics.specs.Program.{Program, rangesOf}
 use Rattle.semantics.specs.Formula.{State}
 use Rattle.semantics.specs.Rows.{startsOf}
 use Rattle.bytecode.specs.Translation.{imageOf}
-use Rattle.lexer.specs.Names.{namesOf}
+use Rattle.lexer.specs.Names.{tableNames}
 use Rattle.grammar.specs.Parsed.{Parsed, accepted, refused}
 use Rattle.grammar.specs.Parse.{parse, answerOf, programOf}
 use Rattle.grammar.specs.Declarations.{spellings}
@@ -24,7 +24,7 @@ use Rattle.translate.specs.declared.Analysis.{Analysis}
 use Rattle.translate.specs.declared.Analysis.the-variants as N
 use Rattle.translate.specs.Services.{AfterTranslation, translationOf}
 use Rattle.translate.specs.Results.{afterTranslation}
-use Rattle.translate.specs.Internal.{Counts, measuresOf, analysed, measured, Analyses}
+use Rattle.translate.specs.Internal.{HeaderCounts, measuresOf, analysed, measured, Analyses}
 use Rattle.scan.specs.declared.Started.{Started}
 use Rattle.scan.specs.Services.{AfterStart, startOf}
 use Rattle.scan.specs.Results.{afterStart}
@@ -37,26 +37,26 @@ use Rattle.trace_text.specs.declared.Line.the-variants.{Start}
 use Rattle.tracer.specs.declared.Tracer.the-variants as T
 use Rattle.tracer.specs.Printed.{opening}
 use Rattle.tracer.specs.Session.{lineRoom, inRows}
-use Rattle.tracer.specs.Post.{PutWhole, Accepts, Begins, Opens}
+use Rattle.tracer.specs.Post.{PutWhole, AcceptedText, Begins, Opens}
 
 -- ---- what analyse says
 
-pub text-accepted : (text : List ℕ) {starts ends : List ℕ} (r : Analysis) {size inputs names : ℕ} → Analyses text (parse text) starts ends r → r ≡ N.Accepted size inputs names → Accepts text starts ends size names
+pub text-accepted : (text : List ℕ) {starts ends : List ℕ} (r : Analysis) {size inputs names : ℕ} → Analyses text (parse text) starts ends r → r ≡ N.Accepted size inputs names → AcceptedText text starts ends size names
 text-accepted text {starts} {ends} r {size} {inputs} {names} h a = by (parse text) refl (ap analysed (sym a) ∙ h .answer)
   where
-    counts : A.Answer Counts → Counts → Counts
+    counts : A.Answer HeaderCounts → HeaderCounts → HeaderCounts
     counts (A.accepted m) d = m
     counts (A.refused k n) d = d
 
-    by : (q : Parsed Program) → parse text ≡ q → analysed (N.Accepted size inputs names) ≡ measured q → Accepts text starts ends size names
+    by : (q : Parsed Program) → parse text ≡ q → analysed (N.Accepted size inputs names) ≡ measured q → AcceptedText text starts ends size names
     by (accepted p n) q e =
-        let m : record { end = size; inputs = inputs; names = names } ≡ measuresOf p = ap (λ (x : A.Answer Counts). counts x (measuresOf p)) e in
-        let c : names ≡ length (p .names) = ap {A = Counts} (λ x. x .names) m in
+        let m : record { end = size; inputs = inputs; names = names } ≡ measuresOf p = ap (λ (x : A.Answer HeaderCounts). counts x (measuresOf p)) e in
+        let c : names ≡ length (p .names) = ap {A = HeaderCounts} (λ x. x .names) m in
         record {
           program = p;
           place = n;
           parsed = q;
-          sized = ap {A = Counts} (λ x. x .end) m ∙ ap length (image-emitted p);
+          sized = ap {A = HeaderCounts} (λ x. x .end) m ∙ ap length (image-emitted p);
           counted = c;
           spelled = rw c (h .named p n q .spelled);
         }
@@ -79,17 +79,17 @@ pub program-one : (text : List ℕ) (p q : Program) (n : ℕ) → parse text ≡
 program-one text p q n e f = let g = program-is text p n e in cc
 
 -- image, state and bytes put out, of whatever program the text has
-pub begins : {text starts ends : List ℕ} {size names : ℕ} (a : Accepts text starts ends size names) {image : List ℕ} {t : State} {out : List ℕ}
+pub begins : {text starts ends : List ℕ} {size names : ℕ} (a : AcceptedText text starts ends size names) {image : List ℕ} {t : State} {out : List ℕ}
     → image ≡ imageOf (a .program) → t ≡ startsOf (a .program) → out ≡ opening (A.accepted (a .program)) → (p : Program) → programOf text ≡ A.accepted p → Begins image t out p
 begins {text} a {image} {t} {out} i s o p e =
     subst (Begins image t out) (program-one text (a .program) p (a .place) (a .parsed) e) (record { image-is = i; state-is = s; printed-is = o })
 
-pub names-fit : {text starts ends : List ℕ} {size names : ℕ} → Accepts text starts ends size names → names ≤ 64
+pub names-fit : {text starts ends : List ℕ} {size names : ℕ} → AcceptedText text starts ends size names → names ≤ 64
 names-fit {text} a = omega (arith, a .counted, parse-few text (a .program) (a .place) (a .parsed))
 
 -- the names as they are counted
-pub accepts-part : {text starts ends : List ℕ} {size names n : ℕ} → Accepts text starts ends size names → n ≡ names → Accepts text starts ends size n
-accepts-part {text} {starts} {ends} {size} {names} {n} a e = subst (Accepts text starts ends size) (sym e) a
+pub accepts-part : {text starts ends : List ℕ} {size names n : ℕ} → AcceptedText text starts ends size names → n ≡ names → AcceptedText text starts ends size n
+accepts-part {text} {starts} {ends} {size} {names} {n} a e = subst (AcceptedText text starts ends size) (sym e) a
 
 -- ---- bytes put whole
 
@@ -107,7 +107,7 @@ all-short : (l : List (List ℕ)) → ((i : ℕ) (w : List ℕ) → getElem? l i
 all-short [] h = tt
 all-short (x ∷ l) h = (h zero x refl, all-short l (λ i w e. h (suc i) w e))
 
-module _ {text starts ends : List ℕ} {size : ℕ} (s : State) (a : Accepts text starts ends size (length s)) where
+module _ {text starts ends : List ℕ} {size : ℕ} (s : State) (a : AcceptedText text starts ends size (length s)) where
   abbrev p : Program
   p = a .program
 
@@ -137,7 +137,7 @@ module _ {text starts ends : List ℕ} {size : ℕ} (s : State) (a : Accepts tex
       head-length (spellings (p .names)) (all-short (spellings (p .names)) (λ i w e. name-length w (n .each i w e) .1)) (rw (length-map (p .names) (λ x. x .spelling)) (omega arith))
 
   pub opening-put : {out first second : List ℕ} {at put : ℕ} {t : State} → t ≡ startsOf p → lineRoom ≤ length out
-      → Put out 0 (headLine (namesOf text starts ends (length s))) first at → Put first at (rowLine 0 t 0) second put → length (rowLine 0 t 0) ≤ 12 * length t + 42
+      → Put out 0 (headLine (tableNames text starts ends (length s))) first at → Put first at (rowLine 0 t 0) second put → length (rowLine 0 t 0) ≤ 12 * length t + 42
       → (take put second ≡ opening (A.accepted p)) × (put ≤ length second)
   opening-put {out} {first} {second} {at} {put} {t} i r h g l =
       let few = parse-few text p (a .place) (a .parsed) in
@@ -157,7 +157,7 @@ opens-refused text image s e r h l =
     let w = put-whole h (omega arith) in
     record { session = λ buffer cells. rw e; output = rw e (w .bytes); inside = w .inside }
 
-pub opens-accepted : {text starts ends : List ℕ} {size names : ℕ} (a : Accepts text starts ends size names) (image : List ℕ) (s t : State) (out : List ℕ) (put : ℕ)
+pub opens-accepted : {text starts ends : List ℕ} {size names : ℕ} (a : AcceptedText text starts ends size names) (image : List ℕ) (s t : State) (out : List ℕ) (put : ℕ)
     → ((p : Program) → programOf text ≡ A.accepted p → Begins (take size image) t (take put out) p) → take names s ≡ t → put ≤ length out
     → Opens text image s out (T.Rows size names Start 0) put
 opens-accepted {text} {starts} {ends} {size} {names} a image s t out put b e i =

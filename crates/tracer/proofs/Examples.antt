@@ -11,9 +11,9 @@ use Rattle.lexer.specs.Token.{kindNumber, is}
 use Rattle.lexer.specs.Lexer.{isSpace, isDigit, isLetter, isAlphanumeric, runOn, runEnd, sameName, wordOf, overLong, pairOf, signOf, readOf, signAt, wordAt, digitsAt, previousAt, tokenOf, tokenPast, tokenAt, sameToken, valueOn, valueOf}
 use Rattle.lexer.specs.Names.{idFrom, idOf}
 use Rattle.grammar.specs.Parsed.{expected, phrase, followed, rest, chain}
-use Rattle.grammar.specs.Expressions.{withId, currentAt, previousAt as previousValueAt, numberAt as literalAt, primary, negative, factor, productOf, sumOf, term, expression, bracket, wholeExpression}
-use Rattle.grammar.specs.Conditions.{comparisonOf, compared, comparisonAt, opposite, inverted, atom, connect, andOf, orOf, conjunction, condition, square, wholeCondition, listed}
-use Rattle.grammar.specs.Declarations.{inRange, signedAt as signedLiteralAt, boundAt, newName, startAt, declaration, declarationsFrom, declarations}
+use Rattle.grammar.specs.Expressions.{withId, currentAt, previousValueAt, constantAt as literalAt, primary, negative, factor, productOf, sumOf, term, expression, bracket, wholeExpression}
+use Rattle.grammar.specs.Conditions.{comparisonBy, compared, comparisonAt, opposite, inverted, atom, connect, andOf, orOf, conjunction, condition, square, wholeCondition, listed}
+use Rattle.grammar.specs.Declarations.{inRange, signedDigits as signedLiteralAt, boundAt, newName, startAt, declaration, declarationsFrom, declarations}
 use Rattle.grammar.specs.Rules.{caseAt, casesFrom, listFrom, plainList, partFrom, kindAt, partsFrom, firstFound, agreeingList, functionAt, changeAt, formulas, ruleAt, rulesFrom}
 use Rattle.grammar.specs.Parse.{program, parse, programOf}
 use Rattle.trace_text.specs.Input.{linesOf, bare, isHashLine, textIn, textOf, rowsIn, rowLines}
@@ -47,5 +47,5 @@ examples =
 
 -- the definition gives what the table says
 pub examples-hold : map (λ (e : Example). printed (bytes (e .reads))) examples ≡ map (λ (e : Example). bytes (e .writes)) examples
-unfolding examples sameBytes kindNumber is isSpace isDigit isLetter isAlphanumeric runOn runEnd sameName wordOf overLong pairOf signOf readOf signAt wordAt digitsAt previousAt tokenOf tokenPast tokenAt sameToken valueOn valueOf expected phrase followed rest chain idFrom idOf withId currentAt previousValueAt literalAt primary negative factor productOf sumOf term expression bracket wholeExpression comparisonOf compared comparisonAt opposite inverted atom connect andOf orOf conjunction condition square wholeCondition listed inRange signedLiteralAt boundAt newName startAt declaration declarationsFrom declarations caseAt casesFrom listFrom plainList partFrom kindAt partsFrom firstFound agreeingList functionAt changeAt formulas ruleAt rulesFrom program parse programOf within picked newValue referenceScan arithmetic negation compares linesOf bare isHashLine textIn textOf rowsIn rowLines numberOf fieldsOf numbersOf rowOf longRow handedOf digitsUpTo unsignedDecimal decimalOf refusedLine headLine rowLine printed
+unfolding examples sameBytes kindNumber is isSpace isDigit isLetter isAlphanumeric runOn runEnd sameName wordOf overLong pairOf signOf readOf signAt wordAt digitsAt previousAt tokenOf tokenPast tokenAt sameToken valueOn valueOf expected phrase followed rest chain idFrom idOf withId currentAt previousValueAt literalAt primary negative factor productOf sumOf term expression bracket wholeExpression comparisonBy compared comparisonAt opposite inverted atom connect andOf orOf conjunction condition square wholeCondition listed inRange signedLiteralAt boundAt newName startAt declaration declarationsFrom declarations caseAt casesFrom listFrom plainList partFrom kindAt partsFrom firstFound agreeingList functionAt changeAt formulas ruleAt rulesFrom program parse programOf within picked newValue referenceScan arithmetic negation compares linesOf bare isHashLine textIn textOf rowsIn rowLines numberOf fieldsOf numbersOf rowOf longRow handedOf digitsUpTo unsignedDecimal decimalOf refusedLine headLine rowLine printed
 examples-hold = refl

@@ -10,7 +10,7 @@ use Rattle.semantics.specs.Program.{Program}
 use Rattle.semantics.specs.Formula.{State}
 use Rattle.semantics.specs.Rows.{startsOf}
 use Rattle.bytecode.specs.Translation.{imageOf}
-use Rattle.lexer.specs.Names.{namesOf}
+use Rattle.lexer.specs.Names.{tableNames}
 use Rattle.grammar.specs.Parsed.{accepted}
 use Rattle.grammar.specs.Parse.{parse, programOf}
 use Rattle.grammar.specs.Declarations.{spellings}
@@ -33,13 +33,13 @@ pub record PutWhole (before : List ℕ) (at : ℕ) (put after : List ℕ) (behin
   pub inside : behind ≤ length after
 
 -- a text that was accepted, its image's length, and the table with its names
-pub record Accepts (text starts ends : List ℕ) (size names : ℕ) : Type 0 where
+pub record AcceptedText (text starts ends : List ℕ) (size names : ℕ) : Type 0 where
   pub program : Program
   pub place : ℕ
   pub parsed : parse text ≡ accepted program place
   pub sized : size ≡ length (imageOf program)
   pub counted : names ≡ length (program .names)
-  pub spelled : namesOf text starts ends names ≡ spellings (program .names)
+  pub spelled : tableNames text starts ends names ≡ spellings (program .names)
 
 -- image and state of a text that was accepted, and the bytes put out
 pub record Begins (image : List ℕ) (s : State) (out : List ℕ) (p : Program) : Type 0 where

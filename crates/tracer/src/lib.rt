@@ -10,12 +10,12 @@ ghost use mathlib.Core.List.{List};
 ghost use lib.IntN.{ℤ};
 ghost use lib.ListN.{length, take};
 ghost use Rattle.limits.specs.Answer.{accepted};
-ghost use Rattle.declarations.specs.Post.{Room};
+ghost use Rattle.declarations.specs.Post.{TableRoom};
 ghost use Rattle.semantics.specs.Program.{Program};
 ghost use Rattle.grammar.specs.Parse.{programOf};
 ghost use Rattle.trace_text.specs.Internal.{isRows};
 ghost use Rattle.tracer.specs.Session.{Session, textRoom, lineRoom, sessionOf, atEnd};
-ghost use Rattle.tracer.specs.Post.{Memory, Accepts, Begins, Opens, Takes};
+ghost use Rattle.tracer.specs.Post.{Memory, AcceptedText, Begins, Opens, Takes};
 
 mod rows;
 
@@ -55,7 +55,7 @@ fn begin_trace(
     size: usize,
     out: &mut [u8],
 ) -> usize
-    requires { ⌜ Accepts (now text) (now starts) (now ends) size (length (now state)) ⌝ }
+    requires { ⌜ AcceptedText (now text) (now starts) (now ends) size (length (now state)) ⌝ }
     requires { ⌜ (49154 ≤ length (now image)) × (lineRoom ≤ length (now out)) ⌝ }
     ensures { λ r. ⌜ ((p : Program) → programOf (now (text .entry)) ≡ accepted p → Begins (take size (now (image .exit))) (now (state .exit)) (take r (now (out .exit))) p) ⌝ }
     ensures { λ r. ⌜ r ≤ length (now (out .exit)) ⌝ }
@@ -75,7 +75,7 @@ fn open_in(
     ends: &mut [usize],
     out: &mut [u8],
 ) -> Opened
-    requires { ⌜ Room (now starts) (now ends) 0 ⌝ }
+    requires { ⌜ TableRoom (now starts) (now ends) 0 ⌝ }
     requires { ⌜ (49154 ≤ length (now image)) × (length (now state) ≡ 64) × (lineRoom ≤ length (now out)) ⌝ }
     ensures { λ r. ⌜ Opens (now (text .entry)) (now (image .exit)) (now (state .exit)) (now (out .exit)) (r .tracer) (r .put) ⌝ }
 {

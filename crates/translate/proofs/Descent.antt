@@ -7,7 +7,7 @@ use lib.ListN.{length, set, length-append}
 use lib.Seq.{sets}
 use Rattle.limits.specs.Limits.{textLimit, nameLimit}
 use Rattle.lexer.specs.Token.{inputWord, varWord}
-use Rattle.lexer.specs.Names.{namesOf}
+use Rattle.lexer.specs.Names.{tableNames}
 use Rattle.semantics.specs.Program.{Name, Rule, Program, knownFirst}
 use Rattle.leb128.proofs.Laws.{groups-one}
 use Rattle.leb128.proofs.RoundTrip.{sets-join}
@@ -15,9 +15,9 @@ use Rattle.grammar.specs.Parsed.{Parsed, accepted, refused, andThen}
 use Rattle.grammar.specs.Declarations.{declarations, spellings}
 use Rattle.grammar.specs.Internal.{Named}
 use Rattle.grammar.specs.Rules.{rulesFrom}
-use Rattle.grammar.specs.Emitted.{header, codeR, image}
+use Rattle.grammar.specs.Emitted.{header, bytesR, image}
 use Rattle.grammar.specs.Parse.{program}
-use Rattle.declarations.specs.Post.{Holds}
+use Rattle.declarations.specs.Post.{TableHolds}
 use Rattle.expressions.specs.declared.scope.Names.{Names}
 use Rattle.arith.specs.Flags.{flagsOf}
 use Rattle.expressions.specs.Scopes.{scopeOf}
@@ -60,11 +60,11 @@ heading-few text short d n e = first (declarations inputWord text [] 0) refl e
 -- ---- the rules
 
 -- the names in the table are those declared
-pub table-named : (text starts ends : List ℕ) (d : Declarations) (m k : ℕ) → Holds text starts ends m (d .names) → k ≡ m → Named (spellings (d .names)) → Named (namesOf text starts ends k)
+pub table-named : (text starts ends : List ℕ) (d : Declarations) (m k : ℕ) → TableHolds text starts ends m (d .names) → k ≡ m → Named (spellings (d .names)) → Named (tableNames text starts ends k)
 table-named text starts ends d m k h e n = rw (e, h .spelled) n
 
 -- the scope of the rules at their start: all the names, and the inputs among them known
-pub scope-is : (text starts ends : List ℕ) (d : Declarations) (c m : ℕ) (names : Names) → Holds text starts ends m (d .names) → c ≡ d .inputs → m ≡ length (d .names)
+pub scope-is : (text starts ends : List ℕ) (d : Declarations) (c m : ℕ) (names : Names) → TableHolds text starts ends m (d .names) → c ≡ d .inputs → m ≡ length (d .names)
     → (names .count ≡ m) × (flagsOf m (names .known) ≡ knownFirst c m) → scopeOf text starts ends names ≡ scopeAfter text d
 scope-is text starts ends d c m names h ec em en = rw (en .0, h .spelled, en .1, ec, em)
 
@@ -81,38 +81,38 @@ module _ (text before last starts ends : List ℕ) {r : Step} where
   no-rules x a k p e d f = descends-refused k p d (program-heading text ∙ rw (e, f))
 
 -- the bytes of an image whose counts have one byte each
-pub image-bytes : (q : Program) → q .inputs < 128 → length (q .names) < 128 → image q ≡ q .inputs ∷ (length (q .names) - q .inputs) ∷ (header (q .names) ++ codeR (q .rules))
+pub image-bytes : (q : Program) → q .inputs < 128 → length (q .names) < 128 → image q ≡ q .inputs ∷ (length (q .names) - q .inputs) ∷ (header (q .names) ++ bytesR (q .rules))
 unfolding image
 image-bytes q h i = rw (groups-one (q .inputs) h, groups-one (length (q .names) - q .inputs) (omega arith))
 
 -- all is read: the counts are stored last
-module _ (text before mid last : List ℕ) (starts ends : List ℕ) (a t c m b u : ℕ) (x : HeadingRead text before mid starts ends a t c m) (few : Few text (x .read) a) (rules : List Rule) (e : rulesFrom 65 (scopeAfter text (x .read)) [] a ≡ accepted rules b) (eu : u ≡ t + length (codeR rules)) (w : last ≡ sets mid t (codeR rules)) where
+module _ (text before mid last : List ℕ) (starts ends : List ℕ) (a t c m b u : ℕ) (x : HeadingRead text before mid starts ends a t c m) (few : Few text (x .read) a) (rules : List Rule) (e : rulesFrom 65 (scopeAfter text (x .read)) [] a ≡ accepted rules b) (eu : u ≡ t + length (bytesR rules)) (w : last ≡ sets mid t (bytesR rules)) where
   abbrev whole : Program
   whole = record { inputs = x .read .inputs; names = x .read .names; rules = rules }
 
   is-whole : program text ≡ accepted whole b
   is-whole = program-heading text ∙ rw (x .is-read, e)
 
-  bytes : image whole ≡ x .read .inputs ∷ (length (x .read .names) - x .read .inputs) ∷ (header (x .read .names) ++ codeR rules)
+  bytes : image whole ≡ x .read .inputs ∷ (length (x .read .names) - x .read .inputs) ∷ (header (x .read .names) ++ bytesR rules)
   bytes = image-bytes whole (omega (arith, few .inputs, few .names)) (omega (arith, few .names))
 
-  body : last ≡ sets before 2 (header (x .read .names) ++ codeR rules)
+  body : last ≡ sets before 2 (header (x .read .names) ++ bytesR rules)
   body =
-      w ∙ ap (λ (l : List ℕ). sets l t (codeR rules)) (x .wrote)
-      ∙ ap (λ (k : ℕ). sets (sets before 2 (header (x .read .names))) k (codeR rules)) (x .ended)
-      ∙ sets-join before 2 (header (x .read .names)) (codeR rules)
+      w ∙ ap (λ (l : List ℕ). sets l t (bytesR rules)) (x .wrote)
+      ∙ ap (λ (k : ℕ). sets (sets before 2 (header (x .read .names))) k (bytesR rules)) (x .ended)
+      ∙ sets-join before 2 (header (x .read .names)) (bytesR rules)
 
   all-stored : set (set last 0 c) 1 (m - c) ≡ sets before 0 (image whole)
   all-stored =
-      rw (body, x .counted, x .named) (counts-last before (x .read .inputs) (length (x .read .names) - x .read .inputs) (header (x .read .names) ++ codeR rules)) ∙ ap (sets before 0) (sym bytes)
+      rw (body, x .counted, x .named) (counts-last before (x .read .inputs) (length (x .read .names) - x .read .inputs) (header (x .read .names) ++ bytesR rules)) ∙ ap (sets before 0) (sym bytes)
 
   size : length (image whole) ≡ u
   size =
-      let l : length (image whole) ≡ 2 + (length (header (x .read .names)) + length (codeR rules)) = ap length bytes ∙ simp length-append (omega arith) in
+      let l : length (image whole) ≡ 2 + (length (header (x .read .names)) + length (bytesR rules)) = ap length bytes ∙ simp length-append (omega arith) in
       omega (arith, eu, x .ended)
 
   pub descends-whole : {r : Step} → r ≡ reachedAt b u m → Descends text (program text) before (set (set last 0 c) 1 (m - c)) starts ends r
   descends-whole d = record {
     writes = writes d (record { tree = whole; is = is-whole; ended = omega (arith, size); tells-it = refl; wrote = all-stored });
-    named = λ q n g. subst (λ (y : Program). Holds text starts ends (length (y .names)) (y .names)) (same-value (sym is-whole ∙ g)) (subst (λ (k : ℕ). Holds text starts ends k (x .read .names)) (x .named) (x .held));
+    named = λ q n g. subst (λ (y : Program). TableHolds text starts ends (length (y .names)) (y .names)) (same-value (sym is-whole ∙ g)) (subst (λ (k : ℕ). TableHolds text starts ends k (x .read .names)) (x .named) (x .held));
   }

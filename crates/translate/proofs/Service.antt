@@ -14,7 +14,7 @@ use Rattle.limits.specs.Answer as A
 use Rattle.semantics.specs.Program.{Program}
 use Rattle.bytecode.specs.Translation.{imageOf}
 use Rattle.grammar.specs.Parsed.{Parsed, accepted, refused}
-use Rattle.grammar.specs.Emitted.{header, codeR, image}
+use Rattle.grammar.specs.Emitted.{header, bytesR, image}
 use Rattle.grammar.specs.Parse.{program, parse, answerOf, programOf}
 use Rattle.grammar.proofs.Image.{image-emitted}
 use Rattle.grammar.proofs.Accepted.{parse-translatable, parse-few, parse-growth, parse-short as accepted-short}
@@ -25,7 +25,7 @@ use Rattle.lexer.specs.declared.Place.{Place}
 use Rattle.lexer.specs.declared.Step.{Step}
 use Rattle.lexer.specs.declared.Step.the-variants.{Done, Refused}
 use Rattle.phrases.proofs.Writing.{got, refused-part}
-use Rattle.declarations.specs.Post.{Holds}
+use Rattle.declarations.specs.Post.{TableHolds}
 use Rattle.translate.specs.declared.Analysis.the-variants as N
 use Rattle.translate.specs.declared.Translated.{Translated}
 use Rattle.translate.specs.declared.Translated.the-variants as T
@@ -49,7 +49,7 @@ analyses-long text starts ends h =
 
 -- the two counts are the first bytes of the image
 two-counts : (q : Program) → q .inputs ≤ length (q .names) → length (q .names) ≤ nameLimit → sets (0 ∷ 0 ∷ []) 0 (image q) ≡ q .inputs ∷ (length (q .names) - q .inputs) ∷ []
-two-counts q h i = rw (image-bytes q (omega arith) (omega arith)) (sets-past (q .inputs ∷ (length (q .names) - q .inputs) ∷ []) 2 (header (q .names) ++ codeR (q .rules)) (omega arith))
+two-counts q h i = rw (image-bytes q (omega arith) (omega arith)) (sets-past (q .inputs ∷ (length (q .names) - q .inputs) ∷ []) 2 (header (q .names) ++ bytesR (q .rules)) (omega arith))
 
 counted : (p : Parsed Program) (q : Program) (n t : ℕ) (last : List ℕ) → p ≡ accepted q n → t ≡ 0 + length (image q) → last ≡ q .inputs ∷ (length (q .names) - q .inputs) ∷ [] → q .inputs ≤ length (q .names)
     → {i v : ℕ} → i ≡ getD last 0 0 → v ≡ getD last 1 0 → A.accepted (record { end = t; inputs = i; names = i + v }) ≡ measured p
@@ -59,7 +59,7 @@ counted p q n t last e f g h ei ev =
     rw (e, s, ei, ev, g, all)
 
 module _ (text last starts ends : List ℕ) {r : Step} (h : length text ≤ textLimit) (d : Descends text (program text) (0 ∷ 0 ∷ []) last starts ends r) where
-  names-held : (q : Program) (n : ℕ) → parse text ≡ accepted q n → Holds text starts ends (length (q .names)) (q .names)
+  names-held : (q : Program) (n : ℕ) → parse text ≡ accepted q n → TableHolds text starts ends (length (q .names)) (q .names)
   names-held q n e = d .named q n (sym (short-parse text h) ∙ e)
 
   pub analyses-refused : (k x : ℕ) → r ≡ Refused k x → Analyses text (parse text) starts ends (N.Refused k x)

@@ -18,7 +18,7 @@ use Rattle.grammar.specs.Emitted.{header}
 use Rattle.grammar.specs.Parse.{program}
 use Rattle.grammar.proofs.Whole.{Ends, Names, declarations-fit, named}
 use Rattle.grammar.proofs.Size.{Pays, declarations-pay}
-use Rattle.declarations.specs.Post.{Holds, headerAfter}
+use Rattle.declarations.specs.Post.{TableHolds, headerAfter}
 use Rattle.declarations.proofs.Known.{AllDeclared, header-joined}
 use Rattle.grammar.proofs.Combine.{then-then}
 use Rattle.translate.specs.Internal.{Declarations, headingOf, scopeAfter}
@@ -84,7 +84,7 @@ pub record HeadingRead (text before mid starts ends : List ℕ) (a t c m : ℕ) 
   pub counted : c ≡ read .inputs
   pub named : m ≡ length (read .names)
   pub wrote : mid ≡ sets before 2 (header (read .names))
-  pub held : Holds text starts ends m (read .names)
+  pub held : TableHolds text starts ends m (read .names)
 
 -- the declarations of inputs, then those of variables
 module _ (text before mid after s1 e1 s2 e2 : List ℕ) (a t c b u m : ℕ) (x : AllDeclared inputWord text [] 0 2 before mid s1 e1 a t c) (y : AllDeclared varWord text (x .all) a t mid after s2 e2 b u m) where

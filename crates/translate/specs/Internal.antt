@@ -14,7 +14,7 @@ use Rattle.grammar.specs.Declarations.{declarations, spellings}
 use Rattle.grammar.specs.Emitted.{image}
 use Rattle.lexer.specs.declared.Step.{Step}
 use Rattle.phrases.specs.Results.{nothing, Writes}
-use Rattle.declarations.specs.Post.{Holds}
+use Rattle.declarations.specs.Post.{TableHolds}
 use Rattle.translate.specs.declared.Analysis.{Analysis}
 use Rattle.translate.specs.declared.Analysis.the-variants as N
 
@@ -35,29 +35,29 @@ abbrev pub scopeAfter : List ℕ → Declarations → Scope
 scopeAfter text d = record { text = text; names = spellings (d .names); known = knownFirst (d .inputs) (length (d .names)) }
 
 -- the image's length, and the counts of inputs and of names
-pub record Counts : Type 0 where
+pub record HeaderCounts : Type 0 where
   pub end : ℕ
   pub inputs : ℕ
   pub names : ℕ
 
 -- the image's length and the counts of a program
-abbrev pub measuresOf : Program → Counts
+abbrev pub measuresOf : Program → HeaderCounts
 measuresOf p = record { end = length (image p); inputs = p .inputs; names = length (p .names) }
 
-abbrev pub analysed : Analysis → Answer Counts
+abbrev pub analysed : Analysis → Answer HeaderCounts
 analysed (N.Accepted size inputs names) = A.accepted (record { end = size; inputs = inputs; names = names })
 analysed (N.Refused k p) = A.refused k p
 
-abbrev pub measured : Parsed Program → Answer Counts
+abbrev pub measured : Parsed Program → Answer HeaderCounts
 measured (accepted p n) = A.accepted (measuresOf p)
 measured (refused k q) = A.refused k q
 
 -- the whole text: the answer, the image's bytes, and the table with all names
 pub record Descends (text : List ℕ) (p : Parsed Program) (before after starts ends : List ℕ) (r : Step) : Type 0 where
   pub writes : Writes image nothing (λ q. tt) p 0 before after r
-  pub named : (q : Program) (n : ℕ) → p ≡ accepted q n → Holds text starts ends (length (q .names)) (q .names)
+  pub named : (q : Program) (n : ℕ) → p ≡ accepted q n → TableHolds text starts ends (length (q .names)) (q .names)
 
 -- the same without a buffer, its limit tested first
 pub record Analyses (text : List ℕ) (p : Parsed Program) (starts ends : List ℕ) (r : Analysis) : Type 0 where
   pub answer : analysed r ≡ measured p
-  pub named : (q : Program) (n : ℕ) → p ≡ accepted q n → Holds text starts ends (length (q .names)) (q .names)
+  pub named : (q : Program) (n : ℕ) → p ≡ accepted q n → TableHolds text starts ends (length (q .names)) (q .names)

@@ -7,7 +7,7 @@ ghost use Prim.Native.Nat.{_+_, _*_, _≤_, _<_};
 ghost use lib.ListN.{length, drop};
 ghost use Rattle.limits.specs.Limits.{textLimit};
 ghost use Rattle.grammar.specs.Parse.{program, parse};
-ghost use Rattle.declarations.specs.Post.{Room};
+ghost use Rattle.declarations.specs.Post.{TableRoom};
 ghost use Rattle.translate.specs.Services.{translationOf};
 ghost use Rattle.translate.specs.Results.{afterTranslation, TranslatedWithin};
 ghost use Rattle.translate.specs.Internal.{Descends, Analyses};
@@ -28,7 +28,7 @@ pub enum Translated {
 // header's two counts.
 fn descend(text: &[u8], starts: &mut [usize], ends: &mut [usize], out: &mut [u8]) -> Step
     requires { ⌜ length (now text) ≤ textLimit ⌝ }
-    requires { ⌜ Room (now starts) (now ends) 0 ⌝ }
+    requires { ⌜ TableRoom (now starts) (now ends) 0 ⌝ }
     ensures { λ r. ⌜ Descends (now (text .entry)) (program (now (text .entry))) (now (out .entry)) (now (out .exit)) (now (starts .exit)) (now (ends .exit)) r ⌝ }
 {
     let first = declarations::declarations(text, 0, lexer::INPUT, starts, ends, 0, out, 2);
@@ -67,7 +67,7 @@ fn count_of(byte: u8) -> usize
 
 // Checks a text and measures its image; leaves the names in the table, which has room for 64.
 pub fn analyse(text: &[u8], starts: &mut [usize], ends: &mut [usize]) -> Analysis
-    requires { ⌜ Room (now starts) (now ends) 0 ⌝ }
+    requires { ⌜ TableRoom (now starts) (now ends) 0 ⌝ }
     ensures { λ r. ⌜ Analyses (now (text .entry)) (parse (now (text .entry))) (now (starts .exit)) (now (ends .exit)) r ⌝ }
 {
     if limits::TEXT_LIMIT < text.len() {
@@ -104,7 +104,7 @@ fn translate_in(
     ends: &mut [usize],
     scratch: &mut [u8],
 ) -> Translated
-    requires { ⌜ Room (now starts) (now ends) 0 ⌝ }
+    requires { ⌜ TableRoom (now starts) (now ends) 0 ⌝ }
     requires { ⌜ (length (now text) ≤ textLimit) × (3 * length (now text) + 4 ≤ 2 * length (now scratch)) ⌝ }
     ensures { λ r. ⌜ afterTranslation r (now (image .exit)) ≡ translationOf (now (text .entry)) (now (image .entry)) ⌝ }
     ensures { λ r. ⌜ TranslatedWithin r ⌝ }

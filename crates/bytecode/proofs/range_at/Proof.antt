@@ -4,20 +4,20 @@ use borrow.Author.Needs.{needs}
 use Rattle.arith.proofs.Laws.{same32}
 use Rattle.leb128.specs.Results.{signedRead}
 use Rattle.bytecode.proofs.Heading.{signed-fits}
-use Rattle.bytecode.specs.Counting.{rangeAt}
+use Rattle.bytecode.specs.Counting.{rangeHere}
 use Rattle.bytecode.proofs.range_at.Statement.{statement}
 use Rattle.bytecode.proofs.range_at.Tie as tie
 
 returns : tie.Need-returns
-unfolding rangeAt
+unfolding rangeHere
 returns c = rw (sym (c .before .before .signed-at .ensures), c .enum-told .given .1)
 
 returns-2 : tie.Need-returns-2
-unfolding rangeAt
+unfolding rangeHere
 returns-2 c = rw (sym (c .before .before .before .before .before .before .signed-at .ensures) ∙ ap signedRead (c .before .before .before .before .low .given .1), sym (c .before .before .signed-at2 .ensures), c .enum-told2 .given .1)
 
 returns-3 : tie.Need-returns-3
-unfolding rangeAt
+unfolding rangeHere
 returns-3 c =
     let at-signed-at2 = c .before .before .before .before .before .before in
     let at-low = at-signed-at2 .before .before in
@@ -25,7 +25,7 @@ returns-3 c =
     rw (sym (at-signed-at .signed-at .ensures) ∙ ap signedRead (at-low .low .given .1), sym (at-signed-at2 .signed-at2 .ensures) ∙ ap signedRead (c .before .before .before .before .high .given .1), sym (c .before .before .signed-at3 .ensures), c .enum-told3 .given .1)
 
 returns-4 : tie.Need-returns-4
-unfolding rangeAt
+unfolding rangeHere
 returns-4 c =
     let at-high = c .before .before .before .before .before in
     let at-signed-at2 = at-high .before .before in

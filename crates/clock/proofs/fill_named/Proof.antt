@@ -11,14 +11,14 @@ use mir.Syntax.{w32}
 use mir.Val.{toZ, ofZ}
 use Rattle.lexer.specs.Bytes.{part}
 use Rattle.lexer.specs.Lexer.{sameName}
-use Rattle.lexer.specs.Names.{namesOf, idFrom, idOf}
+use Rattle.lexer.specs.Names.{tableNames, idFrom, idOf}
 use Rattle.lexer.proofs.Table.{id-start, id-here, id-next, id-none}
 use Rattle.arith.proofs.Laws.{same32}
 use Rattle.clock.proofs.fill_named.Statement.{statement}
 use Rattle.clock.proofs.fill_named.Tie as tie
 
 abbrev Inv-loop : tie.InvT-loop
-Inv-loop text starts ends name row₀ value i₀ row i = (row ≡ row₀) × (idFrom (namesOf text (drop i starts) (drop i ends) (length row₀ - i)) name i ≡ idOf (namesOf text starts ends (length row₀)) name)
+Inv-loop text starts ends name row₀ value i₀ row i = (row ≡ row₀) × (idFrom (tableNames text (drop i starts) (drop i ends) (length row₀ - i)) name i ≡ idOf (tableNames text starts ends (length row₀)) name)
 
 abbrev μ-loop : tie.MeasureT-loop
 μ-loop text starts ends name row₀ value i₀ row i = length row₀ - i
@@ -63,7 +63,7 @@ compared c = rw (c .before .name .ensures) at (c .same-name .ensures)
 returns : tie.Need-returns Inv-loop μ-loop
 returns c =
     let h : c .before .before .before .before .before .before .loop .i < length (c .before .before .before .before .before .before .before .before .before .before .before .args .row .now) = rw (c .before .before .before .before .before .before .loop .inv .0) at (c .before .before .before .before .before .loop-test .taken) in
-    let e : idOf (namesOf (c .before .before .before .before .before .before .before .before .before .before .before .args .text .now) (c .before .before .before .before .before .before .before .before .before .before .before .args .starts .now) (c .before .before .before .before .before .before .before .before .before .before .before .args .ends .now) (length (c .before .before .before .before .before .before .before .before .before .before .before .args .row .now))) (c .before .before .before .before .before .before .before .before .before .before .before .args .name .now) ≡ some (c .before .before .before .before .before .before .loop .i) =
+    let e : idOf (tableNames (c .before .before .before .before .before .before .before .before .before .before .before .args .text .now) (c .before .before .before .before .before .before .before .before .before .before .before .args .starts .now) (c .before .before .before .before .before .before .before .before .before .before .before .args .ends .now) (length (c .before .before .before .before .before .before .before .before .before .before .before .args .row .now))) (c .before .before .before .before .before .before .before .before .before .before .before .args .name .now) ≡ some (c .before .before .before .before .before .before .loop .i) =
     sym (c .before .before .before .before .before .before .loop .inv .1) ∙ id-here _ _ _ _ _ (c .before .before .before .before .before .before .before .before .before .before .before .pre) _ h (sym (compared (c .before)) ∙ c .if1 .taken) in
     rw (e, c .before .before .before .before .before .before .loop .inv .0, same32 (c .before .before .before .before .before .before .before .before .before .before .before .fits .value))
 
@@ -88,7 +88,7 @@ same-length-2 c = rw (c .before .loop .inv .0)
 returns-2 : tie.Need-returns-2 Inv-loop μ-loop
 returns-2 c =
     let h : length (c .before .before .before .before .before .before .args .row .now) ≤ c .before .loop .i = rw (c .before .loop .inv .0) at (c .loop-test .left) in
-    let e : idOf (namesOf (c .before .before .before .before .before .before .args .text .now) (c .before .before .before .before .before .before .args .starts .now) (c .before .before .before .before .before .before .args .ends .now) (length (c .before .before .before .before .before .before .args .row .now))) (c .before .before .before .before .before .before .args .name .now) ≡ none =
+    let e : idOf (tableNames (c .before .before .before .before .before .before .args .text .now) (c .before .before .before .before .before .before .args .starts .now) (c .before .before .before .before .before .before .args .ends .now) (length (c .before .before .before .before .before .before .args .row .now))) (c .before .before .before .before .before .before .args .name .now) ≡ none =
     sym (c .before .loop .inv .1) ∙ id-none _ _ _ _ _ (c .before .before .before .before .before .before .pre) _ h in
     rw (e, c .before .loop .inv .0)
 

@@ -6,14 +6,14 @@ use native.Mathlib.Omega.{arith}
 use lib.ListN.{length, drop}
 use borrow.Author.Needs.{needs}
 use Rattle.leb128.specs.Numbers.{numberIn, below32, numberAt}
-use Rattle.leb128.specs.Internal.{joined}
+use Rattle.leb128.specs.Internal.{joinedGroups}
 use Rattle.leb128.proofs.Laws.{at-end, at-last, low-below, joined-first, joined-at, joined-over}
 use Rattle.leb128.proofs.long_at.Statement.{statement}
 use Rattle.leb128.proofs.long_at.Tie as tie
 
 abbrev Inv-loop : tie.InvT-loop
 Inv-loop s at low₀ scale₀ i₀ low scale i =
-    (low < scale) × (scale < 2 ^ 35) × (numberAt s at ≡ below32 i (joined low scale (numberIn (drop i s))))
+    (low < scale) × (scale < 2 ^ 35) × (numberAt s at ≡ below32 i (joinedGroups low scale (numberIn (drop i s))))
 
 abbrev μ-loop : tie.MeasureT-loop
 μ-loop s at low₀ scale₀ i₀ low scale i = length s - i
@@ -64,7 +64,7 @@ loop-again c =
 
 -- cut short
 returns-3 : tie.Need-returns-3 Inv-loop μ-loop
-unfolding joined below32
+unfolding joinedGroups below32
 returns-3 c = sym (c .before .loop .inv .2 ∙ rw (at-end _ _ (c .loop-test .left)))
 
 pub long-at-spec : {M : Type 1} → statement M

@@ -6,13 +6,13 @@ use native.Mathlib.Omega.{arith}
 use lib.ListN.{drop}
 use Rattle.lexer.specs.Bytes.{part}
 use Rattle.lexer.specs.Lexer.{sameName}
-use Rattle.lexer.specs.Names.{namesOf, idFrom, idOf}
+use Rattle.lexer.specs.Names.{tableNames, idFrom, idOf}
 use Rattle.lexer.proofs.Table.{id-start, id-here, id-next, id-none}
 use Rattle.lexer.proofs.find.Statement.{statement}
 use Rattle.lexer.proofs.find.Tie as tie
 
 abbrev Inv-loop : tie.InvT-loop
-Inv-loop text starts ends count start end i₀ i = idFrom (namesOf text (drop i starts) (drop i ends) (count - i)) (part text start end) i ≡ idOf (namesOf text starts ends count) (part text start end)
+Inv-loop text starts ends count start end i₀ i = idFrom (tableNames text (drop i starts) (drop i ends) (count - i)) (part text start end) i ≡ idOf (tableNames text starts ends count) (part text start end)
 
 abbrev μ-loop : tie.MeasureT-loop
 μ-loop text starts ends count start end i₀ i = count - i

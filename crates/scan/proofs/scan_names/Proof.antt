@@ -5,7 +5,7 @@ use native.Mathlib.Omega.{arith}
 use lib.Seq.{length-take-le}
 use lib.ListN.{length}
 use Rattle.bytecode.specs.Counting.{rangesFrom}
-use Rattle.fused.specs.Header.{Stands, PlacedBy}
+use Rattle.fused.specs.Header.{RangesStand, PlacedBy}
 use Rattle.scan.proofs.Images.{ranges-stored}
 use Rattle.scan.proofs.Joined.{header-known, ranges-broken, names-joined}
 use borrow.Author.Needs.{needs}
@@ -23,7 +23,7 @@ ranges-requires : tie.Need-ranges-requires
 ranges-requires c κs = (c .before .before .before .pre .0 .extends .inside, c .before .before .before .pre .1 .lows (c .before .before .before .pre .0 .extends .few), c .before .before .before .pre .1 .highs (c .before .before .before .pre .0 .extends .few))
 
 -- the ranges fit, and the code begins behind them
-ranged : (c : tie.After-place2) → Stands (c .before .before .before .before .before .before .before .before .args .image .now) (length (c .before .before .before .before .before .before .before .before .args .state .now)) (c .before .before .before .before .before .before .before .before .args .first) (c .before .before .before .before .before .before .before .before .args .low .now) (c .before .before .before .before .before .before .before .before .args .high .now) (c .before .before .before .before .ranges .last .1 .1 .1 .0) (c .before .before .before .before .ranges .last .1 .1 .1 .1 .0) (c .place2 .given .0 .0)
+ranged : (c : tie.After-place2) → RangesStand (c .before .before .before .before .before .before .before .before .args .image .now) (length (c .before .before .before .before .before .before .before .before .args .state .now)) (c .before .before .before .before .before .before .before .before .args .first) (c .before .before .before .before .before .before .before .before .args .low .now) (c .before .before .before .before .before .before .before .before .args .high .now) (c .before .before .before .before .ranges .last .1 .1 .1 .0) (c .before .before .before .before .ranges .last .1 .1 .1 .1 .0) (c .place2 .given .0 .0)
 ranged c =
     subst (PlacedBy (c .before .before .before .before .before .before .before .before .args .image .now) (length (c .before .before .before .before .before .before .before .before .args .state .now)) (c .before .before .before .before .before .before .before .before .args .first) (c .before .before .before .before .before .before .before .before .args .low .now) (c .before .before .before .before .before .before .before .before .args .high .now) (c .before .before .before .before .ranges .last .1 .1 .1 .0) (c .before .before .before .before .ranges .last .1 .1 .1 .1 .0)) (c .place2 .given .1) (c .before .before .before .before .ranges .ensures)
 

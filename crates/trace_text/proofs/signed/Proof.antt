@@ -11,16 +11,16 @@ use mir.Val.{SFits}
 use mir.Facts.{toZ-pos}
 use Rattle.arith.proofs.Laws.{same32}
 use Rattle.leb128.proofs.Signs.{mirror-pos}
-use Rattle.trace_text.specs.Internal.{inRange, signed}
+use Rattle.trace_text.specs.Internal.{inWord32, signed}
 use Rattle.trace_text.proofs.signed.Statement.{statement}
 use Rattle.trace_text.proofs.signed.Tie as tie
 
 -- the magnitude is at most 2 ^ 31, and less for a number that is not negative
-in-32 : (negative : Bool) (v : ℕ) → inRange negative v ≡ true → v ≤ 2 ^ 31
+in-32 : (negative : Bool) (v : ℕ) → inWord32 negative v ≡ true → v ≤ 2 ^ 31
 in-32 true v e = leb-true v 2147483648 e
 in-32 false v e = let h = leb-true v 2147483647 e in omega arith
 
-plain : (v : ℕ) → inRange false v ≡ true → v < 2 ^ 31
+plain : (v : ℕ) → inWord32 false v ≡ true → v < 2 ^ 31
 plain v e = let h = leb-true v 2147483647 e in omega arith
 
 before : (v : ℕ) → v ≤ 2 ^ 31 → (v ≡ 0 → ⊥) → v - 1 < 2 ^ 31

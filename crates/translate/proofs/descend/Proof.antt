@@ -8,7 +8,7 @@ use Rattle.lexer.specs.Token.{inputWord, varWord}
 use Rattle.lexer.specs.Results.{kindOf}
 use Rattle.grammar.specs.Rules.{rulesFrom}
 use Rattle.grammar.specs.Expressions.{Scope}
-use Rattle.grammar.specs.Emitted.{codeR}
+use Rattle.grammar.specs.Emitted.{bytesR}
 use Rattle.phrases.specs.Results.{numberTold, Writes}
 use Rattle.phrases.proofs.Writing.{got, refused-part}
 use Rattle.declarations.specs.Post.{headerAfter}
@@ -85,11 +85,11 @@ rules-requires c κs =
 
 -- the rules, in the scope of the names declared
 ruled : (c : tie.After-rules) →
-    Writes codeR numberTold length (rulesFrom 65 (scopeAfter (c .before .before .before .before .before .before .before .before .before .before .before .before .before .before .before .before .before .before .before .before .before .before .before .before .before .before .before .before .before .before .before .before .before .before .before .args .text .now) (declared (c .before .before .before .before .before .before) .read)) [] (c .before .before .before .before .before .before .second .given .0 .0 .at)) (c .before .before .before .before .before .before .second .given .0 .0 .to)
+    Writes bytesR numberTold length (rulesFrom 65 (scopeAfter (c .before .before .before .before .before .before .before .before .before .before .before .before .before .before .before .before .before .before .before .before .before .before .before .before .before .before .before .before .before .before .before .before .before .before .before .args .text .now) (declared (c .before .before .before .before .before .before) .read)) [] (c .before .before .before .before .before .before .second .given .0 .0 .at)) (c .before .before .before .before .before .before .second .given .0 .0 .to)
     (c .before .before .before .before .before .before .before .before .before .before .before .before .before .before .declarations2 .last .1 .1 .1 .1 .1 .1 .0) (c .rules .last .1 .1 .1 .1 .1 .0) (c .rules .result)
 ruled c =
     let x = declared (c .before .before .before .before .before .before) in
-    subst (λ (sc : Scope). Writes codeR numberTold length (rulesFrom 65 sc [] (c .before .before .before .before .before .before .second .given .0 .0 .at)) (c .before .before .before .before .before .before .second .given .0 .0 .to) (c .before .before .before .before .before .before .before .before .before .before .before .before .before .before .declarations2 .last .1 .1 .1 .1 .1 .1 .0) (c .rules .last .1 .1 .1 .1 .1 .0) (c .rules .result))
+    subst (λ (sc : Scope). Writes bytesR numberTold length (rulesFrom 65 sc [] (c .before .before .before .before .before .before .second .given .0 .0 .at)) (c .before .before .before .before .before .before .second .given .0 .0 .to) (c .before .before .before .before .before .before .before .before .before .before .before .before .before .before .declarations2 .last .1 .1 .1 .1 .1 .1 .0) (c .rules .last .1 .1 .1 .1 .1 .0) (c .rules .result))
     (scope-is _ _ _ (x .read) _ _ _ (x .held) (x .counted) (x .named) (c .before .before .before .before .first-names .ensures)) (c .rules .ensures)
 
 same-length-7 : tie.Need-same-length-7

@@ -8,14 +8,14 @@ use lib.ListN.{length, getD, drop}
 use mir.Syntax.{w64}
 use mir.Val.{SFits, toZ}
 use Rattle.clock.specs.Clock.{entriesOf, repeats as repeats-of, repeatsIn, isAgain}
-use Rattle.clock.specs.Internal.{Small}
+use Rattle.clock.specs.Internal.{SmallNumbers}
 use Rattle.clock.proofs.Held.{same64}
 use Rattle.clock.proofs.Entries.{repeats-end, repeats-here, repeats-goes, small-step, again-start}
 use Rattle.clock.proofs.local.is_again.Statement.{statement}
 use Rattle.clock.proofs.local.is_again.Tie as tie
 
 abbrev Inv-loop : tie.InvT-loop
-Inv-loop table utc local i₀ i = (i ≤ length table) × Small (entriesOf (drop i table)) × (repeatsIn (entriesOf table) (toZ w64 utc) (entriesOf (drop i table)) ≡ isAgain (entriesOf table) (toZ w64 utc))
+Inv-loop table utc local i₀ i = (i ≤ length table) × SmallNumbers (entriesOf (drop i table)) × (repeatsIn (entriesOf table) (toZ w64 utc) (entriesOf (drop i table)) ≡ isAgain (entriesOf table) (toZ w64 utc))
 
 abbrev μ-loop : tie.MeasureT-loop
 μ-loop table utc local i₀ i = length table - i

@@ -7,7 +7,7 @@ use borrow.Author.Needs.{needs}
 use borrow.Fn.Kinds.{In, Out}
 use Rattle.semantics.specs.Program.{operation}
 use Rattle.grammar.specs.Expressions.{sumOf, expression as expression-of}
-use Rattle.grammar.specs.Emitted.{codeE}
+use Rattle.grammar.specs.Emitted.{bytesE}
 use Rattle.expressions.specs.Scopes.{scopeOf}
 use Rattle.expressions.specs.Internal.{termIn}
 use Rattle.expressions.proofs.Chain.{Turn, chain-first, turn-first, turn-next, turn-done, turn-refused, turn-fits, turn-less, turn-more}
@@ -24,7 +24,7 @@ use Rattle.expressions.proofs.+bracket+expression+factor+primary+term.P
 
 abbrev Inv-loop : lts.InvT-loop
 Inv-loop text starts ends names at left out₀ to behind₀ out behind =
-    Turn codeE operation sumOf (termIn left (scopeOf text starts ends names)) text out₀ behind₀ out behind
+    Turn bytesE operation sumOf (termIn left (scopeOf text starts ends names)) text out₀ behind₀ out behind
 
 abbrev μ-loop : lts.MeasureT-loop
 μ-loop text starts ends names at left out₀ to behind₀ out behind = length text - behind .at

@@ -2,7 +2,7 @@
 use borrow.Author.Needs.{needs}
 use Rattle.trace_text.proofs.Puts.{put-as, put-then}
 use Rattle.trace_text.proofs.Printing.{head-is}
-use Rattle.lexer.specs.Names.{namesOf}
+use Rattle.lexer.specs.Names.{tableNames}
 use Rattle.trace_text.proofs.print.put_head.Statement.{statement}
 use Rattle.trace_text.proofs.print.put_head.Tie as tie
 
@@ -14,7 +14,7 @@ returns c =
     let a = start .args in
     put-as
     (put-then (put-then (w .put-bytes .ensures) (n .put-names .ensures)) (c .before .before .put-bytes2 .ensures))
-    (head-is (namesOf (a .text .now) (a .starts .now) (a .ends .now) (a .count)))
+    (head-is (tableNames (a .text .now) (a .starts .now) (a .ends .now) (a .count)))
 
 pub put-head-spec : {M : Type 1} → statement M
 put-head-spec =

@@ -6,7 +6,7 @@ use native.Mathlib.Omega.{arith}
 use lib.ListN.{getD, drop, drop-of-length-le}
 use borrow.Author.Needs.{needs}
 use Rattle.lexer.specs.Bytes.{part}
-use Rattle.lexer.specs.Names.{namesOf}
+use Rattle.lexer.specs.Names.{tableNames}
 use Rattle.lexer.proofs.Table.{names-none}
 use Rattle.trace_text.specs.Output.{spaced}
 use Rattle.trace_text.proofs.Puts.{put-clip, Putting, putting, putting-next, putting-done}
@@ -16,7 +16,7 @@ use Rattle.trace_text.proofs.print.put_names.Tie as tie
 
 abbrev Inv-loop : tie.InvT-loop
 Inv-loop out₀ at text starts ends count place₀ i₀ out place i =
-    Putting out₀ place₀ (spaced (namesOf text starts ends count)) out place (spaced (namesOf text (drop i starts) (drop i ends) (count - i)))
+    Putting out₀ place₀ (spaced (tableNames text starts ends count)) out place (spaced (tableNames text (drop i starts) (drop i ends) (count - i)))
 
 abbrev μ-loop : tie.MeasureT-loop
 μ-loop out₀ at text starts ends count place₀ i₀ out place i = count - i
