@@ -15,7 +15,7 @@ use Rattle.lexer.specs.Lexer.{tokenAt, sameToken}
 use Rattle.lexer.specs.Results.{kindOf}
 use Rattle.lexer.proofs.Laws.{cond-prop}
 use Rattle.grammar.specs.Rules.{Span, Spanned, Compared, agrees, differs, onCompared, partFrom, kindAt, partsFrom}
-use Rattle.agreement.specs.Spans.{spansIn, spansOf, Spans}
+use Rattle.agreement.specs.Inner.Spans.{spansIn, spansOf, Spans}
 
 -- ---- the tokens of a condition
 

@@ -10,9 +10,9 @@ ghost use lib.ListN.{length};
 ghost use Rattle.lexer.specs.Results.{kindOf};
 ghost use Rattle.lexer.specs.Token.{kindNumber, closeRound, bar, lastKind};
 ghost use Rattle.grammar.specs.Rules.{Spanned, partFrom, kindAt, partsFrom};
-ghost use Rattle.grammar.specs.Internal.{TokensIn};
-ghost use Rattle.agreement.specs.Results.{comparedOf, RepetitionBy};
-ghost use Rattle.agreement.specs.Spans.{spansIn, spansOf, Spans, SpansRead};
+ghost use Rattle.grammar.specs.Inner.Names.{TokensIn};
+ghost use Rattle.agreement.specs.Inner.Comparison.{comparedOf, RepetitionBy};
+ghost use Rattle.agreement.specs.Inner.Spans.{spansIn, spansOf, Spans, SpansRead};
 
 // The tokens from `from` up to `to` are wanted at `at`, token by token.
 fn compare_tokens(text: &[u8], from: usize, to: usize, at: usize) -> Step

@@ -8,7 +8,7 @@ use lib.Bits.{bitOr, or-step, or-zero-r, or-lt}
 use lib.Dec.{eqb}
 use lib.ListN.{length, getD, set, List·getD-eq-default}
 use lib.Pow.{pow-lt, shr-shr, shl-exact}
-use Rattle.arith.specs.Flags.{flagsOf}
+use Rattle.arith.specs.Inner.Flags.{flagsOf}
 
 pub length-flags : (n b : ℕ) → length (flagsOf n b) ≡ n
 unfolding flagsOf

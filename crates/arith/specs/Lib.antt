@@ -1,3 +1,3 @@
 pub mod Values
 pub mod Results
-pub mod Flags
+pub mod Inner

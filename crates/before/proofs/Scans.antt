@@ -9,10 +9,10 @@ use lib.ListN.{length}
 use Rattle.limits.specs.Answer.{Answer, accepted, refused}
 use Rattle.semantics.specs.Formula.{State}
 use Rattle.bytecode.specs.Check.{Header, checkOf}
-use Rattle.bytecode.specs.Counting.{headerOf}
-use Rattle.machine.specs.Names.{stateLength, rowLength, stateInRange, rowInRange}
+use Rattle.bytecode.specs.Parts.{headerOf}
+use Rattle.machine.specs.States.{stateLength, rowLength, stateInRange, rowInRange}
 use Rattle.scan.specs.Services.{AfterScan, scanCode, testedScan, scanned, scanOf}
-use Rattle.scan.specs.Internal.{scannedBy}
+use Rattle.scan.specs.Inner.Parts.{scannedBy}
 use Rattle.before.specs.Before.{testedBefore, mayScan, beforeCode}
 
 tested-is : (b : Bool) (k : ℕ) (found : State) (a : Answer (Unit {0})) (x y : AfterScan) → y ≡ scannedBy a found x → testedScan b k found y ≡ scannedBy (testedBefore b k a) found x

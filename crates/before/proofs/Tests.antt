@@ -15,12 +15,12 @@ use Rattle.semantics.specs.Formula.{State}
 use Rattle.semantics.specs.ReferenceScan.{allWithin, withInputs}
 use Rattle.leb128.proofs.Stores.{take-sets}
 use Rattle.bytecode.specs.Check.{checkOf}
-use Rattle.bytecode.specs.Counting.{headerOf, lows, highs}
+use Rattle.bytecode.specs.Parts.{headerOf, lows, highs}
 use Rattle.bytecode.proofs.SoundHeader.{SoundCounts}
 use Rattle.before.specs.Before.{beforeCode}
 use Rattle.before.specs.declared.Before.{Before}
 use Rattle.before.specs.declared.Before.the-variants as T
-use Rattle.before.specs.Internal.{beforeAnswer, inRanges, CopiedBy, Begun, BegunBy, Announced}
+use Rattle.before.specs.Inner.Known.{beforeAnswer, inRanges, CopiedBy, Begun, BegunBy, Announced}
 
 -- a field of each range, stored at the front
 pub stored : (f : Range → ℤ) (ns : List Range) (n : ℕ) (l left : List ℤ) → length ns ≡ n → n ≤ length l → left ≡ sets l 0 (map f ns) → take n left ≡ map f ns

@@ -9,8 +9,8 @@ use Rattle.limits.specs.Limits.{wrongLength, stateOutOfRange, inputOutOfRange}
 use Rattle.limits.specs.Answer.{Answer, accepted, refused}
 use Rattle.semantics.specs.Formula.{State}
 use Rattle.bytecode.specs.Check.{Header, checkOf}
-use Rattle.bytecode.specs.Counting.{headerOf}
-use Rattle.machine.specs.Names.{stateLength, rowLength, stateInRange, rowInRange}
+use Rattle.bytecode.specs.Parts.{headerOf}
+use Rattle.machine.specs.States.{stateLength, rowLength, stateInRange, rowInRange}
 
 -- the place of 12, 18 and 13 is 0
 abbrev pub testedBefore : Bool → ℕ → Answer (Unit {0}) → Answer (Unit {0})

@@ -7,11 +7,11 @@ ghost use mathlib.Core.List.{List};
 ghost use Rattle.limits.specs.Answer.{accepted};
 ghost use Rattle.semantics.specs.Program.{Range};
 ghost use Rattle.bytecode.specs.Check.{checkOf};
-ghost use Rattle.bytecode.specs.Counting.{headerOf};
-ghost use Rattle.machine.specs.Memory.{RangesIn};
-ghost use Rattle.scan.specs.Internal.{FittingMemory, Scratch};
+ghost use Rattle.bytecode.specs.Parts.{headerOf};
+ghost use Rattle.machine.specs.Inner.Memory.{RangesIn};
+ghost use Rattle.scan.specs.Inner.Parts.{FittingMemory, Scratch};
 ghost use Rattle.before.specs.Before.{beforeCode};
-ghost use Rattle.before.specs.Internal.{beforeAnswer, inRanges, CopiedBy, BegunBy, Announced};
+ghost use Rattle.before.specs.Inner.Known.{beforeAnswer, inRanges, CopiedBy, BegunBy, Announced};
 
 // The place of the code, or a refusal's number and place.
 pub enum Before {

@@ -19,10 +19,10 @@ use Rattle.bytecode.specs.Instructions.{Instruction, fetch}
 use Rattle.bytecode.specs.Translation.{RangesFit}
 use Rattle.bytecode.specs.Signature.{Sort, number, truth, Role, pushes, computes, tests, opens, picks, lets, settles, signature}
 use Rattle.bytecode.specs.Check.{Known, known, one, empty, unset, closed, fresh, opened, taking, admits, advance, complete, item, checkRange, checkRanges, checkCounts, Header, checkHeader, ends, checkCode, atStart, checkBody, checkOf}
-use Rattle.bytecode.specs.Counting.{headerOf, codeOf, counted, countFrom, instructionsIn}
+use Rattle.bytecode.specs.Parts.{headerOf, codeOf, counted, countFrom, instructionsIn}
 use Rattle.bytecode.specs.Sound.{RangesAt, SpellsCode}
 use Rattle.bytecode.specs.Allowed.{leftIn, leftBy, leftByAll, AllowedIn, Allowed, Finished}
-use Rattle.bytecode.specs.Internal.{SoundByPlace}
+use Rattle.bytecode.specs.Inner.Places.{SoundByPlace}
 use Rattle.bytecode.proofs.RoundTrip.{fetch-next}
 use Rattle.bytecode.proofs.Soundness.{some-inj, none≢some, guard-some}
 use Rattle.bytecode.proofs.Walk.{check-sound, Stepped, check-stepped, check-ended}

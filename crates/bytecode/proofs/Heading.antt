@@ -21,7 +21,7 @@ use Rattle.semantics.specs.Program.{Range}
 use Rattle.leb128.specs.Numbers.{Read, got, nothing, _then_, numberAt, signedAt, unzigzag}
 use Rattle.leb128.proofs.Signs.{zigzag-unzigzag, zigzag-fits}
 use Rattle.bytecode.specs.Check.{item, Placed, checkRange, checkRanges, Counts, checkCounts, Header, headerWith, checkHeader}
-use Rattle.bytecode.specs.Counting.{extentOf, rangeHere, rangesFrom, rangesEnd}
+use Rattle.bytecode.specs.Parts.{extentOf, rangeHere, rangesFrom, rangesEnd}
 use Rattle.bytecode.specs.Sound.{RangesAt}
 use Rattle.bytecode.proofs.Fetching.{number-within}
 use Rattle.bytecode.proofs.Walk.{header-read}

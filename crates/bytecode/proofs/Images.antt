@@ -13,7 +13,7 @@ use Rattle.leb128.proofs.RoundTrip.{drop-behind, one-spelling}
 use Rattle.bytecode.specs.Instructions.{Instruction, encode, encodeAll}
 use Rattle.bytecode.specs.Translation.{codeRules, encodeRanges, imageOf, Translatable}
 use Rattle.bytecode.specs.Check.{checkOf}
-use Rattle.bytecode.specs.Counting.{headerOf, codeOf}
+use Rattle.bytecode.specs.Parts.{headerOf, codeOf}
 use Rattle.bytecode.specs.Sound.{Sound, SpellsCode}
 use Rattle.bytecode.proofs.RoundTrip.{AllSmall, fetch-encoded}
 use Rattle.bytecode.proofs.Soundness.{programHeader, header-of, code-of, translated-small, check-translated, past-end}

@@ -7,7 +7,7 @@ use lib.ListN.{length}
 use Rattle.limits.specs.Answer.{accepted, refused}
 use Rattle.semantics.specs.Program.{Range}
 use Rattle.bytecode.specs.Check.{Counts, checkCounts, checkOf}
-use Rattle.bytecode.specs.Counting.{headerOf, rangesFrom, rangesEnd}
+use Rattle.bytecode.specs.Parts.{headerOf, rangesFrom, rangesEnd}
 use Rattle.bytecode.specs.Sound.{RangesAt}
 use Rattle.bytecode.specs.Results.{Extends}
 use Rattle.bytecode.proofs.Walk.{SoundImage, header-read, check-sound}

@@ -21,7 +21,7 @@ use Rattle.bytecode.specs.Instructions.{Instruction, constant, current, 
 use Rattle.bytecode.specs.Translation.{codeE, codeC, codeCase, codeK, codeR, codeRules, encodeRanges, encodeHeader, imageOf, depthE, depthC, ShallowK, ShallowR, Shallow, RangesFit, Translatable}
 use Rattle.bytecode.specs.Signature.{Sort, truth}
 use Rattle.bytecode.specs.Check.{Known, known, guard, one, empty, unset, closed, fresh, opened, advance, complete, checkRange, checkRanges, Header, checkCounts, checkHeader, checkCode, checkBody, checkOf}
-use Rattle.bytecode.specs.Counting.{headerOf, codeOf}
+use Rattle.bytecode.specs.Parts.{headerOf, codeOf}
 use Rattle.leb128.proofs.RoundTrip.{drop-behind, number-at, signed-at}
 use Rattle.bytecode.proofs.RoundTrip.{Small, AllSmall, fetch-encoded, length-encode, encoded-inside}
 

@@ -2,8 +2,8 @@ pub mod Instructions
 pub mod Signature
 pub mod Translation
 pub mod Check
-pub mod Counting
+pub mod Parts
 pub mod Results
 pub mod Sound
 pub mod Allowed
-pub mod Internal
+pub mod Inner

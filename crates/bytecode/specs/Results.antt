@@ -16,7 +16,7 @@ use Rattle.limits.specs.Limits.{brokenImage, nameLimit}
 use Rattle.limits.specs.Answer.{Answer, accepted, refused}
 use Rattle.bytecode.specs.Instructions.{Instruction, instructionOf, decoded}
 use Rattle.bytecode.specs.Check.{Counts}
-use Rattle.bytecode.specs.Counting.{Extent}
+use Rattle.bytecode.specs.Parts.{Extent}
 
 -- ---- an instruction
 

@@ -8,16 +8,16 @@ use lib.ListN.{length, getD, getElem?}
 use Rattle.bytecode.proofs.Soundness.{some-inj, none≢some}
 use Rattle.grammar.specs.Parsed.{accepted}
 use Rattle.grammar.specs.Rules.{Span, Spanned, Compared, agrees, casesOf, plainList, partsFrom, firstFound, agreeingList}
-use Rattle.grammar.specs.Internal.{Named, TokensIn}
+use Rattle.grammar.specs.Inner.Names.{Named, TokensIn}
 use Rattle.grammar.proofs.Shape.{conditionsOf}
 use Rattle.grammar.proofs.Listed.{Listed, last, next}
 use Rattle.grammar.proofs.Lists.{CasesIn, cases-in, agreeing-reads}
 use Rattle.expressions.specs.declared.scope.Names.{Names}
-use Rattle.expressions.specs.Scopes.{scopeOf, Declared}
+use Rattle.expressions.specs.Inner.Scopes.{scopeOf, Declared}
 use Rattle.expressions.proofs.Scopes.{few-names, as-long}
-use Rattle.agreement.specs.Spans.{spansIn, spansOf, Spans, SpansRead}
-use Rattle.cases.specs.Results.{placeOnly}
-use Rattle.cases.specs.Post.{ListKept}
+use Rattle.agreement.specs.Inner.Spans.{spansIn, spansOf, Spans, SpansRead}
+use Rattle.cases.specs.Inner.Places.{placeOnly}
+use Rattle.cases.specs.Inner.Kept.{ListKept}
 
 -- the spans held, one by one
 span-held : (from upto : List ℕ) (n i : ℕ) → i < n → n ≤ length from → n ≤ length upto → getElem? (spansIn from upto n) i ≡ some (record { from = getD from i 0; to = getD upto i 0 })

@@ -18,20 +18,20 @@ use Rattle.grammar.specs.Parsed.{Parsed, accepted, refused, phrase, followed}
 use Rattle.grammar.specs.Expressions.{Scope, wholeExpression}
 use Rattle.grammar.specs.Conditions.{listed}
 use Rattle.grammar.specs.Rules.{Span, Spanned, caseAt, casesFrom}
-use Rattle.grammar.specs.Emitted.{bytesC, bytesK}
+use Rattle.grammar.specs.Inner.Bytes.{bytesC, bytesK}
 use Rattle.grammar.proofs.Combine.{then-prop, apart, same-value}
 use Rattle.grammar.proofs.Growth.{Grown, listed-grown}
 use Rattle.grammar.proofs.Size.{Pays, case-pays}
-use Rattle.expressions.specs.Steps.{Room}
-use Rattle.agreement.specs.Spans.{spansIn, spansOf, Spans}
+use Rattle.expressions.specs.Inner.Steps.{Room}
+use Rattle.agreement.specs.Inner.Spans.{spansIn, spansOf, Spans}
 use Rattle.agreement.proofs.Parts.{spans-none}
 use Rattle.lexer.specs.Results.{reachedAt}
 use Rattle.lexer.specs.declared.Place.{Place}
 use Rattle.lexer.specs.declared.Step.{Step}
 use Rattle.lexer.specs.declared.Step.the-variants.{Refused}
-use Rattle.phrases.specs.Results.{numberTold, Writes}
+use Rattle.phrases.specs.Inner.Steps.{numberTold, Writes}
 use Rattle.phrases.proofs.Writing.{Got, writes, refuses}
-use Rattle.cases.specs.Post.{codeOfCase, codeOfCases, endOfCondition, Lists}
+use Rattle.cases.specs.Inner.Kept.{codeOfCase, codeOfCases, endOfCondition, Lists}
 use Rattle.cases.proofs.Ways.{then-bytes}
 use Rattle.cases.proofs.Listing.{Found}
 

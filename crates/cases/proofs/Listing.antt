@@ -18,13 +18,13 @@ use Rattle.grammar.specs.Parsed.{Parsed, accepted, refused, andThen, sign, expe
 use Rattle.grammar.specs.Expressions.{Scope}
 use Rattle.grammar.specs.Conditions.{listed}
 use Rattle.grammar.specs.Rules.{listFrom, plainList}
-use Rattle.grammar.specs.Emitted.{bytesC}
+use Rattle.grammar.specs.Inner.Bytes.{bytesC}
 use Rattle.grammar.proofs.Growth.{listed-grown}
-use Rattle.expressions.specs.Steps.{Room}
-use Rattle.expressions.specs.Internal.{StandsAt}
+use Rattle.expressions.specs.Inner.Steps.{Room}
+use Rattle.expressions.specs.Inner.Readers.{StandsAt}
 use Rattle.expressions.proofs.Steps.{Refuses, Accepted, told, untold, room-after, room-next}
-use Rattle.phrases.specs.Results.{parsedOf, nothing}
-use Rattle.cases.specs.Results.{placeOnly}
+use Rattle.phrases.specs.Inner.Steps.{parsedOf, nothing}
+use Rattle.cases.specs.Inner.Places.{placeOnly}
 use Rattle.cases.proofs.Parts.{behind-refused}
 
 -- the token at a place

@@ -10,11 +10,11 @@ use Rattle.lexer.specs.declared.Step.{Step}
 use Rattle.lexer.specs.declared.Step.the-variants.{Refused}
 use Rattle.grammar.specs.Parsed.{Parsed, accepted, refused, andThen, onToken, Wanted, expected, phrase}
 use Rattle.grammar.proofs.Combine.{apart, same-end}
-use Rattle.phrases.specs.Results.{Writes}
+use Rattle.phrases.specs.Inner.Steps.{Writes}
 use Rattle.phrases.proofs.Writing.{same-refusal, refuses}
-use Rattle.expressions.specs.Steps.{Followed, lookedAhead, Parses}
+use Rattle.expressions.specs.Inner.Steps.{Followed, lookedAhead, Parses}
 use Rattle.expressions.proofs.Steps.{Refuses, refused-by}
-use Rattle.cases.specs.Results.{placeOnly}
+use Rattle.cases.specs.Inner.Places.{placeOnly}
 
 -- a refusal of an expression or a condition, passed on
 pub not-read : {A B C : Type 0} {bytes : A → List ℕ} {told : Place → C} {tells : A → C} {p : Parsed A} {to : ℕ} {before after : List ℕ} {text : List ℕ} {code : B → List ℕ} {w : Parsed B} {u : ℕ} {b a : List ℕ} {r : Step} {k q : ℕ} → Parses text code w u b a r → r ≡ Refused k q → (Refuses text w k q → p ≡ refused k q) → Writes bytes told tells p to before after r

@@ -14,14 +14,14 @@ use Rattle.grammar.specs.Parsed.{Parsed, accepted, refused, Wanted, sign, expec
 use Rattle.grammar.specs.Expressions.{Scope, wholeExpression}
 use Rattle.grammar.specs.Conditions.{listed}
 use Rattle.grammar.specs.Rules.{caseAt, Compared, differs, firstFound}
-use Rattle.grammar.specs.Emitted.{bytesE, bytesC, bytesK}
+use Rattle.grammar.specs.Inner.Bytes.{bytesE, bytesC, bytesK}
 use Rattle.grammar.proofs.Size.{Solid, Long, phrase-long}
-use Rattle.expressions.specs.Steps.{Room}
+use Rattle.expressions.specs.Inner.Steps.{Room}
 use Rattle.expressions.proofs.Steps.{Refuses}
 use Rattle.grammar.specs.Forms.{caseValueOpening}
 use Rattle.leb128.proofs.Stores.{sets-append}
 use Rattle.grammar.proofs.Combine.{apart}
-use Rattle.cases.specs.Results.{placeOnly}
+use Rattle.cases.specs.Inner.Places.{placeOnly}
 use Rattle.phrases.proofs.Writing.{same-refusal}
 use Rattle.cases.proofs.Parts.{phrase-fault, behind-refused}
 

@@ -11,13 +11,13 @@ ghost use Rattle.lexer.specs.Bytes.{part};
 ghost use Rattle.semantics.specs.Program.{Condition};
 ghost use Rattle.grammar.specs.Parsed.{Parsed};
 ghost use Rattle.grammar.specs.Rules.{Spanned, caseAt, casesFrom, plainList, differs, firstFound, agreeingList};
-ghost use Rattle.grammar.specs.Internal.{Named};
-ghost use Rattle.expressions.specs.Scopes.{scopeOf, Declared};
-ghost use Rattle.expressions.specs.Steps.{Room};
-ghost use Rattle.phrases.specs.Results.{parsedOf, nothing, numberTold, Writes};
-ghost use Rattle.agreement.specs.Spans.{spansIn, spansOf, Spans};
-ghost use Rattle.cases.specs.Results.{placeOnly};
-ghost use Rattle.cases.specs.Post.{codeOfCase, codeOfCases, endOfCondition, Lists, ListKept};
+ghost use Rattle.grammar.specs.Inner.Names.{Named};
+ghost use Rattle.expressions.specs.Inner.Scopes.{scopeOf, Declared};
+ghost use Rattle.expressions.specs.Inner.Steps.{Room};
+ghost use Rattle.phrases.specs.Inner.Steps.{parsedOf, nothing, numberTold, Writes};
+ghost use Rattle.agreement.specs.Inner.Spans.{spansIn, spansOf, Spans};
+ghost use Rattle.cases.specs.Inner.Places.{placeOnly};
+ghost use Rattle.cases.specs.Inner.Kept.{codeOfCase, codeOfCases, endOfCondition, Lists, ListKept};
 
 // The variable of a rule: its name stands from `start` to `end`.
 pub struct Variable {

@@ -10,11 +10,11 @@ use lib.Dec.{ltb}
 use lib.ListN.{length, getD}
 use lib.Pow.{pow-mono}
 use borrow.Author.Tests.{ltb-true}
-use Rattle.arith.specs.Flags.{flagsOf}
+use Rattle.arith.specs.Inner.Flags.{flagsOf}
 use Rattle.arith.proofs.Flags.{length-flags}
 use Rattle.bytecode.specs.Signature.{Sort, number}
 use Rattle.bytecode.specs.Check.{unset}
-use Rattle.checker.specs.Represented.{sortOf, sortsOf}
+use Rattle.checker.specs.Inner.Walk.{sortOf, sortsOf}
 
 -- ---- sorts
 

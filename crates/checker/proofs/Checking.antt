@@ -11,7 +11,7 @@ use borrow.Author.Tests.{le-leb, lt-leb}
 use Rattle.limits.specs.Answer.{Answer, accepted, refused, _andThen_}
 use Rattle.semantics.specs.Program.{knownFirst}
 use Rattle.bytecode.specs.Check.{known, Header, checkHeader, checkCode, checkBody, checkOf}
-use Rattle.bytecode.specs.Counting.{Extent, extentOf}
+use Rattle.bytecode.specs.Parts.{Extent, extentOf}
 
 -- the part of the image that starts at the header's end
 pub rest-of : (bytes : List ℕ) (place : ℕ) → take (length bytes - place) (drop place bytes) ≡ drop place bytes

@@ -9,7 +9,7 @@ use native.Mathlib.Numerals.{add-one}
 use lib.Dec.{eqb, eqb·suc-suc}
 use lib.ListN.{set}
 use borrow.Author.Tests.{eq-eqb, ne-eqb}
-use Rattle.arith.specs.Flags.{flagsOf}
+use Rattle.arith.specs.Inner.Flags.{flagsOf}
 use Rattle.arith.specs.Values.{Operation, Comparison, isInt32}
 use Rattle.arith.proofs.Basics.{T-true}
 use Rattle.leb128.specs.Numbers.{unzigzag}
@@ -19,7 +19,7 @@ use Rattle.bytecode.specs.Check.{Known, known, guard, one, empty, unset, closed
 use Rattle.bytecode.proofs.Heading.{unzigzag-int32}
 use Rattle.bytecode.proofs.Paired.{gateOf}
 use Rattle.checker.specs.declared.advance.Walk.{Walk}
-use Rattle.checker.specs.Represented.{sortOf, sortsOf, openOf, picksOf, knownOf, pushed, kept, joined, only, outside}
+use Rattle.checker.specs.Inner.Walk.{sortOf, sortsOf, openOf, picksOf, knownOf, pushed, kept, joined, only, outside}
 use Rattle.checker.proofs.Bits.{sorts-none, sorts-one, sorts-cons, sorts-two}
 
 -- ---- the value on top

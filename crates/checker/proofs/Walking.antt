@@ -16,7 +16,7 @@ use Rattle.bytecode.specs.Check.{Known, known, complete, ends, ifSome, checkCod
 use Rattle.checker.specs.declared.advance.Walk.{Walk}
 use Rattle.checker.specs.declared.Verdict.{Verdict}
 use Rattle.checker.specs.declared.Verdict.the-variants as J
-use Rattle.checker.specs.Represented.{knownOf, Small, advanceBy, initialWalk}
+use Rattle.checker.specs.Inner.Walk.{knownOf, Small, advanceBy, initialWalk}
 use Rattle.checker.specs.Results.{verdictAnswer, Judges}
 use Rattle.checker.proofs.Bits.{sorts-none}
 

@@ -1,2 +1,2 @@
-pub mod Represented
 pub mod Results
+pub mod Inner

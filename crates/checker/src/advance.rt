@@ -5,12 +5,12 @@ ghost use mathlib.Core.Option.{none};
 ghost use mathlib.Core.Bool.{true, false};
 ghost use Prim.Native.Nat.{_<_, _^_};
 ghost use lib.ListN.{getD, set};
-ghost use Rattle.arith.specs.Flags.{flagsOf};
+ghost use Rattle.arith.specs.Inner.Flags.{flagsOf};
 ghost use Rattle.bytecode.specs.Instructions.{current as currentOf, previous as previousOf, gate as gateOf, pick as pickOf, assign as assignOf, settle as settleOf, instructionOf};
 ghost use Rattle.bytecode.specs.Signature.{truth};
 ghost use Rattle.bytecode.specs.Check.{known as knownAs, advance as advanceOf, unset as unsetOf, fresh};
-ghost use Rattle.checker.specs.Represented.{sortOf, sortsOf, openOf, picksOf, knownOf, advancedKnown, Small, SmallAfter};
-ghost use Rattle.checker.specs.Represented.{advanceBy, pushed, kept, joined, only, outside};
+ghost use Rattle.checker.specs.Inner.Walk.{sortOf, sortsOf, openOf, picksOf, knownOf, advancedKnown, Small, SmallAfter};
+ghost use Rattle.checker.specs.Inner.Walk.{advanceBy, pushed, kept, joined, only, outside};
 use arith::bits;
 
 // The sort of a value held.

@@ -8,7 +8,7 @@ ghost use lib.ListN.{length};
 ghost use Rattle.limits.specs.Limits.{imageLimit, nameLimit};
 ghost use Rattle.semantics.specs.Program.{knownFirst};
 ghost use Rattle.bytecode.specs.Check.{known as knownAs, complete as completeOf, checkCode, checkOf};
-ghost use Rattle.checker.specs.Represented.{knownOf, Small, initialWalk};
+ghost use Rattle.checker.specs.Inner.Walk.{knownOf, Small, initialWalk};
 ghost use Rattle.checker.specs.Results.{checkedAnswer, CheckedWithin, Judges, VerdictWithin};
 use advance::Advanced;
 use advance::Walk;

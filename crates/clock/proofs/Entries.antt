@@ -13,7 +13,7 @@ use lib.Seq.{drop-cons}
 use lib.Signed.{mag, leZ, ltZ}
 use Rattle.arith.proofs.Basics.{and-both}
 use Rattle.clock.specs.Clock.{Entry, entriesOf, isMinute, isOffset, entryFits, entriesFit, isTable, offsetFrom, offsetAt, localAt, repeats, repeatsIn, isAgain}
-use Rattle.clock.specs.Internal.{SmallNumbers}
+use Rattle.clock.specs.Inner.Numbers.{SmallNumbers}
 
 short : (l : List ℤ) → length l ≤ 1 → entriesOf l ≡ []
 unfolding entriesOf

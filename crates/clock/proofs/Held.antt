@@ -12,7 +12,7 @@ use mir.Val.{SFits, toZ, ofZ}
 use mir.Facts.{toZ-ofZ}
 use Rattle.arith.proofs.Laws.{mag-add, mag-neg, mag-mul, cast64, widened}
 use Rattle.clock.specs.Clock.{Entry, offsetAt, localAt, dayOf, minuteOf}
-use Rattle.clock.specs.Internal.{SmallNumbers}
+use Rattle.clock.specs.Inner.Numbers.{SmallNumbers}
 use Rattle.clock.proofs.Entries.{local-is, at-small}
 use Rattle.clock.proofs.Days.{minute-pos, minute-neg}
 

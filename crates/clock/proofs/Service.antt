@@ -23,7 +23,7 @@ use Rattle.grammar.proofs.Places.{Within}
 use Rattle.grammar.proofs.PlacesText.{parse-limited}
 use Rattle.translate.specs.declared.Analysis.{Analysis}
 use Rattle.translate.specs.declared.Analysis.the-variants as N
-use Rattle.translate.specs.Internal.{HeaderCounts, measuresOf, analysed, measured, Analyses}
+use Rattle.translate.specs.Inner.Descent.{HeaderCounts, measuresOf, analysed, measured, Analyses}
 use Rattle.translate.proofs.Service.{measured-refused}
 use Rattle.clock.specs.declared.Filled.the-variants as F
 use Rattle.clock.specs.Clock.{Entry, entriesOf, isMinute, isTable, localAt, dayOf, minuteOf, againOf}

@@ -1,4 +1,4 @@
 pub mod Clock
 pub mod Services
 pub mod Results
-pub mod Internal
+pub mod Inner

@@ -5,11 +5,11 @@ ghost use Prim.Native.Nat.{_<_, _^_};
 ghost use lib.ListN.{length};
 ghost use lib.Signed.{mag};
 ghost use Rattle.lexer.specs.Names.{tableNames, idOf, Table};
-ghost use Rattle.declarations.specs.Post.{TableRoom};
+ghost use Rattle.declarations.specs.Inner.Tables.{TableRoom};
 ghost use Rattle.clock.specs.Clock.{entriesOf};
 ghost use Rattle.clock.specs.Services.{filledAt, rowFilled, fillOf};
 ghost use Rattle.clock.specs.Results.{afterFill, FilledWithin};
-ghost use Rattle.clock.specs.Internal.{SmallNumbers};
+ghost use Rattle.clock.specs.Inner.Numbers.{SmallNumbers};
 
 mod local;
 

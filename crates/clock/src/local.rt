@@ -6,7 +6,7 @@ ghost use lib.IntN.{negsuc, _-ℤ_};
 ghost use lib.Signed.{leZ, ltZ, mag};
 ghost use Rattle.arith.specs.Values.{eqZ};
 ghost use Rattle.clock.specs.Clock.{entriesOf, isMinute, entryFits, entriesFit, isTable, offsetAt, localAt, dayOf, minuteOf, isAgain, againOf};
-ghost use Rattle.clock.specs.Internal.{SmallNumbers};
+ghost use Rattle.clock.specs.Inner.Numbers.{SmallNumbers};
 
 const DAY: i64 = 1440;
 

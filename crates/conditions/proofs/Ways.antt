@@ -15,20 +15,20 @@ use Rattle.semantics.specs.Program.{Expression, Condition, comparison, negated}
 use Rattle.grammar.specs.Parsed.{Parsed, accepted, refused, andThen, sign, followed}
 use Rattle.grammar.specs.Expressions.{Scope, expression}
 use Rattle.grammar.specs.Conditions.{comparisonBy, compared, comparisonAt, opposite, inverted, atom, Connective, andAlso, orElse, connect, connectiveCode, andOf, orOf, square, wholeCondition, listed}
-use Rattle.grammar.specs.Emitted.{bytesE, bytesC}
+use Rattle.grammar.specs.Inner.Bytes.{bytesE, bytesC}
 use Rattle.grammar.proofs.Growth.{Grown, not-end, connect-code, ands-end, ors-end, comparisons-end, atom-grown, conjunction-grown, square-grown}
 use Rattle.lexer.specs.declared.Place.{Place}
 use Rattle.expressions.specs.declared.scope.Names.{Names}
-use Rattle.expressions.specs.Scopes.{scopeOf, Declared}
+use Rattle.expressions.specs.Inner.Scopes.{scopeOf, Declared}
 use Rattle.lexer.specs.declared.Step.{Step}
 use Rattle.lexer.specs.declared.Step.the-variants.{Done, Refused}
-use Rattle.expressions.specs.Steps.{stepAt, lookedAhead, Parses, Room}
-use Rattle.expressions.specs.Internal.{Codes, StandsAt, closedStep}
+use Rattle.expressions.specs.Inner.Steps.{stepAt, lookedAhead, Parses, Room}
+use Rattle.expressions.specs.Inner.Readers.{Codes, StandsAt, closedStep}
 use Rattle.expressions.proofs.Steps.{Refuses, refused-now, told, untold, upTo, Accepted, accepted-by, accepts-up-to, answers, same-part, passed, then-refused, ahead-at, ahead-stands, closing, closed-parses, one-more, room-fits, room-after, room-more, room-at}
 use Rattle.expressions.proofs.Scopes.{few-names}
 use Rattle.expressions.proofs.Chain.{Operators, Operator, operator-some, operator-none}
 use Rattle.leb128.proofs.Stores.{sets-append}
-use Rattle.conditions.specs.Internal.{comparisonIn, invertedIn, atomIn, conjunctionIn, conditionIn}
+use Rattle.conditions.specs.Inner.Readers.{comparisonIn, invertedIn, atomIn, conjunctionIn, conditionIn}
 
 -- ---- operators
 

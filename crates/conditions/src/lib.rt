@@ -5,11 +5,11 @@ use expressions::scope::Names;
 use lexer::Step;
 ghost use Rattle.bytecode.specs.Instructions.{comparisonCode};
 ghost use Rattle.grammar.specs.Conditions.{comparisonBy, connectiveCode, andOf, orOf, square, wholeCondition, listed};
-ghost use Rattle.grammar.specs.Emitted.{bytesC};
-ghost use Rattle.expressions.specs.Scopes.{scopeOf, Declared};
-ghost use Rattle.expressions.specs.Steps.{Parses, Room};
-ghost use Rattle.expressions.specs.Internal.{Codes};
-ghost use Rattle.conditions.specs.Internal.{comparisonIn, invertedIn, atomIn, conjunctionIn, conditionIn};
+ghost use Rattle.grammar.specs.Inner.Bytes.{bytesC};
+ghost use Rattle.expressions.specs.Inner.Scopes.{scopeOf, Declared};
+ghost use Rattle.expressions.specs.Inner.Steps.{Parses, Room};
+ghost use Rattle.expressions.specs.Inner.Readers.{Codes};
+ghost use Rattle.conditions.specs.Inner.Readers.{comparisonIn, invertedIn, atomIn, conjunctionIn, conditionIn};
 
 // The code of a comparison sign, of `&` and of `|`; 0 for any other token.
 fn comparison_code(kind: u8) -> u8

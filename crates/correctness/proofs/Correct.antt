@@ -19,10 +19,10 @@ use Rattle.semantics.proofs.Reference.{length-known, reference-next, reference-
 use Rattle.bytecode.specs.Instructions.{encodeAll}
 use Rattle.bytecode.specs.Translation.{codeRules, imageOf, Translatable}
 use Rattle.bytecode.specs.Check.{checkOf}
-use Rattle.bytecode.specs.Counting.{headerOf, codeOf, instructionsIn}
+use Rattle.bytecode.specs.Parts.{headerOf, codeOf, instructionsIn}
 use Rattle.bytecode.proofs.Soundness.{header-of, code-of, translated-small, check-translated}
 use Rattle.machine.specs.Step.{Machine, machine}
-use Rattle.machine.specs.Names.{stateLength, rowLength, stateInRange, rowInRange}
+use Rattle.machine.specs.States.{stateLength, rowLength, stateInRange, rowInRange}
 use Rattle.machine.proofs.Laws.{run-steps}
 use Rattle.machine.proofs.Ranges.{currentOf}
 use Rattle.machine.proofs.Translated.{exec-rules, run-exec}

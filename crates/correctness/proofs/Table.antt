@@ -14,7 +14,7 @@ use Rattle.leb128.specs.Numbers.{number, zigzag, unzigzag, numberAt, signedAt, 
 use Rattle.bytecode.specs.Instructions.{instructionOf, hasOperand, fetch}
 use Rattle.bytecode.specs.Translation.{imageOf}
 use Rattle.bytecode.specs.Check.{checkCounts, checkRange, checkHeader, checkBody, checkOf}
-use Rattle.bytecode.specs.Counting.{headerOf, codeOf}
+use Rattle.bytecode.specs.Parts.{headerOf, codeOf}
 use Rattle.machine.specs.Step.{bit, yes}
 use Rattle.scan.specs.Services.{AfterStart, AfterScan, startOf, scanCode, scanOf}
 use Rattle.correctness.specs.TraceCorrect.{scansOf}

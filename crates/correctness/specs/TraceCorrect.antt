@@ -9,7 +9,7 @@ use Rattle.arith.specs.Values.{Outcome, ok, refusal}
 use Rattle.semantics.specs.Program.{Program}
 use Rattle.semantics.specs.Formula.{State, Satisfies}
 use Rattle.semantics.specs.Rows.{Reply, referenceReplies, startsOf, acceptedStates, acceptedRows, traceOf, finalState, lastPlace, Fits}
-use Rattle.bytecode.specs.Counting.{instructionsIn}
+use Rattle.bytecode.specs.Parts.{instructionsIn}
 use Rattle.grammar.specs.Parse.{programOf}
 use Rattle.grammar.specs.Spelled.{Spelled}
 use Rattle.translate.specs.Services.{translationOf}

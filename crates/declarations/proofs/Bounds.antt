@@ -24,9 +24,9 @@ use Rattle.grammar.specs.Parsed.{Parsed, accepted, refused, sign, expected, phr
 use Rattle.grammar.specs.Declarations.{inRange, signedDigits, boundAt, startAt}
 use Rattle.lexer.specs.declared.Step.{Step}
 use Rattle.lexer.specs.declared.Step.the-variants.{Refused}
-use Rattle.phrases.specs.Results.{parsedOf, nothing, valueTold}
-use Rattle.declarations.specs.Internal.{signedBy}
-use Rattle.declarations.specs.Results.{boundedNumber}
+use Rattle.phrases.specs.Inner.Steps.{parsedOf, nothing, valueTold}
+use Rattle.declarations.specs.Inner.Ranges.{signedBy}
+use Rattle.declarations.specs.Inner.Bounds.{boundedNumber}
 use Rattle.declarations.specs.declared.Number.{Number}
 use Rattle.declarations.specs.declared.Number.the-variants.{Is, Outside}
 use Rattle.declarations.proofs.Numbers.{kept, between}

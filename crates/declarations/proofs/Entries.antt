@@ -7,15 +7,15 @@ use lib.ListN.{length, length-append}
 use Rattle.semantics.specs.Program.{Name, Range}
 use Rattle.grammar.specs.Parsed.{Parsed, accepted, refused, andThen}
 use Rattle.grammar.specs.Declarations.{spellings, newName, declaration}
-use Rattle.grammar.specs.Emitted.{header}
+use Rattle.grammar.specs.Inner.Bytes.{header}
 use Rattle.lexer.specs.declared.Place.{Place}
 use Rattle.lexer.specs.declared.Step.{Step}
 use Rattle.lexer.specs.declared.Step.the-variants.{Done, Refused}
-use Rattle.phrases.specs.Results.{parsedOf, nothing, answered, Writes}
+use Rattle.phrases.specs.Inner.Steps.{parsedOf, nothing, answered, Writes}
 use Rattle.phrases.proofs.Writing.{got, refuses}
 use Rattle.grammar.proofs.Combine.{then-then, never}
-use Rattle.declarations.specs.Internal.{declaredRange, rangeBytes}
-use Rattle.declarations.specs.Post.{TableHolds, Names, DeclaresOne}
+use Rattle.declarations.specs.Inner.Ranges.{declaredRange, rangeBytes}
+use Rattle.declarations.specs.Inner.Tables.{TableHolds, Names, DeclaresOne}
 use Rattle.declarations.proofs.Numbers.{range-bytes}
 use Rattle.declarations.proofs.Steps.{After, after, refused-then}
 

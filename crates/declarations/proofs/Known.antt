@@ -12,13 +12,13 @@ use Rattle.lexer.proofs.Laws.{cond-prop}
 use Rattle.semantics.specs.Program.{Name}
 use Rattle.grammar.specs.Parsed.{Parsed, accepted, refused}
 use Rattle.grammar.specs.Declarations.{declaration, declarationsFrom, declarations}
-use Rattle.grammar.specs.Emitted.{header}
+use Rattle.grammar.specs.Inner.Bytes.{header}
 use Rattle.grammar.proofs.Combine.{token-prop, then-prop}
 use Rattle.lexer.specs.declared.Place.{Place}
 use Rattle.lexer.specs.declared.Step.{Step}
 use Rattle.lexer.specs.declared.Step.the-variants.{Done, Refused}
 use Rattle.phrases.proofs.Writing.{got, refused-part}
-use Rattle.declarations.specs.Post.{TableHolds, headerAfter, DeclaresAll}
+use Rattle.declarations.specs.Inner.Tables.{TableHolds, headerAfter, DeclaresAll}
 use Rattle.declarations.proofs.Loop.{header-append}
 
 -- an empty table holds no names

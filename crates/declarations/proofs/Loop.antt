@@ -16,12 +16,12 @@ use Rattle.lexer.specs.declared.Step.the-variants.{Done, Refused}
 use Rattle.semantics.specs.Program.{Name}
 use Rattle.grammar.specs.Parsed.{accepted, refused}
 use Rattle.grammar.specs.Declarations.{declaration, declarationsFrom, declarations}
-use Rattle.grammar.specs.Emitted.{header}
+use Rattle.grammar.specs.Inner.Bytes.{header}
 use Rattle.phrases.proofs.Writing.{got, refused-part, writes}
 use Rattle.phrases.proofs.Writing as W
 use Rattle.leb128.proofs.Stores.{sets-append}
 use Rattle.grammar.proofs.Combine.{same-value, never}
-use Rattle.declarations.specs.Post.{TableRoom, TableHolds, DeclaresOne, headerAfter, DeclaresAll, FewDeclared}
+use Rattle.declarations.specs.Inner.Tables.{TableRoom, TableHolds, DeclaresOne, headerAfter, DeclaresAll, FewDeclared}
 
 pub header-append : (l k : List Name) → header (l ++ k) ≡ header l ++ header k
 unfolding header

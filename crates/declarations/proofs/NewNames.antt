@@ -22,7 +22,7 @@ use Rattle.lexer.specs.declared.Place.{Place}
 use Rattle.lexer.specs.declared.Step.{Step}
 use Rattle.lexer.specs.declared.Step.the-variants.{Done, Refused}
 use Rattle.grammar.proofs.Combine.{same-value, never}
-use Rattle.declarations.specs.Post.{TableRoom, TableHolds, Names}
+use Rattle.declarations.specs.Inner.Tables.{TableRoom, TableHolds, Names}
 
 -- ---- the definition, test by test
 

@@ -17,7 +17,7 @@ use Rattle.leb128.specs.Numbers.{number, zigzag}
 use Rattle.leb128.proofs.Laws.{at-most-five}
 use Rattle.semantics.specs.Program.{Range}
 use Rattle.leb128.proofs.Stores.{sets-append}
-use Rattle.declarations.specs.Internal.{rangeBytes}
+use Rattle.declarations.specs.Inner.Ranges.{rangeBytes}
 
 -- what a signed local gives back
 abbrev pub kept : ℤ → ℤ

@@ -11,7 +11,7 @@ use Rattle.lexer.specs.Token.{Kind, minus, dots, is, TokenRead, token, fault}
 use Rattle.lexer.specs.Lexer.{tokenAt, valueOf}
 use Rattle.grammar.specs.Parsed.{Parsed, accepted, refused, onToken, sign, expected, phrase}
 use Rattle.grammar.specs.Declarations.{inRange, signedDigits, boundAt, startAt}
-use Rattle.declarations.specs.Internal.{declaredRange}
+use Rattle.declarations.specs.Inner.Ranges.{declaredRange}
 
 -- ---- a bound by one test or another
 

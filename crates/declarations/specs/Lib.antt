@@ -1,3 +1,1 @@
-pub mod Results
-pub mod Internal
-pub mod Post
+pub mod Inner

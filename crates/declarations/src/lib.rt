@@ -18,10 +18,10 @@ ghost use Rattle.lexer.specs.declared.Place.{Place};
 ghost use Rattle.lexer.specs.declared.Step.the-variants.{Done};
 ghost use Rattle.limits.specs.Limits.{nameLimit, outOfLimit};
 ghost use Rattle.grammar.specs.Parsed.{accepted, refused as refusedAt};
-ghost use Rattle.phrases.specs.Results.{parsedOf, nothing, valueTold, Writes};
-ghost use Rattle.declarations.specs.Internal.{signedBy, declaredRange, rangeBytes};
-ghost use Rattle.declarations.specs.Results.{boundedNumber, valuedAt};
-ghost use Rattle.declarations.specs.Post.{TableRoom, TableHolds, Names, DeclaresOne, DeclaresAll, FewDeclared};
+ghost use Rattle.phrases.specs.Inner.Steps.{parsedOf, nothing, valueTold, Writes};
+ghost use Rattle.declarations.specs.Inner.Ranges.{signedBy, declaredRange, rangeBytes};
+ghost use Rattle.declarations.specs.Inner.Bounds.{boundedNumber, valuedAt};
+ghost use Rattle.declarations.specs.Inner.Tables.{TableRoom, TableHolds, Names, DeclaresOne, DeclaresAll, FewDeclared};
 
 const LOWEST: i32 = -2147483648;
 

@@ -17,8 +17,8 @@ use Rattle.leb128.proofs.Stores.{sets-append}
 use Rattle.lexer.specs.declared.Place.{Place}
 use Rattle.lexer.specs.declared.Step.{Step}
 use Rattle.lexer.specs.declared.Step.the-variants.{Done, Refused}
-use Rattle.expressions.specs.Steps.{lookedAhead, Parses, Room}
-use Rattle.expressions.specs.Internal.{StandsAt, codeOrNone, Codes}
+use Rattle.expressions.specs.Inner.Steps.{lookedAhead, Parses, Room}
+use Rattle.expressions.specs.Inner.Readers.{StandsAt, codeOrNone, Codes}
 use Rattle.expressions.proofs.Steps.{Refuses, upTo, stands-up-to, Accepted, accepted-by, accepts, passed, then-refused, room-fits, room-after, room-next, room-more}
 
 -- ---- operators

@@ -8,13 +8,13 @@ use native.Mathlib.Numerals.{add-one}
 use native.Mathlib.Omega.{arith}
 use lib.Seq.{drop-cons}
 use lib.ListN.{length, getD, set, drop, drop-of-length-le}
-use Rattle.arith.specs.Flags.{flagsOf}
+use Rattle.arith.specs.Inner.Flags.{flagsOf}
 use Rattle.arith.proofs.Flags.{length-flags}
 use Rattle.semantics.specs.Program.{allTrue}
 use Rattle.lexer.specs.Names.{idOf, tableNames, Table}
 use Rattle.grammar.specs.Rules.{ruled}
 use Rattle.grammar.proofs.Bytes.{id-of}
-use Rattle.expressions.specs.Scopes.{scopeOf, Declared}
+use Rattle.expressions.specs.Inner.Scopes.{scopeOf, Declared}
 use Rattle.expressions.specs.declared.scope.Names.{Names}
 
 pub names-length : (text starts ends : List ℕ) (n : ℕ) → length (tableNames text starts ends n) ≤ n

@@ -23,8 +23,8 @@ use Rattle.leb128.proofs.Stores.{sets-append}
 use Rattle.grammar.proofs.Combine.{apart, same-value, same-end}
 use Rattle.phrases.proofs.Writing.{same-refusal, Got, got, refused-part}
 use Rattle.phrases.proofs.Writing as W
-use Rattle.expressions.specs.Steps.{stepAt, Followed, lookedAhead, Parses, Room}
-use Rattle.expressions.specs.Internal.{StandsAt, closedStep}
+use Rattle.expressions.specs.Inner.Steps.{stepAt, Followed, lookedAhead, Parses, Room}
+use Rattle.expressions.specs.Inner.Readers.{StandsAt, closedStep}
 
 -- ---- the constructors of a step are apart, and keep what they hold
 

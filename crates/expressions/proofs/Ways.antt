@@ -21,15 +21,15 @@ use Rattle.arith.specs.Values.{Operation, add, subtract, multiply, divide, modu
 use Rattle.semantics.specs.Program.{Expression, constant, current, previous, operation, negate}
 use Rattle.grammar.specs.Parsed.{Parsed, accepted, refused, andThen, sign, followed}
 use Rattle.grammar.specs.Expressions.{Scope, withId, currentAt, previousValueAt, constantAt, primary, negative, factor, productOf, sumOf, bracket}
-use Rattle.grammar.specs.Emitted.{bytesE}
+use Rattle.grammar.specs.Inner.Bytes.{bytesE}
 use Rattle.grammar.proofs.Growth.{Grown, products-end, sums-end, primary-grown, factor-grown, term-grown, expression-grown}
 use Rattle.lexer.specs.declared.Place.{Place}
 use Rattle.lexer.specs.declared.Step.{Step}
 use Rattle.lexer.specs.declared.Step.the-variants.{Done, Refused}
 use Rattle.expressions.specs.declared.scope.Names.{Names}
-use Rattle.expressions.specs.Scopes.{scopeOf, Declared}
-use Rattle.expressions.specs.Steps.{stepAt, lookedAhead, Parses, Room}
-use Rattle.expressions.specs.Internal.{textOnly, StandsAt, closedStep, primaryIn, factorIn, termIn, expressionIn}
+use Rattle.expressions.specs.Inner.Scopes.{scopeOf, Declared}
+use Rattle.expressions.specs.Inner.Steps.{stepAt, lookedAhead, Parses, Room}
+use Rattle.expressions.specs.Inner.Readers.{textOnly, StandsAt, closedStep, primaryIn, factorIn, termIn, expressionIn}
 use Rattle.expressions.proofs.Steps.{Refuses, told, untold, upTo, Accepted, accepted-by, accepts-up-to, answers, same-part, passed, then-refused, ahead-at, ahead-stands, closing, closed-parses, ended, one-more, room-fits, room-after}
 use Rattle.expressions.proofs.Scopes.{few-names}
 use Rattle.expressions.proofs.Chain.{Operators}

@@ -1,3 +1,1 @@
-pub mod Scopes
-pub mod Steps
-pub mod Internal
+pub mod Inner

@@ -13,10 +13,10 @@ ghost use Rattle.lexer.specs.Lexer.{tokenAt};
 ghost use Rattle.bytecode.specs.Instructions.{operationCode};
 ghost use Rattle.grammar.specs.Parsed.{accepted};
 ghost use Rattle.grammar.specs.Expressions.{constantAt, currentAt, previousValueAt, productOf, sumOf, bracket, wholeExpression};
-ghost use Rattle.grammar.specs.Emitted.{bytesE};
-ghost use Rattle.expressions.specs.Scopes.{scopeOf, Declared};
-ghost use Rattle.expressions.specs.Steps.{stepAt, Parses, Room};
-ghost use Rattle.expressions.specs.Internal.{textOnly, primaryIn, factorIn, termIn, expressionIn, Codes, StandsAt, closedStep};
+ghost use Rattle.grammar.specs.Inner.Bytes.{bytesE};
+ghost use Rattle.expressions.specs.Inner.Scopes.{scopeOf, Declared};
+ghost use Rattle.expressions.specs.Inner.Steps.{stepAt, Parses, Room};
+ghost use Rattle.expressions.specs.Inner.Readers.{textOnly, primaryIn, factorIn, termIn, expressionIn, Codes, StandsAt, closedStep};
 
 pub mod scope;
 

@@ -5,7 +5,7 @@ ghost use Prim.Native.Nat.{_≤_, _<_};
 ghost use lib.ListN.{getD, set};
 ghost use Rattle.limits.specs.Limits.{nameLimit};
 ghost use Rattle.semantics.specs.Program.{knownFirst, allTrue};
-ghost use Rattle.arith.specs.Flags.{flagsOf};
+ghost use Rattle.arith.specs.Inner.Flags.{flagsOf};
 use arith::bits;
 
 // The names declared: how many, and which of them may be used with their current value (bit i for the name with id i).

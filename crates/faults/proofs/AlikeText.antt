@@ -23,7 +23,7 @@ use Rattle.grammar.specs.Declarations.{inRange, signedDigits, boundAt, spelling
 use Rattle.grammar.specs.Rules.{Spanned, caseAt, casesFrom, listFrom, plainList, partsFrom, agreeingList, functionAt, changeAt, formulas, ruleAt, rulesFrom}
 use Rattle.grammar.specs.Forms.{changeOpening, noChangeOpening, ruleOpening}
 use Rattle.grammar.specs.Parsed.{followed}
-use Rattle.grammar.specs.Internal.{Named}
+use Rattle.grammar.specs.Inner.Names.{Named}
 use Rattle.grammar.proofs.Combine.{token-prop, then-prop}
 use Rattle.grammar.specs.Parse.{program}
 use Rattle.grammar.proofs.Lists.{CasesIn, cases-in}

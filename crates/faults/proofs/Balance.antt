@@ -17,7 +17,7 @@ use Rattle.grammar.specs.Derivation as D
 use Rattle.lexer.specs.Spelling.{IsDigits, Spelling}
 use Rattle.grammar.specs.Derivation.{Tokens, IsName, SumSign, ProductSign, ComparisonSign, Level, LevelC, SpellsE, a-number, a-current, a-previous, brackets, plain, opposite, one-factor, product, one-term, sum, SpellsC, compared, square, not-square, one-atom, conjoined, one-conjunction, disjoined}
 use Rattle.grammar.specs.Spelled.{squared, SpellsCases, one-case, more-cases}
-use Rattle.grammar.specs.Internal.{Named}
+use Rattle.grammar.specs.Inner.Names.{Named}
 use Rattle.lexer.proofs.Spellings.{one-kind}
 
 -- ---- open brackets

@@ -22,7 +22,7 @@ use Rattle.grammar.specs.Conditions.{listed}
 use Rattle.grammar.specs.Derivation as D
 use Rattle.grammar.specs.Derivation.{Tokens, Stands, Spells, SpellsC}
 use Rattle.grammar.specs.Spelled.{squared}
-use Rattle.grammar.specs.Internal.{Named}
+use Rattle.grammar.specs.Inner.Names.{Named}
 use Rattle.grammar.specs.Rules.{Spanned, Compared, agrees, differs, onCompared, partFrom, kindAt, partsFrom, casesOf, listFrom, plainList}
 use Rattle.lexer.proofs.Spellings.{isFixed}
 use Rattle.grammar.proofs.Standing.{stands-in, spells-in, spells-append, is-read}

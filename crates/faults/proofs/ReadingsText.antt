@@ -27,7 +27,7 @@ use Rattle.grammar.specs.Declarations.{inRange, signedDigits, boundAt, spelling
 use Rattle.grammar.specs.Rules.{Spanned, caseAt, casesFrom, listFrom, plainList, Compared, agrees, differs, onCompared, onFound, partFrom, kindAt, partsFrom, firstFound, agreeingList, functionAt, changeAt, formulas, ruleAt, ruled, rulesFrom}
 use Rattle.grammar.specs.Parse.{program, parse}
 use Rattle.grammar.specs.Derivation.{Tokens, Spells}
-use Rattle.grammar.specs.Internal.{Named}
+use Rattle.grammar.specs.Inner.Names.{Named}
 use Rattle.grammar.proofs.Standing.{stands-in, spells-in, is-read}
 use Rattle.grammar.proofs.Listed.{Listed, last, next, parts-next}
 use Rattle.grammar.proofs.Lists.{CasesIn, cases-in}

@@ -12,24 +12,24 @@ use Rattle.semantics.specs.Program.{knownFirst}
 use Rattle.bytecode.specs.Check.{complete, known, checkCode}
 use Rattle.bytecode.proofs.RoundTrip.{fetch-next}
 use Rattle.bytecode.proofs.Soundness.{advance-small}
-use Rattle.arith.specs.Flags.{flagsOf}
+use Rattle.arith.specs.Inner.Flags.{flagsOf}
 use Rattle.arith.proofs.Flags.{length-flags}
-use Rattle.checker.specs.Represented.{knownOf}
+use Rattle.checker.specs.Inner.Walk.{knownOf}
 use Rattle.checker.specs.declared.Verdict.{Verdict}
 use Rattle.checker.specs.declared.Verdict.the-variants as J
-use Rattle.checker.specs.Represented.{initialWalk}
+use Rattle.checker.specs.Inner.Walk.{initialWalk}
 use Rattle.checker.specs.Results.{verdictAnswer, Judges}
 use Rattle.checker.proofs.Walking.{WalksTo, walks-here, walks-on, walks-step, judges-on, judges-end, judges-whole, initial-small}
 use Rattle.machine.specs.declared.Registers.{Registers}
 use Rattle.machine.specs.declared.Stepped.the-variants.{Next, Refused}
-use Rattle.machine.specs.Memory.{heldOf, OneEach}
+use Rattle.machine.specs.Inner.Memory.{heldOf, OneEach}
 use Rattle.machine.proofs.Loop.{Going, ended, again, refused}
 use Rattle.fused.specs.declared.Progress.{Progress}
 use Rattle.fused.specs.declared.Moved.{Moved}
 use Rattle.fused.specs.declared.Moved.the-variants as M
 use Rattle.fused.specs.declared.Ended.{Ended}
 use Rattle.fused.specs.declared.Ended.the-variants as E
-use Rattle.fused.specs.Together.{registersOf, Ready, BreaksAt, Moves, Refuses, MovesBy, RefusedBy, CheckedCode, BrokenCode, Succeeds, Fails, RunBy}
+use Rattle.fused.specs.Inner.Passes.{registersOf, Ready, BreaksAt, Moves, Refuses, MovesBy, RefusedBy, CheckedCode, BrokenCode, Succeeds, Fails, RunBy}
 
 -- nothing held, nothing picked, nothing passed over
 abbrev idle : Registers

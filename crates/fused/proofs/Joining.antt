@@ -20,15 +20,15 @@ use Rattle.checker.specs.declared.advance.Walk.{Walk}
 use Rattle.checker.specs.declared.advance.Advanced.{Advanced}
 use Rattle.checker.specs.declared.advance.Advanced.the-variants.{Kept, Broken}
 use Rattle.arith.proofs.Flags.{length-flags}
-use Rattle.checker.specs.Represented.{knownOf, openOf, advancedKnown, advanceBy, Small, SmallAfter}
+use Rattle.checker.specs.Inner.Walk.{knownOf, openOf, advancedKnown, advanceBy, Small, SmallAfter}
 use Rattle.checker.proofs.Bits.{length-sorts}
 use Rattle.checker.proofs.Walking.{judges-malformed, judges-broken}
 use Rattle.machine.specs.declared.Registers.{Registers}
 use Rattle.machine.specs.declared.Stepped.{Stepped}
 use Rattle.machine.specs.declared.Stepped.the-variants as S
 use Rattle.machine.specs.Step.{Machine, machine, step}
-use Rattle.machine.specs.Memory.{heldOf, machineOf, stepOutcome, stepped, RangesIn}
-use Rattle.machine.specs.Internal.{OnStack, truthOf, related}
+use Rattle.machine.specs.Inner.Memory.{heldOf, machineOf, stepOutcome, stepped, RangesIn}
+use Rattle.machine.specs.Inner.Groups.{OnStack, truthOf, related}
 use Rattle.machine.proofs.Refusals.{Matches, Kept as KeptBy, step-keeps}
 use Rattle.machine.proofs.Changes.{names-length}
 use Rattle.machine.proofs.Codes.{truth-comparison, related-same}
@@ -36,7 +36,7 @@ use Rattle.machine.proofs.Stack.{length-held}
 use Rattle.fused.specs.declared.Progress.{Progress}
 use Rattle.fused.specs.declared.Moved.{Moved}
 use Rattle.fused.specs.declared.Moved.the-variants as M
-use Rattle.fused.specs.Together.{registersOf, movedOf, Ready, BreaksAt, Moves, Refuses, MovesBy}
+use Rattle.fused.specs.Inner.Passes.{registersOf, movedOf, Ready, BreaksAt, Moves, Refuses, MovesBy}
 
 -- ---- ranges of which only lows and highs are known
 

@@ -9,7 +9,7 @@ use lib.Dec.{eqb, ltb}
 use lib.IntN.{ℤ}
 use lib.ListN.{length}
 use borrow.Author.Tests.{eqb-true, eqb-false, ltb-true, ltb-false}
-use Rattle.arith.specs.Flags.{flagsOf}
+use Rattle.arith.specs.Inner.Flags.{flagsOf}
 use Rattle.arith.specs.Values.{ok}
 use Rattle.semantics.specs.Program.{Range}
 use Rattle.bytecode.specs.Instructions.{Instruction, instructionOf, decoded, fetch}
@@ -20,16 +20,16 @@ use Rattle.bytecode.proofs.Codes.{comparison-of, none-above, past}
 use Rattle.checker.specs.declared.advance.Advanced.{Advanced}
 use Rattle.checker.specs.declared.advance.Advanced.the-variants.{Kept, Broken}
 use Rattle.checker.specs.declared.advance.Walk.{Walk}
-use Rattle.checker.specs.Represented.{sortsOf, openOf, picksOf, knownOf, advancedKnown, advanceBy, SmallAfter}
+use Rattle.checker.specs.Inner.Walk.{sortsOf, openOf, picksOf, knownOf, advancedKnown, advanceBy, SmallAfter}
 use Rattle.checker.proofs.Steps.{one-none, two-none}
 use Rattle.checker.proofs.Walking.{judges-broken}
 use Rattle.machine.specs.Step.{machine, isPick, step}
-use Rattle.machine.specs.Memory.{heldOf, machineOf, RangesIn}
+use Rattle.machine.specs.Inner.Memory.{heldOf, machineOf, RangesIn}
 use Rattle.machine.proofs.Refusals.{Matches, Kept as KeptBy}
 use Rattle.fused.specs.declared.Progress.{Progress}
 use Rattle.fused.specs.declared.Moved.{Moved}
 use Rattle.fused.specs.declared.Moved.the-variants as M
-use Rattle.fused.specs.Together.{registersOf, passedOver, Ready, Passes, PassesBy, Moves, MovesBy}
+use Rattle.fused.specs.Inner.Passes.{registersOf, passedOver, Ready, Passes, PassesBy, Moves, MovesBy}
 use Rattle.fused.proofs.Joining.{rangesBy, aligned, opens, here, kept}
 
 -- whether passing over goes on behind an instruction

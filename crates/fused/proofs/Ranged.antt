@@ -9,9 +9,9 @@ use Rattle.semantics.specs.Program.{Range}
 use Rattle.leb128.specs.Numbers.{got, signedAt}
 use Rattle.limits.specs.Answer.{refused, _andThen_}
 use Rattle.bytecode.specs.Check.{checkRange, checkRanges, headerWith}
-use Rattle.bytecode.specs.Counting.{extentOf, rangeHere, rangesFrom}
+use Rattle.bytecode.specs.Parts.{extentOf, rangeHere, rangesFrom}
 use Rattle.bytecode.proofs.Heading.{Heading, heading-begins, heading-breaks, heading-goes, heading-ends, Filling, filling-begins, filling-goes, filling-ends}
-use Rattle.fused.specs.Header.{FitsRange, RangesStand}
+use Rattle.fused.specs.Inner.Header.{FitsRange, RangesStand}
 
 -- the three numbers of a range
 pub range-read : (bytes : List ℕ) (at at₁ : ℕ) (l : ℤ) → signedAt bytes at ≡ got l at₁ → (at₂ : ℕ) (h : ℤ) → signedAt bytes at₁ ≡ got h at₂ → (at₃ : ℕ) (z : ℤ) → signedAt bytes at₂ ≡ got z at₃

@@ -1,7 +1,7 @@
 // The ranges of a header, checked and stored in one pass.
 ghost use Prim.Native.Nat.{_≤_};
 ghost use lib.ListN.{length};
-ghost use Rattle.fused.specs.Header.{FittedBy, PlacedBy};
+ghost use Rattle.fused.specs.Inner.Header.{FittedBy, PlacedBy};
 
 // Low, high and start of a name, and the place behind them; or the place of the number that breaks the range.
 pub enum Fitted {

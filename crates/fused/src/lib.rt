@@ -14,9 +14,9 @@ ghost use lib.ListN.{length};
 ghost use Rattle.limits.specs.Limits.{nameLimit, stackLimit};
 ghost use Rattle.leb128.specs.Numbers.{numberAt};
 ghost use Rattle.leb128.specs.Results.{unsignedRead};
-ghost use Rattle.checker.specs.Represented.{openOf, Small};
-ghost use Rattle.machine.specs.Memory.{OneEach};
-ghost use Rattle.fused.specs.Together.{passedOver, movedOf, PassesBy, Ready, MovesBy, RefusedBy, RunBy};
+ghost use Rattle.checker.specs.Inner.Walk.{openOf, Small};
+ghost use Rattle.machine.specs.Inner.Memory.{OneEach};
+ghost use Rattle.fused.specs.Inner.Passes.{passedOver, movedOf, PassesBy, Ready, MovesBy, RefusedBy, RunBy};
 
 pub mod header;
 

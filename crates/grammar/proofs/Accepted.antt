@@ -19,7 +19,7 @@ use Rattle.grammar.specs.Parse.{parse, answerOf, programOf}
 use Rattle.lexer.specs.Spelling.{IsWord}
 use Rattle.grammar.specs.Derivation.{IsName}
 use Rattle.grammar.specs.Spelled.{namesOf, Spelled}
-use Rattle.grammar.specs.Internal.{Named}
+use Rattle.grammar.specs.Inner.Names.{Named}
 use Rattle.grammar.proofs.Shape.{NamesFit}
 use Rattle.grammar.proofs.Whole.{named, spelled-fit}
 use Rattle.grammar.proofs.DerivedText.{parse-reads}

@@ -24,7 +24,7 @@ use Rattle.grammar.specs.Conditions.{comparisonBy, compared, comparisonA
 use Rattle.lexer.specs.Spelling.{IsDigits, Spelling}
 use Rattle.grammar.specs.Derivation.{Spells, ProductSign, SumSign, ComparisonSign, Level, SpellsE, a-number, a-current, a-previous, brackets, plain, opposite, one-factor, product, one-term, sum, LevelC, SpellsC, not-square, one-atom, conjoined, one-conjunction, disjoined}
 use Rattle.grammar.specs.Derivation as D
-use Rattle.grammar.specs.Internal.{Named}
+use Rattle.grammar.specs.Inner.Names.{Named}
 use Rattle.grammar.proofs.Combine.{one-sign, never}
 use Rattle.grammar.proofs.Bytes.{part-length, part-cons, tails}
 use Rattle.grammar.proofs.Distinct.{place-id}

@@ -21,7 +21,7 @@ use Rattle.grammar.specs.Rules.{Spanned, caseAt, casesFrom, listFrom, pl
 use Rattle.grammar.specs.Derivation.{Spells, IsName, Level, SpellsE, a-number, a-current, a-previous, brackets, plain, opposite, one-factor, product, one-term, sum, LevelC, SpellsC, not-square, one-atom, conjoined, one-conjunction, disjoined}
 use Rattle.grammar.specs.Derivation as D
 use Rattle.grammar.specs.Spelled.{squared, cased, SpellsCases, one-case, more-cases, SpellsList, one-listed, more-listed}
-use Rattle.grammar.specs.Internal.{Named}
+use Rattle.grammar.specs.Inner.Names.{Named}
 use Rattle.lexer.proofs.Spellings.{isFixed}
 use Rattle.grammar.proofs.Bytes.{place-in}
 use Rattle.grammar.proofs.Standing.{split, stands-in, spells-in}

@@ -22,7 +22,7 @@ use Rattle.grammar.specs.Derivation.{Spells, IsName, SpellsE}
 use Rattle.grammar.specs.Derivation as D
 use Rattle.grammar.specs.Spelled.{SpellsCases, SpellsList, SpellsR, a-change, a-function, SpellsRules}
 use Rattle.grammar.specs.Spelled as S
-use Rattle.grammar.specs.Internal.{Named}
+use Rattle.grammar.specs.Inner.Names.{Named}
 use Rattle.lexer.proofs.Spellings.{isFixed}
 use Rattle.grammar.proofs.Standing.{split, stands-in, spells-in, spells-append, is-read}
 use Rattle.grammar.proofs.Phrases.{signs, fixed-at, name-at, phrase-reads, followed-reads, headTokens, middleTokens}

@@ -21,7 +21,7 @@ use Rattle.grammar.specs.Derivation.{Spells, TokensOf}
 use Rattle.grammar.specs.Spelled.{declares, DeclareAll, Distinct, Apart, a-change, a-function, SpellsRules, namesOf, Spelled}
 use Rattle.grammar.specs.Spelled as S
 use Rattle.grammar.specs.Accepts.{Accepts}
-use Rattle.grammar.specs.Internal.{Named}
+use Rattle.grammar.specs.Inner.Names.{Named}
 use Rattle.lexer.proofs.Spellings.{isFixed}
 use Rattle.grammar.proofs.Standing.{split, spells-in, end-read}
 use Rattle.grammar.proofs.Phrases.{fixed-at, name-at}

@@ -16,7 +16,7 @@ use Rattle.grammar.specs.Conditions.{Connective, andAlso, orElse, connec
 use Rattle.lexer.specs.Spelling.{IsDigits}
 use Rattle.grammar.specs.Derivation.{Stands, Spells, Level, SpellsE, a-number, a-current, a-previous, brackets, plain, opposite, one-factor, product, one-term, sum, LevelC, SpellsC, not-square, one-atom, conjoined, one-conjunction, disjoined}
 use Rattle.grammar.specs.Derivation as D
-use Rattle.grammar.specs.Emitted.{bytesE, bytesC}
+use Rattle.grammar.specs.Inner.Bytes.{bytesE, bytesC}
 use Rattle.grammar.proofs.Combine.{token-prop, then-prop}
 use Rattle.grammar.proofs.Bytes.{digits-bytes, id-bytes, place-in, part-length}
 use Rattle.grammar.proofs.Standing.{is-read, stands-in, spells-in}

@@ -8,7 +8,7 @@ use Rattle.semantics.specs.Program.{Name, Expression, constant, current, previo
 use Rattle.bytecode.specs.Instructions.{Instruction, encodeAll}
 use Rattle.bytecode.specs.Translation.{imageOf, encodeRanges, codeRules}
 use Rattle.bytecode.specs.Translation as B
-use Rattle.grammar.specs.Emitted.{bytesE, bytesC, bytesK, bytesR, header, image}
+use Rattle.grammar.specs.Inner.Bytes.{bytesE, bytesC, bytesK, bytesR, header, image}
 
 pub encode-append : (xs ys : List Instruction) → encodeAll (xs ++ ys) ≡ encodeAll xs ++ encodeAll ys
 encode-append [] ys = refl

@@ -14,7 +14,7 @@ use Rattle.grammar.specs.Expressions.{Scope}
 use Rattle.grammar.specs.Rules.{Spanned, casesFrom, plainList, Compared, agrees, differs, partsFrom, firstFound, agreeingList, casesOf}
 use Rattle.grammar.specs.Derivation.{Spells}
 use Rattle.grammar.specs.Spelled.{SpellsCases}
-use Rattle.grammar.specs.Internal.{Named}
+use Rattle.grammar.specs.Inner.Names.{Named}
 use Rattle.grammar.proofs.Shape.{conditionsOf}
 use Rattle.grammar.proofs.Combine.{never}
 use Rattle.grammar.proofs.Standing.{spells-in}

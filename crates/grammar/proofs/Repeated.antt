@@ -11,7 +11,7 @@ use Rattle.lexer.proofs.Laws.{run-from, run-within, token-at-moved, token-past-
 use Rattle.lexer.proofs.Repeated.{moved, behind, part-twice, token-twice}
 use Rattle.grammar.specs.Rules.{agrees, partFrom}
 use Rattle.grammar.specs.Derivation.{Stands, Spells}
-use Rattle.grammar.specs.Internal.{TokensIn}
+use Rattle.grammar.specs.Inner.Names.{TokensIn}
 use Rattle.grammar.proofs.Standing.{stands-in, spells-in, is-read, stands-read}
 use Rattle.grammar.proofs.Listed.{spells-part}
 

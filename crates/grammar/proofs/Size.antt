@@ -24,7 +24,7 @@ use Rattle.grammar.specs.Derivation.{SpellsE, SpellsC}
 use Rattle.grammar.specs.Derivation as D
 use Rattle.grammar.specs.Spelled.{SpellsZ, positive, negative, SpellsStart, absent, given, Declares, declares, DeclareAll, cased, SpellsCases, one-case, more-cases, changeForm, SpellsR, a-change, a-function, SpellsRules, namesOf, Spelled}
 use Rattle.grammar.specs.Spelled as S
-use Rattle.grammar.specs.Emitted.{bytesE, bytesK, bytesR, header, image}
+use Rattle.grammar.specs.Inner.Bytes.{bytesE, bytesK, bytesR, header, image}
 use Rattle.grammar.proofs.Combine.{token-prop, then-prop, option-prop}
 use Rattle.grammar.proofs.Bytes.{digits-bytes, value-bytes, id-bytes, id-of, place-in}
 use Rattle.grammar.proofs.Standing.{spells-in}

@@ -17,11 +17,11 @@ use Rattle.grammar.specs.Expressions.{Scope}
 use Rattle.grammar.specs.Conditions.{listed}
 use Rattle.grammar.specs.Declarations.{spellings, declaration, declarationsFrom}
 use Rattle.grammar.specs.Rules.{Spanned, listFrom, plainList, Compared, agrees, differs, partsFrom, firstFound, agreeingList, ruleAt}
-use Rattle.grammar.specs.Emitted.{bytesC}
+use Rattle.grammar.specs.Inner.Bytes.{bytesC}
 use Rattle.grammar.specs.Derivation.{IsName}
 use Rattle.grammar.specs.Spelled.{declares, DeclareAll, Distinct, SpellsR, Spelled}
 use Rattle.grammar.specs.Spelled as S
-use Rattle.grammar.specs.Internal.{Named}
+use Rattle.grammar.specs.Inner.Names.{Named}
 use Rattle.grammar.proofs.Shape.{NameFits, NamesFit}
 use Rattle.grammar.proofs.Combine.{token-prop, then-prop}
 use Rattle.grammar.proofs.Standing.{spells-in}

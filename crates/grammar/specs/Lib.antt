@@ -7,6 +7,5 @@ pub mod Rules
 pub mod Parse
 pub mod Derivation
 pub mod Spelled
-pub mod Internal
 pub mod Accepts
-pub mod Emitted
+pub mod Inner

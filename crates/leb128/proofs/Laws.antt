@@ -12,7 +12,7 @@ use lib.ListN.{length, getD, drop, drop-of-length-le}
 use lib.Seq.{drop-cons, getD-drop}
 use borrow.Author.Tests.{lt-ltb, le-ltb, le-leb, ne-eqb, ltb-true}
 use Rattle.leb128.specs.Numbers.{groups, number, Found, found, none, grouped, numberIn, Read, got, nothing, below32, numberAt}
-use Rattle.leb128.specs.Internal.{joinedGroups}
+use Rattle.leb128.specs.Inner.Groups.{joinedGroups}
 
 -- ---- the writer
 

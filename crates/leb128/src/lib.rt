@@ -5,7 +5,7 @@ ghost use lib.ListN.{length, set};
 ghost use lib.Seq.{sets};
 ghost use Rattle.leb128.specs.Numbers.{number, found, below32, numberAt, signedAt, zigzag as zigzagOf, unzigzag as unzigzagOf};
 ghost use Rattle.leb128.specs.Results.{unsignedRead, signedRead};
-ghost use Rattle.leb128.specs.Internal.{joinedGroups};
+ghost use Rattle.leb128.specs.Inner.Groups.{joinedGroups};
 
 // A number and the place behind it, or no number below 2 ^ 32 in shortest form.
 pub enum Unsigned {

@@ -3,7 +3,7 @@ ghost use mathlib.Core.Path.{_≡_};
 ghost use lib.ListN.{getD};
 ghost use Rattle.lexer.specs.Bytes.{sameBytes};
 ghost use Rattle.lexer.specs.Lexer.{isSpace, isDigit, isLetter, runEnd};
-ghost use Rattle.lexer.specs.Internal.{member};
+ghost use Rattle.lexer.specs.Inner.Classes.{member};
 
 // Classes of bytes that make runs.
 pub const SPACE: u8 = 0;

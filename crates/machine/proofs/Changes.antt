@@ -14,7 +14,7 @@ use Rattle.semantics.specs.Formula.{State, at}
 use Rattle.semantics.specs.ReferenceScan.{noRange, rangeAt, picked}
 use Rattle.bytecode.specs.Instructions.{assign, pick, settle}
 use Rattle.machine.specs.Step.{machine, perform}
-use Rattle.machine.specs.Memory.{heldOf, RangesIn}
+use Rattle.machine.specs.Inner.Memory.{heldOf, RangesIn}
 use Rattle.machine.proofs.Stack.{not-none, held-top, pop-top}
 
 getD-map : {A B : Type 0} (f : A → B) (xs : List A) (i : ℕ) (d : A) → getD (map f xs) i (f d) ≡ f (getD xs i d)

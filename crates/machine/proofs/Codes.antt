@@ -14,8 +14,8 @@ use Rattle.semantics.specs.Formula.{State}
 use Rattle.bytecode.specs.Instructions.{Instruction, operation, comparison, operationOf, comparisonOf, instructionOf}
 use Rattle.bytecode.proofs.Codes.{operation-of, comparison-of, past, from-four}
 use Rattle.machine.specs.Step.{machine, isPick}
-use Rattle.machine.specs.Internal.{truthOf, related, performed}
-use Rattle.machine.specs.Memory.{stepped}
+use Rattle.machine.specs.Inner.Groups.{truthOf, related, performed}
+use Rattle.machine.specs.Inner.Memory.{stepped}
 
 -- ---- arithmetic and comparisons
 

@@ -12,7 +12,7 @@ use lib.Signed.{leZ}
 use Rattle.semantics.specs.Program.{Range}
 use Rattle.semantics.specs.Formula.{at}
 use Rattle.semantics.specs.ReferenceScan.{noRange, allWithin}
-use Rattle.machine.specs.Memory.{RangesIn}
+use Rattle.machine.specs.Inner.Memory.{RangesIn}
 use Rattle.machine.proofs.Changes.{names-length, range-at}
 
 -- the first i values lie in their ranges

@@ -12,7 +12,7 @@ use Rattle.semantics.specs.Program.{Range}
 use Rattle.semantics.specs.Formula.{State}
 use Rattle.leb128.specs.Numbers.{Read, got, nothing}
 use Rattle.bytecode.specs.Instructions.{Instruction, fetch}
-use Rattle.bytecode.specs.Counting.{counted, countFrom}
+use Rattle.bytecode.specs.Parts.{counted, countFrom}
 use Rattle.bytecode.proofs.RoundTrip.{fetch-next}
 use Rattle.machine.specs.Step.{Machine, step}
 use Rattle.machine.specs.Runs.{ran, afterStep, afterFetch, run, resume}

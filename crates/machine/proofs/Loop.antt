@@ -17,7 +17,7 @@ use Rattle.machine.specs.declared.Stepped.{Stepped}
 use Rattle.machine.specs.declared.Stepped.the-variants.{Next, Refused}
 use Rattle.machine.specs.Step.{Machine}
 use Rattle.machine.specs.Runs.{ran, afterStep, run}
-use Rattle.machine.specs.Memory.{machineOf, stepOutcome, stepped, RangesIn, Stack, Few, OneEach}
+use Rattle.machine.specs.Inner.Memory.{machineOf, stepOutcome, stepped, RangesIn, Stack, Few, OneEach}
 use Rattle.machine.proofs.Laws.{run-end, run-broken}
 
 -- the memory fits, and what is left to do makes the whole run

@@ -9,7 +9,7 @@ use Rattle.limits.specs.Answer.{accepted}
 use Rattle.semantics.specs.Formula.{State}
 use Rattle.semantics.proofs.Reference.{length-known}
 use Rattle.bytecode.specs.Check.{Header, checkCode, atStart, checkBody, checkOf}
-use Rattle.bytecode.specs.Counting.{headerOf, codeOf}
+use Rattle.bytecode.specs.Parts.{headerOf, codeOf}
 use Rattle.bytecode.proofs.Walk.{check-sound}
 use Rattle.bytecode.proofs.SoundHeader.{header-is}
 use Rattle.machine.specs.Step.{machine}

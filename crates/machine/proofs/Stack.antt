@@ -12,7 +12,7 @@ use lib.Seq.{getD-set-same, getD-set-other}
 use Rattle.arith.specs.Values.{Outcome, ok, refusal, _>>=_}
 use Rattle.semantics.specs.Formula.{State}
 use Rattle.machine.specs.Step.{Machine, machine, push, pop}
-use Rattle.machine.specs.Memory.{heldOf}
+use Rattle.machine.specs.Inner.Memory.{heldOf}
 
 -- ---- the values held
 

@@ -5,8 +5,8 @@ use crate::values;
 ghost use mathlib.Core.Path.{_≡_};
 ghost use Rattle.semantics.specs.Formula.{State};
 ghost use Rattle.bytecode.specs.Instructions.{operationOf, constant, operation, negate as negation, negated};
-ghost use Rattle.machine.specs.Memory.{heldOf, stepOutcome, Stack, Few};
-ghost use Rattle.machine.specs.Internal.{truthOf, OnStack, loaded, related};
+ghost use Rattle.machine.specs.Inner.Memory.{heldOf, stepOutcome, Stack, Few};
+ghost use Rattle.machine.specs.Inner.Groups.{truthOf, OnStack, loaded, related};
 
 pub fn push(vals: &mut [i32], m: Registers, v: i32) -> Stepped
     requires { ⌜ Stack m (now vals) ⌝ }

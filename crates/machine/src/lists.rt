@@ -6,7 +6,7 @@ ghost use Prim.Native.Nat.{_≤_};
 ghost use lib.ListN.{length, drop};
 ghost use Rattle.semantics.specs.Program.{Range};
 ghost use Rattle.semantics.specs.ReferenceScan.{allWithin, withInputs};
-ghost use Rattle.machine.specs.Memory.{RangesIn};
+ghost use Rattle.machine.specs.Inner.Memory.{RangesIn};
 
 // `from`, written over the front of `to`.
 pub fn fill(to: &mut [i32], from: &[i32])

@@ -6,7 +6,7 @@ ghost use Rattle.arith.specs.Values.{arithmetic};
 ghost use Rattle.arith.specs.Results.{outcomeOf};
 ghost use Rattle.bytecode.specs.Instructions.{operationOf};
 ghost use Rattle.machine.specs.Step.{bit, yes};
-ghost use Rattle.machine.specs.Internal.{truthOf};
+ghost use Rattle.machine.specs.Inner.Groups.{truthOf};
 
 // A yes is 1, a no is 0.
 pub fn bit_of(b: bool) -> i32

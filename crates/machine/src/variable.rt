@@ -12,8 +12,8 @@ ghost use Rattle.semantics.specs.Program.{Range};
 ghost use Rattle.semantics.specs.Formula.{State};
 ghost use Rattle.bytecode.specs.Instructions.{gate as gating, pick as picking, assign as assigning, settle as settling};
 ghost use Rattle.machine.specs.Step.{perform};
-ghost use Rattle.machine.specs.Memory.{heldOf, stepOutcome, RangesIn, Stack, Few, OneEach};
-ghost use Rattle.machine.specs.Internal.{OnStack};
+ghost use Rattle.machine.specs.Inner.Memory.{heldOf, stepOutcome, RangesIn, Stack, Few, OneEach};
+ghost use Rattle.machine.specs.Inner.Groups.{OnStack};
 
 // A false condition passes over what stands up to the next pick; a true one after a pick is refused.
 pub fn gate(vals: &[i32], m: Registers) -> Stepped

@@ -13,7 +13,7 @@ use Rattle.lexer.specs.declared.Step.the-variants.{Done, Refused}
 use Rattle.lexer.proofs.KindNumbers.{kind-number, kind-is-not}
 use Rattle.lexer.proofs.Tokens.{Answers, is-token, is-fault}
 use Rattle.grammar.specs.Parsed.{Parsed, accepted, refused, andThen, Wanted, isWanted, expected, phrase}
-use Rattle.phrases.specs.Results.{parsedOf, nothing}
+use Rattle.phrases.specs.Inner.Steps.{parsedOf, nothing}
 
 -- ---- kinds by their numbers
 

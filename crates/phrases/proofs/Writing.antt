@@ -9,7 +9,7 @@ use Rattle.lexer.specs.declared.Step.{Step}
 use Rattle.lexer.specs.declared.Step.the-variants.{Done, Refused}
 use Rattle.grammar.specs.Parsed.{Parsed, accepted, refused, andThen}
 use Rattle.grammar.proofs.Combine.{apart, same-value, same-end}
-use Rattle.phrases.specs.Results.{parsedOf, nothing, written, answered, Writes}
+use Rattle.phrases.specs.Inner.Steps.{parsedOf, nothing, written, answered, Writes}
 
 pub same-refusal : {A B : Type 0} {k q l r : ℕ} → _≡_ {A = Parsed A} (refused k q) (refused l r) → _≡_ {A = Parsed B} (refused k q) (refused l r)
 same-refusal e = cc

@@ -7,7 +7,7 @@ ghost use Rattle.lexer.specs.Results.{kindOf};
 ghost use Rattle.lexer.specs.Token.{lastKind};
 ghost use Rattle.grammar.specs.Parsed.{sign, own, ownPrevious, expected, phrase};
 ghost use Rattle.grammar.specs.Forms.{ruleOpening, formulaClosing, functionClosing, valueOpening, caseValueOpening, unchangedValue, changeOpening, noChangeOpening};
-ghost use Rattle.phrases.specs.Results.{parsedOf, nothing};
+ghost use Rattle.phrases.specs.Inner.Steps.{parsedOf, nothing};
 
 // A token of a kind.
 pub fn expect(text: &[u8], at: usize, kind: u8) -> Step

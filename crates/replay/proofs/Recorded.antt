@@ -13,8 +13,8 @@ use Rattle.limits.specs.Answer.{Answer, accepted, refused}
 use Rattle.semantics.specs.Formula.{State}
 use Rattle.semantics.specs.Rows.{ifAccepted, acceptedStates, finalState}
 use Rattle.bytecode.specs.Check.{checkOf}
-use Rattle.bytecode.specs.Counting.{headerOf}
-use Rattle.machine.specs.Names.{stateLength, startingState}
+use Rattle.bytecode.specs.Parts.{headerOf}
+use Rattle.machine.specs.States.{stateLength, startingState}
 use Rattle.leb128.proofs.RoundTrip.{sets-join}
 use Rattle.scan.specs.declared.Started.the-variants as S
 use Rattle.scan.specs.Services.{AfterStart, started, startOf, scanOf}
@@ -24,7 +24,7 @@ use Rattle.leb128.proofs.Stores.{sets-clip}
 use Rattle.replay.specs.declared.Replayed.the-variants as R
 use Rattle.replay.specs.Replay.{answerNumber, stepsOf, valuesOf, replayRows}
 use Rattle.replay.specs.Results.{lent, afterReplay}
-use Rattle.replay.specs.Internal.{Records, records, addedBy, recordScan, scanRows}
+use Rattle.replay.specs.Inner.Records.{Records, records, addedBy, recordScan, scanRows}
 
 -- values stored behind a part that was stored as far as there was room
 pub sets-behind : {A : Type 0} (l : List A) (at : ℕ) (a b : List A) → sets (sets l at a) (min (at + length a) (length l)) b ≡ sets l at (a ++ b)

@@ -17,7 +17,7 @@ use Rattle.scan.specs.Services.{AfterScan, scanOf}
 use Rattle.scan.specs.Results.{afterScan}
 use Rattle.replay.specs.declared.Cursor.{Cursor}
 use Rattle.replay.specs.Replay.{rowsOf}
-use Rattle.replay.specs.Internal.{Records, records, recordScan, scanRows, RowScanned}
+use Rattle.replay.specs.Inner.Records.{Records, records, recordScan, scanRows, RowScanned}
 
 -- ---- parts that are clipped
 

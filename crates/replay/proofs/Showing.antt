@@ -13,8 +13,8 @@ use Rattle.limits.specs.Answer.{Answer, accepted, refused}
 use Rattle.semantics.specs.Program.{Program, Name}
 use Rattle.semantics.specs.Formula.{State}
 use Rattle.bytecode.specs.Check.{checkOf}
-use Rattle.bytecode.specs.Counting.{headerOf}
-use Rattle.machine.specs.Names.{stateLength, startingState}
+use Rattle.bytecode.specs.Parts.{headerOf}
+use Rattle.machine.specs.States.{stateLength, startingState}
 use Rattle.grammar.specs.Parse.{programOf}
 use Rattle.translate.specs.Services.{AfterTranslation, translationOf}
 use Rattle.scan.specs.Services.{AfterStart, started, startOf}

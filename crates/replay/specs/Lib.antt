@@ -1,3 +1,3 @@
 pub mod Replay
 pub mod Results
-pub mod Internal
+pub mod Inner

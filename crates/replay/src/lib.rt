@@ -10,7 +10,7 @@ ghost use lib.Seq.{sets};
 ghost use Rattle.scan.specs.Services.{startOf};
 ghost use Rattle.replay.specs.Replay.{rowsOf, replayRows, replayOf};
 ghost use Rattle.replay.specs.Results.{lent, afterReplay, ShownBy};
-ghost use Rattle.replay.specs.Internal.{records, scanRows, RecordWithin, RowScanned};
+ghost use Rattle.replay.specs.Inner.Records.{records, scanRows, RecordWithin, RowScanned};
 
 // The image's length; or the number and place of the refusal of translation or start.
 pub enum Replayed {

@@ -18,24 +18,24 @@ use Rattle.semantics.specs.Program.{Rule, function, change, target, allTrue}
 use Rattle.grammar.specs.Parsed.{accepted, refused}
 use Rattle.grammar.specs.Expressions.{Scope}
 use Rattle.grammar.specs.Rules.{ruleAt, ruled, rulesFrom}
-use Rattle.grammar.specs.Emitted.{bytesR}
+use Rattle.grammar.specs.Inner.Bytes.{bytesR}
 use Rattle.grammar.proofs.Size.{Pays, ruleBytes, rule-pays}
 use Rattle.grammar.proofs.ConverseRules.{unruled, rule-counts, unruled-few}
 use Rattle.expressions.specs.declared.scope.Names.{Names}
-use Rattle.arith.specs.Flags.{flagsOf}
+use Rattle.arith.specs.Inner.Flags.{flagsOf}
 use Rattle.arith.proofs.Flags.{length-flags}
-use Rattle.expressions.specs.Scopes.{scopeOf, Declared}
-use Rattle.expressions.specs.Steps.{Room}
+use Rattle.expressions.specs.Inner.Scopes.{scopeOf, Declared}
+use Rattle.expressions.specs.Inner.Steps.{Room}
 use Rattle.expressions.proofs.Scopes.{few-names, names-counted, as-long, scope-ruled}
 use Rattle.phrases.proofs.Laws.{same-kinds, other-kinds}
 use Rattle.lexer.specs.declared.Place.{Place}
 use Rattle.lexer.specs.declared.Step.{Step}
 use Rattle.lexer.specs.declared.Step.the-variants.{Refused}
-use Rattle.phrases.specs.Results.{numberTold, Writes}
+use Rattle.phrases.specs.Inner.Steps.{numberTold, Writes}
 use Rattle.phrases.proofs.Writing.{Got, writes, refuses}
 use Rattle.cases.proofs.Ways.{then-bytes}
 use Rattle.cases.proofs.Listing.{Found}
-use Rattle.rules.specs.Post.{codeOfRule, endOf}
+use Rattle.rules.specs.Inner.Spans.{codeOfRule, endOf}
 use Rattle.rules.proofs.Ways.{Fresh, rule-fresh}
 
 -- ---- rules

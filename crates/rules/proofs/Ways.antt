@@ -18,22 +18,22 @@ use Rattle.semantics.specs.Program.{Expression, Condition, Rule, function, chan
 use Rattle.grammar.specs.Parsed.{Parsed, accepted, refused, Wanted, phrase, followed}
 use Rattle.grammar.specs.Expressions.{Scope, withId, wholeExpression}
 use Rattle.grammar.specs.Rules.{Spanned, casesFrom, agreeingList, casesOf, functionAt, changeAt, formulas, ruleAt}
-use Rattle.grammar.specs.Emitted.{bytesE, bytesK, bytesR}
+use Rattle.grammar.specs.Inner.Bytes.{bytesE, bytesK, bytesR}
 use Rattle.grammar.proofs.Bytes.{id-of}
 use Rattle.grammar.proofs.Combine.{token-prop, then-prop, option-prop}
 use Rattle.grammar.proofs.Growth.{Kept, phrase-kept}
 use Rattle.grammar.proofs.Size.{Pays, cases-pay}
-use Rattle.expressions.specs.Steps.{Room}
+use Rattle.expressions.specs.Inner.Steps.{Room}
 use Rattle.expressions.proofs.Steps.{Refuses}
-use Rattle.agreement.specs.Spans.{spansIn, spansOf, Spans}
+use Rattle.agreement.specs.Inner.Spans.{spansIn, spansOf, Spans}
 use Rattle.grammar.specs.Forms.{ruleOpening, formulaClosing, functionClosing, valueOpening, changeOpening, noChangeOpening}
-use Rattle.cases.specs.Post.{codeOfCases, Lists, ListKept}
+use Rattle.cases.specs.Inner.Kept.{codeOfCases, Lists, ListKept}
 use Rattle.lexer.specs.declared.Place.{Place}
-use Rattle.phrases.specs.Results.{numberTold}
+use Rattle.phrases.specs.Inner.Steps.{numberTold}
 use Rattle.phrases.proofs.Writing.{Got}
 use Rattle.cases.proofs.Parts.{phrase-fault, behind-refused}
 use Rattle.cases.proofs.Ways.{then-bytes}
-use Rattle.rules.specs.Post.{codeOfRule}
+use Rattle.rules.specs.Inner.Spans.{codeOfRule}
 
 -- ---- a function
 

@@ -1,1 +1,1 @@
-pub mod Post
+pub mod Inner

@@ -12,13 +12,13 @@ ghost use Rattle.limits.specs.Limits.{nameLimit};
 ghost use Rattle.lexer.specs.Bytes.{part};
 ghost use Rattle.grammar.specs.Parsed.{itemBound};
 ghost use Rattle.grammar.specs.Rules.{functionAt, changeAt, formulas as formulasAt, ruleAt, rulesFrom};
-ghost use Rattle.grammar.specs.Internal.{Named};
-ghost use Rattle.grammar.specs.Emitted.{bytesR};
+ghost use Rattle.grammar.specs.Inner.Names.{Named};
+ghost use Rattle.grammar.specs.Inner.Bytes.{bytesR};
 ghost use Rattle.semantics.specs.Program.{target};
-ghost use Rattle.expressions.specs.Scopes.{scopeOf, Declared};
-ghost use Rattle.expressions.specs.Steps.{Room};
-ghost use Rattle.phrases.specs.Results.{numberTold, Writes};
-ghost use Rattle.rules.specs.Post.{codeOfRule, SpanRoom, endOf};
+ghost use Rattle.expressions.specs.Inner.Scopes.{scopeOf, Declared};
+ghost use Rattle.expressions.specs.Inner.Steps.{Room};
+ghost use Rattle.phrases.specs.Inner.Steps.{numberTold, Writes};
+ghost use Rattle.rules.specs.Inner.Spans.{codeOfRule, SpanRoom, endOf};
 
 // `w = (e));`
 fn function(

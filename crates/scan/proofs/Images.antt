@@ -12,12 +12,12 @@ use Rattle.limits.specs.Answer.{accepted, refused}
 use Rattle.semantics.specs.Program.{Range}
 use Rattle.semantics.specs.Formula.{State}
 use Rattle.bytecode.specs.Check.{checkOf}
-use Rattle.bytecode.specs.Counting.{headerOf, codeOf, lows, highs, starts, rangesFrom}
+use Rattle.bytecode.specs.Parts.{headerOf, codeOf, lows, highs, starts, rangesFrom}
 use Rattle.bytecode.proofs.SoundHeader.{SoundCounts}
-use Rattle.machine.specs.Memory.{RangesIn}
+use Rattle.machine.specs.Inner.Memory.{RangesIn}
 use Rattle.scan.specs.Services.{startOf, scanCode, scanOf}
 use Rattle.scan.specs.Results.{afterStart, afterScan}
-use Rattle.scan.specs.Internal.{scannedFrom}
+use Rattle.scan.specs.Inner.Parts.{scannedFrom}
 use Rattle.scan.specs.declared.Started.the-variants as S
 use Rattle.scan.specs.declared.Scanned.the-variants as R
 

@@ -11,21 +11,21 @@ use Rattle.semantics.specs.Program.{Range, knownFirst}
 use Rattle.semantics.specs.Formula.{State}
 use Rattle.semantics.specs.ReferenceScan.{allWithin, withInputs}
 use Rattle.bytecode.specs.Check.{known, checkCounts, checkRanges, headerWith as withCounted, checkHeader, checkCode, checkOf}
-use Rattle.bytecode.specs.Counting.{extentOf, rangesFrom, rangesEnd}
+use Rattle.bytecode.specs.Parts.{extentOf, rangesFrom, rangesEnd}
 use Rattle.bytecode.specs.Results.{Extends}
 use Rattle.bytecode.proofs.SoundHeader.{sound-counts}
 use Rattle.checker.proofs.Checking.{broken-header, whole-header}
 use Rattle.machine.specs.Step.{machine}
 use Rattle.machine.specs.Runs.{ran, run}
-use Rattle.machine.specs.Memory.{RangesIn}
+use Rattle.machine.specs.Inner.Memory.{RangesIn}
 use Rattle.machine.proofs.Copies.{over-all, length-over}
 use Rattle.fused.specs.declared.Ended.{Ended}
 use Rattle.fused.specs.declared.Ended.the-variants as E
-use Rattle.fused.specs.Together.{Succeeds, Fails, BrokenCode, RunBy}
+use Rattle.fused.specs.Inner.Passes.{Succeeds, Fails, BrokenCode, RunBy}
 use Rattle.scan.specs.declared.Scanned.the-variants as R
 use Rattle.scan.specs.Services.{AfterScan, refusedScan, scanOf}
 use Rattle.scan.specs.Results.{afterScan}
-use Rattle.scan.specs.Internal.{ranOn, scannedCode, scannedIn, scannedBy, scannedAt, KnownHeader, KnownCounts}
+use Rattle.scan.specs.Inner.Parts.{ranOn, scannedCode, scannedIn, scannedBy, scannedAt, KnownHeader, KnownCounts}
 use Rattle.scan.proofs.Images.{scan-refused, scan-wrong-state, scan-wrong-row, scan-from}
 
 -- ---- the code

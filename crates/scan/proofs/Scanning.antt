@@ -12,11 +12,11 @@ use Rattle.machine.specs.declared.Registers.{Registers}
 use Rattle.machine.specs.declared.Executed.{Executed}
 use Rattle.machine.specs.declared.Stepped.the-variants.{Next, Refused}
 use Rattle.machine.specs.Runs.{run}
-use Rattle.machine.specs.Memory.{heldOf, machineOf, ranOf, RangesIn}
+use Rattle.machine.specs.Inner.Memory.{heldOf, machineOf, ranOf, RangesIn}
 use Rattle.machine.proofs.Copies.{over-all, length-over}
 use Rattle.scan.specs.declared.Scanned.{Scanned}
 use Rattle.scan.specs.Results.{afterScan, ScannedWithin}
-use Rattle.scan.specs.Internal.{ranOn, scannedCode}
+use Rattle.scan.specs.Inner.Parts.{ranOn, scannedCode}
 use Rattle.scan.specs.declared.Scanned.the-variants as R
 
 -- nothing held, nothing picked, nothing passed over

@@ -15,10 +15,10 @@ use Rattle.semantics.specs.Formula.{State}
 use Rattle.semantics.specs.ReferenceScan.{withInputs}
 use Rattle.semantics.proofs.Unique.{allWithin-inputs}
 use Rattle.bytecode.specs.Check.{checkOf}
-use Rattle.bytecode.specs.Counting.{headerOf, codeOf}
+use Rattle.bytecode.specs.Parts.{headerOf, codeOf}
 use Rattle.bytecode.proofs.Walk.{check-sound}
 use Rattle.machine.specs.Step.{Machine, machine}
-use Rattle.machine.specs.Names.{stateLength, rowLength, stateInRange, rowInRange}
+use Rattle.machine.specs.States.{stateLength, rowLength, stateInRange, rowInRange}
 use Rattle.machine.proofs.Refusals.{RefusedByRules}
 use Rattle.machine.proofs.Ranges.{Within, AllWithin}
 use Rattle.bytecode.proofs.SoundHeader.{header-is}

@@ -1,3 +1,3 @@
 pub mod Services
 pub mod Results
-pub mod Internal
+pub mod Inner

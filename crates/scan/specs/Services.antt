@@ -12,10 +12,10 @@ use Rattle.arith.specs.Values.{Outcome, ok, refusal}
 use Rattle.semantics.specs.Formula.{State}
 use Rattle.semantics.specs.ReferenceScan.{withInputs}
 use Rattle.bytecode.specs.Check.{Header, checkOf}
-use Rattle.bytecode.specs.Counting.{headerOf, codeOf}
+use Rattle.bytecode.specs.Parts.{headerOf, codeOf}
 use Rattle.machine.specs.Step.{Machine, machine}
 use Rattle.machine.specs.Runs.{Ran, run}
-use Rattle.machine.specs.Names.{stateLength, rowLength, startingState, stateInRange, rowInRange}
+use Rattle.machine.specs.States.{stateLength, rowLength, startingState, stateInRange, rowInRange}
 
 -- ---- start
 

@@ -14,10 +14,10 @@ ghost use Rattle.limits.specs.Limits.{imageLimit, nameLimit, stackLimit};
 ghost use Rattle.semantics.specs.Program.{Range};
 ghost use Rattle.semantics.specs.Formula.{State};
 ghost use Rattle.bytecode.specs.Check.{checkOf};
-ghost use Rattle.machine.specs.Memory.{RangesIn};
+ghost use Rattle.machine.specs.Inner.Memory.{RangesIn};
 ghost use Rattle.scan.specs.Services.{startOf, refusedScan, scanOf};
 ghost use Rattle.scan.specs.Results.{afterStart, StartedWithin, afterScan, ScannedWithin};
-ghost use Rattle.scan.specs.Internal.{FittingMemory, scannedCode, scannedIn, scannedBy, scannedAt, KnownHeader, KnownCounts, Scratch};
+ghost use Rattle.scan.specs.Inner.Parts.{FittingMemory, scannedCode, scannedIn, scannedBy, scannedAt, KnownHeader, KnownCounts, Scratch};
 
 // Done, or the number of a refusal and its place.
 pub enum Started {

@@ -10,7 +10,7 @@ use lib.Seq.{drop-cons}
 use Rattle.trace_text.specs.declared.Stage.{Stage}
 use Rattle.trace_text.specs.declared.Stage.the-variants.{LineStart, InLine, Hash, Rows}
 use Rattle.trace_text.specs.Output.{Put}
-use Rattle.trace_text.specs.Internal.{stageAfter, textAfter, stageOver, textOver, isRows, bytesBefore}
+use Rattle.trace_text.specs.Inner.Stages.{stageAfter, textAfter, stageOver, textOver, isRows, bytesBefore}
 use Rattle.trace_text.proofs.Puts.{Putting, putting-next, putting-done}
 
 -- ---- past the line `#`

@@ -13,7 +13,7 @@ use Rattle.arith.proofs.Laws.{same-bool}
 use Rattle.lexer.specs.Lexer.{isDigit, valueOf, valueOn}
 use Rattle.lexer.proofs.Values.{value-grows}
 use Rattle.trace_text.specs.Row.{allDigits, within32, numberOf}
-use Rattle.trace_text.specs.Internal.{signed, inWord32}
+use Rattle.trace_text.specs.Inner.Stages.{signed, inWord32}
 
 -- ---- digits
 

@@ -15,7 +15,7 @@ use Rattle.trace_text.specs.declared.Line.the-variants.{Start}
 use Rattle.trace_text.specs.declared.Stage.the-variants.{LineStart}
 use Rattle.trace_text.specs.Input.{linesOf, bare, rowLines}
 use Rattle.trace_text.specs.Row.{rowOf, longRow, handed, handedOf}
-use Rattle.trace_text.specs.Internal.{bytesBefore, lineAfter, cellsAfter, cellsOf, handedRow, isBegun}
+use Rattle.trace_text.specs.Inner.Stages.{bytesBefore, lineAfter, cellsAfter, cellsOf, handedRow, isBegun}
 use Rattle.trace_text.proofs.Lines.{lineOver, cellsOver, isEnded, bytesIn, line-append, cells-append, over-cons, cells-cons, over-nil, cells-nil}
 use Rattle.trace_text.proofs.Rows.{row-ends, long-length}
 use Rattle.trace_text.proofs.Splitting.{rows-split, line-ended, line-open, open-bare, open-bytes, open-ended, line-begun}

@@ -7,7 +7,7 @@ use lib.Dec.{eqb, ltb}
 use lib.IntN.{ℤ}
 use borrow.Author.Tests.{ltb-true}
 use Rattle.trace_text.specs.declared.Line.{Line}
-use Rattle.trace_text.specs.Internal.{lineAfter, cellsAfter, inWord32, counts, cellsEnd}
+use Rattle.trace_text.specs.Inner.Stages.{lineAfter, cellsAfter, inWord32, counts, cellsEnd}
 
 -- ---- the bytes of a line, and of one that may go on
 

@@ -15,7 +15,7 @@ use Rattle.lexer.specs.Lexer.{isDigit, valueOf, valueOn}
 use Rattle.trace_text.specs.Row.{allDigits, within32, numberOf}
 use Rattle.trace_text.specs.Output.{digitsUpTo, unsignedDecimal, decimalOf, spaced, headLine, rowLine, refusedLine}
 use Rattle.lexer.specs.Names.{tableNames}
-use Rattle.trace_text.specs.Internal.{signed}
+use Rattle.trace_text.specs.Inner.Stages.{signed}
 use Rattle.trace_text.proofs.Decimals.{all-append, value-append, signs, number-signs}
 
 -- ---- a decimal by its last digit

@@ -15,7 +15,7 @@ use Rattle.trace_text.specs.declared.Line.{Line}
 use Rattle.trace_text.specs.declared.Line.the-variants.{Start, Wanted, Minus, Number, NoRow}
 use Rattle.trace_text.specs.Input.{before}
 use Rattle.trace_text.specs.Row.{_andIf_, allDigits, numberOf, fieldsOf, numbersOf, rowOf, longRow, handed, handedOf}
-use Rattle.trace_text.specs.Internal.{longerBy, digitAfter, numberBegins, signed, inWord32, cellsEnd, lineAfter, cellsAfter, countOf, cellsOf}
+use Rattle.trace_text.specs.Inner.Stages.{longerBy, digitAfter, numberBegins, signed, inWord32, cellsEnd, lineAfter, cellsAfter, countOf, cellsOf}
 use Rattle.leb128.proofs.Stores.{sets-append, set-before}
 use Rattle.trace_text.proofs.Lines.{lineOver, cellsOver, over-cons, cells-cons, over-nil, cells-nil}
 use Rattle.trace_text.proofs.Decimals.{all-append, value-append, signs, signs-append, number-in, number-out, none-first, none-minus, none-empty, none-lone, none-large, none-byte}

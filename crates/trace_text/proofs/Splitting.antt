@@ -15,7 +15,7 @@ use Rattle.trace_text.specs.declared.Stage.the-variants.{LineStart, InLi
 use Rattle.trace_text.specs.declared.Line.{Line}
 use Rattle.trace_text.specs.declared.Line.the-variants.{Start, Wanted, Minus, Number, NoRow}
 use Rattle.trace_text.specs.Input.{before, linesOf, bare, isHashLine, textIn, textOf, rowsIn, rowLines}
-use Rattle.trace_text.specs.Internal.{stageAfter, textAfter, textOver, bytesBefore, isBegun, counts, longerBy, digitAfter, numberBegins, lineAfter}
+use Rattle.trace_text.specs.Inner.Stages.{stageAfter, textAfter, textOver, bytesBefore, isBegun, counts, longerBy, digitAfter, numberBegins, lineAfter}
 use Rattle.trace_text.proofs.Lines.{bytesIn, isEnded, lineOver}
 use Rattle.trace_text.proofs.Chunks.{text-rows, none-before}
 

@@ -8,7 +8,7 @@ use lib.ListN.{length}
 use Rattle.trace_text.specs.declared.Stage.{Stage}
 use Rattle.trace_text.specs.declared.Line.{Line}
 use Rattle.trace_text.specs.declared.Line.the-variants.{Start, Wanted, Minus, Number, NoRow}
-use Rattle.trace_text.specs.Internal.{stageAfter, isRows, bytesBefore, counts, countOf}
+use Rattle.trace_text.specs.Inner.Stages.{stageAfter, isRows, bytesBefore, counts, countOf}
 use Rattle.trace_text.proofs.Lines.{counted}
 
 -- no row of over 65 numbers is handed to scan

@@ -7,7 +7,7 @@ ghost use lib.ListN.{drop, set};
 ghost use lib.Seq.{sets};
 ghost use Rattle.trace_text.specs.Row.{longRow};
 ghost use Rattle.trace_text.specs.Output.{Put};
-ghost use Rattle.trace_text.specs.Internal.{textStage, stageAfter, textAfter, stageOver, textOver, isRows, bytesBefore, longerBy, digitAfter, numberBegins, signed as signedOf, inWord32, counts, cellsEnd, lineAfter, cellsAfter, countOf, cellsOf, isBegun};
+ghost use Rattle.trace_text.specs.Inner.Stages.{textStage, stageAfter, textAfter, stageOver, textOver, isRows, bytesBefore, longerBy, digitAfter, numberBegins, signed as signedOf, inWord32, counts, cellsEnd, lineAfter, cellsAfter, countOf, cellsOf, isBegun};
 use lexer::classes;
 
 pub mod print;

@@ -24,7 +24,7 @@ use Rattle.translate.specs.declared.Analysis.{Analysis}
 use Rattle.translate.specs.declared.Analysis.the-variants as N
 use Rattle.translate.specs.Services.{AfterTranslation, translationOf}
 use Rattle.translate.specs.Results.{afterTranslation}
-use Rattle.translate.specs.Internal.{HeaderCounts, measuresOf, analysed, measured, Analyses}
+use Rattle.translate.specs.Inner.Descent.{HeaderCounts, measuresOf, analysed, measured, Analyses}
 use Rattle.scan.specs.declared.Started.{Started}
 use Rattle.scan.specs.Services.{AfterStart, startOf}
 use Rattle.scan.specs.Results.{afterStart}
@@ -37,7 +37,7 @@ use Rattle.trace_text.specs.declared.Line.the-variants.{Start}
 use Rattle.tracer.specs.declared.Tracer.the-variants as T
 use Rattle.tracer.specs.Printed.{opening}
 use Rattle.tracer.specs.Session.{lineRoom, inRows}
-use Rattle.tracer.specs.Post.{PutWhole, AcceptedText, Begins, Opens}
+use Rattle.tracer.specs.Inner.Contracts.{PutWhole, AcceptedText, Begins, Opens}
 
 -- ---- what analyse says
 

@@ -19,7 +19,7 @@ use Rattle.trace_text.specs.declared.Stage.{Stage}
 use Rattle.trace_text.specs.declared.Stage.the-variants.{LineStart, InLine, Hash, Rows}
 use Rattle.trace_text.specs.declared.Line.{Line}
 use Rattle.trace_text.specs.declared.Line.the-variants.{Start}
-use Rattle.trace_text.specs.Internal.{stageAfter, textAfter, textOver, isRows, bytesBefore, lineAfter, cellsAfter, cellsOf, handedRow, isBegun}
+use Rattle.trace_text.specs.Inner.Stages.{stageAfter, textAfter, textOver, isRows, bytesBefore, lineAfter, cellsAfter, cellsOf, handedRow, isBegun}
 use Rattle.trace_text.proofs.Chunks.{text-rows, none-before, before-cons}
 use Rattle.trace_text.proofs.Handed.{rowsRead}
 use Rattle.tracer.specs.Printed.{opening, replyLines}

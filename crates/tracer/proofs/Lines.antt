@@ -14,12 +14,12 @@ use Rattle.scan.specs.Results.{scanAnswer, afterScan}
 use Rattle.correctness.specs.TraceCorrect.{verdictOf}
 use Rattle.trace_text.specs.declared.Line.{Line}
 use Rattle.trace_text.specs.declared.Line.the-variants.{Start}
-use Rattle.trace_text.specs.Internal.{lineAfter, cellsAfter, countOf, cellsOf, handedRow}
+use Rattle.trace_text.specs.Inner.Stages.{lineAfter, cellsAfter, countOf, cellsOf, handedRow}
 use Rattle.trace_text.specs.Output.{Put, rowLine}
 use Rattle.trace_text.proofs.Within.{count-within}
 use Rattle.tracer.specs.Printed.{refusalOf}
 use Rattle.tracer.specs.Session.{lineRoom, Session, inRows, nextNumber, scanLine, after, putBy}
-use Rattle.tracer.specs.Post.{PutWhole}
+use Rattle.tracer.specs.Inner.Contracts.{PutWhole}
 use Rattle.tracer.proofs.Begun.{put-whole}
 
 -- a row that was read is a part of the cells

@@ -20,7 +20,7 @@ use Rattle.trace_text.specs.declared.Stage.{Stage}
 use Rattle.trace_text.specs.declared.Stage.the-variants.{LineStart, InLine, Hash, Rows}
 use Rattle.trace_text.specs.declared.Line.{Line}
 use Rattle.trace_text.specs.declared.Line.the-variants.{Start}
-use Rattle.trace_text.specs.Internal.{stageAfter, textAfter, stageOver, textOver, isRows, bytesBefore, lineAfter, cellsAfter, cellsOf, handedRow, isBegun}
+use Rattle.trace_text.specs.Inner.Stages.{stageAfter, textAfter, stageOver, textOver, isRows, bytesBefore, lineAfter, cellsAfter, cellsOf, handedRow, isBegun}
 use Rattle.trace_text.proofs.Chunks.{rows-of, stage-rows, text-rows, none-before, before-cons}
 use Rattle.trace_text.proofs.Within.{rows-within}
 use Rattle.trace_text.proofs.Lengths.{put-cut}
@@ -28,7 +28,7 @@ use Rattle.tracer.specs.declared.Tracer.{Tracer}
 use Rattle.tracer.specs.declared.Tracer.the-variants as T
 use Rattle.tracer.specs.Printed.{opening}
 use Rattle.tracer.specs.Session.{textRoom, lineRoom, Session, inText, inRows, passedOver, ifText, ifRows, sessionOf, behindText, nextNumber, scanLine, longerText, after, putBy, fedOver, putOver, atEnd, takenWith, takenOf}
-use Rattle.tracer.specs.Post.{PutWhole, Opens, Takes}
+use Rattle.tracer.specs.Inner.Contracts.{PutWhole, Opens, Takes}
 use Rattle.tracer.proofs.Feeding.{fed-append, put-append, text-cut, cut-within, cut-again}
 
 -- ---- a part of the lent memory that is cut at its end

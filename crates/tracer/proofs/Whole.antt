@@ -21,12 +21,12 @@ use Rattle.trace_text.specs.declared.Stage.the-variants.{LineStart}
 use Rattle.trace_text.specs.declared.Line.the-variants.{Start}
 use Rattle.trace_text.specs.Input.{textOf, rowLines}
 use Rattle.trace_text.specs.Row.{handedOf}
-use Rattle.trace_text.specs.Internal.{textOver, bytesBefore}
+use Rattle.trace_text.specs.Inner.Stages.{textOver, bytesBefore}
 use Rattle.trace_text.proofs.Splitting.{text-split, text-seen, text-over}
 use Rattle.trace_text.proofs.Handed.{rows-handed}
 use Rattle.tracer.specs.Printed.{opening, closing, replyLines, printed}
 use Rattle.tracer.specs.Session.{textRoom, Session, inText, behindText}
-use Rattle.tracer.specs.Post.{Takes}
+use Rattle.tracer.specs.Inner.Contracts.{Takes}
 use Rattle.tracer.specs.Calls.{Calls, call}
 use Rattle.tracer.proofs.Feeding.{total, scanLines, calls-total, rows-total, lines-replies, passed-total, text-total}
 

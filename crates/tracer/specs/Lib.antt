@@ -1,4 +1,4 @@
 pub mod Printed
 pub mod Session
-pub mod Post
 pub mod Calls
+pub mod Inner

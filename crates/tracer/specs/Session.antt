@@ -19,7 +19,7 @@ use Rattle.trace_text.specs.declared.Stage.{Stage}
 use Rattle.trace_text.specs.declared.Stage.the-variants as G
 use Rattle.trace_text.specs.declared.Line.{Line}
 use Rattle.trace_text.specs.declared.Line.the-variants as L
-use Rattle.trace_text.specs.Internal.{stageAfter, textAfter, bytesBefore, lineAfter, cellsAfter, cellsOf, handedRow, isBegun}
+use Rattle.trace_text.specs.Inner.Stages.{stageAfter, textAfter, bytesBefore, lineAfter, cellsAfter, cellsOf, handedRow, isBegun}
 use Rattle.tracer.specs.declared.Tracer.{Tracer}
 use Rattle.tracer.specs.declared.Tracer.the-variants as T
 use Rattle.tracer.specs.Printed.{refusalOf, opening}

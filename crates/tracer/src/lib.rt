@@ -10,12 +10,12 @@ ghost use mathlib.Core.List.{List};
 ghost use lib.IntN.{ℤ};
 ghost use lib.ListN.{length, take};
 ghost use Rattle.limits.specs.Answer.{accepted};
-ghost use Rattle.declarations.specs.Post.{TableRoom};
+ghost use Rattle.declarations.specs.Inner.Tables.{TableRoom};
 ghost use Rattle.semantics.specs.Program.{Program};
 ghost use Rattle.grammar.specs.Parse.{programOf};
-ghost use Rattle.trace_text.specs.Internal.{isRows};
+ghost use Rattle.trace_text.specs.Inner.Stages.{isRows};
 ghost use Rattle.tracer.specs.Session.{Session, textRoom, lineRoom, sessionOf, atEnd};
-ghost use Rattle.tracer.specs.Post.{Memory, AcceptedText, Begins, Opens, Takes};
+ghost use Rattle.tracer.specs.Inner.Contracts.{Memory, AcceptedText, Begins, Opens, Takes};
 
 mod rows;
 

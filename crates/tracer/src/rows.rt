@@ -7,10 +7,10 @@ ghost use lib.ListN.{length};
 ghost use Rattle.scan.specs.Services.{scanOf};
 ghost use Rattle.scan.specs.Results.{scanAnswer};
 ghost use Rattle.correctness.specs.TraceCorrect.{verdictOf};
-ghost use Rattle.trace_text.specs.Internal.{handedRow, cellsOf};
+ghost use Rattle.trace_text.specs.Inner.Stages.{handedRow, cellsOf};
 ghost use Rattle.tracer.specs.Printed.{refusalOf};
 ghost use Rattle.tracer.specs.Session.{Session, lineRoom, nextNumber, scanLine, after, putBy};
-ghost use Rattle.tracer.specs.Post.{PutWhole, Takes};
+ghost use Rattle.tracer.specs.Inner.Contracts.{PutWhole, Takes};
 
 // Room for a line, and for the head with the start's line.
 const LINE_ROOM: usize = 2048;

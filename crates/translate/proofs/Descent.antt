@@ -13,20 +13,20 @@ use Rattle.leb128.proofs.Laws.{groups-one}
 use Rattle.leb128.proofs.RoundTrip.{sets-join}
 use Rattle.grammar.specs.Parsed.{Parsed, accepted, refused, andThen}
 use Rattle.grammar.specs.Declarations.{declarations, spellings}
-use Rattle.grammar.specs.Internal.{Named}
+use Rattle.grammar.specs.Inner.Names.{Named}
 use Rattle.grammar.specs.Rules.{rulesFrom}
-use Rattle.grammar.specs.Emitted.{header, bytesR, image}
+use Rattle.grammar.specs.Inner.Bytes.{header, bytesR, image}
 use Rattle.grammar.specs.Parse.{program}
-use Rattle.declarations.specs.Post.{TableHolds}
+use Rattle.declarations.specs.Inner.Tables.{TableHolds}
 use Rattle.expressions.specs.declared.scope.Names.{Names}
-use Rattle.arith.specs.Flags.{flagsOf}
-use Rattle.expressions.specs.Scopes.{scopeOf}
+use Rattle.arith.specs.Inner.Flags.{flagsOf}
+use Rattle.expressions.specs.Inner.Scopes.{scopeOf}
 use Rattle.lexer.specs.Results.{reachedAt}
 use Rattle.lexer.specs.declared.Step.{Step}
 use Rattle.lexer.specs.declared.Step.the-variants.{Refused}
 use Rattle.grammar.proofs.Combine.{same-value}
 use Rattle.phrases.proofs.Writing.{writes, refuses}
-use Rattle.translate.specs.Internal.{Declarations, headingOf, scopeAfter, Descends}
+use Rattle.translate.specs.Inner.Descent.{Declarations, headingOf, scopeAfter, Descends}
 use Rattle.translate.proofs.Stores.{counts-last}
 use Rattle.translate.proofs.Ways.{never, program-heading, names-few, HeadingRead}
 

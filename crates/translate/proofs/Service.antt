@@ -14,7 +14,7 @@ use Rattle.limits.specs.Answer as A
 use Rattle.semantics.specs.Program.{Program}
 use Rattle.bytecode.specs.Translation.{imageOf}
 use Rattle.grammar.specs.Parsed.{Parsed, accepted, refused}
-use Rattle.grammar.specs.Emitted.{header, bytesR, image}
+use Rattle.grammar.specs.Inner.Bytes.{header, bytesR, image}
 use Rattle.grammar.specs.Parse.{program, parse, answerOf, programOf}
 use Rattle.grammar.proofs.Image.{image-emitted}
 use Rattle.grammar.proofs.Accepted.{parse-translatable, parse-few, parse-growth, parse-short as accepted-short}
@@ -25,13 +25,13 @@ use Rattle.lexer.specs.declared.Place.{Place}
 use Rattle.lexer.specs.declared.Step.{Step}
 use Rattle.lexer.specs.declared.Step.the-variants.{Done, Refused}
 use Rattle.phrases.proofs.Writing.{got, refused-part}
-use Rattle.declarations.specs.Post.{TableHolds}
+use Rattle.declarations.specs.Inner.Tables.{TableHolds}
 use Rattle.translate.specs.declared.Analysis.the-variants as N
 use Rattle.translate.specs.declared.Translated.{Translated}
 use Rattle.translate.specs.declared.Translated.the-variants as T
 use Rattle.translate.specs.Services.{AfterTranslation, translated, translationOf}
 use Rattle.translate.specs.Results.{translatedAnswer, afterTranslation, TranslatedWithin}
-use Rattle.translate.specs.Internal.{measured, Analyses, Descends}
+use Rattle.translate.specs.Inner.Descent.{measured, Analyses, Descends}
 use Rattle.leb128.proofs.Stores.{sets-past, take-sets}
 use Rattle.translate.proofs.Ways.{never}
 use Rattle.translate.proofs.Descent.{image-bytes}

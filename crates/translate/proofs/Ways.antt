@@ -12,16 +12,16 @@ use Rattle.semantics.specs.Program.{Name, Program}
 use Rattle.leb128.proofs.RoundTrip.{sets-join}
 use Rattle.grammar.specs.Parsed.{Parsed, accepted, refused, andThen}
 use Rattle.grammar.specs.Declarations.{declarations, spellings}
-use Rattle.grammar.specs.Internal.{Named}
+use Rattle.grammar.specs.Inner.Names.{Named}
 use Rattle.grammar.specs.Rules.{rulesFrom}
-use Rattle.grammar.specs.Emitted.{header}
+use Rattle.grammar.specs.Inner.Bytes.{header}
 use Rattle.grammar.specs.Parse.{program}
 use Rattle.grammar.proofs.Whole.{Ends, Names, declarations-fit, named}
 use Rattle.grammar.proofs.Size.{Pays, declarations-pay}
-use Rattle.declarations.specs.Post.{TableHolds, headerAfter}
+use Rattle.declarations.specs.Inner.Tables.{TableHolds, headerAfter}
 use Rattle.declarations.proofs.Known.{AllDeclared, header-joined}
 use Rattle.grammar.proofs.Combine.{then-then}
-use Rattle.translate.specs.Internal.{Declarations, headingOf, scopeAfter}
+use Rattle.translate.specs.Inner.Descent.{Declarations, headingOf, scopeAfter}
 
 -- ---- what follows what
 

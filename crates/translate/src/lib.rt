@@ -7,10 +7,10 @@ ghost use Prim.Native.Nat.{_+_, _*_, _≤_, _<_};
 ghost use lib.ListN.{length, drop};
 ghost use Rattle.limits.specs.Limits.{textLimit};
 ghost use Rattle.grammar.specs.Parse.{program, parse};
-ghost use Rattle.declarations.specs.Post.{TableRoom};
+ghost use Rattle.declarations.specs.Inner.Tables.{TableRoom};
 ghost use Rattle.translate.specs.Services.{translationOf};
 ghost use Rattle.translate.specs.Results.{afterTranslation, TranslatedWithin};
-ghost use Rattle.translate.specs.Internal.{Descends, Analyses};
+ghost use Rattle.translate.specs.Inner.Descent.{Descends, Analyses};
 
 // The image's length and the counts of inputs and of names; or a refusal's number and place.
 pub enum Analysis {

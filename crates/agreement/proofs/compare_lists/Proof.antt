@@ -4,7 +4,7 @@ use mathlib.Core.Path.{ap}
 use Prim.Native.Nat.{_+_, _-_}
 use native.Mathlib.Omega.{arith}
 use borrow.Author.Needs.{needs}
-use Rattle.agreement.specs.Results.{comparedOf}
+use Rattle.agreement.specs.Inner.Comparison.{comparedOf}
 use Rattle.agreement.proofs.Parts.{Comparing, comparing, compared, part-differs, separator-known, sign-differs, next-part}
 use Rattle.agreement.proofs.compare_lists.Statement.{statement}
 use Rattle.agreement.proofs.compare_lists.Tie as tie

@@ -1,6 +1,6 @@
 -- `agreement::compare_part` meets its contract: bytes that stand once more, or the tokens compared. Assumes nothing.
 use mathlib.Core.Path.{ap, sym, _∙_, subst}
-use Rattle.agreement.specs.Results.{comparedOf, RepetitionBy}
+use Rattle.agreement.specs.Inner.Comparison.{comparedOf, RepetitionBy}
 use borrow.Author.Needs.{needs}
 use Rattle.agreement.proofs.compare_part.Statement.{statement}
 use Rattle.agreement.proofs.compare_part.Tie as tie

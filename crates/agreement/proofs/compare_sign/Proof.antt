@@ -2,7 +2,7 @@
 use mathlib.Core.Path.{ap, _∙_}
 use Rattle.lexer.proofs.Tokens.{is-token, is-fault}
 use Rattle.phrases.proofs.Laws.{same-kinds, other-kinds}
-use Rattle.agreement.specs.Results.{comparedOf}
+use Rattle.agreement.specs.Inner.Comparison.{comparedOf}
 use Rattle.agreement.proofs.Parts.{sign-fault, sign-wanted, sign-other}
 use borrow.Author.Needs.{needs}
 use Rattle.agreement.proofs.compare_sign.Statement.{statement}

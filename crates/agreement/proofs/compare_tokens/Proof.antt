@@ -5,7 +5,7 @@ use Prim.Native.Nat.{_-_}
 use native.Mathlib.Omega.{arith}
 use borrow.Author.Needs.{needs}
 use Rattle.lexer.proofs.Tokens.{is-token, is-fault}
-use Rattle.agreement.specs.Results.{comparedOf}
+use Rattle.agreement.specs.Inner.Comparison.{comparedOf}
 use Rattle.agreement.proofs.Progress.{progress}
 use Rattle.agreement.proofs.Parts.{Matching, matching, matched, unmatched-fault, found-fault, unmatched, next-tokens}
 use Rattle.agreement.proofs.compare_tokens.Statement.{statement}

@@ -5,7 +5,7 @@ use native.Mathlib.Omega.{arith}
 use borrow.Author.Needs.{needs}
 use lib.ListN.{length, take}
 use lib.Seq.{length-take-le, take-at}
-use Rattle.bytecode.specs.Counting.{headerOf, rangesFrom, lows, highs}
+use Rattle.bytecode.specs.Parts.{headerOf, rangesFrom, lows, highs}
 use Rattle.before.proofs.Tests.{stored, begun-by}
 use Rattle.before.proofs.before_names.Statement.{statement}
 use Rattle.before.proofs.before_names.Tie as tie

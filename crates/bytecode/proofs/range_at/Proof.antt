@@ -4,7 +4,7 @@ use borrow.Author.Needs.{needs}
 use Rattle.arith.proofs.Laws.{same32}
 use Rattle.leb128.specs.Results.{signedRead}
 use Rattle.bytecode.proofs.Heading.{signed-fits}
-use Rattle.bytecode.specs.Counting.{rangeHere}
+use Rattle.bytecode.specs.Parts.{rangeHere}
 use Rattle.bytecode.proofs.range_at.Statement.{statement}
 use Rattle.bytecode.proofs.range_at.Tie as tie
 

@@ -1,8 +1,8 @@
 -- `cases::agreeing_list` meets its contract. Assumes nothing.
 use mathlib.Core.Path.{sym, ap, _∙_}
 use Rattle.grammar.specs.Rules.{agreeingList}
-use Rattle.phrases.specs.Results.{parsedOf, nothing}
-use Rattle.agreement.specs.Results.{comparedOf}
+use Rattle.phrases.specs.Inner.Steps.{parsedOf, nothing}
+use Rattle.agreement.specs.Inner.Comparison.{comparedOf}
 use Rattle.cases.proofs.Ways.{first-found-as}
 use Rattle.cases.proofs.Agreeing.{spans-read, agreed}
 use borrow.Author.Needs.{needs}

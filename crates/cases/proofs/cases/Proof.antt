@@ -8,7 +8,7 @@ use Rattle.limits.specs.Limits.{caseLimit}
 use Rattle.lexer.specs.Bytes.{part}
 use Rattle.lexer.specs.Results.{kindOf}
 use Rattle.lexer.proofs.Tokens.{is-fault}
-use Rattle.expressions.specs.Scopes.{scopeOf}
+use Rattle.expressions.specs.Inner.Scopes.{scopeOf}
 use Rattle.expressions.proofs.Scopes.{few-names}
 use Rattle.phrases.proofs.Laws.{same-kinds, other-kinds}
 use Rattle.phrases.proofs.Writing.{got, refused-part}

@@ -1,7 +1,7 @@
 -- `cases::first_found` meets its contract. Assumes nothing.
 use mathlib.Core.Path.{sym, ap, _∙_}
-use Rattle.phrases.specs.Results.{parsedOf, nothing}
-use Rattle.cases.specs.Results.{placeOnly}
+use Rattle.phrases.specs.Inner.Steps.{parsedOf, nothing}
+use Rattle.cases.specs.Inner.Places.{placeOnly}
 use Rattle.cases.proofs.Ways.{place-accepted, place-refused, first-found-before, first-found-here, first-found-late, first-found-after}
 use borrow.Author.Needs.{needs}
 use Rattle.cases.proofs.first_found.Statement.{statement}

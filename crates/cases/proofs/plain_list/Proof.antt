@@ -6,7 +6,7 @@ use borrow.Author.Needs.{needs}
 use Rattle.lexer.specs.Token.{kindNumber}
 use Rattle.lexer.specs.Results.{kindOf}
 use Rattle.lexer.proofs.Tokens.{is-fault}
-use Rattle.expressions.specs.Scopes.{scopeOf}
+use Rattle.expressions.specs.Inner.Scopes.{scopeOf}
 use Rattle.expressions.proofs.Steps.{accepted-by, refused-by}
 use Rattle.expressions.proofs.Scopes.{few-names}
 use Rattle.phrases.proofs.Laws.{same-kinds, other-kinds}

@@ -7,7 +7,7 @@ use Rattle.bytecode.specs.Instructions.{instructionOf}
 use Rattle.bytecode.specs.Results.{fetchedRead, FetchedWithin}
 use Rattle.bytecode.specs.Check.{ends}
 use Rattle.checker.specs.declared.Verdict.the-variants as J
-use Rattle.checker.specs.Represented.{knownOf, advancedKnown, SmallAfter}
+use Rattle.checker.specs.Inner.Walk.{knownOf, advancedKnown, SmallAfter}
 use Rattle.checker.proofs.Walking.{Walking, walks-here, walks-on, walks-step, judges-on, judges-end, judges-malformed, judges-broken}
 use borrow.Author.Needs.{needs}
 use native.Mathlib.Omega.{arith}

@@ -3,7 +3,7 @@ use mathlib.Core.Path.{ap, _∙_}
 use mir.Syntax.{w32}
 use mir.Val.{SFits}
 use Rattle.arith.proofs.Laws.{same32}
-use Rattle.phrases.specs.Results.{parsedOf, valueTold}
+use Rattle.phrases.specs.Inner.Steps.{parsedOf, valueTold}
 use Rattle.declarations.proofs.Bounds.{absent-out, absent-in}
 use borrow.Author.Needs.{needs}
 use Rattle.declarations.proofs.absent.Statement.{statement}

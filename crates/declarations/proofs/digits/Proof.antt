@@ -5,7 +5,7 @@ use mir.Val.{SFits}
 use Rattle.arith.proofs.Laws.{same32}
 use Rattle.lexer.specs.Token.{kindNumber, digits as digits-kind}
 use Rattle.lexer.proofs.KindNumbers.{kind-is, kind-is-not}
-use Rattle.phrases.specs.Results.{parsedOf, valueTold}
+use Rattle.phrases.specs.Inner.Steps.{parsedOf, valueTold}
 use Rattle.declarations.proofs.Bounds.{no-digits, digits-in, digits-out}
 use borrow.Author.Needs.{needs}
 use Rattle.declarations.proofs.digits.Statement.{statement}

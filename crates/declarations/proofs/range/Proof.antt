@@ -9,7 +9,7 @@ use Rattle.lexer.specs.Token.{dots}
 use Rattle.lexer.specs.Results.{kindOf}
 use Rattle.grammar.specs.Parsed.{accepted, sign, expected}
 use Rattle.grammar.specs.Declarations.{inRange, boundAt, startAt}
-use Rattle.phrases.specs.Results.{parsedOf, nothing, valueTold}
+use Rattle.phrases.specs.Inner.Steps.{parsedOf, nothing, valueTold}
 use Rattle.phrases.proofs.Writing.{refuses, writes}
 use Rattle.declarations.proofs.Bounds.{bound-kept, start-kept}
 use Rattle.declarations.proofs.Ranges.{no-low, no-dots, no-high, no-start, whole-range}

@@ -6,7 +6,7 @@ use Rattle.arith.proofs.Laws.{same32}
 use Rattle.lexer.specs.Token.{kindNumber, initWord, semicolon}
 use Rattle.lexer.specs.Results.{kindOf}
 use Rattle.lexer.proofs.KindNumbers.{kind-is, kind-is-not}
-use Rattle.phrases.specs.Results.{parsedOf, nothing, valueTold}
+use Rattle.phrases.specs.Inner.Steps.{parsedOf, nothing, valueTold}
 use Rattle.lexer.proofs.Tokens.{is-token, is-fault}
 use Rattle.declarations.proofs.Bounds.{no-token, no-sign, start-fault, start-refused, start-open, start-closed, start-absent, start-other}
 use borrow.Author.Needs.{needs}

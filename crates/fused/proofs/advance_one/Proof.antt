@@ -7,7 +7,7 @@ use Rattle.leb128.specs.Results.{unsignedRead}
 use Rattle.bytecode.specs.Instructions.{instructionOf, operationOf, comparisonOf, hasOperand}
 use Rattle.bytecode.proofs.Codes.{operation-of, comparison-of, none-below, none-above, from-four, above}
 use Rattle.bytecode.proofs.Fetching.{number-within}
-use Rattle.checker.specs.Represented.{knownOf}
+use Rattle.checker.specs.Inner.Walk.{knownOf}
 use Rattle.checker.proofs.Steps.{operation-is, comparison-is, both-is, either-is, negate-is, negated-is, constant-is}
 use Rattle.fused.proofs.Joining.{arrives, breaks, breaks-otherwise, alone, with-operand, malformed, no-operand, calculated-is, related-is}
 use Rattle.fused.proofs.Passing.{over-moves-by}

@@ -1,6 +1,6 @@
 -- `fused::onward` meets its contract. Assumes nothing.
 use mathlib.Core.Path.{sym, ap}
-use Rattle.fused.specs.Together.{movedOf}
+use Rattle.fused.specs.Inner.Passes.{movedOf}
 use borrow.Author.Needs.{needs}
 use Rattle.fused.proofs.onward.Statement.{statement}
 use Rattle.fused.proofs.onward.Tie as tie

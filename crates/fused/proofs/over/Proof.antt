@@ -1,6 +1,6 @@
 -- `fused::over` meets its contract. Assumes nothing.
 use mathlib.Core.Path.{sym, ap}
-use Rattle.fused.specs.Together.{passedOver}
+use Rattle.fused.specs.Inner.Passes.{passedOver}
 use borrow.Author.Needs.{needs}
 use Rattle.fused.proofs.over.Statement.{statement}
 use Rattle.fused.proofs.over.Tie as tie

@@ -1,7 +1,7 @@
 -- `fused::refused` meets its contract: the walk alone has gone on. Assumes nothing.
 use mathlib.Core.Path.{refl, subst}
 use lib.ListN.{length}
-use Rattle.checker.specs.Represented.{knownOf}
+use Rattle.checker.specs.Inner.Walk.{knownOf}
 use Rattle.checker.specs.Results.{Judges, VerdictWithin}
 use borrow.Author.Needs.{needs}
 use Rattle.fused.proofs.refused.Statement.{statement}

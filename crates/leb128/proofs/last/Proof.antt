@@ -5,7 +5,7 @@ use native.Mathlib.Omega.{arith}
 use borrow.Author.Needs.{needs}
 use borrow.Author.Tests.{lt-ltb, le-leb, lt-leb, eq-eqb, ne-eqb}
 use Rattle.leb128.specs.Numbers.{below32}
-use Rattle.leb128.specs.Internal.{joinedGroups}
+use Rattle.leb128.specs.Inner.Groups.{joinedGroups}
 use Rattle.leb128.proofs.Laws.{low-below, joined-large}
 use Rattle.leb128.proofs.last.Statement.{statement}
 use Rattle.leb128.proofs.last.Tie as tie

@@ -6,7 +6,7 @@ use native.Mathlib.Omega.{arith}
 use lib.ListN.{length, drop}
 use borrow.Author.Needs.{needs}
 use Rattle.leb128.specs.Numbers.{numberIn, below32, numberAt}
-use Rattle.leb128.specs.Internal.{joinedGroups}
+use Rattle.leb128.specs.Inner.Groups.{joinedGroups}
 use Rattle.leb128.proofs.Laws.{at-end, at-last, low-below, joined-first, joined-at, joined-over}
 use Rattle.leb128.proofs.long_at.Statement.{statement}
 use Rattle.leb128.proofs.long_at.Tie as tie

@@ -7,8 +7,8 @@ use mir.Facts.{toZ-ofZ}
 use Rattle.bytecode.proofs.Codes.{none-below, none-above, above}
 use Rattle.machine.proofs.Codes.{operation-code, comparison-code, truth-comparison, related-same}
 use Rattle.machine.proofs.Changes.{names-length}
-use Rattle.machine.specs.Internal.{truthOf}
-use Rattle.machine.specs.Memory.{heldOf}
+use Rattle.machine.specs.Inner.Groups.{truthOf}
+use Rattle.machine.specs.Inner.Memory.{heldOf}
 use Rattle.bytecode.specs.Instructions.{instructionOf}
 use Rattle.machine.proofs.act.Statement.{statement}
 use Rattle.machine.proofs.act.Tie as tie

@@ -4,7 +4,7 @@ use native.Mathlib.Omega.{arith}
 use mathlib.Core.Path.{_≡_, refl, _∙_}
 use lib.ListN.{length}
 use borrow.Author.Needs.{needs}
-use Rattle.replay.specs.Internal.{records}
+use Rattle.replay.specs.Inner.Records.{records}
 use Rattle.replay.proofs.Scans.{Scanning, scanning-goes, scanning-ends}
 use Rattle.replay.proofs.scan_rows.Statement.{statement}
 use Rattle.replay.proofs.scan_rows.Tie as tie

@@ -1,6 +1,6 @@
 -- `rules::finish` meets its contract. Assumes nothing.
 use mathlib.Core.Path.{_∙_}
-use Rattle.rules.specs.Post.{endOf}
+use Rattle.rules.specs.Inner.Spans.{endOf}
 use borrow.Author.Tests.{eq-eqb, ne-eqb}
 use borrow.Author.Needs.{needs}
 use Rattle.rules.proofs.finish.Statement.{statement}

@@ -4,7 +4,7 @@ use native.Mathlib.Omega.{arith}
 use Rattle.limits.specs.Answer.{Answer}
 use Rattle.checker.specs.Results.{CheckedWithin, checkedAnswer}
 use Rattle.scan.specs.Services.{refusedScan}
-use Rattle.scan.specs.Internal.{scannedBy}
+use Rattle.scan.specs.Inner.Parts.{scannedBy}
 use borrow.Author.Needs.{needs}
 use Rattle.scan.proofs.after_check.Statement.{statement}
 use Rattle.scan.proofs.after_check.Tie as tie

@@ -5,7 +5,7 @@ use native.Mathlib.Omega.{arith}
 use lib.ListN.{length}
 use Rattle.bytecode.specs.Results.{countedAnswer, CountedWithin}
 use Rattle.checker.proofs.Checking.{too-long}
-use Rattle.scan.specs.Internal.{KnownCounts}
+use Rattle.scan.specs.Inner.Parts.{KnownCounts}
 use Rattle.scan.proofs.Images.{scan-refused}
 use Rattle.scan.proofs.Joined.{counts-broken, state-length, row-length}
 use borrow.Author.Needs.{needs}

@@ -4,8 +4,8 @@ use Prim.Native.Nat.{_≤_}
 use native.Mathlib.Omega.{arith}
 use lib.Seq.{length-take-le}
 use lib.ListN.{length}
-use Rattle.bytecode.specs.Counting.{rangesFrom}
-use Rattle.fused.specs.Header.{RangesStand, PlacedBy}
+use Rattle.bytecode.specs.Parts.{rangesFrom}
+use Rattle.fused.specs.Inner.Header.{RangesStand, PlacedBy}
 use Rattle.scan.proofs.Images.{ranges-stored}
 use Rattle.scan.proofs.Joined.{header-known, ranges-broken, names-joined}
 use borrow.Author.Needs.{needs}

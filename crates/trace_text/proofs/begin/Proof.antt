@@ -1,7 +1,7 @@
 -- `trace_text::begin` meets its contract. Assumes nothing.
 use borrow.Author.Tests.{eq-eqb, ne-eqb}
 use borrow.Author.Needs.{needs}
-use Rattle.trace_text.specs.Internal.{numberBegins}
+use Rattle.trace_text.specs.Inner.Stages.{numberBegins}
 use Rattle.trace_text.proofs.begin.Statement.{statement}
 use Rattle.trace_text.proofs.begin.Tie as tie
 

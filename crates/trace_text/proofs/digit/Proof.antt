@@ -3,7 +3,7 @@ use mathlib.Core.Path.{sym, ap, _∙_}
 use Prim.Native.Nat.{ℕ, _%_}
 use borrow.Author.Tests.{not-true, not-false}
 use borrow.Author.Needs.{needs}
-use Rattle.trace_text.specs.Internal.{longerBy, digitAfter}
+use Rattle.trace_text.specs.Inner.Stages.{longerBy, digitAfter}
 use Rattle.trace_text.proofs.Decimals.{digit-low}
 use Rattle.trace_text.proofs.digit.Statement.{statement}
 use Rattle.trace_text.proofs.digit.Tie as tie

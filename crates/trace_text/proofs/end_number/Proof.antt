@@ -6,7 +6,7 @@ use borrow.Author.Needs.{needs}
 use mir.Syntax.{w32}
 use mir.Val.{SFits}
 use Rattle.arith.proofs.Laws.{same32}
-use Rattle.trace_text.specs.Internal.{cellsEnd}
+use Rattle.trace_text.specs.Inner.Stages.{cellsEnd}
 use Rattle.trace_text.proofs.end_number.Statement.{statement}
 use Rattle.trace_text.proofs.end_number.Tie as tie
 

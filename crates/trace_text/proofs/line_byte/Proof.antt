@@ -1,7 +1,7 @@
 -- `trace_text::line_byte` meets its contract. Assumes nothing.
 use mathlib.Core.Path.{refl}
 use borrow.Author.Needs.{needs}
-use Rattle.trace_text.specs.Internal.{lineAfter, cellsAfter}
+use Rattle.trace_text.specs.Inner.Stages.{lineAfter, cellsAfter}
 use Rattle.trace_text.proofs.line_byte.Statement.{statement}
 use Rattle.trace_text.proofs.line_byte.Tie as tie
 

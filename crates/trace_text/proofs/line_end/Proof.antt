@@ -6,7 +6,7 @@ use lib.IntN.{ℤ}
 use lib.Seq.{sets}
 use borrow.Author.Needs.{needs}
 use Rattle.trace_text.specs.Row.{longRow}
-use Rattle.trace_text.specs.Internal.{countOf, cellsOf}
+use Rattle.trace_text.specs.Inner.Stages.{countOf, cellsOf}
 use Rattle.trace_text.proofs.Lines.{counted, not-counted}
 use Rattle.trace_text.proofs.line_end.Statement.{statement}
 use Rattle.trace_text.proofs.line_end.Tie as tie

@@ -2,7 +2,7 @@
 use native.Mathlib.Omega.{arith}
 use borrow.Author.Tests.{le-leb, lt-leb}
 use borrow.Author.Needs.{needs}
-use Rattle.trace_text.specs.Internal.{longerBy}
+use Rattle.trace_text.specs.Inner.Stages.{longerBy}
 use Rattle.trace_text.proofs.longer.Statement.{statement}
 use Rattle.trace_text.proofs.longer.Tie as tie
 

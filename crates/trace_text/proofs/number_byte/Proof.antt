@@ -3,7 +3,7 @@ use mathlib.Core.Path.{refl, sym, _∙_}
 use native.Mathlib.Omega.{arith}
 use borrow.Author.Tests.{eq-eqb, ne-eqb}
 use borrow.Author.Needs.{needs}
-use Rattle.trace_text.specs.Internal.{lineAfter, cellsAfter}
+use Rattle.trace_text.specs.Inner.Stages.{lineAfter, cellsAfter}
 use Rattle.trace_text.proofs.Lines.{counted}
 use Rattle.trace_text.proofs.number_byte.Statement.{statement}
 use Rattle.trace_text.proofs.number_byte.Tie as tie

@@ -1,7 +1,7 @@
 -- `trace_text::put_text` meets its contract. Assumes nothing.
 use borrow.Author.Tests.{eq-eqb, ne-eqb}
 use borrow.Author.Needs.{needs}
-use Rattle.trace_text.specs.Internal.{textAfter}
+use Rattle.trace_text.specs.Inner.Stages.{textAfter}
 use Rattle.trace_text.proofs.Puts.{put-nothing, put-then}
 use Rattle.trace_text.proofs.put_text.Statement.{statement}
 use Rattle.trace_text.proofs.put_text.Tie as tie

@@ -11,7 +11,7 @@ use mir.Val.{SFits}
 use mir.Facts.{toZ-pos}
 use Rattle.arith.proofs.Laws.{same32}
 use Rattle.leb128.proofs.Signs.{mirror-pos}
-use Rattle.trace_text.specs.Internal.{inWord32, signed}
+use Rattle.trace_text.specs.Inner.Stages.{inWord32, signed}
 use Rattle.trace_text.proofs.signed.Statement.{statement}
 use Rattle.trace_text.proofs.signed.Tie as tie
 

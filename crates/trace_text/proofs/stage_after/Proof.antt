@@ -1,7 +1,7 @@
 -- `trace_text::stage_after` meets its contract. Assumes nothing.
 use borrow.Author.Tests.{eq-eqb, ne-eqb}
 use borrow.Author.Needs.{needs}
-use Rattle.trace_text.specs.Internal.{stageAfter}
+use Rattle.trace_text.specs.Inner.Stages.{stageAfter}
 use Rattle.trace_text.proofs.stage_after.Statement.{statement}
 use Rattle.trace_text.proofs.stage_after.Tie as tie
 

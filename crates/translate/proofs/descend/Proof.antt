@@ -8,12 +8,12 @@ use Rattle.lexer.specs.Token.{inputWord, varWord}
 use Rattle.lexer.specs.Results.{kindOf}
 use Rattle.grammar.specs.Rules.{rulesFrom}
 use Rattle.grammar.specs.Expressions.{Scope}
-use Rattle.grammar.specs.Emitted.{bytesR}
-use Rattle.phrases.specs.Results.{numberTold, Writes}
+use Rattle.grammar.specs.Inner.Bytes.{bytesR}
+use Rattle.phrases.specs.Inner.Steps.{numberTold, Writes}
 use Rattle.phrases.proofs.Writing.{got, refused-part}
-use Rattle.declarations.specs.Post.{headerAfter}
+use Rattle.declarations.specs.Inner.Tables.{headerAfter}
 use Rattle.declarations.proofs.Known.{holds-none, AllDeclared, all-declared, not-declared}
-use Rattle.translate.specs.Internal.{scopeAfter}
+use Rattle.translate.specs.Inner.Descent.{scopeAfter}
 use Rattle.translate.proofs.Ways.{inputs-refused, variables-refused, inputs-few, HeadingRead, heading-both}
 use Rattle.translate.proofs.Descent.{Few, heading-few, table-named, scope-is, no-heading, no-rules, descends-whole}
 use Rattle.translate.proofs.descend.Statement.{statement}

@@ -2,7 +2,7 @@
 use mathlib.Core.Path.{sym, _∙_}
 use Rattle.bytecode.specs.Instructions.{instructionOf, operationOf, comparisonOf}
 use Rattle.bytecode.proofs.Codes.{operation-of, comparison-of, none-below, none-above, from-four, above}
-use Rattle.checker.specs.Represented.{knownOf}
+use Rattle.checker.specs.Inner.Walk.{knownOf}
 use Rattle.checker.proofs.Steps.{operation-is, comparison-is, both-is, either-is, negate-is, negated-is, constant-is}
 use borrow.Author.Needs.{needs}
 use native.Mathlib.Omega.{arith}

@@ -1,6 +1,6 @@
 -- `checker::advance::current` meets its contract. Assumes nothing.
 use mathlib.Core.Path.{sym, _∙_}
-use Rattle.checker.specs.Represented.{pushed}
+use Rattle.checker.specs.Inner.Walk.{pushed}
 use borrow.Author.Needs.{needs}
 use Rattle.checker.proofs.advance.current.Statement.{statement}
 use Rattle.checker.proofs.advance.current.Tie as tie

@@ -1,6 +1,6 @@
 -- `checker::advance::holds_only` meets its contract. Assumes nothing.
 use mathlib.Core.Path.{sym}
-use Rattle.checker.specs.Represented.{sortOf}
+use Rattle.checker.specs.Inner.Walk.{sortOf}
 use Rattle.checker.proofs.Steps.{only-other, only-one}
 use Rattle.checker.proofs.advance.holds_only.Statement.{statement}
 use Rattle.checker.proofs.advance.holds_only.Tie as tie

@@ -1,6 +1,6 @@
 -- `checker::advance::join` meets its contract. Assumes nothing.
 use mathlib.Core.Path.{sym}
-use Rattle.checker.specs.Represented.{sortOf}
+use Rattle.checker.specs.Inner.Walk.{sortOf}
 use Rattle.checker.proofs.Bits.{sorts-join, join-low}
 use Rattle.checker.proofs.Steps.{joined-few, joined-first, joined-second, joined-both}
 use borrow.Author.Needs.{needs}

@@ -1,6 +1,6 @@
 -- `checker::advance::previous` meets its contract. Assumes nothing.
 use borrow.Author.Tests.{lt-ltb, le-ltb}
-use Rattle.checker.specs.Represented.{pushed}
+use Rattle.checker.specs.Inner.Walk.{pushed}
 use Rattle.arith.proofs.Flags.{length-flags}
 use borrow.Author.Needs.{needs}
 use Rattle.checker.proofs.advance.previous.Statement.{statement}

@@ -1,6 +1,6 @@
 -- `checker::advance::push` meets its contract. Assumes nothing.
 use borrow.Author.Tests.{lt-ltb, le-ltb}
-use Rattle.checker.specs.Represented.{pushed}
+use Rattle.checker.specs.Inner.Walk.{pushed}
 use Rattle.checker.proofs.Bits.{length-sorts, sorts-number, number-low, below-40}
 use borrow.Author.Needs.{needs}
 use native.Mathlib.Omega.{arith}

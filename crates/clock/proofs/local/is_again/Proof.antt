@@ -8,7 +8,7 @@ use lib.ListN.{length, getD, drop}
 use mir.Syntax.{w64}
 use mir.Val.{SFits, toZ}
 use Rattle.clock.specs.Clock.{entriesOf, repeats as repeats-of, repeatsIn, isAgain}
-use Rattle.clock.specs.Internal.{SmallNumbers}
+use Rattle.clock.specs.Inner.Numbers.{SmallNumbers}
 use Rattle.clock.proofs.Held.{same64}
 use Rattle.clock.proofs.Entries.{repeats-end, repeats-here, repeats-goes, small-step, again-start}
 use Rattle.clock.proofs.local.is_again.Statement.{statement}

@@ -6,9 +6,9 @@ use lib.ListN.{length}
 use borrow.Author.Needs.{needs}
 use borrow.Fn.Kinds.{In, Out}
 use Rattle.grammar.specs.Conditions.{connect, orOf, condition as condition-of}
-use Rattle.grammar.specs.Emitted.{bytesC}
-use Rattle.expressions.specs.Scopes.{scopeOf}
-use Rattle.conditions.specs.Internal.{conjunctionIn}
+use Rattle.grammar.specs.Inner.Bytes.{bytesC}
+use Rattle.expressions.specs.Inner.Scopes.{scopeOf}
+use Rattle.conditions.specs.Inner.Readers.{conjunctionIn}
 use Rattle.expressions.proofs.Chain.{Turn, chain-first, turn-first, turn-next, turn-done, turn-refused, turn-fits, turn-less, turn-more}
 use Rattle.expressions.proofs.Cycle.{just, below}
 use Rattle.conditions.proofs.Ways.{ors, conjunction-grows}

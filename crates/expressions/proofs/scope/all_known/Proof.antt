@@ -3,7 +3,7 @@ use mathlib.Core.Path.{_≡_, refl, sym, _∙_}
 use Prim.Native.Nat.{_-_, _≤_}
 use native.Mathlib.Omega.{arith}
 use lib.ListN.{drop}
-use Rattle.arith.specs.Flags.{flagsOf}
+use Rattle.arith.specs.Inner.Flags.{flagsOf}
 use Rattle.semantics.specs.Program.{allTrue}
 use Rattle.expressions.proofs.Scopes.{all-next, all-stop, all-end}
 use Rattle.expressions.proofs.scope.all_known.Statement.{statement}

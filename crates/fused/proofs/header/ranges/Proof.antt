@@ -7,7 +7,7 @@ use lib.ListN.{set}
 use mir.Syntax.{w32}
 use mir.Val.{SFits}
 use Rattle.arith.proofs.Laws.{same32}
-use Rattle.fused.specs.Header.{FittedBy}
+use Rattle.fused.specs.Inner.Header.{FittedBy}
 use Rattle.fused.proofs.Ranged.{Ranging, ranging-begins, ranging-goes, ranging-breaks, ranging-ends}
 use Rattle.fused.proofs.header.ranges.Statement.{statement}
 use Rattle.fused.proofs.header.ranges.Tie as tie

@@ -5,7 +5,7 @@ use Prim.Native.Nat.{_-_}
 use native.Mathlib.Omega.{arith}
 use lib.ListN.{length}
 use Rattle.lexer.specs.Lexer.{runEnd}
-use Rattle.lexer.specs.Internal.{member}
+use Rattle.lexer.specs.Inner.Classes.{member}
 use Rattle.lexer.proofs.Laws.{run-out, run-stop, run-step}
 use Rattle.lexer.proofs.classes.run.Statement.{statement}
 use Rattle.lexer.proofs.classes.run.Tie as tie

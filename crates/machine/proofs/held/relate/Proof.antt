@@ -9,7 +9,7 @@ use mir.Val.{SFits}
 use mir.Syntax.{w32}
 use mir.Facts.{toZ-ofZ}
 use Rattle.machine.proofs.Stack.{two-few, two-put}
-use Rattle.machine.specs.Internal.{truthOf}
+use Rattle.machine.specs.Inner.Groups.{truthOf}
 use Rattle.machine.specs.Step.{bit}
 use Rattle.arith.specs.Values.{ok}
 use Rattle.machine.proofs.held.relate.Statement.{statement}

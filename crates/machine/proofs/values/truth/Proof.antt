@@ -2,7 +2,7 @@
 use mathlib.Core.Path.{_∙_}
 use borrow.Author.Tests.{ne-eqb}
 use borrow.Author.Needs.{needs}
-use Rattle.machine.specs.Internal.{truthOf}
+use Rattle.machine.specs.Inner.Groups.{truthOf}
 use Rattle.arith.proofs.Laws.{same32}
 use Rattle.machine.proofs.values.truth.Statement.{statement}
 use Rattle.machine.proofs.values.truth.Tie as tie

@@ -15,7 +15,7 @@ use Rattle.bytecode.specs.Instructions.{Instruction, comparisonOf}
 use Rattle.machine.specs.declared.Registers.{Registers}
 use Rattle.machine.specs.declared.Stepped.{Stepped}
 use Rattle.machine.specs.Step.{Machine, machine, bit, yes, push, pop, perform}
-use Rattle.machine.specs.Memory.{heldOf, stepOutcome}
+use Rattle.machine.specs.Inner.Memory.{heldOf, stepOutcome}
 
 -- an instruction that leaves the current values alone
 abbrev pub OnStack : Instruction → Registers → List ℤ → Stepped → List ℤ → Type 0

@@ -9,10 +9,10 @@ use Rattle.lexer.specs.Names.{tableNames}
 use Rattle.semantics.specs.Program.{Name}
 use Rattle.grammar.specs.Parsed.{Parsed, accepted, andThen}
 use Rattle.grammar.specs.Declarations.{spellings, newName, declaration, declarations}
-use Rattle.grammar.specs.Emitted.{header}
+use Rattle.grammar.specs.Inner.Bytes.{header}
 use Rattle.lexer.specs.declared.Step.{Step}
 use Rattle.lexer.specs.declared.Step.the-variants.{Done, Refused}
-use Rattle.phrases.specs.Results.{parsedOf, nothing, numberTold, Writes}
+use Rattle.phrases.specs.Inner.Steps.{parsedOf, nothing, numberTold, Writes}
 
 -- a table with room for all names that a text may declare, of which so many are declared
 pub record TableRoom (starts ends : List ℕ) (count : ℕ) : Type 0 where

@@ -11,7 +11,7 @@ use Rattle.lexer.specs.declared.Place.{Place}
 use Rattle.lexer.specs.declared.Step.{Step}
 use Rattle.lexer.specs.declared.Step.the-variants.{Done, Refused}
 use Rattle.grammar.specs.Parsed.{Parsed, accepted, andThen, onToken}
-use Rattle.phrases.specs.Results.{Writes}
+use Rattle.phrases.specs.Inner.Steps.{Writes}
 
 -- the token read from the place n, with the bytes written up to t; what is no token is refused 1
 abbrev pub stepAt : TokenRead → ℕ → ℕ → Step

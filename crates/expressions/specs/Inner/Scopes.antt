@@ -3,7 +3,7 @@
 use Prim.Native.Nat.{ℕ, _≤_}
 use mathlib.Core.List.{List}
 use Rattle.limits.specs.Limits.{nameLimit}
-use Rattle.arith.specs.Flags.{flagsOf}
+use Rattle.arith.specs.Inner.Flags.{flagsOf}
 use Rattle.lexer.specs.Names.{tableNames, Table}
 use Rattle.grammar.specs.Expressions.{Scope}
 use Rattle.expressions.specs.declared.scope.Names.{Names}

@@ -6,9 +6,9 @@ use lib.Dec.{eqb}
 use lib.ListN.{length}
 use Rattle.limits.specs.Limits.{caseLimit, notAllowed, wrongRule}
 use Rattle.semantics.specs.Program.{Rule, allTrue}
-use Rattle.grammar.specs.Emitted.{bytesR}
+use Rattle.grammar.specs.Inner.Bytes.{bytesR}
 use Rattle.expressions.specs.declared.scope.Names.{Names}
-use Rattle.arith.specs.Flags.{flagsOf}
+use Rattle.arith.specs.Inner.Flags.{flagsOf}
 use Rattle.lexer.specs.Results.{reachedAt}
 use Rattle.lexer.specs.declared.Step.{Step}
 use Rattle.lexer.specs.declared.Step.the-variants.{Refused}

@@ -17,14 +17,14 @@ use Rattle.checker.specs.declared.advance.Walk.{Walk}
 use Rattle.checker.specs.declared.advance.Advanced.{Advanced}
 use Rattle.checker.specs.declared.advance.Advanced.the-variants.{Kept, Broken}
 use Rattle.checker.specs.declared.Verdict.the-variants as J
-use Rattle.checker.specs.Represented.{knownOf, openOf, Small}
+use Rattle.checker.specs.Inner.Walk.{knownOf, openOf, Small}
 use Rattle.checker.specs.Results.{Judges}
 use Rattle.machine.specs.declared.Registers.{Registers}
 use Rattle.machine.specs.declared.Stepped.{Stepped}
 use Rattle.machine.specs.declared.Stepped.the-variants as S
 use Rattle.machine.specs.Step.{machine, isPick, step}
 use Rattle.machine.specs.Runs.{ran, run}
-use Rattle.machine.specs.Memory.{machineOf, RangesIn, OneEach}
+use Rattle.machine.specs.Inner.Memory.{machineOf, RangesIn, OneEach}
 use Rattle.fused.specs.declared.Progress.{Progress}
 use Rattle.fused.specs.declared.Moved.{Moved}
 use Rattle.fused.specs.declared.Moved.the-variants as M

@@ -15,7 +15,7 @@ use Rattle.grammar.specs.Expressions.{Scope, primary, factor, term, expression,
 use Rattle.lexer.specs.declared.Place.{Place}
 use Rattle.lexer.specs.declared.Step.{Step}
 use Rattle.lexer.specs.declared.Step.the-variants.{Done, Refused}
-use Rattle.expressions.specs.Steps.{stepAt}
+use Rattle.expressions.specs.Inner.Steps.{stepAt}
 
 -- a text alone, without names
 abbrev pub textOnly : List ℕ → Scope

@@ -12,7 +12,7 @@ use Rattle.semantics.specs.Program.{Range, knownFirst}
 use Rattle.semantics.specs.Formula.{State}
 use Rattle.semantics.specs.ReferenceScan.{allWithin, withInputs}
 use Rattle.bytecode.specs.Check.{known, checkCounts, checkHeader, checkCode}
-use Rattle.bytecode.specs.Counting.{extentOf, rangesFrom, rangesEnd}
+use Rattle.bytecode.specs.Parts.{extentOf, rangesFrom, rangesEnd}
 use Rattle.bytecode.specs.Results.{Extends}
 use Rattle.machine.specs.Step.{machine}
 use Rattle.machine.specs.Runs.{Ran, run}

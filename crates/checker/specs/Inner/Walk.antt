@@ -4,7 +4,7 @@ use mathlib.Core.Bool.{Bool, true, false}
 use mathlib.Core.List.{List, [], _∷_}
 use mathlib.Core.Option.{Option, none, some}
 use Rattle.limits.specs.Limits.{stackLimit, nameLimit}
-use Rattle.arith.specs.Flags.{flagsOf}
+use Rattle.arith.specs.Inner.Flags.{flagsOf}
 use Rattle.bytecode.specs.Instructions.{Instruction}
 use Rattle.bytecode.specs.Signature.{Sort, number, truth, pushes}
 use Rattle.bytecode.specs.Check.{Known, known, one, admits, advance}

@@ -7,8 +7,8 @@ use Rattle.grammar.specs.Parsed.{Parsed, accepted}
 use Rattle.limits.specs.Limits.{caseLimit}
 use Rattle.grammar.specs.Expressions.{Scope}
 use Rattle.grammar.specs.Rules.{Spanned, casesOf, casesFrom}
-use Rattle.grammar.specs.Emitted.{bytesK}
-use Rattle.agreement.specs.Spans.{spansIn, spansOf, Spans}
+use Rattle.grammar.specs.Inner.Bytes.{bytesK}
+use Rattle.agreement.specs.Inner.Spans.{spansIn, spansOf, Spans}
 
 -- the code of a case of the variable v, and of cases
 abbrev pub codeOfCase : ℕ → Spanned → List ℕ

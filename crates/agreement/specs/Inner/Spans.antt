@@ -3,7 +3,7 @@ use Prim.Native.Nat.{ℕ, zero, suc, _≤_, _<_}
 use mathlib.Core.List.{List, [], _∷_, map}
 use lib.ListN.{length, getD}
 use Rattle.grammar.specs.Rules.{Span, Spanned}
-use Rattle.grammar.specs.Internal.{TokensIn}
+use Rattle.grammar.specs.Inner.Names.{TokensIn}
 
 -- the spans that the first n entries hold
 unfoldable pub spansIn : List ℕ → List ℕ → ℕ → List Span

@@ -10,7 +10,7 @@ use Rattle.limits.specs.Answer.{accepted, refused, _andThen_}
 use Rattle.semantics.specs.Program.{Range}
 use Rattle.leb128.specs.Numbers.{got}
 use Rattle.bytecode.specs.Check.{checkRange, checkRanges, headerWith}
-use Rattle.bytecode.specs.Counting.{extentOf, rangeHere, lows, highs, rangesFrom, rangesEnd}
+use Rattle.bytecode.specs.Parts.{extentOf, rangeHere, lows, highs, rangesFrom, rangesEnd}
 use Rattle.fused.specs.declared.header.Fitted.{Fitted}
 use Rattle.fused.specs.declared.header.Fitted.the-variants as F
 use Rattle.fused.specs.declared.header.Placed.{Placed}

@@ -11,10 +11,10 @@ use Rattle.semantics.specs.Program.{Name, Program, knownFirst}
 use Rattle.grammar.specs.Parsed.{Parsed, accepted, refused, andThen}
 use Rattle.grammar.specs.Expressions.{Scope}
 use Rattle.grammar.specs.Declarations.{declarations, spellings}
-use Rattle.grammar.specs.Emitted.{image}
+use Rattle.grammar.specs.Inner.Bytes.{image}
 use Rattle.lexer.specs.declared.Step.{Step}
-use Rattle.phrases.specs.Results.{nothing, Writes}
-use Rattle.declarations.specs.Post.{TableHolds}
+use Rattle.phrases.specs.Inner.Steps.{nothing, Writes}
+use Rattle.declarations.specs.Inner.Tables.{TableHolds}
 use Rattle.translate.specs.declared.Analysis.{Analysis}
 use Rattle.translate.specs.declared.Analysis.the-variants as N
 

@@ -6,7 +6,7 @@ use lib.ListN.{length}
 use Rattle.lexer.specs.declared.Step.{Step}
 use Rattle.lexer.specs.declared.Step.the-variants.{Done, Refused}
 use Rattle.grammar.specs.Rules as R
-use Rattle.grammar.specs.Internal.{TokensIn}
+use Rattle.grammar.specs.Inner.Names.{TokensIn}
 use Rattle.agreement.specs.declared.Repetition.{Repetition}
 use Rattle.agreement.specs.declared.Repetition.the-variants.{Until, Other}
 

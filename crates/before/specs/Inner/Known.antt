@@ -9,7 +9,7 @@ use Rattle.limits.specs.Answer.{Answer, accepted, refused}
 use Rattle.semantics.specs.Program.{Range}
 use Rattle.semantics.specs.Formula.{State}
 use Rattle.semantics.specs.ReferenceScan.{allWithin, withInputs}
-use Rattle.bytecode.specs.Counting.{headerOf, lows, highs, rangesFrom, rangesEnd}
+use Rattle.bytecode.specs.Parts.{headerOf, lows, highs, rangesFrom, rangesEnd}
 use Rattle.before.specs.declared.Before.{Before}
 use Rattle.before.specs.declared.Before.the-variants as T
 use Rattle.before.specs.Before.{testedBefore}

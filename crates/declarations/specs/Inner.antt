@@ -1,0 +1,4 @@
+-- What serves proofs and inner contracts only.
+pub mod Ranges
+pub mod Tables
+pub mod Bounds

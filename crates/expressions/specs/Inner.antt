@@ -1,0 +1,4 @@
+-- What serves proofs and inner contracts only.
+pub mod Readers
+pub mod Scopes
+pub mod Steps
