@@ -32,7 +32,8 @@ pub record IsCondition (names : List (List ℕ)) (level : LevelC) (ts : Tokens) 
   pub value : Condition
   pub spelled : SpellsC names level open-brackets ts value
 
--- ---- whole texts: the grammar alone, without the limits, names and order that 3 to 8 are about
+-- ---- whole texts: the grammar alone, without the limits, names and order that 3 to 8 are about (only a number of an expression keeps
+-- its limit, as SpellsE has it)
 
 -- names are of any length
 abbrev pub AreNames : List (List ℕ) → Type 0
