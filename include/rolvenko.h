@@ -31,7 +31,7 @@ extern "C" {
 
 #define ROLVENKO_TEXT_LIMIT 32768  /* bytes of a text */
 #define ROLVENKO_IMAGE_LIMIT 65536 /* bytes of an image */
-#define ROLVENKO_IMAGE_ROOM 49154  /* bytes that the image of any accepted text fits in */
+#define ROLVENKO_IMAGE_ROOM 49154  /* bytes that the image of any accepted text fits in (law buffer-bound) */
 #define ROLVENKO_NAMES 64          /* inputs and variables together */
 #define ROLVENKO_ENTRIES 32        /* entries of a farm table */
 
