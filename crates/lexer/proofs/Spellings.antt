@@ -91,6 +91,10 @@ pub word-not : (w : List ℕ) → NoneAgree wordKinds w → grammarWord w ≡ fa
 unfolding grammarWord
 word-not w h = none-same wordKinds w h
 
+pub word-some : (w : List ℕ) → OneAgrees wordKinds w → grammarWord w ≡ true
+unfolding grammarWord
+word-some w h = one-same wordKinds w h
+
 pub not-word : (w : List ℕ) → grammarWord w ≡ false → NoneAgree wordKinds w
 unfolding grammarWord
 not-word w e = same-none wordKinds w e
