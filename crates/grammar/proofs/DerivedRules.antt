@@ -29,7 +29,7 @@ use Rattle.grammar.proofs.Combine.{token-prop, then-prop, option-prop}
 use Rattle.grammar.proofs.Bytes.{id-of}
 use Rattle.lexer.specs.Spelling.{Separated}
 use Rattle.lexer.proofs.Spellings.{isFixed}
-use Rattle.grammar.proofs.Standing.{spells-in, split, spells-append, end-separated, Seen, seen-normal, normally}
+use Rattle.grammar.proofs.Standing.{spells-in, split, spells-append, end-separated, Seen, normally, seen-capitals}
 use Rattle.grammar.proofs.Phrases.{signs, fixed-stands, phrase-spells, headTokens, middleTokens}
 use Rattle.lexer.proofs.Capitals.{capitals-twice}
 use Rattle.grammar.proofs.Normal.{normal-capitals, id-word, id-names}
@@ -41,7 +41,10 @@ use Rattle.grammar.proofs.Derived.{Derived, Derives, before, weaker, si
 module _ (sc : Scope) (few : length (sc .names) ≤ 64) (lengths : length (sc .names) ≡ length (sc .known)) (good : Named (sc .names)) where
   -- ---- a function, after `v: GX(`
 
-  module _ (w : List ℕ) (seen : Seen normally w) (v : ℕ) (ev : getElem? (normals (sc .names)) v ≡ some w) where
+  module _ (w : List ℕ) (big : capitals w ≡ w) (v : ℕ) (ev : getElem? (normals (sc .names)) v ≡ some w) where
+    seen : Seen normally w
+    seen = subst (Seen normally) big (seen-capitals w)
+
     -- a rule of v whose values may be used here, and whose lists agree
     abbrev ScopedR : Rule → Type 0
     ScopedR r = UsableR (sc .known) r × AgreesR r × (target r ≡ v)
@@ -96,7 +99,7 @@ module _ (sc : Scope) (few : length (sc .names) ≤ 64) (lengths : length (sc .n
         let i1 = spells-in normally (sc .text) at n1 (headTokens w) h s1 .1 in
         then-prop (Derives normally (sc .text) Changing at) (casesFrom caseLimit sc w [] n1) _ (λ k q. tt)
         (λ cases n2 e2.
-        let r = cases-in sc few lengths w seen n1 n2 cases i1 e2 in
+        let r = cases-in sc few lengths w n1 n2 cases i1 e2 in
         then-prop (Derives normally (sc .text) Changing at) (phrase (sc .text) (noChangeOpening w) n2) _ (λ k q. tt)
         (λ u2 n3 e3.
         let s3 = phrase-spells normally (sc .text) (noChangeOpening w) refl (seen, (seen, (seen, tt))) n2 u2 n3 (r .within) e3 in
@@ -111,7 +114,7 @@ module _ (sc : Scope) (few : length (sc .names) ≤ 64) (lengths : length (sc .n
         record {
           tokens = (headTokens w ++ r .tokens) ++ (middleTokens w ++ r .list) ++ bytes ")" ∷ bytes ")" ∷ bytes ";" ∷ [];
           spells = change-spells at n1 n2 n3 n4 n5 (r .tokens) (r .list) s1 (r .spells) s3 (ag .spells) s5;
-          derives = change-is (r .tokens) (r .list) (casesOf cases) ds (r .derives) (r .counted) (ag .same) (r .usable);
+          derives = change-is (r .tokens) (r .list) (casesOf cases) ds (subst (λ (x : List ℕ). SpellsCases (normals (sc .names)) x (r .tokens) (r .list) (casesOf cases)) big (r .derives)) (r .counted) (ag .same) (r .usable);
         })))))
 
     -- the formulas of w, after its name
@@ -160,11 +163,12 @@ module _ (sc : Scope) (few : length (sc .names) ≤ 64) (lengths : length (sc .n
       (λ t.
       let l : v < length (sc .known) = omega (arith, lengths, id-of (sc .names) u v ev) in
       let no = id-word (sc .names) good u v ev in
-      let seen = seen-normal u no in
+      let seen-u = normal-capitals u no in
+      let big : capitals w ≡ w = ap capitals seen-u ∙ (capitals-twice u ∙ sym seen-u) in
       let at-v = id-names (sc .names) u v no ev in
-      rw (formulas-same sc u w (sym (capitals-twice u) ∙ ap capitals (sym (normal-capitals u no))) v n)
-      (weaker normally (sc .text) (λ ts r. SpellsR (normals (sc .names)) (w ∷ ts) r × ScopedR w seen v at-v r) (λ ts r. SpellsR (normals (sc .names)) (w ∷ ts) r × First r)
-      (λ ts r d. (d .0, ((d .1 .0, d .1 .1), subst (λ (x : ℕ). x < length (sc .known)) (sym (d .1 .2)) l, subst (λ (x : ℕ). getD (sc .known) x false ≡ false) (sym (d .1 .2)) t))) n (formulas sc w v n) (formulas-derive w seen v at-v n h)))))
+      rw (formulas-same sc u w (sym (capitals-twice u) ∙ ap capitals (sym seen-u)) v n)
+      (weaker normally (sc .text) (λ ts r. SpellsR (normals (sc .names)) (w ∷ ts) r × ScopedR w big v at-v r) (λ ts r. SpellsR (normals (sc .names)) (w ∷ ts) r × First r)
+      (λ ts r d. (d .0, ((d .1 .0, d .1 .1), subst (λ (x : ℕ). x < length (sc .known)) (sym (d .1 .2)) l, subst (λ (x : ℕ). getD (sc .known) x false ≡ false) (sym (d .1 .2)) t))) n (formulas sc w v n) (formulas-derive w big v at-v n h)))))
 
 -- rules from a place to the end of the text, after those done
 pub record RulesRead (text : List ℕ) (names : List (List ℕ)) (known : List Bool) (done : List Rule) (at : ℕ) (rs : List Rule) : Type 0 where

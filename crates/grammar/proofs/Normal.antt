@@ -48,10 +48,6 @@ name-normal w h = rw (name-seen w h) (name-capitals w h)
 pub normal-twice : (w : List ℕ) → SpellsName w → capitals (normal w) ≡ capitals w
 normal-twice w h = rw (name-seen w h) (capitals-twice w)
 
--- names that are the same as a normal one are seen as it
-pub seen-of : (x u : List ℕ) → grammarWord x ≡ false → SpellsName u → sameName (normal x) u ≡ true → normal u ≡ normal x
-seen-of x u h g e = name-seen u g ∙ (sym (same-name (normal x) u e) ∙ (ap capitals (normal-capitals x h) ∙ (capitals-twice x ∙ sym (normal-capitals x h))))
-
 pub is-name-normal : (w : List ℕ) → IsName w → IsName (normal w)
 is-name-normal w h =
     let n = name-normal w (record { is-word = h .is-word; no-word = h .no-word }) in

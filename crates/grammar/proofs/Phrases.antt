@@ -18,7 +18,7 @@ use Rattle.grammar.specs.Derivation.{Stands, Spells, IsName}
 use Rattle.grammar.proofs.Combine.{never}
 use Rattle.grammar.proofs.Bytes.{part-cons, heads, tails}
 use Rattle.lexer.proofs.Spellings.{isFixed, fixed-spelling, token-spelled}
-use Rattle.grammar.proofs.Standing.{View, stands, stands-spelled, at-kind, stands-in, Seen, is-read}
+use Rattle.grammar.proofs.Standing.{View, stands, stands-spelled, at-kind, stands-in, Seen, stands-raw}
 
 -- the tokens that a phrase wants
 abbrev pub wantedToken : Wanted → List ℕ
@@ -49,12 +49,9 @@ fixed-end : (k : Kind) → isFixed k ≡ true → k ≡ ending → ⊥
 unfolding isFixed kindNumber
 fixed-end k f e = let z : false ≡ true = subst (λ (x : Kind). isFixed x ≡ true) e f in let y : _≡_ {A = ℕ} 0 1 = cc in omega arith
 
-previous-end : previous ≡ ending → ⊥
+pub previous-end : previous ≡ ending → ⊥
 unfolding kindNumber
 previous-end e = let y : kindNumber previous ≡ kindNumber ending = ap kindNumber e in omega arith
-
-kind-read : {k j : Kind} {s t n m : ℕ} → token k s n ≡ token j t m → k ≡ j
-kind-read e = cc
 
 -- a previous value is `_` and the name behind it
 pub previous-name : (text : List ℕ) (a : ℕ) (k : Kind) (s n : ℕ) → a ≤ length text → (k ≡ ending → ⊥) → tokenAt text a ≡ token k s n → k ≡ previous → (part text s n ≡ bytes "_" ++ part text (s + 1) n) × SpellsName (part text (s + 1) n)
@@ -165,10 +162,8 @@ module _ (v : View) (text : List ℕ) where
   unfolding expected signs is kindNumber
   expected-reads (sign k) ws f o a n h st = rw (fixed-at k (and-both (isFixed k) (signs ws) f .0) a n h st, is-itself k)
   expected-reads (own w) ws f o a n h st =
-      let at = name-at w (o .0) a n h st in
-      let q : st .kind ≡ name = kind-read (sym (is-read st) ∙ at) in
-      let u : SpellsName (part text (st .start) n) = subst (λ (x : Kind). Spelling x (part text (st .start) n)) q (st .is-token .spells) in
-      rw (at, v .alike (part text (st .start) n) w u (st .spelled))
+      let u = stands-raw v text name w (record { is-word = o .0 .is-word; no-word = o .0 .no-word }) a n h st in
+      rw (name-at w (o .0) a n h st, v .alike (part text (st .start) n) w u (st .spelled))
   expected-reads (ownPrevious w) ws f o a n h st =
       let at = at-kind v text previous (bytes "_" ++ w) (record { rest = w; is-cons = refl; is-name = record { is-word = o .0 .is-word; no-word = o .0 .no-word } }) a n h st in
       let r = previous-name text a previous (st .start) n h previous-end at refl in

@@ -59,7 +59,7 @@ module _ (sc : Scope) (w d : List ℕ) (e : capitals w ≡ capitals d) where
       phrase-same (noChangeOpening w) (noChangeOpening d)
       ((λ at. refl), ((λ at. refl), (own-same, ((λ at. refl), ((λ at. refl), ((λ at. refl), (own-same, ((λ at. refl), (previous-same, ((λ at. refl), ((λ at. refl), ((λ at. refl), tt)))))))))))) at
 
-  case-same : (at n : ℕ) → caseAt sc w at n ≡ caseAt sc d at n
+  pub case-same : (at n : ℕ) → caseAt sc w at n ≡ caseAt sc d at n
   unfolding caseAt
   case-same at n = then-same (listed sc n) _ _ (λ c n1. rw (case-value-same n1))
 

@@ -10,7 +10,7 @@ use Rattle.lexer.specs.Bytes.{bytes, part, capitals}
 use Rattle.lexer.specs.Token.{Kind, ending, is, TokenRead, token}
 use Rattle.lexer.specs.Token as T
 use Rattle.lexer.specs.Spelling.{SpellsName, Spelling, TokenFrom, Separated, FirstRead, a-token, the-end, no-token}
-use Rattle.lexer.specs.Lexer.{tokenAt, sameName, grammarWord}
+use Rattle.lexer.specs.Lexer.{tokenAt, sameName}
 use Rattle.lexer.proofs.Laws.{cond-prop, token-at-moved}
 use Rattle.lexer.proofs.Same.{same-kind, same-name, names-same}
 use Rattle.lexer.proofs.Capitals.{capitals-twice}
@@ -22,7 +22,7 @@ use Rattle.grammar.specs.Derivation.{asWritten, normal, Stands, Spells, 
 use Rattle.grammar.specs.Derivation as D
 use Rattle.lexer.proofs.Spellings.{token-spelled, one-kind}
 use Rattle.grammar.proofs.Distinct.{same-itself}
-use Rattle.grammar.proofs.Normal.{normal-length, normal-spelled, normal-twice, previous-seen, name-seen, seen-of}
+use Rattle.grammar.proofs.Normal.{normal-length, normal-spelled, normal-twice, previous-seen, name-seen}
 
 -- ---- ways of seeing a token
 
@@ -45,9 +45,6 @@ normally = record { see = normal; kept = normal-spelled; sized = normal-length; 
 -- what is seen of each name that is the same as w
 abbrev pub Seen : View → List ℕ → Type 0
 Seen v w = (u : List ℕ) → SpellsName u → sameName w u ≡ true → v .see u ≡ w
-
-pub seen-normal : (x : List ℕ) → grammarWord x ≡ false → Seen normally (normal x)
-seen-normal x h u g e = seen-of x u h g e
 
 pub seen-capitals : (x : List ℕ) → Seen normally (capitals x)
 seen-capitals x u g e = name-seen u g ∙ (sym (same-name (capitals x) u e) ∙ capitals-twice x)
@@ -96,6 +93,10 @@ module _ (v : View) (text : List ℕ) where
 
   pub stands-kind : (a n : ℕ) (w : List ℕ) → a ≤ length text → (st : Stands (v .see) text a n w) → Spelling (st .kind) w
   stands-kind a n w h st = subst (Spelling (st .kind)) (st .spelled) (v .kept (st .kind) (part text (st .start) n) (st .is-token .spells))
+
+  -- ... and so is its part of the text
+  pub stands-raw : (k : Kind) (w : List ℕ) → Spelling k w → (a n : ℕ) → a ≤ length text → (st : Stands (v .see) text a n w) → Spelling k (part text (st .start) n)
+  stands-raw k w sp a n h st = subst (λ (x : Kind). Spelling x (part text (st .start) n)) (one-kind (st .kind) k w (stands-kind a n w h st) sp) (st .is-token .spells)
 
   -- a token whose spelling is of a kind is read as one of that kind
   pub at-kind : (k : Kind) (w : List ℕ) → Spelling k w → (a n : ℕ) → a ≤ length text → (st : Stands (v .see) text a n w) → tokenAt text a ≡ token k (st .start) n
