@@ -15,7 +15,7 @@ pub struct Features {
 impl Features {
     /// What has landed: who lands a request changes its line here.
     pub const LANDED: Features = Features {
-        names_without_case: false,
+        names_without_case: true,
     };
 
     /// Document 01 and the requests that every model has.
