@@ -6,9 +6,9 @@ use Prim.Native.Nat.{ℕ}
 use Prim.Native.String.{String}
 use lib.IntN.{ℤ, pos, negsuc}
 use Rattle.limits.specs.Answer.{accepted, refused}
-use Rattle.lexer.specs.Bytes.{bytes, sameBytes}
+use Rattle.lexer.specs.Bytes.{bytes, sameBytes, capital, capitals}
 use Rattle.lexer.specs.Token.{is, kindNumber}
-use Rattle.lexer.specs.Lexer.{isSpace, isDigit, isLetter, isAlphanumeric, runOn, runEnd, sameName, wordOf, overLong, pairOf, signOf, readOf, signAt, wordAt, digitsAt, previousAt, tokenOf, tokenPast, tokenAt, sameToken, valueOn, valueOf}
+use Rattle.lexer.specs.Lexer.{isSpace, isDigit, isLetter, isAlphanumeric, runOn, runEnd, sameName, grammarWord, exactWord, wordOf, overLong, pairOf, signOf, readOf, signAt, wordAt, digitsAt, previousAt, tokenOf, tokenPast, tokenAt, sameSpelling, sameToken, valueOn, valueOf}
 use Rattle.lexer.specs.Names.{idFrom, idOf}
 use Rattle.grammar.specs.Parsed.{expected, phrase, followed, rest, chain}
 use Rattle.grammar.specs.Expressions.{withId, currentAt, previousValueAt as previousIn, constantAt, primary, negative, factor, productOf, sumOf, term, expression, bracket, wholeExpression}
@@ -45,6 +45,8 @@ fillings =
     -- the first time `again` is 0, whatever stood there; a day below 0
     ∷ fills three berlin (pos 28833120) (pos 7 ∷ pos 8 ∷ pos 9 ∷ []) (pos 20023 ∷ pos 120 ∷ pos 0 ∷ [])
     ∷ fills three dateline (pos 1) (pos 7 ∷ pos 8 ∷ pos 9 ∷ []) (negsuc 0 ∷ pos 721 ∷ pos 1 ∷ [])
+    -- names in other letter cases (document 02, A.2)
+    ∷ fills "input DAY 0..1; input Minute 0..1439; input AGAIN 0..1;" (pos 0 ∷ pos 60 ∷ []) (pos 1439) (pos 7 ∷ pos 7 ∷ pos 7 ∷ []) (pos 1 ∷ pos 59 ∷ pos 0 ∷ [])
     -- in another order, between other inputs, whose values stay; one that is not declared is not filled; ranges are not looked at
     ∷ fills "input again 5..5 init 5; input go 0..1; input day 0..1;" berlin (pos 28833180) (pos 7 ∷ pos 8 ∷ pos 9 ∷ []) (pos 1 ∷ pos 8 ∷ pos 20023 ∷ [])
     ∷ fills "input go 0..1; input minute 0..1; input days 0..1; input da 0..1;" berlin (pos 28833180) (pos 6 ∷ pos 7 ∷ pos 8 ∷ pos 9 ∷ []) (pos 6 ∷ pos 120 ∷ pos 8 ∷ pos 9 ∷ [])
@@ -71,5 +73,5 @@ answerOf c = fillOf (c .text) (c .table) (c .utc) (c .row)
 
 -- the definition gives what the table says
 pub fillings-hold : map answerOf fillings ≡ map (λ (c : Filling). c .after) fillings
-unfolding fillings isSpace isDigit isLetter isAlphanumeric runOn runEnd sameName sameBytes wordOf overLong pairOf signOf readOf signAt wordAt digitsAt previousAt tokenOf tokenPast tokenAt sameToken valueOn valueOf is kindNumber idFrom idOf expected phrase followed rest chain withId currentAt previousIn constantAt primary negative factor productOf sumOf term expression bracket wholeExpression inRange signedDigits boundAt newName startAt declaration declarationsFrom declarations functionAt formulas ruleAt rulesFrom program parse programOf entriesOf entriesFit isTable offsetFrom offsetAt localAt dayOf minuteOf repeatsIn isAgain rowFilled fillOf
+unfolding fillings isSpace isDigit isLetter isAlphanumeric runOn runEnd capital capitals sameName sameBytes grammarWord exactWord wordOf overLong pairOf signOf readOf signAt wordAt digitsAt previousAt tokenOf tokenPast tokenAt sameSpelling sameToken valueOn valueOf is kindNumber idFrom idOf expected phrase followed rest chain withId currentAt previousIn constantAt primary negative factor productOf sumOf term expression bracket wholeExpression inRange signedDigits boundAt newName startAt declaration declarationsFrom declarations functionAt formulas ruleAt rulesFrom program parse programOf entriesOf entriesFit isTable offsetFrom offsetAt localAt dayOf minuteOf repeatsIn isAgain rowFilled fillOf
 fillings-hold = refl

@@ -26,9 +26,9 @@ use Rattle.grammar.specs.Conditions.{comparisonBy, compared, comparisonAt, oppo
 use Rattle.lexer.specs.Names.{idFrom, idOf}
 use Rattle.grammar.specs.Expressions.{withId, currentAt, previousValueAt, constantAt as literalAt, primary, negative, factor, productOf, sumOf, term, expression, bracket, wholeExpression}
 use Rattle.grammar.specs.Parsed.{expected, phrase, followed, rest, chain}
-use Rattle.lexer.specs.Lexer.{isSpace, isDigit, isLetter, isAlphanumeric, runOn, runEnd, sameName, wordOf, overLong, pairOf, signOf, readOf, signAt, wordAt, digitsAt, previousAt, tokenOf, tokenPast, tokenAt, sameToken, valueOn, valueOf}
+use Rattle.lexer.specs.Lexer.{isSpace, isDigit, isLetter, isAlphanumeric, runOn, runEnd, sameName, grammarWord, exactWord, wordOf, overLong, pairOf, signOf, readOf, signAt, wordAt, digitsAt, previousAt, tokenOf, tokenPast, tokenAt, sameSpelling, sameToken, valueOn, valueOf}
 use Rattle.lexer.specs.Token.{kindNumber, is}
-use Rattle.lexer.specs.Bytes.{sameBytes as sameBytesOf}
+use Rattle.lexer.specs.Bytes.{sameBytes as sameBytesOf, capital, capitals}
 use Rattle.correctness.specs.Examples.{Example, imageGiven, HoldsOn, HoldsOf, AllHold, examples}
 
 -- ---- equality of answers, computed
@@ -154,7 +154,7 @@ all-hold [] h = tt
 all-hold (e ∷ es) h = (test-holds e (and-left (test e) _ h), all-hold es (and-right (test e) _ h))
 
 computed : T (testAll examples)
-unfolding sameBytesOf kindNumber is isSpace isDigit isLetter isAlphanumeric runOn runEnd sameName wordOf overLong pairOf signOf readOf signAt wordAt digitsAt previousAt tokenOf tokenPast tokenAt sameToken valueOn valueOf expected phrase followed rest chain idFrom idOf withId currentAt previousValueAt literalAt primary negative factor productOf sumOf term expression bracket wholeExpression comparisonBy compared comparisonAt opposite inverted atom connect andOf orOf conjunction condition square wholeCondition listed inRange signedLiteralAt boundAt newName startAt declaration declarationsFrom declarations caseAt casesFrom listFrom plainList partFrom kindAt partsFrom firstFound agreeingList functionAt changeAt formulas ruleAt rulesFrom program parse groups number zigzag unzigzag grouped numberIn below32 numberAt signedAt instructionOf hasOperand fetch imageOf checkCounts checkRange checkHeader checkBody checkOf headerOf codeOf bit yes within picked arithmetic negation compares programOf translationOf startOf scanCode scanOf
+unfolding sameBytesOf kindNumber is isSpace isDigit isLetter isAlphanumeric runOn runEnd capital capitals sameName grammarWord exactWord wordOf overLong pairOf signOf readOf signAt wordAt digitsAt previousAt tokenOf tokenPast tokenAt sameSpelling sameToken valueOn valueOf expected phrase followed rest chain idFrom idOf withId currentAt previousValueAt literalAt primary negative factor productOf sumOf term expression bracket wholeExpression comparisonBy compared comparisonAt opposite inverted atom connect andOf orOf conjunction condition square wholeCondition listed inRange signedLiteralAt boundAt newName startAt declaration declarationsFrom declarations caseAt casesFrom listFrom plainList partFrom kindAt partsFrom firstFound agreeingList functionAt changeAt formulas ruleAt rulesFrom program parse groups number zigzag unzigzag grouped numberIn below32 numberAt signedAt instructionOf hasOperand fetch imageOf checkCounts checkRange checkHeader checkBody checkOf headerOf codeOf bit yes within picked arithmetic negation compares programOf translationOf startOf scanCode scanOf
 computed = tt
 
 pub examples-hold : AllHold examples

@@ -1,4 +1,4 @@
--- The worked examples as one table under one statement. Document 01, "Latches to try"; document 02, A.5. Assumes nothing.
+-- The worked examples as one table under one statement. Document 01, "Latches to try"; document 02, A.2 and A.5. Assumes nothing.
 use Prim.Native.Nat.{ℕ}
 use mathlib.Core.Path.{_≡_}
 use mathlib.Core.List.{List, [], _∷_, map}
@@ -202,5 +202,19 @@ share = sound
     ((pos 3 ∷ []) ∷ (pos 0 ∷ []) ∷ [])
     (done 4 (pos 3 ∷ pos 3 ∷ []) ∷ stopped 14 3 (pos 3 ∷ pos 3 ∷ []) ∷ [])
 
+-- A.2 names in other letter cases than declared
+abbrev pub recased : Example
+recased = sound
+    (bytes "input Go 0..1; var run 0..1; RUN: GX(~(Run = _rUn) -> [_RUN = 0 & GO = 1] & ruN = (go)); run: GX(run = _run -> ~([_run = 0 & go = 1]));")
+    (0x01 ∷ 0x01 ∷ 0x00 ∷ 0x02 ∷ 0x00 ∷ 0x00 ∷ 0x02 ∷ 0x00
+    ∷ 0x03 ∷ 0x01 ∷ 0x01 ∷ 0x00 ∷ 0x0A ∷ 0x02 ∷ 0x00 ∷ 0x01 ∷ 0x02 ∷ 0x0A ∷ 0x11 ∷ 0x13 ∷ 0x02 ∷ 0x00 ∷ 0x14 ∷ 0x01 ∷ 0x16 ∷ 0x01 ∷ [])
+    (pos 0 ∷ pos 0 ∷ [])
+    ((pos 1 ∷ []) ∷ (pos 0 ∷ []) ∷ [])
+    (done 11 (pos 1 ∷ pos 1 ∷ []) ∷ done 11 (pos 0 ∷ pos 1 ∷ []) ∷ [])
+
+-- a word of the grammar in another case is 2
+abbrev pub otherWord : Example
+otherWord = record { given = text (bytes "var v 0..1; v: GX(v = (_v MOD 2));"); translation = refused 2 26; verdict = accepted tt; first = []; rows = []; results = [] }
+
 abbrev pub examples : List Example
-examples = L1 ∷ L2 ∷ L3 ∷ L4 ∷ L5 ∷ L5-deeper ∷ L6 ∷ L7 ∷ L8 ∷ L8-unsound ∷ launch ∷ rotation ∷ share ∷ []
+examples = L1 ∷ L2 ∷ L3 ∷ L4 ∷ L5 ∷ L5-deeper ∷ L6 ∷ L7 ∷ L8 ∷ L8-unsound ∷ launch ∷ rotation ∷ share ∷ recased ∷ otherWord ∷ []

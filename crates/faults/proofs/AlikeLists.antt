@@ -13,8 +13,8 @@ use Rattle.lexer.specs.Lexer.{tokenAt, sameToken}
 use Rattle.semantics.specs.Program.{Condition}
 use Rattle.grammar.specs.Parsed.{Parsed, accepted, refused}
 use Rattle.grammar.specs.Rules.{Spanned, Compared, agrees, differs, onCompared, onFound, partFrom, kindAt, partsFrom, firstFound}
-use Rattle.grammar.specs.Derivation.{Tokens, Stands, Spells}
-use Rattle.grammar.proofs.Standing.{stands-in, spells-in, is-read, stands-read}
+use Rattle.grammar.specs.Derivation.{Tokens, Stands, Spells, normal}
+use Rattle.grammar.proofs.Standing.{stands-in, spells-in, is-read, stands-read, normally}
 use Rattle.grammar.proofs.Listed.{Listed, last, next, parts-next}
 use Rattle.faults.proofs.Reaching.{Reaches, reaches-le, readStart, starts-after}
 use Rattle.faults.proofs.Prefix.{part-same, token-stays}
@@ -73,22 +73,22 @@ module _ (S : Setting) where
       go (fault p) e = differ p (omega (arith, ap readStart e, on-way S c .early))
 
   -- tokens before the place stand in the twin too
-  spells-stay : (ts : Tokens) (from to : ℕ) → from ≤ length (S .text) → Spells (S .text) from to ts → to ≤ S .place → Spells (S .twin) from to ts
+  spells-stay : (ts : Tokens) (from to : ℕ) → from ≤ length (S .text) → Spells normal (S .text) from to ts → to ≤ S .place → Spells normal (S .twin) from to ts
   spells-stay [] from to h g l = g
   spells-stay (t ∷ ts) from to h g l =
       let st = g .1 in
-      let i = stands-in (S .text) from (g .0) t h st in
-      let j = spells-in (S .text) (g .0) to ts (i .1) (g .2) in
+      let i = stands-in normally (S .text) from (g .0) t h st in
+      let j = spells-in normally (S .text) (g .0) to ts (i .1) (g .2) in
       let m : g .0 < S .end = omega (arith, j .0, S .some-bytes) in
       let w : from ≤ length (S .twin) = omega (arith, i .0, j .0, S .some-bytes, S .in-twin) in
       let e = token-stays (S .text) (S .twin) (S .end) (S .in-text) (S .in-twin) (S .same) from (st .kind) (st .start) (g .0) h (is-read st) m in
-      let q = sym (part-same (S .text) (S .twin) (S .end) (S .in-text) (S .in-twin) (S .same) (st .start) (g .0) (omega arith)) ∙ st .spelled in
-      let su : Stands (S .twin) from (g .0) t = stands-read (S .twin) from (st .kind) (st .start) (g .0) w (st .is-token .some-bytes) e t q in
+      let q = ap normal (sym (part-same (S .text) (S .twin) (S .end) (S .in-text) (S .in-twin) (S .same) (st .start) (g .0) (omega arith))) ∙ st .spelled in
+      let su : Stands normal (S .twin) from (g .0) t = stands-read normally (S .twin) from (st .kind) (st .start) (g .0) w (st .is-token .some-bytes) e t q in
       (g .0, su, spells-stay ts (g .0) to (i .1) (g .2) l)
 
-  part-far : (ts : Tokens) (f f' from to at : ℕ) → from ≤ length (S .text) → Spells (S .text) from to ts → to ≤ S .place → S .place < at → SameCompared S (partFrom f (S .text) from to at) (partFrom f' (S .twin) from to at)
+  part-far : (ts : Tokens) (f f' from to at : ℕ) → from ≤ length (S .text) → Spells normal (S .text) from to ts → to ≤ S .place → S .place < at → SameCompared S (partFrom f (S .text) from to at) (partFrom f' (S .twin) from to at)
   part-far ts f f' from to at h g l i =
-      let w : from ≤ length (S .twin) = omega (arith, spells-in (S .text) from to ts h g .0, S .some-bytes, S .in-twin) in
+      let w : from ≤ length (S .twin) = omega (arith, spells-in normally (S .text) from to ts h g .0, S .some-bytes, S .in-twin) in
       let x : S .place < reached (partFrom f (S .text) from to at) = omega (arith, comes-after (S .text) at (partFrom f (S .text) from to at) (part-comes (S .text) ts f from to at h g)) in
       let y : S .place < reached (partFrom f' (S .twin) from to at) = omega (arith, comes-after (S .twin) at (partFrom f' (S .twin) from to at) (part-comes (S .twin) ts f' from to at w (spells-stay ts from to h g l))) in
       far x y
@@ -100,21 +100,21 @@ module _ (S : Setting) where
 
   abbrev PartAgrees : Tokens → Type 0
   PartAgrees ts =
-      (f f' from to at : ℕ) → from ≤ length (S .text) → Spells (S .text) from to ts → to ≤ S .place → to ≤ from + f → to ≤ from + f' → OnOrBeyond S at → SameCompared S (partFrom f (S .text) from to at) (partFrom f' (S .twin) from to at)
+      (f f' from to at : ℕ) → from ≤ length (S .text) → Spells normal (S .text) from to ts → to ≤ S .place → to ≤ from + f → to ≤ from + f' → OnOrBeyond S at → SameCompared S (partFrom f (S .text) from to at) (partFrom f' (S .twin) from to at)
 
   part-step : (t : List ℕ) (ts : Tokens) → PartAgrees ts → PartAgrees (t ∷ ts)
   unfolding partFrom
   part-step t ts ih f f' from to at h g l r r' (inr x) = part-far (t ∷ ts) f f' from to at h g l x
   part-step t ts ih zero f' from to at h g l r r' (inl c) =
-      let i = stands-in (S .text) from (g .0) t h (g .1) in
-      absurd (omega (arith, i .0, spells-in (S .text) (g .0) to ts (i .1) (g .2) .0))
+      let i = stands-in normally (S .text) from (g .0) t h (g .1) in
+      absurd (omega (arith, i .0, spells-in normally (S .text) (g .0) to ts (i .1) (g .2) .0))
   part-step t ts ih (suc f) zero from to at h g l r r' (inl c) =
-      let i = stands-in (S .text) from (g .0) t h (g .1) in
-      absurd (omega (arith, i .0, spells-in (S .text) (g .0) to ts (i .1) (g .2) .0))
+      let i = stands-in normally (S .text) from (g .0) t h (g .1) in
+      absurd (omega (arith, i .0, spells-in normally (S .text) (g .0) to ts (i .1) (g .2) .0))
   part-step t ts ih (suc f) (suc f') from to at h g l r r' (inl c) =
       let st = g .1 in
-      let i = stands-in (S .text) from (g .0) t h st in
-      let j = spells-in (S .text) (g .0) to ts (i .1) (g .2) in
+      let i = stands-in normally (S .text) from (g .0) t h st in
+      let j = spells-in normally (S .text) (g .0) to ts (i .1) (g .2) in
       let su = token-stays (S .text) (S .twin) (S .end) (S .in-text) (S .in-twin) (S .same) from (st .kind) (st .start) (g .0) h (is-read st) (omega (arith, j .0, S .some-bytes)) in
       rw (lt-ltb from to (omega (arith, i .0, j .0)), is-read st, su)
       (found-agrees at (sameToken (S .text) (st .kind) (st .start) (g .0)) (sameToken (S .twin) (st .kind) (st .start) (g .0)) _ _ c (λ k s n e. same-tokens (st .kind) (st .start) (g .0) at (omega (arith, j .0, S .some-bytes)) c k s n e)
@@ -143,11 +143,11 @@ module _ (S : Setting) where
 
   listed-stays : (cs : List Spanned) (ls : Tokens) → Listed (S .text) cs ls → Before (S .place) cs → Listed (S .twin) cs ls
   listed-stays cs ls (last c ts h g) l =
-      last c ts (omega (arith, spells-in (S .text) (c .span .from) (c .span .to) ts h g .0, l .0, S .some-bytes, S .in-twin)) (spells-stay ts (c .span .from) (c .span .to) h g (l .0))
+      last c ts (omega (arith, spells-in normally (S .text) (c .span .from) (c .span .to) ts h g .0, l .0, S .some-bytes, S .in-twin)) (spells-stay ts (c .span .from) (c .span .to) h g (l .0))
   listed-stays cs ls (next c ds ts us h g r) l =
-      next c ds ts us (omega (arith, spells-in (S .text) (c .span .from) (c .span .to) ts h g .0, l .0, S .some-bytes, S .in-twin)) (spells-stay ts (c .span .from) (c .span .to) h g (l .0)) (listed-stays ds us r (l .1))
+      next c ds ts us (omega (arith, spells-in normally (S .text) (c .span .from) (c .span .to) ts h g .0, l .0, S .some-bytes, S .in-twin)) (spells-stay ts (c .span .from) (c .span .to) h g (l .0)) (listed-stays ds us r (l .1))
 
-  part-of : (c : Spanned) (ts : Tokens) (at : ℕ) → c .span .from ≤ length (S .text) → Spells (S .text) (c .span .from) (c .span .to) ts → c .span .to ≤ S .place → OnOrBeyond S at
+  part-of : (c : Spanned) (ts : Tokens) (at : ℕ) → c .span .from ≤ length (S .text) → Spells normal (S .text) (c .span .from) (c .span .to) ts → c .span .to ≤ S .place → OnOrBeyond S at
       → SameCompared S (partFrom (length (S .text)) (S .text) (c .span .from) (c .span .to) at) (partFrom (length (S .twin)) (S .twin) (c .span .from) (c .span .to) at)
   part-of c ts at h g l i =
       part-agrees ts (length (S .text)) (length (S .twin)) (c .span .from) (c .span .to) at h g l (omega (arith, S .some-bytes, S .in-text)) (omega (arith, S .some-bytes, S .in-twin)) i

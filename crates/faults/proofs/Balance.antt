@@ -10,15 +10,15 @@ use Rattle.arith.specs.Values.{Operation, Comparison}
 use Rattle.semantics.specs.Program.{Expression, Condition, Case}
 use Rattle.lexer.specs.Bytes.{bytes, sameBytes}
 use Rattle.lexer.specs.Token.{Kind, kindNumber, name, previous, digits, openRound, closeRound}
-use Rattle.lexer.specs.Lexer.{sameName}
 use Rattle.lexer.proofs.Laws.{cond-prop}
-use Rattle.lexer.proofs.Same.{same-name}
+use Rattle.lexer.proofs.Same.{same-bytes}
 use Rattle.grammar.specs.Derivation as D
 use Rattle.lexer.specs.Spelling.{IsDigits, Spelling}
-use Rattle.grammar.specs.Derivation.{Tokens, IsName, SumSign, ProductSign, ComparisonSign, Level, LevelC, SpellsE, a-number, a-current, a-previous, brackets, plain, opposite, one-factor, product, one-term, sum, SpellsC, compared, square, not-square, one-atom, conjoined, one-conjunction, disjoined}
+use Rattle.grammar.specs.Derivation.{Tokens, IsName, SumSign, ProductSign, ComparisonSign, Level, LevelC, SpellsE, a-number, a-current, a-previous, brackets, plain, opposite, one-factor, product, one-term, sum, SpellsC, compared, square, not-square, one-atom, conjoined, one-conjunction, disjoined, normals}
 use Rattle.grammar.specs.Spelled.{squared, SpellsCases, one-case, more-cases}
 use Rattle.grammar.specs.Inner.Names.{Named}
 use Rattle.lexer.proofs.Spellings.{one-kind}
+use Rattle.grammar.proofs.Normal.{each-normal}
 
 -- ---- open brackets
 
@@ -28,7 +28,7 @@ down (suc d) = some d
 
 -- how many round brackets are open depthThen a token; none if it closes one that is not open
 abbrev pub depthBy : List ℕ → ℕ → Option ℕ
-depthBy w d = cond (sameName w (bytes "(")) (some (suc d)) (cond (sameName w (bytes ")")) (down d) (some d))
+depthBy w d = cond (sameBytes w (bytes "(")) (some (suc d)) (cond (sameBytes w (bytes ")")) (down d) (some d))
 
 abbrev pub depthThen : Option ℕ → (ℕ → Option ℕ) → Option ℕ
 depthThen none f = none
@@ -52,8 +52,8 @@ depth-append (w ∷ ts) us d = go (depthBy w d) (λ e. depth-append ts us e)
 -- a token that is no round bracket
 other-kind : (k : Kind) (w : List ℕ) → Spelling k w → (k ≡ openRound → ⊥) → (k ≡ closeRound → ⊥) → (d : ℕ) → depthBy w d ≡ some d
 other-kind k w h f g d =
-    cond-prop (λ (o : Option ℕ). o ≡ some d) (sameName w (bytes "(")) _ _ (λ e. absurd (f (one-kind k openRound w h (same-name w (bytes "(") e))))
-    (λ e. cond-prop (λ (o : Option ℕ). o ≡ some d) (sameName w (bytes ")")) _ _ (λ e2. absurd (g (one-kind k closeRound w h (same-name w (bytes ")") e2)))) (λ e2. refl))
+    cond-prop (λ (o : Option ℕ). o ≡ some d) (sameBytes w (bytes "(")) _ _ (λ e. absurd (f (one-kind k openRound w h (same-bytes w (bytes "(") e))))
+    (λ e. cond-prop (λ (o : Option ℕ). o ≡ some d) (sameBytes w (bytes ")")) _ _ (λ e2. absurd (g (one-kind k closeRound w h (same-bytes w (bytes ")") e2)))) (λ e2. refl))
 
 kinds-differ : (a b : Kind) → (kindNumber a ≡ kindNumber b → ⊥) → a ≡ b → ⊥
 kinds-differ a b h e = h (ap kindNumber e)
@@ -80,26 +80,26 @@ joined-balanced : (w : List ℕ) (ts us : Tokens) → ((d : ℕ) → depthBy w d
 joined-balanced w ts us h f g d = depth-append ts (w ∷ us) d ∙ rw (f d, h d) (g d)
 
 round-balanced : (ts : Tokens) → Balanced ts → Balanced (bytes "(" ∷ ts ++ bytes ")" ∷ [])
-unfolding sameName sameBytes
+unfolding sameBytes
 round-balanced ts f d = depth-append ts (bytes ")" ∷ []) (suc d) ∙ rw (f (suc d))
 
 square-balanced : (ts : Tokens) → Balanced ts → Balanced (bytes "[" ∷ ts ++ bytes "]" ∷ [])
-unfolding sameName sameBytes
+unfolding sameBytes
 square-balanced ts f d = depth-append ts (bytes "]" ∷ []) d ∙ rw (f d)
 
 sum-other : (w : List ℕ) (o : Operation) → SumSign w o → (d : ℕ) → depthBy w d ≡ some d
-unfolding sameName sameBytes
+unfolding sameBytes
 sum-other w o D.plus d = refl
 sum-other w o D.minus d = refl
 
 product-other : (w : List ℕ) (o : Operation) → ProductSign w o → (d : ℕ) → depthBy w d ≡ some d
-unfolding sameName sameBytes
+unfolding sameBytes
 product-other w o D.times d = refl
 product-other w o D.over d = refl
 product-other w o D.modulus d = refl
 
 comparison-other : (w : List ℕ) (o : Comparison) → ComparisonSign w o → (d : ℕ) → depthBy w d ≡ some d
-unfolding sameName sameBytes
+unfolding sameBytes
 comparison-other w o D.equals d = refl
 comparison-other w o D.differs d = refl
 comparison-other w o D.below d = refl
@@ -108,26 +108,26 @@ comparison-other w o D.above d = refl
 comparison-other w o D.at-least d = refl
 
 minus-balanced : (ts : Tokens) → Balanced ts → Balanced (bytes "-" ∷ ts)
-unfolding sameName sameBytes
+unfolding sameBytes
 minus-balanced ts f d = f d
 
 tilde-balanced : (ts : Tokens) → Balanced ts → Balanced (bytes "~" ∷ ts)
-unfolding sameName sameBytes
+unfolding sameBytes
 tilde-balanced ts f d = f d
 
 and-other : (d : ℕ) → depthBy (bytes "&") d ≡ some d
-unfolding sameName sameBytes
+unfolding sameBytes
 and-other d = refl
 
 or-other : (d : ℕ) → depthBy (bytes "|") d ≡ some d
-unfolding sameName sameBytes
+unfolding sameBytes
 or-other d = refl
 
 module _ (names : List (List ℕ)) (good : Named names) where
-  balanced-e : (v : Level) (l : ℕ) (ts : Tokens) (e : Expression) → SpellsE names v l ts e → Balanced ts
+  balanced-e : (v : Level) (l : ℕ) (ts : Tokens) (e : Expression) → SpellsE (normals names) v l ts e → Balanced ts
   balanced-e v l ts e (a-number w h g) = one-balanced w (digits-other w h)
-  balanced-e v l ts e (a-current w i h) = one-balanced w (name-other w (good .each i w h))
-  balanced-e v l ts e (a-previous w i h) = one-balanced (bytes "_" ++ w) (previous-other w (good .each i w h))
+  balanced-e v l ts e (a-current w i h) = one-balanced w (name-other w (each-normal names good i w h))
+  balanced-e v l ts e (a-previous w i h) = one-balanced (bytes "_" ++ w) (previous-other w (each-normal names good i w h))
   balanced-e v l ts e (brackets us x d) = round-balanced us (balanced-e _ _ us x d)
   balanced-e v l ts e (plain us x d) = balanced-e _ _ us x d
   balanced-e v l ts e (opposite us x d) = minus-balanced us (balanced-e _ _ us x d)
@@ -136,7 +136,7 @@ module _ (names : List (List ℕ)) (good : Named names) where
   balanced-e v l ts e (one-term us x d) = balanced-e _ _ us x d
   balanced-e v l ts e (sum w o us vs a b g c d) = joined-balanced w us vs (sum-other w o g) (balanced-e _ _ us a c) (balanced-e _ _ vs b d)
 
-  balanced-c : (v : LevelC) (l : ℕ) (ts : Tokens) (c : Condition) → SpellsC names v l ts c → Balanced ts
+  balanced-c : (v : LevelC) (l : ℕ) (ts : Tokens) (c : Condition) → SpellsC (normals names) v l ts c → Balanced ts
   balanced-c v l ts e (compared w o us vs a b g c d) = joined-balanced w us vs (comparison-other w o g) (balanced-e _ _ us a c) (balanced-e _ _ vs b d)
   balanced-c v l ts e (square us x d) = square-balanced us (balanced-c _ _ us x d)
   balanced-c v l ts e (not-square us x d) = tilde-balanced (bytes "[" ∷ us ++ bytes "]" ∷ []) (square-balanced us (balanced-c _ _ us x d))
@@ -145,12 +145,12 @@ module _ (names : List (List ℕ)) (good : Named names) where
   balanced-c v l ts e (one-conjunction us x d) = balanced-c _ _ us x d
   balanced-c v l ts e (disjoined us vs a b c d) = joined-balanced (bytes "|") us vs or-other (balanced-c _ _ us a c) (balanced-c _ _ vs b d)
 
-  pub balanced-squared : (l : ℕ) (ts : Tokens) (c : Condition) → SpellsC names D.condition l ts c → Balanced (squared ts)
+  pub balanced-squared : (l : ℕ) (ts : Tokens) (c : Condition) → SpellsC (normals names) D.condition l ts c → Balanced (squared ts)
   balanced-squared l ts c d = square-balanced ts (balanced-c _ _ ts c d)
 
   pub balanced-more : (ts us : Tokens) → Balanced ts → Balanced us → Balanced (ts ++ bytes "|" ∷ us)
   balanced-more ts us f g = joined-balanced (bytes "|") ts us or-other f g
 
-  pub balanced-cases : (v : List ℕ) (ts ls : Tokens) (ks : List Case) → SpellsCases names v ts ls ks → Balanced ls
+  pub balanced-cases : (v : List ℕ) (ts ls : Tokens) (ks : List Case) → SpellsCases (normals names) v ts ls ks → Balanced ls
   balanced-cases v ts ls ks (one-case us vs k c e) = balanced-squared _ us _ c
   balanced-cases v ts ls ks (more-cases us vs ws ms k js c e r) = balanced-more (squared us) ms (balanced-squared _ us _ c) (balanced-cases v ws ms js r)

@@ -14,10 +14,10 @@ use Rattle.grammar.specs.Expressions.{Scope, productOf, sumOf, wholeExpression}
 use Rattle.grammar.specs.Conditions.{listed}
 use Rattle.grammar.specs.Parse.{programOf}
 use Rattle.grammar.specs.Derivation as D
-use Rattle.grammar.specs.Derivation.{Tokens, Spells, SpellsE, SpellsC}
+use Rattle.grammar.specs.Derivation.{Tokens, Spells, SpellsE, SpellsC, normal, normals}
 use Rattle.grammar.specs.Spelled.{Spelled}
 use Rattle.grammar.proofs.Combine.{never}
-use Rattle.grammar.proofs.Standing.{at-kind, split, spells-in}
+use Rattle.grammar.proofs.Standing.{at-kind, split, spells-in, normally}
 use Rattle.grammar.proofs.Converse.{spelled-expression, spelled-listed}
 use Rattle.grammar.proofs.ConverseText.{accepted-exactly}
 use Rattle.faults.specs.Texts.{SameThrough}
@@ -27,19 +27,19 @@ use Rattle.faults.proofs.AlikeParts.{scope, whole-expression-alike, lis
 use Rattle.faults.proofs.FirstFound.{twin-refused, first-found}
 
 expressions : (sc : Scope) (other : List ℕ) (at number place : ℕ) → GoodNames (sc .names) → wholeExpression sc at ≡ refused number place → place < length (sc .text) → SameThrough (sc .text) other place
-    → (ts : Tokens) (e : Expression) (n : ℕ) → SpellsE (sc .names) D.expression bracketLimit ts e → UsableE (sc .known) e → Spells other at n (ts ++ bytes ")" ∷ []) → ⊥
+    → (ts : Tokens) (e : Expression) (n : ℕ) → SpellsE (normals (sc .names)) D.expression bracketLimit ts e → UsableE (sc .known) e → Spells normal other at n (ts ++ bytes ")" ∷ []) → ⊥
 unfolding productOf sumOf is kindNumber
 expressions sc other at number place good e l x ts v n d u g =
     let r = (rw e at (whole-expression-reads sc at)) .found in
     let t = twin-refused (sc .text) other at number place (λ t. wholeExpression (scope (sc .names) (sc .known) t) at) (λ S. whole-expression-alike S (sc .names) (sc .known) at) l x r e in
-    let p = split other at n ts (bytes ")" ∷ []) g in
-    let i = spells-in other at (p .place) ts (t .1) (p .first) .1 in
-    let c = at-kind other closeRound (bytes ")") refl (p .place) (p .second .0) i (p .second .1) in
+    let p = split normally other at n ts (bytes ")" ∷ []) g in
+    let i = spells-in normally other at (p .place) ts (t .1) (p .first) .1 in
+    let c = at-kind normally other closeRound (bytes ")") refl (p .place) (p .second .0) i (p .second .1) in
     let a = spelled-expression (scope (sc .names) (sc .known) other) (record { distinct = good .0; each = good .1 }) ts v d u at (p .place) (t .1) (p .first) closeRound (p .second .1 .start) (p .second .0) c (refl, refl) in
     never number place (p .place) v (sym (t .0) ∙ a)
 
 conditions : (sc : Scope) (other : List ℕ) (at number place : ℕ) → GoodNames (sc .names) → listed sc at ≡ refused number place → place < length (sc .text) → SameThrough (sc .text) other place
-    → (ts : Tokens) (c : Condition) (n : ℕ) → SpellsC (sc .names) D.condition bracketLimit ts c → UsableC (sc .known) c → Spells other at n (ts ++ bytes "]" ∷ []) → ⊥
+    → (ts : Tokens) (c : Condition) (n : ℕ) → SpellsC (normals (sc .names)) D.condition bracketLimit ts c → UsableC (sc .known) c → Spells normal other at n (ts ++ bytes "]" ∷ []) → ⊥
 conditions sc other at number place good e l x ts v n d u g =
     let r = (rw e at (listed-reads sc at)) .found in
     let t = twin-refused (sc .text) other at number place (λ t. listed (scope (sc .names) (sc .known) t) at) (λ S. listed-alike S (sc .names) (sc .known) at) l x r e in

@@ -14,9 +14,9 @@ use Rattle.lexer.specs.Token.{Kind, kindNumber, unknown, ending, name, is, Toke
 use Rattle.lexer.specs.Lexer.{isSpace, isDigit, isLetter, isAlphanumeric, runEnd, wordOf, pairOf, signOf, readOf, signAt, wordAt, digitsAt, previousAt, tokenOf, tokenPast, tokenAt}
 use Rattle.lexer.proofs.Laws.{cond-prop, run-out, run-from, token-past-space, Moved, token-moved, token-at-moved}
 use Rattle.lexer.proofs.Same.{same-kind}
-use Rattle.grammar.specs.Derivation.{Tokens, Spells}
+use Rattle.grammar.specs.Derivation.{Tokens, Spells, asWritten}
 use Rattle.lexer.proofs.Spellings.{end-place}
-use Rattle.grammar.proofs.Standing.{stands, stands-in}
+use Rattle.grammar.proofs.Standing.{stands, stands-in, written}
 
 -- where what is read begins
 abbrev pub readStart : TokenRead → ℕ
@@ -110,7 +110,7 @@ module _ (text : List ℕ) where
   pub record SpeltTo (a b : ℕ) : Type 0 where
     pub before : Tokens
     pub end : ℕ
-    pub spells : Spells text a end before
+    pub spells : Spells asWritten text a end before
     pub same : tokenAt text end ≡ tokenAt text b
 
   pub spelt-to : {a b : ℕ} → a ≤ length text → Reaches a b → SpeltTo a b
@@ -125,7 +125,7 @@ module _ (text : List ℕ) where
           let l = end-stays (p .1) r in
           record { before = []; end = a; spells = refl; same = e2 ∙ rw (p .0, p .1, l) (sym (token-out (length text) (le-refl (length text)))) }
       go false t ih =
-          let st = stands text a k s n h (not-ending k t) e in
-          let i = stands-in text a n (part text s n) h st .1 in
+          let st = stands written text a k s n h (not-ending k t) e in
+          let i = stands-in written text a n (part text s n) h st .1 in
           let x = ih i in
           record { before = part text s n ∷ x .before; end = x .end; spells = (n, st, x .spells); same = x .same }

@@ -26,9 +26,9 @@ use Rattle.grammar.specs.Expressions.{Scope}
 use Rattle.grammar.specs.Declarations.{inRange, signedDigits, boundAt, spellings, newName, startAt, declaration, declarationsFrom, declarations}
 use Rattle.grammar.specs.Rules.{Spanned, caseAt, casesFrom, listFrom, plainList, Compared, agrees, differs, onCompared, onFound, partFrom, kindAt, partsFrom, firstFound, agreeingList, functionAt, changeAt, formulas, ruleAt, ruled, rulesFrom}
 use Rattle.grammar.specs.Parse.{program, parse}
-use Rattle.grammar.specs.Derivation.{Tokens, Spells}
+use Rattle.grammar.specs.Derivation.{Tokens, Spells, normal}
 use Rattle.grammar.specs.Inner.Names.{Named}
-use Rattle.grammar.proofs.Standing.{stands-in, spells-in, is-read}
+use Rattle.grammar.proofs.Standing.{stands-in, spells-in, is-read, normally}
 use Rattle.grammar.proofs.Listed.{Listed, last, next, parts-next}
 use Rattle.grammar.proofs.Lists.{CasesIn, cases-in}
 use Rattle.grammar.proofs.Whole.{Ends, Names, First, rule-fits, declarations-fit, spellings-length, named}
@@ -108,14 +108,14 @@ module _ (text : List ℕ) where
       go (token k s n) e = cond-prop (ComesTo at) (test k s n) _ _ (λ t. comes-behind at n (Reach.more k s n e Reach.none) (f n) (g n)) (λ t. (at, Reach.none, ap readStart e))
       go (fault p) e = (at, Reach.none, ap readStart e)
 
-  pub part-comes : (ts : Tokens) (f from to at : ℕ) → from ≤ length text → Spells text from to ts → ComesTo at (partFrom f text from to at)
+  pub part-comes : (ts : Tokens) (f from to at : ℕ) → from ≤ length text → Spells normal text from to ts → ComesTo at (partFrom f text from to at)
   unfolding partFrom
   part-comes ts zero from to at h g = Reach.none
   part-comes [] (suc f) from to at h g = rw (le-ltb from to (omega (arith, g))) Reach.none
   part-comes (t ∷ ts) (suc f) from to at h g =
       let st = g .1 in
-      let i = stands-in text from (g .0) t h st in
-      let j = spells-in text (g .0) to ts (i .1) (g .2) in
+      let i = stands-in normally text from (g .0) t h st in
+      let j = spells-in normally text (g .0) to ts (i .1) (g .2) in
       rw (lt-ltb from to (omega (arith, i .0, j .0)), is-read st) (found-comes at (sameToken text (st .kind) (st .start) (g .0)) _ (λ m. part-comes ts f (g .0) to m (i .1) (g .2)))
 
   pub kind-comes : (w : Kind) (at : ℕ) → ComesTo at (kindAt text w at)

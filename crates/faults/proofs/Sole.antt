@@ -13,12 +13,12 @@ use Rattle.lexer.specs.Lexer.{tokenAt}
 use Rattle.lexer.proofs.Laws.{token-at-moved}
 use Rattle.bytecode.proofs.Soundness.{none≢some}
 use Rattle.grammar.specs.Parsed.{Parsed, accepted, refused, andThen, onToken, onOption, rest, chain}
-use Rattle.grammar.specs.Derivation.{Tokens, Stands, Spells}
+use Rattle.grammar.specs.Derivation.{Tokens, Stands, Spells, normal}
 use Rattle.grammar.proofs.Bytes.{heads, tails}
 use Rattle.grammar.proofs.Growth.{operator-end}
 use Rattle.lexer.specs.Spelling.{Spelling}
 use Rattle.lexer.proofs.Spellings.{one-kind, end-place}
-use Rattle.grammar.proofs.Standing.{stands, stands-spelled, spells-in, spells-append, is-read}
+use Rattle.grammar.proofs.Standing.{stands, stands-spelled, spells-in, spells-append, is-read, normally}
 use Rattle.faults.proofs.Languages.{Joins}
 
 -- the tokens begin with one of that kind and spelling; at the end of the text there are none
@@ -27,21 +27,21 @@ Ahead k w us = (k ≡ ending → us ≡ []) × ((k ≡ ending → ⊥) → (more
 
 -- ... with what is read at a place
 abbrev pub AheadAt : List ℕ → ℕ → Tokens → Type 0
-AheadAt text n us = (k : Kind) (s m : ℕ) → tokenAt text n ≡ token k s m → Ahead k (part text s m) us
+AheadAt text n us = (k : Kind) (s m : ℕ) → tokenAt text n ≡ token k s m → Ahead k (normal (part text s m)) us
 
 pub record SoleTo (L S : Tokens → Type 0) (text : List ℕ) (at n : ℕ) : Type 0 where
   pub tokens : Tokens
-  pub spells : Spells text at n tokens
+  pub spells : Spells normal text at n tokens
   pub sole : (us xs ys : Tokens) → AheadAt text n us → tokens ++ us ≡ xs ++ ys → L xs → S ys → xs ≡ tokens
 
 pub record BlockedAt (L S : Tokens → Type 0) (text : List ℕ) (at place : ℕ) : Type 0 where
   pub before : Tokens
   pub end : ℕ
-  pub spells : Spells text at end before
+  pub spells : Spells normal text at end before
   pub kind : Kind
   pub next : ℕ
   pub stands : tokenAt text end ≡ token kind place next
-  pub blocked : (us xs ys : Tokens) → Ahead kind (part text place next) us → before ++ us ≡ xs ++ ys → L xs → S ys → ⊥
+  pub blocked : (us xs ys : Tokens) → Ahead kind (normal (part text place next)) us → before ++ us ≡ xs ++ ys → L xs → S ys → ⊥
 
 abbrev SoleFrom : {A : Type 0} → (Tokens → Type 0) → (Tokens → Type 0) → List ℕ → ℕ → Parsed A → Type 0
 SoleFrom L S text at (accepted a n) = SoleTo L S text at n
@@ -55,10 +55,10 @@ pub record Sole {A : Type 0} (L S : Tokens → Type 0) (text : List ℕ) (at : �
 pub by-other : {A : Type 0} {L S : Tokens → Type 0} {text : List ℕ} {at place : ℕ} (number : ℕ) → (number ≡ 2 → ⊥) → Sole {A = A} L S text at (refused number place)
 by-other number f = record { says = λ e. absurd (f e) }
 
-pub refused-sole : {A : Type 0} {L S : Tokens → Type 0} {text : List ℕ} {at : ℕ} {k : Kind} {s n : ℕ} → tokenAt text at ≡ token k s n → ((us xs ys : Tokens) → Ahead k (part text s n) us → us ≡ xs ++ ys → L xs → S ys → ⊥) → Sole {A = A} L S text at (refused 2 s)
+pub refused-sole : {A : Type 0} {L S : Tokens → Type 0} {text : List ℕ} {at : ℕ} {k : Kind} {s n : ℕ} → tokenAt text at ≡ token k s n → ((us xs ys : Tokens) → Ahead k (normal (part text s n)) us → us ≡ xs ++ ys → L xs → S ys → ⊥) → Sole {A = A} L S text at (refused 2 s)
 refused-sole {at = at} {k = k} {n = n} e h = record { says = λ q. record { before = []; end = at; spells = refl; kind = k; next = n; stands = e; blocked = h } }
 
-pub one-sole : {A : Type 0} {L S : Tokens → Type 0} {text : List ℕ} {at n : ℕ} {w : List ℕ} (a : A) → Stands text at n w → ((us xs ys : Tokens) → w ∷ us ≡ xs ++ ys → L xs → S ys → xs ≡ w ∷ []) → Sole L S text at (accepted a n)
+pub one-sole : {A : Type 0} {L S : Tokens → Type 0} {text : List ℕ} {at n : ℕ} {w : List ℕ} (a : A) → Stands normal text at n w → ((us xs ys : Tokens) → w ∷ us ≡ xs ++ ys → L xs → S ys → xs ≡ w ∷ []) → Sole L S text at (accepted a n)
 one-sole {n = n} {w = w} a st h = record { says = record { tokens = w ∷ []; spells = (n, st, refl); sole = λ us xs ys ah e l s. h us xs ys e l s } }
 
 -- where less may follow
@@ -76,7 +76,7 @@ pub nothing-sole : {A : Type 0} {L S : Tokens → Type 0} {text : List ℕ} {at 
 nothing-sole a h = record { says = record { tokens = []; spells = refl; sole = h } }
 
 -- behind a token w, with which a token list of L goes on as one of M
-pub behind : {A : Type 0} {L M S : Tokens → Type 0} {text : List ℕ} {at n : ℕ} {r : Parsed A} (w : List ℕ) → Stands text at n w → ((us xs ys : Tokens) → w ∷ us ≡ xs ++ ys → L xs → S ys → (zs : Tokens) × (xs ≡ w ∷ zs) × M zs) → Sole M S text n r → Sole L S text at r
+pub behind : {A : Type 0} {L M S : Tokens → Type 0} {text : List ℕ} {at n : ℕ} {r : Parsed A} (w : List ℕ) → Stands normal text at n w → ((us xs ys : Tokens) → w ∷ us ≡ xs ++ ys → L xs → S ys → (zs : Tokens) × (xs ≡ w ∷ zs) × M zs) → Sole M S text n r → Sole L S text at r
 behind {n = n} {r = accepted a m} w st inv x =
     let y = x .says in
     record {
@@ -110,17 +110,17 @@ cancel [] us vs e = e
 cancel (t ∷ ts) us vs e = cancel ts us vs (tails e)
 
 -- tokens that stand there, and what is read behind them
-pub ahead-spells : (text : List ℕ) (n m : ℕ) (ts us : Tokens) → n ≤ length text → Spells text n m ts → AheadAt text m us → AheadAt text n (ts ++ us)
+pub ahead-spells : (text : List ℕ) (n m : ℕ) (ts us : Tokens) → n ≤ length text → Spells normal text n m ts → AheadAt text m us → AheadAt text n (ts ++ us)
 ahead-spells text n m [] us h g ah = subst (λ (x : ℕ). AheadAt text x us) (sym g) ah
 ahead-spells text n m (t ∷ ts) us h (n1, st, g) ah = λ k s m2 e.
     let q : token (st .kind) (st .start) n1 ≡ token k s m2 = sym (is-read st) ∙ e in
     let i : st .start ≡ s = cc in
     let j : n1 ≡ m2 = cc in
     let b = st .is-token .some-bytes in
-    let w : t ≡ part text s m2 = sym (st .spelled) ∙ rw (i, j) refl in
+    let w : t ≡ normal (part text s m2) = sym (st .spelled) ∙ rw (i, j) refl in
     (λ z. let p = end-place text n s m2 h (e ∙ ap (λ (x : Kind). token x s m2) z) in absurd (omega (arith, p .0, p .1)), λ z. (ts ++ us, ap (λ (v : List ℕ). v ∷ (ts ++ us)) w))
 
-ahead-stands : (text : List ℕ) (n : ℕ) (k : Kind) (s m : ℕ) → tokenAt text n ≡ token k s m → (us : Tokens) → Ahead k (part text s m) us → AheadAt text n us
+ahead-stands : (text : List ℕ) (n : ℕ) (k : Kind) (s m : ℕ) → tokenAt text n ≡ token k s m → (us : Tokens) → Ahead k (normal (part text s m)) us → AheadAt text n us
 ahead-stands text n k s m e us ah k2 s2 m2 f =
     let o : token k s m ≡ token k2 s2 m2 = sym e ∙ f in
     let o1 : k ≡ k2 = cc in
@@ -155,7 +155,7 @@ module _ {B : Type 0} {L M N S S2 : Tokens → Type 0} {text : List ℕ} {at : �
       record {
         says = record {
           tokens = x .tokens ++ y .tokens;
-          spells = spells-append text at n m (x .tokens) (y .tokens) (x .spells) (y .spells);
+          spells = spells-append normally text at n m (x .tokens) (y .tokens) (x .spells) (y .spells);
           sole = λ us zs ys ah e l s.
               let d = inv zs l in
               let e1 : x .tokens ++ (y .tokens ++ us) ≡ d .0 ++ (d .1 ++ ys) = sym (append-assoc (x .tokens) (y .tokens) us) ∙ (e ∙ (ap (λ (z : Tokens). z ++ ys) (d .2) ∙ append-assoc (d .0) (d .1) ys)) in
@@ -171,7 +171,7 @@ module _ {B : Type 0} {L M N S S2 : Tokens → Type 0} {text : List ℕ} {at : �
             record {
               before = x .tokens ++ y .before;
               end = y .end;
-              spells = spells-append text at n (y .end) (x .tokens) (y .before) (x .spells) (y .spells);
+              spells = spells-append normally text at n (y .end) (x .tokens) (y .before) (x .spells) (y .spells);
               kind = y .kind;
               next = y .next;
               stands = y .stands;
@@ -186,7 +186,7 @@ module _ {B : Type 0} {L M N S S2 : Tokens → Type 0} {text : List ℕ} {at : �
 
   pub then-sole : {A : Type 0} {p : Parsed A} {f : A → ℕ → Parsed B} → Sole L S text at p → ((a : A) (n : ℕ) → at ≤ n → n ≤ length text → p ≡ accepted a n → Sole M S2 text n (f a n)) → Sole N S2 text at (andThen p f)
   then-sole {p = accepted a n} {f = f} x g =
-      let i = spells-in text at n (x .says .tokens) h (x .says .spells) in
+      let i = spells-in normally text at n (x .says .tokens) h (x .says .spells) in
       second n (x .says) (i .1) (f a n) (g a n (i .0) (i .1) refl)
   then-sole {p = refused k q} {f = f} x g =
       record {
@@ -253,8 +253,8 @@ first-bytes k w v us vs ah q = (un, heads (sym (ah .1 un .1) ∙ q))
     un : k ≡ ending → ⊥
     un z = let r : [] ≡ v ∷ vs = sym (ah .0 z) ∙ q in let y : _≡_ {A = ℕ} 0 1 = cc in omega arith
 
-pub first-ahead : (text : List ℕ) (at : ℕ) (k : Kind) (s n : ℕ) → at ≤ length text → tokenAt text at ≡ token k s n → (us vs : Tokens) (v : List ℕ) → Ahead k (part text s n) us → us ≡ v ∷ vs → (m : Kind) → Spelling m v → (k ≡ m → ⊥) → ⊥
-first-ahead text at k s n h e us vs v ah q m g un = let b = first-bytes k (part text s n) v us vs ah q in not-sign k m (part text s n) v (stands-spelled text at k s n h (b .0) e) g un (b .1)
+pub first-ahead : (text : List ℕ) (at : ℕ) (k : Kind) (s n : ℕ) → at ≤ length text → tokenAt text at ≡ token k s n → (us vs : Tokens) (v : List ℕ) → Ahead k (normal (part text s n)) us → us ≡ v ∷ vs → (m : Kind) → Spelling m v → (k ≡ m → ⊥) → ⊥
+first-ahead text at k s n h e us vs v ah q m g un = let b = first-bytes k (normal (part text s n)) v us vs ah q in not-sign k m (normal (part text s n)) v (stands-spelled normally text at k s n h (b .0) e) g un (b .1)
 
 module _ {O A : Type 0} (text : List ℕ) (P : List ℕ → Type 0) (Q R S : Tokens → Type 0) (join : O → A → A → A) (operator : Kind → Option O) (no-end : operator ending ≡ none)
     (sign-kind : (w : List ℕ) → P w → (k : Kind) × (o : O) × Spelling k w × (operator k ≡ some o)) (kind-sign : (k : Kind) (w : List ℕ) (o : O) → operator k ≡ some o → Spelling k w → P w)
@@ -269,7 +269,7 @@ module _ {O A : Type 0} (text : List ℕ) (P : List ℕ → Type 0) (Q R S : Tok
   no-more : (n : ℕ) (a : A) (k : Kind) (s m : ℕ) → n ≤ length text → tokenAt text n ≡ token k s m → operator k ≡ none → Sole (Tails P Q) Ends text n (accepted a n)
   no-more n a k s m h e z = nothing-sole a (λ us xs ys ah q l t. go us xs ys (ah k s m e) q l)
     where
-      go : (us xs ys : Tokens) → Ahead k (part text s m) us → us ≡ xs ++ ys → Tails P Q xs → xs ≡ []
+      go : (us xs ys : Tokens) → Ahead k (normal (part text s m)) us → us ≡ xs ++ ys → Tails P Q xs → xs ≡ []
       go us xs ys ah q no-tail = refl
       go us xs ys ah q (a-tail w ts vs p o r) =
           let c = sign-kind w p in
@@ -289,8 +289,8 @@ module _ {O A : Type 0} (text : List ℕ) (P : List ℕ → Type 0) (Q R S : Tok
       let ne = operator-end operator no-end k o eo in
       let mv = token-at-moved text n k s m h e in
       let lt : s < m = mv .3 ne in
-      let p = kind-sign k (part text s m) o eo (stands-spelled text n k s m h ne e) in
-      behind (part text s m) (stands text n k s m h ne e) (goes-on (part text s m) p)
+      let p = kind-sign k (normal (part text s m)) o eo (stands-spelled normally text n k s m h ne e) in
+      behind (normal (part text s m)) (stands normally text n k s m h ne e) (goes-on (normal (part text s m)) p)
       (then-sole {L = Q} {M = Tails P Q} {N = Joins Q (Tails P Q)} {S = S} {S2 = Ends} (mv .2) (λ zs j. j) follow (ho m (mv .2)) (λ c l i j eq. rest-sole f (join o a c) l j (omega (arith, mv .0))))))
 
   pub chain-sole : (at : ℕ) → at ≤ length text → Sole R Ends text at (chain join operator operand text at)

@@ -16,11 +16,11 @@ use Rattle.grammar.specs.Parsed.{Parsed}
 use Rattle.grammar.specs.Expressions.{Scope, productOf, sumOf, expression, bracket}
 use Rattle.grammar.specs.Conditions.{comparisonBy, compared, comparisonAt, opposite as opposed, inverted, atom, andAlso, orElse, connect, andOf, orOf, conjunction, condition, square, wholeCondition}
 use Rattle.grammar.specs.Derivation as D
-use Rattle.grammar.specs.Derivation.{Tokens, LevelC, SpellsC, not-square, one-atom, conjoined, one-conjunction, disjoined}
+use Rattle.grammar.specs.Derivation.{Tokens, LevelC, SpellsC, not-square, one-atom, conjoined, one-conjunction, disjoined, normal}
 use Rattle.grammar.proofs.Bytes.{heads}
 use Rattle.grammar.proofs.Growth.{operator-end, comparisons-end, ands-end, ors-end}
 use Rattle.lexer.specs.Spelling.{Spelling}
-use Rattle.grammar.proofs.Standing.{stands, only-sign}
+use Rattle.grammar.proofs.Standing.{stands, only-sign, normally}
 use Rattle.grammar.proofs.Derived.{sign-is}
 use Rattle.faults.specs.Grammar.{IsCondition, AreNames}
 use Rattle.faults.proofs.Languages.{Joins, These, InRound, InSquare}
@@ -135,7 +135,7 @@ module _ (names : List (List ℕ)) (good : AreNames names) where
         first-ahead (sc .text) n k s m h e us (l .1 ++ ys) (l .0) ah (q ∙ ap (λ (y : Tokens). y ++ ys) (l .2)) (c .0) (c .2) (λ i. none≢some (c .1) (sym z ∙ (ap comparisonBy i ∙ c .3)))))
         (λ o eo.
         let ne = operator-end comparisonBy comparisons-end k o eo in
-        behind (part (sc .text) s m) (stands (sc .text) n k s m h ne e) (λ us xs ys q l t. (l .1, l .2 ∙ ap (λ (y : List ℕ). y ∷ l .1) (heads (sym (q ∙ ap (λ (y : Tokens). y ++ ys) (l .2)))), l .4))
+        behind (normal (part (sc .text) s m)) (stands normally (sc .text) n k s m h ne e) (λ us xs ys q l t. (l .1, l .2 ∙ ap (λ (y : List ℕ). y ∷ l .1) (heads (sym (q ∙ ap (λ (y : Tokens). y ++ ys) (l .2)))), l .4))
         (with-value (λ b. comparison o a b) (expression-sole names good sc inner hi m (token-at-moved (sc .text) n k s m h e .2)))))
 
     comparison-sole : Anywhere names good sc Compared (AfterExpression names good) (λ at. comparisonAt inner sc at)
@@ -150,7 +150,7 @@ module _ (names : List (List ℕ)) (good : AreNames names) where
     inverted-sole at h =
         token-sole (sc .text) at
         (λ k s n e. cond-sole (is k openSquare)
-        (λ t. behind (bytes "[") (sign-is (sc .text) openSquare (bytes "[") (λ x q. q) refl at k s n h e t) (λ us xs ys q l z. (l .0, l .1, l .2)) (closer (λ ts z. tt) (with-value (λ c. negated c) (hc s n (token-at-moved (sc .text) at k s n h e .2)))))
+        (λ t. behind (bytes "[") (sign-is normally (sc .text) openSquare (bytes "[") (λ x q. q) refl at k s n h e t) (λ us xs ys q l z. (l .0, l .1, l .2)) (closer (λ ts z. tt) (with-value (λ c. negated c) (hc s n (token-at-moved (sc .text) at k s n h e .2)))))
         (λ t. refused-sole e (λ us xs ys ah q l z. first-ahead (sc .text) at k s n h e us (l .0 ++ ys) (bytes "[") ah (q ∙ ap (λ (y : Tokens). y ++ ys) (l .1)) openSquare refl (apart k openSquare refl t))))
 
     atom-sole : Anywhere names good sc (K D.atom) (AfterExpression names good) (λ at. atom inner inside sc at)
@@ -158,12 +158,12 @@ module _ (names : List (List ℕ)) (good : AreNames names) where
     atom-sole at h =
         token-sole (sc .text) at
         (λ k s n e. cond-sole (is k tilde)
-        (λ t. behind (bytes "~") (sign-is (sc .text) tilde (bytes "~") (λ x q. q) refl at k s n h e t) (λ us xs ys q l z. tilde-goes us xs ys q (atom-form xs l)) (inverted-sole n (token-at-moved (sc .text) at k s n h e .2)))
+        (λ t. behind (bytes "~") (sign-is normally (sc .text) tilde (bytes "~") (λ x q. q) refl at k s n h e t) (λ us xs ys q l z. tilde-goes us xs ys q (atom-form xs l)) (inverted-sole n (token-at-moved (sc .text) at k s n h e .2)))
         (λ t1. cond-sole (is k openSquare)
-        (λ t. behind (bytes "[") (sign-is (sc .text) openSquare (bytes "[") (λ x q. q) refl at k s n h e t) (λ us xs ys q l z. square-goes us xs ys q (atom-form xs l)) (closer (λ ts z. tt) (hc s n (token-at-moved (sc .text) at k s n h e .2))))
+        (λ t. behind (bytes "[") (sign-is normally (sc .text) openSquare (bytes "[") (λ x q. q) refl at k s n h e t) (λ us xs ys q l z. square-goes us xs ys q (atom-form xs l)) (closer (λ ts z. tt) (hc s n (token-at-moved (sc .text) at k s n h e .2))))
         (λ t2. narrow h (λ us xs ys ah q l z. compares-only k s n e t1 t2 us xs ys (ah k s n e) q (atom-form xs l)) (comparison-sole at h))))
       where
-        compares-only : (k : Kind) (s n : ℕ) → tokenAt (sc .text) at ≡ token k s n → is k tilde ≡ false → is k openSquare ≡ false → (us xs ys : Tokens) → Ahead k (part (sc .text) s n) us → us ≡ xs ++ ys → Atom xs → Compared xs
+        compares-only : (k : Kind) (s n : ℕ) → tokenAt (sc .text) at ≡ token k s n → is k tilde ≡ false → is k openSquare ≡ false → (us xs ys : Tokens) → Ahead k (normal (part (sc .text) s n)) us → us ≡ xs ++ ys → Atom xs → Compared xs
         compares-only k s n e t1 t2 us xs ys ah q (compares ts x) = x
         compares-only k s n e t1 t2 us xs ys ah q (in-square ts x) = absurd (first-ahead (sc .text) at k s n h e us (ts ++ ys) (bytes "[") ah q openSquare refl (apart k openSquare refl t2))
         compares-only k s n e t1 t2 us xs ys ah q (inverts ts x) = absurd (first-ahead (sc .text) at k s n h e us (ts ++ ys) (bytes "~") ah q tilde refl (apart k tilde refl t1))

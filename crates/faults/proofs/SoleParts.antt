@@ -21,13 +21,13 @@ use Rattle.grammar.specs.Parsed.{Parsed, refused, sign, expected, followed}
 use Rattle.grammar.specs.Expressions.{Scope, withId, currentAt, previousValueAt, constantAt, primary, negative, factor, productOf, sumOf, term, expression, bracket, wholeExpression}
 use Rattle.grammar.specs.Conditions.{comparisonBy, condition}
 use Rattle.grammar.specs.Derivation as D
-use Rattle.grammar.specs.Derivation.{Tokens, ProductSign, SumSign, ComparisonSign, Level, SpellsE, a-number, a-current, a-previous, brackets, plain, opposite, one-factor, product, one-term, sum}
+use Rattle.grammar.specs.Derivation.{Tokens, ProductSign, SumSign, ComparisonSign, Level, SpellsE, a-number, a-current, a-previous, brackets, plain, opposite, one-factor, product, one-term, sum, normal}
 use Rattle.grammar.proofs.Combine.{one-sign}
 use Rattle.grammar.proofs.Bytes.{heads}
 use Rattle.grammar.proofs.Growth.{products-end, sums-end}
 use Rattle.lexer.specs.Spelling.{Spelling}
 use Rattle.lexer.proofs.Spellings.{one-kind}
-use Rattle.grammar.proofs.Standing.{stands-spelled, product-sign, sum-sign}
+use Rattle.grammar.proofs.Standing.{stands-spelled, product-sign, sum-sign, normally}
 use Rattle.grammar.proofs.Derived.{sign-stands, sign-is}
 use Rattle.grammar.proofs.Converse.{product-kind, sum-kind, comparison-kind}
 use Rattle.faults.specs.Grammar.{IsExpression, AreNames}
@@ -78,7 +78,7 @@ followed-sole text w v sp f ne t x at h =
     rw (one-sign text w x at)
     (with-value (λ u. x)
     (token-sole text at
-    (λ k s n e. cond-sole (is k w) (λ q. one-sole tt (sign-is text w v f ne at k s n h e q) (λ us xs ys e2 l z. l))
+    (λ k s n e. cond-sole (is k w) (λ q. one-sole tt (sign-is normally text w v f ne at k s n h e q) (λ us xs ys e2 l z. l))
     (λ q. refused-sole e (λ us xs ys ah e2 l z. first-ahead text at k s n h e us ys v ah (e2 ∙ ap (λ (y : Tokens). y ++ ys) l) w sp (apart k w t q))))))
 
 -- ---- the forms of the languages
@@ -254,38 +254,39 @@ module _ (names : List (List ℕ)) (good : AreNames names) where
       primary-sole at h =
           token-sole (sc .text) at
           (λ k s n e.
-          let w = part (sc .text) s n in
+          let u = part (sc .text) s n in
+          let w = normal u in
           cond-sole (is k digits)
           (λ t.
-          let r = sign-stands (sc .text) digits refl at k s n h e t in
-          cond-sole (ltb numberLimit (valueOf w)) (λ x. by-other 3 (λ q. omega (arith, q))) (λ x. one-sole _ (r .0) (λ us xs ys q l z. plain-sole digits w (r .1) a-digit us xs ys q (primary-form xs l))))
+          let r = sign-stands normally (sc .text) digits refl at k s n h e t in
+          cond-sole (ltb numberLimit (valueOf u)) (λ x. by-other 3 (λ q. omega (arith, q))) (λ x. one-sole _ (r .0) (λ us xs ys q l z. plain-sole digits w (r .1) a-digit us xs ys q (primary-form xs l))))
           (λ t1. cond-sole (is k name)
           (λ t.
-          let r = sign-stands (sc .text) name refl at k s n h e t in
+          let r = sign-stands normally (sc .text) name refl at k s n h e t in
           id-sole at s s n _ (λ i o. cond-sole (getD (sc .known) i false) (λ x. one-sole _ (r .0) (λ us xs ys q l z. plain-sole name w (r .1) a-name us xs ys q (primary-form xs l))) (λ x. by-other 5 (λ q. omega (arith, q)))))
           (λ t2. cond-sole (is k T.previous)
           (λ t.
-          let r = sign-stands (sc .text) T.previous refl at k s n h e t in
+          let r = sign-stands normally (sc .text) T.previous refl at k s n h e t in
           id-sole at s (s + 1) n _ (λ i o. one-sole _ (r .0) (λ us xs ys q l z. plain-sole T.previous w (r .1) before us xs ys q (primary-form xs l))))
           (λ t3. cond-sole (is k openRound)
-          (λ t. behind (bytes "(") (sign-is (sc .text) openRound (bytes "(") (λ x q. q) refl at k s n h e t) (λ us xs ys q l z. round-goes us xs ys q (primary-form xs l)) (hi s n (token-at-moved (sc .text) at k s n h e .2)))
+          (λ t. behind (bytes "(") (sign-is normally (sc .text) openRound (bytes "(") (λ x q. q) refl at k s n h e t) (λ us xs ys q l z. round-goes us xs ys q (primary-form xs l)) (hi s n (token-at-moved (sc .text) at k s n h e .2)))
           (λ t4. refused-sole e (λ us xs ys ah q l z. none-first at k s n h e t1 t2 t3 t4 us xs ys ah q (primary-form xs l)))))))
         where
-          none-first : (at : ℕ) (k : Kind) (s n : ℕ) → at ≤ length (sc .text) → tokenAt (sc .text) at ≡ token k s n → is k digits ≡ false → is k name ≡ false → is k T.previous ≡ false → is k openRound ≡ false → (us xs ys : Tokens) → Ahead k (part (sc .text) s n) us → us ≡ xs ++ ys → Primary xs → ⊥
+          none-first : (at : ℕ) (k : Kind) (s n : ℕ) → at ≤ length (sc .text) → tokenAt (sc .text) at ≡ token k s n → is k digits ≡ false → is k name ≡ false → is k T.previous ≡ false → is k openRound ≡ false → (us xs ys : Tokens) → Ahead k (normal (part (sc .text) s n)) us → us ≡ xs ++ ys → Primary xs → ⊥
           none-first at k s n h e f g i j us xs ys ah q x = some (λ z. primary-some ys xs x (sym (ah .0 z) ∙ q))
             where
               some : (k ≡ ending → ⊥) → ⊥
-              some ne = let y = ah .1 ne in primary-first k (part (sc .text) s n) (stands-spelled (sc .text) at k s n h ne e) f g i j (y .0) xs ys (sym (y .1) ∙ q) x
+              some ne = let y = ah .1 ne in primary-first k (normal (part (sc .text) s n)) (stands-spelled normally (sc .text) at k s n h ne e) f g i j (y .0) xs ys (sym (y .1) ∙ q) x
 
       factor-sole : Anywhere (E D.factor) Anything (λ at. factor inner sc at)
       unfolding factor negative is kindNumber
       factor-sole at h =
           token-sole (sc .text) at
           (λ k s n e. cond-sole (is k minus)
-          (λ t. behind (bytes "-") (sign-is (sc .text) minus (bytes "-") (λ x q. q) refl at k s n h e t) (λ us xs ys q l z. minus-goes us xs ys q (factor-form xs l)) (with-value (λ x. negate x) (primary-sole n (token-at-moved (sc .text) at k s n h e .2))))
+          (λ t. behind (bytes "-") (sign-is normally (sc .text) minus (bytes "-") (λ x q. q) refl at k s n h e t) (λ us xs ys q l z. minus-goes us xs ys q (factor-form xs l)) (with-value (λ x. negate x) (primary-sole n (token-at-moved (sc .text) at k s n h e .2))))
           (λ t. narrow h (λ us xs ys ah q l z. no-minus k s n e t us xs ys (ah k s n e) q (factor-form xs l)) (primary-sole at h)))
         where
-          no-minus : (k : Kind) (s n : ℕ) → tokenAt (sc .text) at ≡ token k s n → is k minus ≡ false → (us xs ys : Tokens) → Ahead k (part (sc .text) s n) us → us ≡ xs ++ ys → Factor xs → E D.primary xs
+          no-minus : (k : Kind) (s n : ℕ) → tokenAt (sc .text) at ≡ token k s n → is k minus ≡ false → (us xs ys : Tokens) → Ahead k (normal (part (sc .text) s n)) us → us ≡ xs ++ ys → Factor xs → E D.primary xs
           no-minus k s n e t us xs ys ah q (bare ts x) = x
           no-minus k s n e t us xs ys ah q (negative-of ts x) = absurd (first-ahead (sc .text) at k s n h e us (ts ++ ys) (bytes "-") ah q minus refl (apart k minus refl t))
 

@@ -20,10 +20,11 @@ use Rattle.grammar.specs.Conditions.{listed}
 use Rattle.grammar.specs.Forms.{changeOpening, noChangeOpening, ruleOpening, valueOpening, functionClosing, formulaClosing, caseValueOpening}
 use Rattle.grammar.specs.Rules.{Spanned, caseAt, casesFrom, listFrom, plainList, Compared, agrees, differs, partsFrom, firstFound, agreeingList, functionAt, changeAt, formulas}
 use Rattle.grammar.specs.Derivation as D
-use Rattle.grammar.specs.Derivation.{Tokens, IsName}
+use Rattle.grammar.specs.Derivation.{Tokens, IsName, normal}
 use Rattle.grammar.proofs.Bytes.{heads}
 use Rattle.lexer.proofs.Spellings.{isFixed}
 use Rattle.grammar.proofs.Phrases.{fixed-stands, wantedTokens, signs}
+use Rattle.grammar.proofs.Standing.{Seen, normally}
 use Rattle.faults.specs.Grammar as G
 use Rattle.faults.specs.Grammar.{AreNames, AreCases, AreConditions, IsRule}
 use Rattle.faults.proofs.Languages.{Joins, These, InRound, InSquare, AndValue, CaseRest, InList, NoChange, ThenNoChange, Changes, Computes}
@@ -67,7 +68,7 @@ module _ (names : List (List ℕ)) (good : AreNames names) where
     unfolding is kindNumber
     no-others {A} {L} a at k s n h e t = nothing-sole a (λ us xs ys ah q l z. go us xs ys (ah k s n e) q l)
       where
-        go : (us xs ys : Tokens) → Ahead k (part (sc .text) s n) us → us ≡ xs ++ ys → Others L xs → xs ≡ []
+        go : (us xs ys : Tokens) → Ahead k (normal (part (sc .text) s n)) us → us ≡ xs ++ ys → Others L xs → xs ≡ []
         go us xs ys ah q (inl r) = r
         go us xs ys ah q (inr (vs, r, l)) = absurd (first-ahead (sc .text) at k s n h e us (vs ++ ys) (bytes "|") ah (q ∙ ap (λ (x : Tokens). x ++ ys) r) bar refl (apart k bar refl t))
 
@@ -83,12 +84,12 @@ module _ (names : List (List ℕ)) (good : AreNames names) where
         then-sole {L = K names good D.condition} {M = These (bytes "]" ∷ [])} {N = InSquare names} {S = AfterCondition names good} {S2 = Anything} h (λ zs j. j) (square-ends names good) (whole-condition-sole names good sc at h)
         (λ c m i j e. followed-sole (sc .text) closeSquare (bytes "]") refl (λ y q. q) refl refl c m j)
 
-    module _ (w : List ℕ) (is-name : IsName w) where
+    module _ (w : List ℕ) (is-name : IsName w) (seen : Seen normally w) where
       case-sole : (at n : ℕ) → n ≤ length (sc .text) → Sole (CaseRest names w) Anything (sc .text) n (caseAt sc w at n)
       unfolding caseAt signs isFixed is kindNumber
       case-sole at n h =
           then-sole {L = InSquare names} {M = AndValue names w} {N = CaseRest names w} {S = Anything} {S2 = Anything} h (λ zs j. j) (λ xs ys l z. tt) (listed-sole n h)
-          (λ c n1 i1 h1 e1. then-sole {L = These (wantedTokens (caseValueOpening w))} {M = InRound names} {N = AndValue names w} {S = Anything} {S2 = Anything} h1 (λ zs j. j) (λ xs ys l z. tt) (phrase-sole (sc .text) (caseValueOpening w) refl (is-name, tt) n1 h1)
+          (λ c n1 i1 h1 e1. then-sole {L = These (wantedTokens (caseValueOpening w))} {M = InRound names} {N = AndValue names w} {S = Anything} {S2 = Anything} h1 (λ zs j. j) (λ xs ys l z. tt) (phrase-sole (sc .text) (caseValueOpening w) refl (is-name, tt) (seen, tt) n1 h1)
           (λ u n2 i2 h2 e2. then-sole {L = E names good D.expression} {M = These (bytes ")" ∷ [])} {N = InRound names} {S = AfterExpression names good} {S2 = Anything} h2 (λ zs j. j) (round-ends names good) (whole-expression-sole names good sc n2 h2)
           (λ x n3 i3 h3 e3. followed-sole (sc .text) closeRound (bytes ")") refl (λ y q. q) refl refl _ n3 h3)))
 
@@ -100,11 +101,11 @@ module _ (names : List (List ℕ)) (good : AreNames names) where
           (λ k s n e. cond-sole (is k openSquare)
           (λ t.
           let i = token-at-moved (sc .text) at k s n h e .2 in
-          behind (bytes "[") (fixed-stands (sc .text) openSquare refl at k s n h e t) (λ us xs ys q l z. cases-of w xs l)
+          behind (bytes "[") (fixed-stands normally (sc .text) openSquare refl at k s n h e t) (λ us xs ys q l z. cases-of w xs l)
           (then-sole {L = CaseRest names w} {M = Others (AreCases names w)} {N = Joins (CaseRest names w) (Others (AreCases names w))} {S = Anything} {S2 = NoSign Or} i (λ zs j. j) (λ xs ys l z. tt) (case-sole at n i)
           (λ c n1 i1 h1 e1. token-sole (sc .text) n1
           (λ k2 s2 n2 e2. cond-sole (is k2 bar)
-          (λ t2. behind (bytes "|") (fixed-stands (sc .text) bar refl n1 k2 s2 n2 h1 e2 t2) bar-goes (cases-sole left (done ++ (c ∷ [])) n2 (token-at-moved (sc .text) n1 k2 s2 n2 h1 e2 .2)))
+          (λ t2. behind (bytes "|") (fixed-stands normally (sc .text) bar refl n1 k2 s2 n2 h1 e2 t2) bar-goes (cases-sole left (done ++ (c ∷ [])) n2 (token-at-moved (sc .text) n1 k2 s2 n2 h1 e2 .2)))
           (λ t2. no-others _ n1 k2 s2 n2 h1 e2 t2)))))
           (λ t. no-square at k s n h e t (cases-of w)))
 
@@ -116,11 +117,11 @@ module _ (names : List (List ℕ)) (good : AreNames names) where
         (λ k s n e. cond-sole (is k openSquare)
         (λ t.
         let i = token-at-moved (sc .text) at k s n h e .2 in
-        behind (bytes "[") (fixed-stands (sc .text) openSquare refl at k s n h e t) (λ us xs ys q l z. conditions-of xs l)
+        behind (bytes "[") (fixed-stands normally (sc .text) openSquare refl at k s n h e t) (λ us xs ys q l z. conditions-of xs l)
         (then-sole {L = InSquare names} {M = Others (AreConditions names)} {N = Joins (InSquare names) (Others (AreConditions names))} {S = Anything} {S2 = NoSign Or} i (λ zs j. j) (λ xs ys l z. tt) (listed-sole n i)
         (λ c n1 i1 h1 e1. token-sole (sc .text) n1
         (λ k2 s2 n2 e2. cond-sole (is k2 bar)
-        (λ t2. behind (bytes "|") (fixed-stands (sc .text) bar refl n1 k2 s2 n2 h1 e2 t2) bar-goes (list-sole left (done ++ (c ∷ [])) n2 (token-at-moved (sc .text) n1 k2 s2 n2 h1 e2 .2)))
+        (λ t2. behind (bytes "|") (fixed-stands normally (sc .text) bar refl n1 k2 s2 n2 h1 e2 t2) bar-goes (list-sole left (done ++ (c ∷ [])) n2 (token-at-moved (sc .text) n1 k2 s2 n2 h1 e2 .2)))
         (λ t2. no-others _ n1 k2 s2 n2 h1 e2 t2)))))
         (λ t. no-square at k s n h e t conditions-of))
 
@@ -166,23 +167,23 @@ module _ (names : List (List ℕ)) (good : AreNames names) where
         (wantedTokens ruleOpening, bytes "~" ∷ b, refl, refl, changes b (wantedTokens (changeOpening v), cs ++ t, refl, refl, (cs, t, refl, x, (wantedTokens (noChangeOpening v), n, refl, refl, (ls ++ bytes ")" ∷ [], wantedTokens formulaClosing, refl, (ls, bytes ")" ∷ [], refl, y, refl), refl))))),
       )
 
-  module _ (sc : Scope) (w : List ℕ) (is-name : IsName w) where
+  module _ (sc : Scope) (w : List ℕ) (is-name : IsName w) (seen : Seen normally w) where
     function-sole : (v at : ℕ) → at ≤ length (sc .text) → Sole (Computes names w) Anything (sc .text) at (functionAt sc w v at)
     unfolding functionAt signs isFixed is kindNumber productOf sumOf
     function-sole v at h =
-        then-sole {L = These (wantedTokens (valueOpening w))} {M = Joins (E names good D.expression) (These (wantedTokens functionClosing))} {N = Computes names w} {S = Anything} {S2 = Anything} h (λ zs j. j) (λ xs ys l z. tt) (phrase-sole (sc .text) (valueOpening w) refl (is-name, tt) at h)
+        then-sole {L = These (wantedTokens (valueOpening w))} {M = Joins (E names good D.expression) (These (wantedTokens functionClosing))} {N = Computes names w} {S = Anything} {S2 = Anything} h (λ zs j. j) (λ xs ys l z. tt) (phrase-sole (sc .text) (valueOpening w) refl (is-name, tt) (seen, tt) at h)
         (λ u n1 i1 h1 e1. then-sole {L = E names good D.expression} {M = These (wantedTokens functionClosing)} {N = Joins (E names good D.expression) (These (wantedTokens functionClosing))} {S = AfterExpression names good} {S2 = Anything} h1 (λ zs j. j)
         (λ xs ys l z. subst (λ (x : Tokens). AfterExpression names good (x ++ ys)) (sym l) (ends-expression names good closeRound (bytes ")") refl refl refl (bytes ")" ∷ bytes ";" ∷ ys))) (whole-expression-sole names good sc n1 h1)
-        (λ e n2 i2 h2 e2. followed-by-sole (sc .text) functionClosing refl tt _ n2 h2))
+        (λ e n2 i2 h2 e2. followed-by-sole (sc .text) functionClosing refl tt tt _ n2 h2))
 
     change-sole : (v at : ℕ) → at ≤ length (sc .text) → Sole (Changes names w) Anything (sc .text) at (changeAt sc w v at)
     unfolding changeAt signs isFixed is kindNumber
     change-sole v at h =
-        then-sole {L = These (wantedTokens (changeOpening w))} {M = Joins (AreCases names w) (ThenNoChange names w)} {N = Changes names w} {S = Anything} {S2 = Anything} h (λ zs j. j) (λ xs ys l z. tt) (phrase-sole (sc .text) (changeOpening w) refl (is-name, (is-name, tt)) at h)
-        (λ u n1 i1 h1 e1. then-sole {L = AreCases names w} {M = ThenNoChange names w} {N = Joins (AreCases names w) (ThenNoChange names w)} {S = NoSign Or} {S2 = Anything} h1 (λ zs j. j) then-ends (cases-sole sc w is-name caseLimit [] n1 h1)
-        (λ cases n2 i2 h2 e2. then-sole {L = These (wantedTokens (noChangeOpening w))} {M = NoChange names} {N = ThenNoChange names w} {S = Anything} {S2 = Anything} h2 (λ zs j. j) (λ xs ys l z. tt) (phrase-sole (sc .text) (noChangeOpening w) refl (is-name, (is-name, (is-name, tt))) n2 h2)
+        then-sole {L = These (wantedTokens (changeOpening w))} {M = Joins (AreCases names w) (ThenNoChange names w)} {N = Changes names w} {S = Anything} {S2 = Anything} h (λ zs j. j) (λ xs ys l z. tt) (phrase-sole (sc .text) (changeOpening w) refl (is-name, (is-name, tt)) (seen, (seen, tt)) at h)
+        (λ u n1 i1 h1 e1. then-sole {L = AreCases names w} {M = ThenNoChange names w} {N = Joins (AreCases names w) (ThenNoChange names w)} {S = NoSign Or} {S2 = Anything} h1 (λ zs j. j) then-ends (cases-sole sc w is-name seen caseLimit [] n1 h1)
+        (λ cases n2 i2 h2 e2. then-sole {L = These (wantedTokens (noChangeOpening w))} {M = NoChange names} {N = ThenNoChange names w} {S = Anything} {S2 = Anything} h2 (λ zs j. j) (λ xs ys l z. tt) (phrase-sole (sc .text) (noChangeOpening w) refl (is-name, (is-name, (is-name, tt))) (seen, (seen, (seen, tt))) n2 h2)
         (λ u n3 i3 h3 e3. then-sole {L = InList names} {M = These (wantedTokens formulaClosing)} {N = NoChange names} {S = Anything} {S2 = Anything} h3 (λ zs j. j) (λ xs ys l z. tt) (agreeing-sole sc cases n3 h3)
-        (λ ds n4 i4 h4 e4. followed-by-sole (sc .text) formulaClosing refl tt _ n4 h4))))
+        (λ ds n4 i4 h4 e4. followed-by-sole (sc .text) formulaClosing refl tt tt _ n4 h4))))
       where
         then-ends : (xs ys : Tokens) → ThenNoChange names w xs → Anything ys → NoSign Or (xs ++ ys)
         then-ends xs ys (ts, us, q, l, m) z = subst (λ (x : Tokens). NoSign Or (x ++ ys)) (sym (q ∙ ap (λ (x : Tokens). x ++ us) l)) no-bar
@@ -190,16 +191,16 @@ module _ (names : List (List ℕ)) (good : AreNames names) where
     pub formulas-sole : (v at : ℕ) → at ≤ length (sc .text) → Sole (RuleRest w) Anything (sc .text) at (formulas sc w v at)
     unfolding formulas signs isFixed is kindNumber
     formulas-sole v at h =
-        then-sole {L = These (wantedTokens ruleOpening)} {M = Formulas w} {N = RuleRest w} {S = Anything} {S2 = Anything} h (λ zs j. j) (λ xs ys l z. tt) (phrase-sole (sc .text) ruleOpening refl tt at h)
+        then-sole {L = These (wantedTokens ruleOpening)} {M = Formulas w} {N = RuleRest w} {S = Anything} {S2 = Anything} h (λ zs j. j) (λ xs ys l z. tt) (phrase-sole (sc .text) ruleOpening refl tt tt at h)
         (λ u n i j q. token-sole (sc .text) n
         (λ k s m e. cond-sole (is k tilde)
-        (λ t. behind (bytes "~") (fixed-stands (sc .text) tilde refl n k s m j e t) tilde-goes (change-sole v m (token-at-moved (sc .text) n k s m j e .2)))
+        (λ t. behind (bytes "~") (fixed-stands normally (sc .text) tilde refl n k s m j e t) tilde-goes (change-sole v m (token-at-moved (sc .text) n k s m j e .2)))
         (λ t. narrow j (λ us xs ys ah q l z. no-tilde n k s m j e t us xs ys (ah k s m e) q l) (function-sole v n j))))
       where
         tilde-goes : (us xs ys : Tokens) → bytes "~" ∷ us ≡ xs ++ ys → Formulas w xs → Anything ys → (zs : Tokens) × (xs ≡ bytes "~" ∷ zs) × Changes names w zs
         tilde-goes us xs ys q (changes vs x) z = (vs, refl, x)
         tilde-goes us xs ys q (computes vs (cs, bs, r, l, m)) z = absurd (not-sign tilde name (bytes "~") w refl (record { is-word = is-name .is-word; no-word = is-name .no-word }) (apart tilde name refl refl) (heads (q ∙ ap (λ (x : Tokens). x ++ ys) (r ∙ ap (λ (x : Tokens). x ++ bs) l))))
 
-        no-tilde : (n : ℕ) (k : Kind) (s m : ℕ) → n ≤ length (sc .text) → tokenAt (sc .text) n ≡ token k s m → is k tilde ≡ false → (us xs ys : Tokens) → Ahead k (part (sc .text) s m) us → us ≡ xs ++ ys → Formulas w xs → Computes names w xs
+        no-tilde : (n : ℕ) (k : Kind) (s m : ℕ) → n ≤ length (sc .text) → tokenAt (sc .text) n ≡ token k s m → is k tilde ≡ false → (us xs ys : Tokens) → Ahead k (normal (part (sc .text) s m)) us → us ≡ xs ++ ys → Formulas w xs → Computes names w xs
         no-tilde n k s m j e t us xs ys ah q (computes vs x) = x
         no-tilde n k s m j e t us xs ys ah q (changes vs x) = absurd (first-ahead (sc .text) n k s m j e us (vs ++ ys) (bytes "~") ah q tilde refl (apart k tilde refl t))

@@ -18,13 +18,15 @@ use Rattle.grammar.specs.Expressions.{Scope}
 use Rattle.grammar.specs.Declarations.{spellings, declarations}
 use Rattle.grammar.specs.Rules.{ruleAt, ruled, rulesFrom}
 use Rattle.grammar.specs.Parse.{program, parse}
-use Rattle.grammar.specs.Derivation.{Tokens, Stands, Spells}
+use Rattle.grammar.specs.Derivation.{Tokens, Stands, Spells, normal}
 use Rattle.grammar.proofs.Bytes.{part-length, heads}
 use Rattle.lexer.specs.Spelling.{Spelling}
 use Rattle.lexer.proofs.Spellings.{isFixed}
-use Rattle.grammar.proofs.Standing.{stands-in, spells-in, is-read}
+use Rattle.grammar.proofs.Standing.{stands-in, spells-in, is-read, Seen, seen-capitals, written, normally}
 use Rattle.grammar.proofs.Derived.{sign-stands}
 use Rattle.grammar.proofs.Whole.{Ends, Names, declarations-fit}
+use Rattle.grammar.proofs.Normal.{name-seen, normal-twice, normal-length}
+use Rattle.grammar.proofs.SameRule.{formulas-same}
 use Rattle.faults.specs.Grammar as G
 use Rattle.faults.specs.Grammar.{AreNames, AreDeclarations, IsRule, AreRules, IsText, BeginsNone, NoneGoOn}
 use Rattle.faults.proofs.TextPlaces.{refused-parse}
@@ -51,7 +53,7 @@ narrow-failing {A} L M S text at (refused k q) h f x = narrow {A = A} {L = L} {M
 
 module _ {A B : Type 0} (L M N S S2 : Tokens → Type 0) (text : List ℕ) (at : ℕ) (h : at ≤ length text) (inv : (zs : Tokens) → N zs → Joins L M zs) (follow : (xs ys : Tokens) → M xs → S2 ys → S (xs ++ ys)) where
   then-failing : (p : Parsed A) (f : A → ℕ → Parsed B) → Sole L S text at p → ((a : A) (n : ℕ) → n ≤ length text → p ≡ accepted a n → Failing M S2 text n (f a n)) → Failing N S2 text at (andThen p f)
-  then-failing (accepted a n) f x g = let i = spells-in text at n (x .says .tokens) h (x .says .spells) in go (f a n) (g a n (i .1) refl) (i .1)
+  then-failing (accepted a n) f x g = let i = spells-in normally text at n (x .says .tokens) h (x .says .spells) in go (f a n) (g a n (i .1) refl) (i .1)
     where
       go : (r : Parsed B) → Failing M S2 text n r → n ≤ length text → Failing N S2 text at r
       go (accepted b m) y i = tt
@@ -68,26 +70,29 @@ module _ (names : List (List ℕ)) (good : AreNames names) where
   rule-sole : (sc : Scope) (at : ℕ) (k : Kind) (s n : ℕ) → at ≤ length (sc .text) → tokenAt (sc .text) at ≡ token k s n → is k name ≡ true → Sole (IsRule names) Anything (sc .text) at (ruleAt sc s n)
   unfolding ruleAt overLong is kindNumber
   rule-sole sc at k s n h e t =
-      let r = sign-stands (sc .text) name refl at k s n h e t in
+      let u = part (sc .text) s n in
+      let nm = sign-stands written (sc .text) name refl at k s n h e t .1 in
+      let r = sign-stands normally (sc .text) name refl at k s n h e t in
       let mv = token-at-moved (sc .text) at k s n h e in
+      let seen = subst (Seen normally) (sym (name-seen u nm)) (seen-capitals u) in
       id-sole names good sc at s s n _
       (λ v o. cond-sole (getD (sc .known) v false) (λ x. by-other 6 (λ q. omega (arith, q)))
       (λ x.
       let short = ltb-false 16 (n - s) o in
-      let l = part-length (sc .text) s n (mv .1) (mv .2) in
-      behind (part (sc .text) s n) (r .0) goes (formulas-sole names good sc (part (sc .text) s n) (record { is-word = r .1 .is-word; short = omega arith; no-word = r .1 .no-word }) v n (mv .2))))
+      let l = normal-length u ∙ part-length (sc .text) s n (mv .1) (mv .2) in
+      behind (normal u) (r .0) goes (rw (formulas-same sc u (normal u) (sym (normal-twice u nm)) v n) (formulas-sole names good sc (normal u) (record { is-word = r .1 .is-word; short = omega arith; no-word = r .1 .no-word }) seen v n (mv .2)))))
     where
-      goes : (us xs ys : Tokens) → part (sc .text) s n ∷ us ≡ xs ++ ys → IsRule names xs → Anything ys → (zs : Tokens) × (xs ≡ part (sc .text) s n ∷ zs) × RuleRest names good (part (sc .text) s n) zs
+      goes : (us xs ys : Tokens) → normal (part (sc .text) s n) ∷ us ≡ xs ++ ys → IsRule names xs → Anything ys → (zs : Tokens) × (xs ≡ normal (part (sc .text) s n) ∷ zs) × RuleRest names good (normal (part (sc .text) s n)) zs
       goes us xs ys q l z =
           let x = rule-of names good xs l in
-          let i : part (sc .text) s n ≡ x .0 = heads (q ∙ ap (λ (y : Tokens). y ++ ys) (x .2)) in
+          let i : normal (part (sc .text) s n) ≡ x .0 = heads (q ∙ ap (λ (y : Tokens). y ++ ys) (x .2)) in
           (x .1, x .2 ∙ ap (λ (v : List ℕ). v ∷ x .1) (sym i), subst (λ (v : List ℕ). RuleRest names good v (x .1)) (sym i) (x .4))
 
   -- the rules that begin with a token that is there
   some-rules : (text : List ℕ) (at : ℕ) (k : Kind) (s n : ℕ) → tokenAt text at ≡ token k s n → (k ≡ ending → ⊥) → (us xs ys : Tokens) → AheadAt text at us → us ≡ xs ++ ys → AreRules names xs → Empty ys → Joins (IsRule names) (AreRules names) xs
   some-rules text at k s n e ne us xs ys ah q G.AreRules.none z =
       let y = ah k s n e .1 ne in
-      let r : part text s n ∷ y .0 ≡ [] = sym (y .1) ∙ (q ∙ z) in
+      let r : normal (part text s n) ∷ y .0 ≡ [] = sym (y .1) ∙ (q ∙ z) in
       let w : _≡_ {A = ℕ} 0 1 = cc in
       absurd (omega arith)
   some-rules text at k s n e ne us xs ys ah q (G.AreRules.more ts vs x r) z = (ts, vs, refl, x, r)
@@ -103,8 +108,8 @@ module _ (names : List (List ℕ)) (good : AreNames names) where
       Ih : Type 0
       Ih = (r : Rule) (m : ℕ) → m ≤ length (sc .text) → Failing (AreRules names) Empty (sc .text) m (rulesFrom f (ruled sc (target r)) (done ++ (r ∷ [])) m)
 
-      blocks : (k : Kind) (s n : ℕ) → tokenAt (sc .text) at ≡ token k s n → is k name ≡ false → (k ≡ ending → ⊥) → (us xs ys : Tokens) → Ahead k (part (sc .text) s n) us → us ≡ xs ++ ys → AreRules names xs → Empty ys → ⊥
-      blocks k s n e t ne us xs ys ah q G.AreRules.none z = let y = ah .1 ne in let r : part (sc .text) s n ∷ y .0 ≡ [] = sym (y .1) ∙ (q ∙ z) in let w : _≡_ {A = ℕ} 0 1 = cc in omega arith
+      blocks : (k : Kind) (s n : ℕ) → tokenAt (sc .text) at ≡ token k s n → is k name ≡ false → (k ≡ ending → ⊥) → (us xs ys : Tokens) → Ahead k (normal (part (sc .text) s n)) us → us ≡ xs ++ ys → AreRules names xs → Empty ys → ⊥
+      blocks k s n e t ne us xs ys ah q G.AreRules.none z = let y = ah .1 ne in let r : normal (part (sc .text) s n) ∷ y .0 ≡ [] = sym (y .1) ∙ (q ∙ z) in let w : _≡_ {A = ℕ} 0 1 = cc in omega arith
       blocks k s n e t ne us xs ys ah q (G.AreRules.more ts vs x r) z =
           let y = rule-of names good ts x in
           first-ahead (sc .text) at k s n h e us ((y .1 ++ vs) ++ ys) (y .0) ah (q ∙ ap (λ (l : Tokens). (l ++ vs) ++ ys) (y .2)) name (y .3) (apart k name refl t)
@@ -161,15 +166,15 @@ module _ (names : List (List ℕ)) (good : AreNames names) where
 
 -- ---- the tokens before a place are the same, however they were found
 
-begins-after : (text : List ℕ) (at n e : ℕ) (w : List ℕ) (ts : Tokens) (k : Kind) (place next : ℕ) → at ≤ length text → (st : Stands text at n w) → Spells text n e ts → tokenAt text e ≡ token k place next → st .start < place
+begins-after : (text : List ℕ) (at n e : ℕ) (w : List ℕ) (ts : Tokens) (k : Kind) (place next : ℕ) → at ≤ length text → (st : Stands normal text at n w) → Spells normal text n e ts → tokenAt text e ≡ token k place next → st .start < place
 begins-after text at n e w ts k place next h st sp q =
-    let i = stands-in text at n w h st .1 in
-    let j = spells-in text n e ts i sp in
+    let i = stands-in normally text at n w h st .1 in
+    let j = spells-in normally text n e ts i sp in
     let m = token-at-moved text e k place next (j .1) q in
     let b = st .is-token .some-bytes in
     omega (arith, j .0, m .0)
 
-same-before : (text : List ℕ) (place : ℕ) (k : Kind) (next end : ℕ) (k2 : Kind) (next2 end2 : ℕ) (at : ℕ) (ts us : Tokens) → at ≤ length text → Spells text at end ts → tokenAt text end ≡ token k place next → Spells text at end2 us → tokenAt text end2 ≡ token k2 place next2 → (ts ≡ us) × (end ≡ end2)
+same-before : (text : List ℕ) (place : ℕ) (k : Kind) (next end : ℕ) (k2 : Kind) (next2 end2 : ℕ) (at : ℕ) (ts us : Tokens) → at ≤ length text → Spells normal text at end ts → tokenAt text end ≡ token k place next → Spells normal text at end2 us → tokenAt text end2 ≡ token k2 place next2 → (ts ≡ us) × (end ≡ end2)
 same-before text place k next end k2 next2 end2 at [] [] h g e g2 e2 = (refl, sym g ∙ g2)
 same-before text place k next end k2 next2 end2 at [] (u ∷ us) h g e (n, st, g2) e2 =
     let l = begins-after text at n end2 u us k2 place next2 h st g2 e2 in
@@ -186,7 +191,7 @@ same-before text place k next end k2 next2 end2 at (t ∷ ts) (u ∷ us) h (n, s
     let i : n ≡ m = cc in
     let j : st .start ≡ su .start = cc in
     let w : t ≡ u = sym (st .spelled) ∙ (rw (i, j) (su .spelled)) in
-    let x = same-before text place k next end k2 next2 end2 n ts us (stands-in text at n t h st .1) g e (subst (λ (y : ℕ). Spells text y end2 us) (sym i) g2) e2 in
+    let x = same-before text place k next end k2 next2 end2 n ts us (stands-in normally text at n t h st .1) g e (subst (λ (y : ℕ). Spells normal text y end2 us) (sym i) g2) e2 in
     (ap (λ (v : List ℕ). v ∷ ts) w ∙ ap (λ (l : Tokens). u ∷ l) (x .0), x .1)
 
 -- ---- the claims
@@ -200,21 +205,21 @@ begins-none L S text at place s b =
       kind = b .kind;
       next = b .next;
       stands = b .stands;
-      none-begun = λ ne more l. b .blocked (part text place (b .next) ∷ more) (b .before ++ part text place (b .next) ∷ more) [] (λ z. absurd (ne z), λ z. (more, refl)) (sym (append-nil (b .before ++ part text place (b .next) ∷ more))) l s;
+      none-begun = λ ne more l. b .blocked (normal (part text place (b .next)) ∷ more) (b .before ++ normal (part text place (b .next)) ∷ more) [] (λ z. absurd (ne z), λ z. (more, refl)) (sym (append-nil (b .before ++ normal (part text place (b .next)) ∷ more))) l s;
       none-ended = λ z l. b .blocked [] (b .before) [] (λ q. refl, λ ne. absurd (ne z)) refl l s;
     }
 
 text-of : (ts : Tokens) (x : IsText ts) → TextOf (x .names) (x .are-names) ts
 text-of ts x = (x .inputs, x .variables ++ x .rules, x .in-order ∙ append-assoc (x .inputs) (x .variables) (x .rules), x .are-inputs, (x .variables, x .rules, refl, x .are-variables, x .are-rules))
 
-texts : (text : List ℕ) (place : ℕ) → parse text ≡ refused 2 place → (before : Tokens) (end : ℕ) → Spells text 0 end before → (kind : Kind) (next : ℕ) → tokenAt text end ≡ token kind place next → (us : Tokens) → Ahead kind (part text place next) us → IsText (before ++ us) → ⊥
+texts : (text : List ℕ) (place : ℕ) → parse text ≡ refused 2 place → (before : Tokens) (end : ℕ) → Spells normal text 0 end before → (kind : Kind) (next : ℕ) → tokenAt text end ≡ token kind place next → (us : Tokens) → Ahead kind (normal (part text place next)) us → IsText (before ++ us) → ⊥
 texts text place e before end sp kind next st us ah x =
     let b = (rw e at (parse-failing (x .names) (x .are-names) text)) refl in
     let s = same-before text place (b .kind) (b .next) (b .end) kind next end 0 (b .before) before (omega arith) (b .spells) (b .stands) sp st in
     let q : token (b .kind) place (b .next) ≡ token kind place next = sym (b .stands) ∙ (ap (tokenAt text) (s .1) ∙ st) in
     let i : kind ≡ b .kind = cc in
     let j : next ≡ b .next = cc in
-    let ah2 : Ahead (b .kind) (part text place (b .next)) us = rw (← i, ← j) ah in
+    let ah2 : Ahead (b .kind) (normal (part text place (b .next))) us = rw (← i, ← j) ah in
     b .blocked us (before ++ us) [] ah2 (ap (λ (l : Tokens). l ++ us) (s .0) ∙ sym (append-nil (before ++ us))) (text-of (before ++ us) x) refl
 
 pub none-go-on : NoneGoOn
@@ -231,7 +236,7 @@ none-go-on = record {
         kind = b .kind;
         next = b .next;
         stands = b .stands;
-        none-begun = λ ne more l. texts text place p (b .before) (b .end) (b .spells) (b .kind) (b .next) (b .stands) (part text place (b .next) ∷ more) (λ z. absurd (ne z), λ z. (more, refl)) l;
+        none-begun = λ ne more l. texts text place p (b .before) (b .end) (b .spells) (b .kind) (b .next) (b .stands) (normal (part text place (b .next)) ∷ more) (λ z. absurd (ne z), λ z. (more, refl)) l;
         none-ended = λ z l. texts text place p (b .before) (b .end) (b .spells) (b .kind) (b .next) (b .stands) [] (λ q. refl, λ ne. absurd (ne z)) (subst IsText (sym (append-nil (b .before))) l);
       };
 }

@@ -12,17 +12,17 @@ use Rattle.lexer.specs.Token.{Kind, ending, is, TokenRead, token, fault}
 use Rattle.lexer.specs.Lexer.{tokenAt}
 use Rattle.lexer.proofs.Laws.{token-at-moved}
 use Rattle.grammar.specs.Parsed.{Parsed, accepted, refused, andThen, onToken, onOption, sign, expected, followed, rest, chain}
-use Rattle.grammar.specs.Derivation.{Tokens, Stands, Spells}
+use Rattle.grammar.specs.Derivation.{Tokens, Stands, Spells, normal}
 use Rattle.grammar.proofs.Combine.{one-sign}
 use Rattle.grammar.proofs.Growth.{operator-end}
 use Rattle.lexer.specs.Spelling.{Spelling}
-use Rattle.grammar.proofs.Standing.{stands, stands-spelled, spells-in, spells-append}
+use Rattle.grammar.proofs.Standing.{stands, stands-spelled, spells-in, spells-append, normally}
 use Rattle.grammar.proofs.Derived.{sign-is}
 use Rattle.faults.specs.Grammar.{BegunBefore}
 
 pub record SpeltIn (L : Tokens → Type 0) (text : List ℕ) (at n : ℕ) : Type 0 where
   pub tokens : Tokens
-  pub spells : Spells text at n tokens
+  pub spells : Spells normal text at n tokens
   pub is-in : L tokens
 
 -- a refusal by another number says nothing here
@@ -45,7 +45,7 @@ by-other number f = record { shown = λ e. absurd (f e) }
 pub refused-here : {A : Type 0} {L : Tokens → Type 0} {text : List ℕ} {at : ℕ} {k : Kind} {s n : ℕ} (z : Tokens) → L z → tokenAt text at ≡ token k s n → Viable {A = A} L text at (refused 2 s)
 refused-here {at = at} {k = k} {n = n} z h e = record { shown = λ q. record { before = []; end = at; spells = refl; kind = k; next = n; stands = e; more = z; begun = h } }
 
-pub one-token : {A : Type 0} {L : Tokens → Type 0} {text : List ℕ} {at n : ℕ} {w : List ℕ} (a : A) → Stands text at n w → L (w ∷ []) → Viable L text at (accepted a n)
+pub one-token : {A : Type 0} {L : Tokens → Type 0} {text : List ℕ} {at n : ℕ} {w : List ℕ} (a : A) → Stands normal text at n w → L (w ∷ []) → Viable L text at (accepted a n)
 one-token {n = n} {w = w} a st h = record { shown = record { tokens = w ∷ []; spells = (n, st, refl); is-in = h } }
 
 pub wider : {A : Type 0} {L M : Tokens → Type 0} {text : List ℕ} {at : ℕ} {r : Parsed A} → ((ts : Tokens) → L ts → M ts) → Viable L text at r → Viable M text at r
@@ -58,8 +58,8 @@ with-value {r = accepted a n} f x = record { shown = x .shown }
 with-value {r = refused k q} f x = record { shown = x .shown }
 
 -- behind tokens ts
-pub behind : {A : Type 0} {L M : Tokens → Type 0} {text : List ℕ} {at n : ℕ} {r : Parsed A} (ts : Tokens) → Spells text at n ts → ((us : Tokens) → M us → L (ts ++ us)) → Viable M text n r → Viable L text at r
-behind {text = text} {at = at} {n = n} {r = accepted a m} ts sp f x = record { shown = record { tokens = ts ++ x .shown .tokens; spells = spells-append text at n m ts (x .shown .tokens) sp (x .shown .spells); is-in = f _ (x .shown .is-in) } }
+pub behind : {A : Type 0} {L M : Tokens → Type 0} {text : List ℕ} {at n : ℕ} {r : Parsed A} (ts : Tokens) → Spells normal text at n ts → ((us : Tokens) → M us → L (ts ++ us)) → Viable M text n r → Viable L text at r
+behind {text = text} {at = at} {n = n} {r = accepted a m} ts sp f x = record { shown = record { tokens = ts ++ x .shown .tokens; spells = spells-append normally text at n m ts (x .shown .tokens) sp (x .shown .spells); is-in = f _ (x .shown .is-in) } }
 behind {L = L} {text = text} {at = at} {n = n} {r = refused k q} ts sp f x =
     record {
       shown = λ e.
@@ -67,7 +67,7 @@ behind {L = L} {text = text} {at = at} {n = n} {r = refused k q} ts sp f x =
           record {
             before = ts ++ y .before;
             end = y .end;
-            spells = spells-append text at n (y .end) ts (y .before) sp (y .spells);
+            spells = spells-append normally text at n (y .end) ts (y .before) sp (y .spells);
             kind = y .kind;
             next = y .next;
             stands = y .stands;
@@ -81,7 +81,7 @@ pub then-viable : {A B : Type 0} {L M N : Tokens → Type 0} {text : List ℕ} {
     → ((a : A) (n : ℕ) → n ≤ length text → Viable M text n (f a n)) → Viable N text at (andThen p f)
 then-viable {text = text} {at = at} {p = accepted a n} h j z w x g =
     let s = x .shown in
-    behind (s .tokens) (s .spells) (λ us m. j (s .tokens) us (s .is-in) m) (g a n (spells-in text at n (s .tokens) h (s .spells) .1))
+    behind (s .tokens) (s .spells) (λ us m. j (s .tokens) us (s .is-in) m) (g a n (spells-in normally text at n (s .tokens) h (s .spells) .1))
 then-viable {N = N} {p = refused k q} h j z w x g =
     record {
       shown = λ e.
@@ -110,7 +110,7 @@ module _ (text : List ℕ) where
   unfolding expected
   followed-viable w v f ne x at h =
       rw (one-sign text w x at)
-      (with-value (λ u. x) (token-viable text at (λ k s n e. cond-viable (is k w) (λ t. one-token tt (sign-is text w v f ne at k s n h e t) refl) (λ t. refused-here (v ∷ []) refl e))))
+      (with-value (λ u. x) (token-viable text at (λ k s n e. cond-viable (is k w) (λ t. one-token tt (sign-is normally text w v f ne at k s n h e t) refl) (λ t. refused-here (v ∷ []) refl e))))
 
   -- what may follow a token list of R
   abbrev Tail : (Tokens → Type 0) → Tokens → Type 0
@@ -128,9 +128,9 @@ module _ (text : List ℕ) where
         (λ k s m e. option-viable (operator k) (λ z. record { shown = record { tokens = []; spells = refl; is-in = no-tail R } })
         (λ o eo.
         let ne = operator-end operator no-end k o eo in
-        let w = part text s m in
-        let sp = stands-spelled text n k s m h ne e in
-        behind {M = λ vs. Tail R (w ∷ vs)} (w ∷ []) (m, stands text n k s m h ne e, refl) (λ us g. g)
+        let w = normal (part text s m) in
+        let sp = stands-spelled normally text n k s m h ne e in
+        behind {M = λ vs. Tail R (w ∷ vs)} (w ∷ []) (m, stands normally text n k s m h ne e, refl) (λ us g. g)
         (then-viable {L = Q} {M = Tail R} (token-at-moved text n k s m h e .2)
         (λ ts us q t xs r. subst R (append-assoc xs (w ∷ ts) us) (t (xs ++ w ∷ ts) (more k w o eo sp xs ts r q))) [] (no-tail R) (ho m (token-at-moved text n k s m h e .2))
         (λ b l i. rest-viable f (join o a b) l i))))

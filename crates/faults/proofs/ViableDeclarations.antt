@@ -10,20 +10,21 @@ use lib.Dec.{ltb}
 use lib.IntN.{ℤ, pos, negℤ}
 use Rattle.limits.specs.Limits.{nameLimit}
 use Rattle.arith.specs.Values.{isInt32}
-use Rattle.lexer.specs.Bytes.{bytes, part, sameBytes}
+use Rattle.lexer.specs.Bytes.{bytes, part, sameBytes, capital, capitals}
 use Rattle.lexer.specs.Token.{Kind, kindNumber, name, digits, minus, dots, initWord, semicolon, is, token, spellingOf}
-use Rattle.lexer.specs.Lexer.{isDigit, isLetter, wordOf, tokenAt, overLong, valueOf}
+use Rattle.lexer.specs.Lexer.{isDigit, isLetter, sameName, grammarWord, wordOf, tokenAt, overLong, valueOf}
 use Rattle.lexer.specs.Names.{idOf}
 use Rattle.lexer.proofs.Laws.{token-at-moved}
 use Rattle.semantics.specs.Program.{Name}
 use Rattle.grammar.specs.Parsed.{Parsed, accepted, refused, andThen, Wanted, sign, isWanted, expected, phrase, followed}
 use Rattle.grammar.specs.Declarations.{inRange, signedDigits, boundAt, spellings, newName, startAt, declaration, declarationsFrom, declarations}
 use Rattle.lexer.specs.Spelling.{IsDigits, SpellsName}
-use Rattle.grammar.specs.Derivation.{Tokens}
+use Rattle.grammar.specs.Derivation.{Tokens, normal}
 use Rattle.grammar.specs.Spelled.{SpellsZ, positive, negative, absent, given}
 use Rattle.lexer.proofs.Spellings.{isFixed, name-word}
-use Rattle.grammar.proofs.Phrases.{fixed-stands, wanted-stands, signs-more, wantedToken, wantedTokens, signs}
+use Rattle.grammar.proofs.Phrases.{fixed-stands, wanted-stands, signs-more, wantedToken, wantedTokens, signs, SeenAll, seen-more}
 use Rattle.grammar.proofs.Derived.{sign-stands}
+use Rattle.grammar.proofs.Standing.{normally}
 use Rattle.faults.specs.Grammar as G
 use Rattle.faults.specs.Grammar.{IsDeclaration, AreDeclarations}
 use Rattle.faults.proofs.Languages.{Joins, These, OneOf, Bound, Start, High, Dots, Low, Declared}
@@ -38,19 +39,19 @@ nothing-more a h = record { shown = record { tokens = []; spells = refl; is-in =
 module _ (text : List ℕ) where
   -- ---- fixed tokens
 
-  expected-viable : (w : Wanted) (ws : List Wanted) → signs (w ∷ ws) ≡ true → (at : ℕ) → at ≤ length text → Viable (These (wantedToken w ∷ [])) text at (expected text w at)
+  expected-viable : (w : Wanted) (ws : List Wanted) → signs (w ∷ ws) ≡ true → SeenAll normally text (w ∷ ws) → (at : ℕ) → at ≤ length text → Viable (These (wantedToken w ∷ [])) text at (expected text w at)
   unfolding expected
-  expected-viable w ws f at h = token-viable text at (λ k s n e. cond-viable (isWanted text w k s n) (λ t. one-token tt (wanted-stands text w ws f at k s n h e t) refl) (λ t. refused-here (wantedToken w ∷ []) refl e))
+  expected-viable w ws f o at h = token-viable text at (λ k s n e. cond-viable (isWanted text w k s n) (λ t. one-token tt (wanted-stands normally text w ws f o at k s n h e t) refl) (λ t. refused-here (wantedToken w ∷ []) refl e))
 
-  pub phrase-viable : (ws : List Wanted) → signs ws ≡ true → (at : ℕ) → at ≤ length text → Viable (These (wantedTokens ws)) text at (phrase text ws at)
+  pub phrase-viable : (ws : List Wanted) → signs ws ≡ true → SeenAll normally text ws → (at : ℕ) → at ≤ length text → Viable (These (wantedTokens ws)) text at (phrase text ws at)
   unfolding phrase signs
-  phrase-viable [] f at h = nothing-more tt refl
-  phrase-viable (w ∷ ws) f at h =
-      then-viable h (λ ts us l m. ap (λ (x : Tokens). x ++ us) l ∙ ap (λ (x : Tokens). wantedToken w ∷ x) m) (wantedTokens ws) refl (expected-viable w ws f at h) (λ u n i. phrase-viable ws (signs-more text w ws f) n i)
+  phrase-viable [] f o at h = nothing-more tt refl
+  phrase-viable (w ∷ ws) f o at h =
+      then-viable h (λ ts us l m. ap (λ (x : Tokens). x ++ us) l ∙ ap (λ (x : Tokens). wantedToken w ∷ x) m) (wantedTokens ws) refl (expected-viable w ws f o at h) (λ u n i. phrase-viable ws (signs-more normally text w ws f) (seen-more normally text w ws o) n i)
 
-  pub followed-by : {A : Type 0} (ws : List Wanted) → signs ws ≡ true → (x : A) (at : ℕ) → at ≤ length text → Viable (These (wantedTokens ws)) text at (followed text ws x at)
+  pub followed-by : {A : Type 0} (ws : List Wanted) → signs ws ≡ true → SeenAll normally text ws → (x : A) (at : ℕ) → at ≤ length text → Viable (These (wantedTokens ws)) text at (followed text ws x at)
   unfolding followed
-  followed-by ws f x at h = with-value (λ u. x) (phrase-viable ws f at h)
+  followed-by ws f o x at h = with-value (λ u. x) (phrase-viable ws f o at h)
 
   -- ---- declarations
 
@@ -63,7 +64,7 @@ module _ (text : List ℕ) where
   zero-bound = (pos (valueOf (bytes "0")), positive (bytes "0") (refl, tt))
 
   a-name : (OneOf SpellsName) (bytes "a" ∷ [])
-  unfolding isLetter wordOf sameBytes
+  unfolding isLetter wordOf grammarWord sameName capitals capital sameBytes
   a-name = (bytes "a", refl, record { is-word = (refl, tt); no-word = name-word (bytes "a") refl })
 
   signed-viable : (test : ℤ → Bool) (signed : ℤ → ℤ) (at : ℕ) (k : Kind) (s n : ℕ) → at ≤ length text → tokenAt text at ≡ token k s n → Viable (OneOf IsDigits) text at (signedDigits test signed text k s n)
@@ -72,8 +73,8 @@ module _ (text : List ℕ) where
       let z = signed (pos (valueOf (part text s n))) in
       cond-viable (is k digits)
       (λ t.
-      let r = sign-stands text digits refl at k s n h e t in
-      cond-viable (isInt32 z && test z) (λ x. one-token z (r .0) (part text s n, refl, r .1)) (λ x. by-other 3 (λ q. omega (arith, q))))
+      let r = sign-stands normally text digits refl at k s n h e t in
+      cond-viable (isInt32 z && test z) (λ x. one-token z (r .0) (normal (part text s n), refl, r .1)) (λ x. by-other 3 (λ q. omega (arith, q))))
       (λ t. refused-here (bytes "0" ∷ []) zero-digits e)
 
   bound-viable : (test : ℤ → Bool) (at : ℕ) → at ≤ length text → Viable Bound text at (boundAt test text at)
@@ -83,7 +84,7 @@ module _ (text : List ℕ) where
       (λ k s n e. cond-viable (is k minus)
       (λ t.
       let i = token-at-moved text at k s n h e .2 in
-      behind (bytes "-" ∷ []) (n, fixed-stands text minus refl at k s n h e t, refl) (λ us g. (negℤ (pos (valueOf (g .0))), subst (λ (x : Tokens). SpellsZ (bytes "-" ∷ x) (negℤ (pos (valueOf (g .0))))) (sym (g .1)) (negative (g .0) (g .2))))
+      behind (bytes "-" ∷ []) (n, fixed-stands normally text minus refl at k s n h e t, refl) (λ us g. (negℤ (pos (valueOf (g .0))), subst (λ (x : Tokens). SpellsZ (bytes "-" ∷ x) (negℤ (pos (valueOf (g .0))))) (sym (g .1)) (negative (g .0) (g .2))))
       (token-viable text n (λ k2 s2 n2 e2. signed-viable test negℤ n k2 s2 n2 i e2)))
       (λ t. wider (λ us g. (pos (valueOf (g .0)), subst (λ (x : Tokens). SpellsZ x (pos (valueOf (g .0)))) (sym (g .1)) (positive (g .0) (g .2)))) (signed-viable test (λ z. z) at k s n h e)))
 
@@ -93,9 +94,9 @@ module _ (text : List ℕ) where
       token-viable text at
       (λ k s n e. cond-viable (is k name)
       (λ t.
-      let r = sign-stands text name refl at k s n h e t in
+      let r = sign-stands normally text name refl at k s n h e t in
       option-viable (idOf (spellings names) (part text s n))
-      (λ z. cond-viable (overLong s n) (λ x. by-other 8 (λ q. omega (arith, q))) (λ x. cond-viable (ltb (length names) nameLimit) (λ y. one-token _ (r .0) (part text s n, refl, r .1)) (λ y. by-other 8 (λ q. omega (arith, q)))))
+      (λ z. cond-viable (overLong s n) (λ x. by-other 8 (λ q. omega (arith, q))) (λ x. cond-viable (ltb (length names) nameLimit) (λ y. one-token _ (r .0) (normal (part text s n), refl, r .1)) (λ y. by-other 8 (λ q. omega (arith, q)))))
       (λ i z. by-other 4 (λ q. omega (arith, q))))
       (λ t. refused-here (bytes "a" ∷ []) a-name e))
 
@@ -106,11 +107,11 @@ module _ (text : List ℕ) where
       (λ k s n e. cond-viable (is k initWord)
       (λ t.
       let i = token-at-moved text at k s n h e .2 in
-      behind (bytes "init" ∷ []) (n, fixed-stands text initWord refl at k s n h e t, refl)
+      behind (bytes "init" ∷ []) (n, fixed-stands normally text initWord refl at k s n h e t, refl)
       (λ us g. (bytes "init" ∷ g .0, g .3 .0, ap (λ (x : Tokens). bytes "init" ∷ x) (g .2 ∙ ap (λ (x : Tokens). g .0 ++ x) (g .4)), given (g .0) (g .3 .0) (g .3 .1)))
-      (cat-viable i (bytes ";" ∷ []) refl (bound-viable (inRange low high) n i) (λ z m j. followed-by (sign semicolon ∷ []) refl z m j)))
+      (cat-viable i (bytes ";" ∷ []) refl (bound-viable (inRange low high) n i) (λ z m j. followed-by (sign semicolon ∷ []) refl tt z m j)))
       (λ t1. cond-viable (is k semicolon)
-      (λ t. cond-viable (inRange low high (pos 0)) (λ x. one-token _ (fixed-stands text semicolon refl at k s n h e t) ([], pos 0, refl, absent)) (λ x. by-other 3 (λ q. omega (arith, q))))
+      (λ t. cond-viable (inRange low high (pos 0)) (λ x. one-token _ (fixed-stands normally text semicolon refl at k s n h e t) ([], pos 0, refl, absent)) (λ x. by-other 3 (λ q. omega (arith, q))))
       (λ t2. refused-here (bytes ";" ∷ []) ([], pos 0, refl, absent) e)))
 
   no-start : Start (bytes ";" ∷ [])
@@ -130,7 +131,7 @@ module _ (text : List ℕ) where
   declaration-viable names at h =
       cat-viable h _ some-low (name-viable names at h)
       (λ w n1 h1. cat-viable h1 _ some-dots (bound-viable _ n1 h1)
-      (λ low n2 h2. cat-viable h2 _ some-high (phrase-viable (sign dots ∷ []) refl n2 h2)
+      (λ low n2 h2. cat-viable h2 _ some-high (phrase-viable (sign dots ∷ []) refl tt n2 h2)
       (λ u n3 h3. cat-viable h3 _ no-start (bound-viable _ n3 h3) (λ high n4 h4. with-value _ (start-viable low high n4 h4)))))
 
   declares-in : (word : List ℕ) (us : Tokens) → Declared us → IsDeclaration word (word ∷ us)
@@ -144,7 +145,7 @@ module _ (text : List ℕ) where
       (λ k s n e. cond-viable (is k word)
       (λ t.
       let i = token-at-moved text at k s n h e .2 in
-      behind {M = λ us. AreDeclarations (spellingOf word) (spellingOf word ∷ us)} (spellingOf word ∷ []) (n, fixed-stands text word fx at k s n h e t, refl) (λ us g. g)
+      behind {M = λ us. AreDeclarations (spellingOf word) (spellingOf word ∷ us)} (spellingOf word ∷ []) (n, fixed-stands normally text word fx at k s n h e t, refl) (λ us g. g)
       (then-viable {L = Declared} {M = AreDeclarations (spellingOf word)} i (λ ts us x y. G.AreDeclarations.more (spellingOf word ∷ ts) us (declares-in (spellingOf word) ts x) y) [] G.AreDeclarations.none (declaration-viable names n i)
       (λ x m j. declarations-viable f word fx (names ++ (x ∷ [])) m j)))
       (λ t. nothing-more names G.AreDeclarations.none))

@@ -22,11 +22,14 @@ use Rattle.grammar.specs.Parsed.{Parsed, refused, sign}
 use Rattle.grammar.specs.Expressions.{Scope, withId, currentAt, previousValueAt, constantAt, primary, negative, factor, productOf, sumOf, term, expression, bracket, wholeExpression}
 use Rattle.grammar.specs.Conditions.{comparisonBy, compared, comparisonAt, opposite as opposed, inverted, atom, Connective, andAlso, orElse, connect, andOf, orOf, conjunction, condition, square, wholeCondition}
 use Rattle.grammar.specs.Derivation as D
-use Rattle.grammar.specs.Derivation.{Tokens, Stands, ComparisonSign, Level, LevelC, SpellsE, a-number, a-current, a-previous, brackets, plain, opposite, one-factor, product, one-term, sum, SpellsC, not-square, one-atom, conjoined, one-conjunction, disjoined}
-use Rattle.grammar.proofs.Bytes.{part-cons, heads}
+use Rattle.grammar.specs.Derivation.{Tokens, Stands, ComparisonSign, Level, LevelC, SpellsE, a-number, a-current, a-previous, brackets, plain, opposite, one-factor, product, one-term, sum, SpellsC, not-square, one-atom, conjoined, one-conjunction, disjoined, normal, normals}
+use Rattle.lexer.proofs.Same.{same-kind}
+use Rattle.lexer.proofs.Spellings.{word-not}
+use Rattle.grammar.proofs.Normal.{other-seen, previous-seen, id-names}
+use Rattle.grammar.proofs.Phrases.{previous-name}
 use Rattle.grammar.proofs.Growth.{not-end, operator-end, products-end, sums-end, comparisons-end, ands-end, ors-end}
-use Rattle.lexer.specs.Spelling.{Spelling}
-use Rattle.grammar.proofs.Standing.{stands, stands-spelled, id-names, product-sign, sum-sign, comparison-sign, only-sign}
+use Rattle.lexer.specs.Spelling.{Spelling, SpellsName}
+use Rattle.grammar.proofs.Standing.{stands, stands-spelled, product-sign, sum-sign, comparison-sign, only-sign, written, normally}
 use Rattle.grammar.proofs.Derived.{sign-stands, sign-is}
 use Rattle.faults.specs.Grammar.{IsExpression, IsCondition}
 use Rattle.faults.proofs.Viable.{Viable, by-other, refused-here, one-token, wider, with-value, behind, then-viable, cond-viable, option-viable, token-viable, followed-viable, chain-viable}
@@ -154,19 +157,19 @@ module _ (sc : Scope) where
   Inside L q = (s n : ℕ) → n ≤ length (sc .text) → Viable L (sc .text) n (q s n)
 
   abbrev InRound : Tokens → Type 0
-  InRound = Closing (sc .names) (E (sc .names) D.expression) (bytes ")")
+  InRound = Closing (normals (sc .names)) (E (normals (sc .names)) D.expression) (bytes ")")
 
   abbrev InSquare : Tokens → Type 0
-  InSquare = Closing (sc .names) (K (sc .names) D.condition) (bytes "]")
+  InSquare = Closing (normals (sc .names)) (K (normals (sc .names)) D.condition) (bytes "]")
 
-  pub id-viable : {A : Type 0} {L : Tokens → Type 0} (at p s n : ℕ) (f : ℕ → Parsed A) → ((i : ℕ) → getElem? (sc .names) i ≡ some (part (sc .text) s n) → Viable L (sc .text) at (f i)) → Viable L (sc .text) at (withId sc p s n f)
+  pub id-viable : {A : Type 0} {L : Tokens → Type 0} (at p s n : ℕ) (f : ℕ → Parsed A) → SpellsName (part (sc .text) s n) → ((i : ℕ) → getElem? (normals (sc .names)) i ≡ some (normal (part (sc .text) s n)) → Viable L (sc .text) at (f i)) → Viable L (sc .text) at (withId sc p s n f)
   unfolding withId
-  id-viable at p s n f h =
+  id-viable at p s n f nm h =
       cond-viable (overLong s n) (λ t. by-other 8 (λ q. omega (arith, q)))
-      (λ t. option-viable (idOf (sc .names) (part (sc .text) s n)) (λ z. by-other 4 (λ q. omega (arith, q))) (λ i ei. h i (id-names (sc .names) (part (sc .text) s n) i ei)))
+      (λ t. option-viable (idOf (sc .names) (part (sc .text) s n)) (λ z. by-other 4 (λ q. omega (arith, q))) (λ i ei. h i (id-names (sc .names) (part (sc .text) s n) i (word-not (part (sc .text) s n) (nm .no-word)) ei)))
 
   module _ (inner : ℕ → ℕ → Parsed Expression) (hi : Inside InRound inner) where
-    primary-viable : Anywhere (E (sc .names) D.primary) (λ at. primary inner sc at)
+    primary-viable : Anywhere (E (normals (sc .names)) D.primary) (λ at. primary inner sc at)
     unfolding primary constantAt currentAt previousValueAt is kindNumber
     primary-viable at h =
         token-viable (sc .text) at
@@ -174,48 +177,44 @@ module _ (sc : Scope) where
         let w = part (sc .text) s n in
         cond-viable (is k digits)
         (λ t.
-        let r = sign-stands (sc .text) digits refl at k s n h e t in
+        let d = sign-stands written (sc .text) digits refl at k s n h e t .1 in
+        let st = subst (Stands normal (sc .text) at n) (other-seen digits w refl refl d) (sign-stands normally (sc .text) digits refl at k s n h e t .0) in
         cond-viable (ltb numberLimit (valueOf w)) (λ x. by-other 3 (λ q. omega (arith, q)))
-        (λ x. one-token _ (r .0) (record { open-brackets = 0; value = constant (pos (valueOf w)); spelled = a-number w (r .1) (ltb-false numberLimit (valueOf w) x) })))
+        (λ x. one-token _ st (record { open-brackets = 0; value = constant (pos (valueOf w)); spelled = a-number w d (ltb-false numberLimit (valueOf w) x) })))
         (λ t1. cond-viable (is k name)
-        (λ t.
-        let r = sign-stands (sc .text) name refl at k s n h e t in
-        id-viable at s s n _
-        (λ i ei. cond-viable (getD (sc .known) i false) (λ x. one-token _ (r .0) (record { open-brackets = 0; value = current i; spelled = a-current w i ei })) (λ x. by-other 5 (λ q. omega (arith, q)))))
+        (λ t. id-viable at s s n _ (sign-stands written (sc .text) name refl at k s n h e t .1)
+        (λ i ei. cond-viable (getD (sc .known) i false) (λ x. one-token _ (sign-stands normally (sc .text) name refl at k s n h e t .0) (record { open-brackets = 0; value = current i; spelled = a-current (normal w) i ei })) (λ x. by-other 5 (λ q. omega (arith, q)))))
         (λ t2. cond-viable (is k T.previous)
         (λ t.
-        let r = sign-stands (sc .text) T.previous refl at k s n h e t in
-        let mv = token-at-moved (sc .text) at k s n h e in
-        let c = part-cons (sc .text) s n (mv .3 (not-end k T.previous refl t)) (mv .2) in
-        let b : getD (sc .text) s 0 ≡ 95 = heads (sym c ∙ r .1 .is-cons) in
-        let q : w ≡ bytes "_" ++ part (sc .text) (s + 1) n = c ∙ ap (λ (x : ℕ). x ∷ part (sc .text) (s + 1) n) b in
-        id-viable at s (s + 1) n _
-        (λ i ei. one-token _ (subst (Stands (sc .text) at n) q (r .0)) (record { open-brackets = 0; value = previous i; spelled = a-previous (part (sc .text) (s + 1) n) i ei })))
+        let x = part (sc .text) (s + 1) n in
+        let r = previous-name (sc .text) at k s n h (not-end k T.previous refl t) e (same-kind k T.previous t) in
+        id-viable at s (s + 1) n _ (r .1)
+        (λ i ei. one-token _ (subst (Stands normal (sc .text) at n) (ap normal (r .0) ∙ previous-seen x (r .1)) (sign-stands normally (sc .text) T.previous refl at k s n h e t .0)) (record { open-brackets = 0; value = previous i; spelled = a-previous (normal x) i ei })))
         (λ t3. cond-viable (is k openRound)
-        (λ t. behind (bytes "(" ∷ []) (n, sign-is (sc .text) openRound (bytes "(") (λ x q. q) refl at k s n h e t, refl) (λ us g. in-brackets (sc .names) us g) (hi s n (token-at-moved (sc .text) at k s n h e .2)))
-        (λ t4. refused-here (zeros (sc .names)) (zero-in-primary (sc .names)) e)))))
+        (λ t. behind (bytes "(" ∷ []) (n, sign-is normally (sc .text) openRound (bytes "(") (λ x q. q) refl at k s n h e t, refl) (λ us g. in-brackets (normals (sc .names)) us g) (hi s n (token-at-moved (sc .text) at k s n h e .2)))
+        (λ t4. refused-here (zeros (normals (sc .names))) (zero-in-primary (normals (sc .names))) e)))))
 
-    factor-viable : Anywhere (E (sc .names) D.factor) (λ at. factor inner sc at)
+    factor-viable : Anywhere (E (normals (sc .names)) D.factor) (λ at. factor inner sc at)
     unfolding factor negative is kindNumber
     factor-viable at h =
         token-viable (sc .text) at
         (λ k s n e. cond-viable (is k minus)
-        (λ t. behind (bytes "-" ∷ []) (n, sign-is (sc .text) minus (bytes "-") (λ x q. q) refl at k s n h e t, refl)
+        (λ t. behind (bytes "-" ∷ []) (n, sign-is normally (sc .text) minus (bytes "-") (λ x q. q) refl at k s n h e t, refl)
         (λ us g. record { open-brackets = g .open-brackets; value = negate (g .value); spelled = opposite us (g .value) (g .spelled) })
         (with-value (λ x. negate x) (primary-viable n (token-at-moved (sc .text) at k s n h e .2))))
         (λ t. wider (λ ts g. record { open-brackets = g .open-brackets; value = g .value; spelled = plain ts (g .value) (g .spelled) }) (primary-viable at h)))
 
-    term-viable : Anywhere (E (sc .names) D.term) (λ at. term inner sc at)
+    term-viable : Anywhere (E (normals (sc .names)) D.term) (λ at. term inner sc at)
     unfolding term
     term-viable at h =
-        chain-viable (sc .text) (E (sc .names) D.factor) (E (sc .names) D.term) operation productOf products-end (λ ts g. record { open-brackets = g .open-brackets; value = g .value; spelled = one-factor ts (g .value) (g .spelled) })
-        (product-in (sc .names)) (factor inner sc) factor-viable at h
+        chain-viable (sc .text) (E (normals (sc .names)) D.factor) (E (normals (sc .names)) D.term) operation productOf products-end (λ ts g. record { open-brackets = g .open-brackets; value = g .value; spelled = one-factor ts (g .value) (g .spelled) })
+        (product-in (normals (sc .names))) (factor inner sc) factor-viable at h
 
-    expression-viable : Anywhere (E (sc .names) D.expression) (λ at. expression inner sc at)
+    expression-viable : Anywhere (E (normals (sc .names)) D.expression) (λ at. expression inner sc at)
     unfolding expression
     expression-viable at h =
-        chain-viable (sc .text) (E (sc .names) D.term) (E (sc .names) D.expression) operation sumOf sums-end (λ ts g. record { open-brackets = g .open-brackets; value = g .value; spelled = one-term ts (g .value) (g .spelled) })
-        (sum-in (sc .names)) (term inner sc) term-viable at h
+        chain-viable (sc .text) (E (normals (sc .names)) D.term) (E (normals (sc .names)) D.expression) operation sumOf sums-end (λ ts g. record { open-brackets = g .open-brackets; value = g .value; spelled = one-term ts (g .value) (g .spelled) })
+        (sum-in (normals (sc .names))) (term inner sc) term-viable at h
 
   bracket-viable : (left : ℕ) → Inside InRound (λ s n. bracket left sc s n)
   unfolding bracket is kindNumber
@@ -225,21 +224,21 @@ module _ (sc : Scope) where
       (λ x m i. followed-viable (sc .text) closeRound (bytes ")") (λ y q. q) refl x m i)
 
   module _ (inner : ℕ → ℕ → Parsed Expression) (hi : Inside InRound inner) (inside : ℕ → ℕ → Parsed Condition) (hc : Inside InSquare inside) where
-    compared-viable : (a : Expression) → Anywhere (Compares (sc .names)) (λ at. compared inner sc a at)
+    compared-viable : (a : Expression) → Anywhere (Compares (normals (sc .names))) (λ at. compared inner sc a at)
     unfolding compared
     compared-viable a n h =
         token-viable (sc .text) n
-        (λ k s m e. option-viable (comparisonBy k) (λ z. refused-here (bytes "=" ∷ zeros (sc .names)) (bytes "=", equal, zeros (sc .names), refl, D.equals, zero-in-expression (sc .names)) e)
+        (λ k s m e. option-viable (comparisonBy k) (λ z. refused-here (bytes "=" ∷ zeros (normals (sc .names))) (bytes "=", equal, zeros (normals (sc .names)), refl, D.equals, zero-in-expression (normals (sc .names))) e)
         (λ o eo.
         let ne = operator-end comparisonBy comparisons-end k o eo in
-        let w = part (sc .text) s m in
-        behind (w ∷ []) (m, stands (sc .text) n k s m h ne e, refl) (λ us g. (w, o, us, refl, comparison-sign k w (stands-spelled (sc .text) n k s m h ne e) o eo, g))
+        let w = normal (part (sc .text) s m) in
+        behind (w ∷ []) (m, stands normally (sc .text) n k s m h ne e, refl) (λ us g. (w, o, us, refl, comparison-sign k w (stands-spelled normally (sc .text) n k s m h ne e) o eo, g))
         (with-value (λ b. comparison o a b) (expression-viable inner hi m (token-at-moved (sc .text) n k s m h e .2)))))
 
-    comparison-viable : Anywhere (K (sc .names) D.atom) (λ at. comparisonAt inner sc at)
+    comparison-viable : Anywhere (K (normals (sc .names)) D.atom) (λ at. comparisonAt inner sc at)
     unfolding comparisonAt
     comparison-viable at h =
-        then-viable h (λ ts us x y. compares-in (sc .names) ts us x y) (bytes "=" ∷ zeros (sc .names)) (bytes "=", equal, zeros (sc .names), refl, D.equals, zero-in-expression (sc .names)) (expression-viable inner hi at h)
+        then-viable h (λ ts us x y. compares-in (normals (sc .names)) ts us x y) (bytes "=" ∷ zeros (normals (sc .names))) (bytes "=", equal, zeros (normals (sc .names)), refl, D.equals, zero-in-expression (normals (sc .names))) (expression-viable inner hi at h)
         (λ a n i. compared-viable a n i)
 
     -- `[` and what follows it
@@ -251,30 +250,30 @@ module _ (sc : Scope) where
     inverted-viable at h =
         token-viable (sc .text) at
         (λ k s n e. cond-viable (is k openSquare)
-        (λ t. behind (bytes "[" ∷ []) (n, sign-is (sc .text) openSquare (bytes "[") (λ x q. q) refl at k s n h e t, refl) (λ us g. (us, refl, g)) (with-value (λ c. negated c) (hc s n (token-at-moved (sc .text) at k s n h e .2))))
-        (λ t. refused-here (bytes "[" ∷ equal-zeros (sc .names) ++ bytes "]" ∷ []) (equal-zeros (sc .names) ++ bytes "]" ∷ [], refl, (equal-zeros (sc .names), refl, zero-in-condition (sc .names))) e))
+        (λ t. behind (bytes "[" ∷ []) (n, sign-is normally (sc .text) openSquare (bytes "[") (λ x q. q) refl at k s n h e t, refl) (λ us g. (us, refl, g)) (with-value (λ c. negated c) (hc s n (token-at-moved (sc .text) at k s n h e .2))))
+        (λ t. refused-here (bytes "[" ∷ equal-zeros (normals (sc .names)) ++ bytes "]" ∷ []) (equal-zeros (normals (sc .names)) ++ bytes "]" ∷ [], refl, (equal-zeros (normals (sc .names)), refl, zero-in-condition (normals (sc .names)))) e))
 
-    atom-viable : Anywhere (K (sc .names) D.atom) (λ at. atom inner inside sc at)
+    atom-viable : Anywhere (K (normals (sc .names)) D.atom) (λ at. atom inner inside sc at)
     unfolding atom is kindNumber
     atom-viable at h =
         token-viable (sc .text) at
         (λ k s n e. cond-viable (is k tilde)
-        (λ t. behind (bytes "~" ∷ []) (n, sign-is (sc .text) tilde (bytes "~") (λ x q. q) refl at k s n h e t, refl) (λ us g. subst (λ (x : Tokens). K (sc .names) D.atom (bytes "~" ∷ x)) (sym (g .1)) (not-squares (sc .names) (g .0) (g .2))) (inverted-viable n (token-at-moved (sc .text) at k s n h e .2)))
+        (λ t. behind (bytes "~" ∷ []) (n, sign-is normally (sc .text) tilde (bytes "~") (λ x q. q) refl at k s n h e t, refl) (λ us g. subst (λ (x : Tokens). K (normals (sc .names)) D.atom (bytes "~" ∷ x)) (sym (g .1)) (not-squares (normals (sc .names)) (g .0) (g .2))) (inverted-viable n (token-at-moved (sc .text) at k s n h e .2)))
         (λ t1. cond-viable (is k openSquare)
-        (λ t. behind (bytes "[" ∷ []) (n, sign-is (sc .text) openSquare (bytes "[") (λ x q. q) refl at k s n h e t, refl) (λ us g. in-squares (sc .names) us g) (hc s n (token-at-moved (sc .text) at k s n h e .2)))
+        (λ t. behind (bytes "[" ∷ []) (n, sign-is normally (sc .text) openSquare (bytes "[") (λ x q. q) refl at k s n h e t, refl) (λ us g. in-squares (normals (sc .names)) us g) (hc s n (token-at-moved (sc .text) at k s n h e .2)))
         (λ t2. comparison-viable at h)))
 
-    conjunction-viable : Anywhere (K (sc .names) D.conjunction) (λ at. conjunction inner inside sc at)
+    conjunction-viable : Anywhere (K (normals (sc .names)) D.conjunction) (λ at. conjunction inner inside sc at)
     unfolding conjunction
     conjunction-viable at h =
-        chain-viable (sc .text) (K (sc .names) D.atom) (K (sc .names) D.conjunction) connect andOf ands-end (λ ts g. record { open-brackets = g .open-brackets; value = g .value; spelled = one-atom ts (g .value) (g .spelled) })
-        (and-in (sc .names)) (atom inner inside sc) atom-viable at h
+        chain-viable (sc .text) (K (normals (sc .names)) D.atom) (K (normals (sc .names)) D.conjunction) connect andOf ands-end (λ ts g. record { open-brackets = g .open-brackets; value = g .value; spelled = one-atom ts (g .value) (g .spelled) })
+        (and-in (normals (sc .names))) (atom inner inside sc) atom-viable at h
 
-    condition-viable : Anywhere (K (sc .names) D.condition) (λ at. condition inner inside sc at)
+    condition-viable : Anywhere (K (normals (sc .names)) D.condition) (λ at. condition inner inside sc at)
     unfolding condition
     condition-viable at h =
-        chain-viable (sc .text) (K (sc .names) D.conjunction) (K (sc .names) D.condition) connect orOf ors-end (λ ts g. record { open-brackets = g .open-brackets; value = g .value; spelled = one-conjunction ts (g .value) (g .spelled) })
-        (or-in (sc .names)) (conjunction inner inside sc) conjunction-viable at h
+        chain-viable (sc .text) (K (normals (sc .names)) D.conjunction) (K (normals (sc .names)) D.condition) connect orOf ors-end (λ ts g. record { open-brackets = g .open-brackets; value = g .value; spelled = one-conjunction ts (g .value) (g .spelled) })
+        (or-in (normals (sc .names))) (conjunction inner inside sc) conjunction-viable at h
 
   square-viable : (left : ℕ) → Inside InSquare (λ s n. square left sc s n)
   unfolding square is kindNumber
@@ -284,10 +283,10 @@ module _ (sc : Scope) where
       (condition-viable (λ s n. bracket left sc s n) (bracket-viable left) (λ s n. square left sc s n) (square-viable left) n h)
       (λ c m i. followed-viable (sc .text) closeSquare (bytes "]") (λ y q. q) refl c m i)
 
-  pub whole-expression-viable : Anywhere (E (sc .names) D.expression) (λ at. wholeExpression sc at)
+  pub whole-expression-viable : Anywhere (E (normals (sc .names)) D.expression) (λ at. wholeExpression sc at)
   unfolding wholeExpression
   whole-expression-viable at h = expression-viable (λ s n. bracket bracketLimit sc s n) (bracket-viable bracketLimit) at h
 
-  pub whole-condition-viable : Anywhere (K (sc .names) D.condition) (λ at. wholeCondition sc at)
+  pub whole-condition-viable : Anywhere (K (normals (sc .names)) D.condition) (λ at. wholeCondition sc at)
   unfolding wholeCondition
   whole-condition-viable at h = condition-viable (λ s n. bracket bracketLimit sc s n) (bracket-viable bracketLimit) (λ s n. square bracketLimit sc s n) (square-viable bracketLimit) at h

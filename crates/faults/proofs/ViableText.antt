@@ -19,11 +19,12 @@ use Rattle.grammar.specs.Expressions.{Scope}
 use Rattle.grammar.specs.Declarations.{spellings, declarations}
 use Rattle.grammar.specs.Rules.{ruleAt, ruled, rulesFrom}
 use Rattle.grammar.specs.Parse.{program, parse}
-use Rattle.grammar.specs.Derivation.{Tokens, Spells}
+use Rattle.grammar.specs.Derivation.{Tokens, Spells, normal, normals}
 use Rattle.lexer.proofs.Spellings.{isFixed}
 use Rattle.bytecode.proofs.Soundness.{none≢some}
-use Rattle.grammar.proofs.Standing.{spells-in}
+use Rattle.grammar.proofs.Standing.{spells-in, normally}
 use Rattle.grammar.proofs.Whole.{Ends, Names, declarations-fit, named}
+use Rattle.grammar.proofs.Normal.{each-normal}
 use Rattle.faults.specs.Grammar as G
 use Rattle.faults.specs.Grammar.{AreDeclarations, IsRule, AreNames, AreRules, IsText, AllowedBefore}
 use Rattle.faults.proofs.Viable.{Viable, BegunIfTwo, by-other, wider, behind, then-viable}
@@ -42,7 +43,7 @@ failing : {A : Type 0} {L : Tokens → Type 0} (text : List ℕ) (at : ℕ) (r :
 failing text at (accepted a n) x = tt
 failing text at (refused k q) x = x .shown
 
-module _ {A : Type 0} (L M : Tokens → Type 0) (text : List ℕ) (at n : ℕ) (ts : Tokens) (sp : Spells text at n ts) (j : (us : Tokens) → M us → L (ts ++ us)) where
+module _ {A : Type 0} (L M : Tokens → Type 0) (text : List ℕ) (at n : ℕ) (ts : Tokens) (sp : Spells normal text at n ts) (j : (us : Tokens) → M us → L (ts ++ us)) where
   behind-failing : (r : Parsed A) → Failing M text n r → Failing L text at r
   behind-failing (accepted a m) x = tt
   behind-failing (refused k q) x = behind {A = A} {L = L} {M = M} {r = refused k q} ts sp j (record { shown = x }) .shown
@@ -51,25 +52,25 @@ module _ {A B : Type 0} (L M N : Tokens → Type 0) (text : List ℕ) (at : ℕ)
   then-failing : (p : Parsed A) (f : A → ℕ → Parsed B) → Viable L text at p → ((a : A) (n : ℕ) → n ≤ length text → p ≡ accepted a n → Failing M text n (f a n)) → Failing N text at (andThen p f)
   then-failing (accepted a n) f x g =
       let s = x .shown in
-      behind-failing N M text at n (s .tokens) (s .spells) (λ us m. j (s .tokens) us (s .is-in) m) (f a n) (g a n (spells-in text at n (s .tokens) h (s .spells) .1) refl)
+      behind-failing N M text at n (s .tokens) (s .spells) (λ us m. j (s .tokens) us (s .is-in) m) (f a n) (g a n (spells-in normally text at n (s .tokens) h (s .spells) .1) refl)
   then-failing (refused k q) f x g = then-viable {A = A} {B = B} {L = L} {M = M} {N = N} {p = refused k q} {f = λ a n. refused 0 0} h j z w x (λ a n i. by-other 0 (λ e. omega (arith, e))) .shown
 
-rules-failing : (f : ℕ) (sc : Scope) (done : List Rule) (at : ℕ) → at ≤ length (sc .text) → Failing (AreRules (sc .names)) (sc .text) at (rulesFrom f sc done at)
+rules-failing : (f : ℕ) (sc : Scope) (done : List Rule) (at : ℕ) → at ≤ length (sc .text) → Failing (AreRules (normals (sc .names))) (sc .text) at (rulesFrom f sc done at)
 unfolding rulesFrom
 rules-failing zero sc done at h = λ e. absurd (omega (arith, e))
 rules-failing (suc f) sc done at h = go (tokenAt (sc .text) at) refl (λ r m i. rules-failing f (ruled sc (target r)) (done ++ (r ∷ [])) m i)
   where
     P : Parsed (List Rule) → Type 0
-    P r = Failing (AreRules (sc .names)) (sc .text) at r
+    P r = Failing (AreRules (normals (sc .names))) (sc .text) at r
 
     Ih : Type 0
-    Ih = (r : Rule) (m : ℕ) → m ≤ length (sc .text) → Failing (AreRules (sc .names)) (sc .text) m (rulesFrom f (ruled sc (target r)) (done ++ (r ∷ [])) m)
+    Ih = (r : Rule) (m : ℕ) → m ≤ length (sc .text) → Failing (AreRules (normals (sc .names))) (sc .text) m (rulesFrom f (ruled sc (target r)) (done ++ (r ∷ [])) m)
 
     go : (x : TokenRead) → tokenAt (sc .text) at ≡ x → Ih → P (onToken x (λ k s n. cond (is k name) (andThen (ruleAt sc s n) (λ r m. rulesFrom f (ruled sc (target r)) (done ++ (r ∷ [])) m)) (cond (is k ending) (cond (allTrue (sc .known)) (accepted done n) (refused 6 s)) (refused 2 s))))
     go (fault p) e ih = λ q. absurd (omega (arith, q))
     go (token k s n) e ih =
         cond-prop P (is k name) _ _
-        (λ t. then-failing (IsRule (sc .names)) (AreRules (sc .names)) (AreRules (sc .names)) (sc .text) at h (λ ts us x y. G.AreRules.more ts us x y) [] G.AreRules.none (ruleAt sc s n) _ (rule-viable sc at k s n h e t) (λ r m i q. ih r m i))
+        (λ t. then-failing (IsRule (normals (sc .names))) (AreRules (normals (sc .names))) (AreRules (normals (sc .names))) (sc .text) at h (λ ts us x y. G.AreRules.more ts us x y) [] G.AreRules.none (ruleAt sc s n) _ (rule-viable sc at k s n h e t) (λ r m i q. ih r m i))
         (λ t. cond-prop P (is k ending) _ _ (λ u. cond-prop P (allTrue (sc .known)) _ _ (λ v. tt) (λ v q. absurd (omega (arith, q))))
         (λ u q. record { before = []; end = at; spells = refl; kind = k; next = n; stands = e; more = []; begun = G.AreRules.none }))
 
@@ -108,7 +109,7 @@ program-failing text =
     let good = named names (g2 .0 .0) (g2 .0 .3) in
     let sc : Scope = record { text = text; names = spellings names; known = knownFirst (length inputs) (length names) } in
     same-failing NamedRules text n2 (rulesFrom 65 sc [] n2) _
-    (weaker (AreRules (spellings names)) NamedRules text n2 (rulesFrom 65 sc [] n2) (λ ts x. (spellings names, λ i w q. let y = good .each i w q in (record { is-word = y .is-word; no-word = y .no-word }), x)) (rules-failing 65 sc [] n2 h2))))
+    (weaker (AreRules (normals (spellings names))) NamedRules text n2 (rulesFrom 65 sc [] n2) (λ ts x. (normals (spellings names), λ i w q. let y = each-normal (spellings names) good i w q in (record { is-word = y .is-word; no-word = y .no-word }), x)) (rules-failing 65 sc [] n2 h2))))
 
 parse-failing : (text : List ℕ) → Failing IsText text 0 (parse text)
 unfolding parse

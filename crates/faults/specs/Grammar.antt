@@ -1,4 +1,4 @@
--- BegunIfTwo 2: what stands before the token refused is allowed, and with it nothing begins. Document 01, "Who can cause which refusal": 2 token
+-- Refusal 2: what stands before the token refused is allowed, and with it nothing begins. Document 01, "Who can cause which refusal": 2 token
 -- that the grammar doesn't allow there, a wrong repeated name and an early end included. Assumes nothing.
 use Prim.Native.Nat.{ℕ, _≤_, _<_}
 use mathlib.Core.Path.{_≡_}
@@ -17,7 +17,7 @@ use Rattle.grammar.specs.Expressions.{Scope, wholeExpression}
 use Rattle.grammar.specs.Conditions.{wholeCondition, listed}
 use Rattle.grammar.specs.Parse.{programOf}
 use Rattle.lexer.specs.Spelling.{SpellsName}
-use Rattle.grammar.specs.Derivation.{Tokens, Spells, IsName, Level, SpellsE, expression, LevelC, SpellsC, condition}
+use Rattle.grammar.specs.Derivation.{Tokens, normal, normals, Spells, IsName, Level, SpellsE, expression, LevelC, SpellsC, condition}
 use Rattle.grammar.specs.Spelled.{SpellsZ, SpellsStart, declarationForm, squared, cased, Distinct, changeForm, functionForm, Spelled}
 use Rattle.faults.specs.Texts.{SameThrough}
 
@@ -77,11 +77,12 @@ pub record IsText (ts : Tokens) : Type 0 where
   pub are-rules : AreRules names rules
   pub in-order : ts ≡ inputs ++ variables ++ rules
 
--- from `at` on stand the tokens `before`, then the token at the place; those before it begin a token list of the language
+-- from `at` on stand the tokens `before`, as the rule forms know them, then the token at the place; those before it begin a token list of
+-- the language. (A word of the grammar in another case is a token that is in no such list: 2.)
 pub record BegunBefore (Language : Tokens → Type 0) (text : List ℕ) (at place : ℕ) : Type 0 where
   pub before : Tokens
   pub end : ℕ
-  pub spells : Spells text at end before
+  pub spells : Spells normal text at end before
   pub kind : Kind
   pub next : ℕ
   pub stands : tokenAt text end ≡ token kind place next
@@ -90,8 +91,8 @@ pub record BegunBefore (Language : Tokens → Type 0) (text : List ℕ) (at plac
 
 -- What stands before a token refused by 2 is allowed: it begins an expression, a condition, a text.
 pub record AllowedBefore : Type 0 where
-  pub expressions : (sc : Scope) (at place : ℕ) → at ≤ length (sc .text) → wholeExpression sc at ≡ refused notAllowed place → BegunBefore (IsExpression (sc .names) expression) (sc .text) at place
-  pub conditions : (sc : Scope) (at place : ℕ) → at ≤ length (sc .text) → wholeCondition sc at ≡ refused notAllowed place → BegunBefore (IsCondition (sc .names) condition) (sc .text) at place
+  pub expressions : (sc : Scope) (at place : ℕ) → at ≤ length (sc .text) → wholeExpression sc at ≡ refused notAllowed place → BegunBefore (IsExpression (normals (sc .names)) expression) (sc .text) at place
+  pub conditions : (sc : Scope) (at place : ℕ) → at ≤ length (sc .text) → wholeCondition sc at ≡ refused notAllowed place → BegunBefore (IsCondition (normals (sc .names)) condition) (sc .text) at place
   pub texts : (text : List ℕ) (place : ℕ) → programOf text ≡ A.refused notAllowed place → BegunBefore IsText text 0 place
 
 -- from `at` on stand the tokens `before`, then the token at the place; no token list of the language goes on from them with that token. At the
@@ -99,11 +100,11 @@ pub record AllowedBefore : Type 0 where
 pub record BeginsNone (Language : Tokens → Type 0) (text : List ℕ) (at place : ℕ) : Type 0 where
   pub before : Tokens
   pub end : ℕ
-  pub spells : Spells text at end before
+  pub spells : Spells normal text at end before
   pub kind : Kind
   pub next : ℕ
   pub stands : tokenAt text end ≡ token kind place next
-  pub none-begun : (kind ≡ ending → ⊥) → (more : Tokens) → Language (before ++ part text place next ∷ more) → ⊥
+  pub none-begun : (kind ≡ ending → ⊥) → (more : Tokens) → Language (before ++ normal (part text place next) ∷ more) → ⊥
   pub none-ended : kind ≡ ending → Language before → ⊥
 
 -- With a token refused by 2 no expression, no condition and no text goes on, whatever names there are.
@@ -120,7 +121,7 @@ GoodNames names = Distinct names × ((i : ℕ) (w : List ℕ) → getElem? names
 -- expression before a `)`, or a condition before a `]`, or a program. (Whatever the number of the refusal is.)
 pub record NoneBegun : Type 0 where
   pub expressions : (sc : Scope) (other : List ℕ) (at number place : ℕ) → GoodNames (sc .names) → wholeExpression sc at ≡ refused number place → place < length (sc .text) → SameThrough (sc .text) other place
-      → (ts : Tokens) (e : Expression) (n : ℕ) → SpellsE (sc .names) expression bracketLimit ts e → UsableE (sc .known) e → Spells other at n (ts ++ bytes ")" ∷ []) → ⊥
+      → (ts : Tokens) (e : Expression) (n : ℕ) → SpellsE (normals (sc .names)) expression bracketLimit ts e → UsableE (sc .known) e → Spells normal other at n (ts ++ bytes ")" ∷ []) → ⊥
   pub conditions : (sc : Scope) (other : List ℕ) (at number place : ℕ) → GoodNames (sc .names) → listed sc at ≡ refused number place → place < length (sc .text) → SameThrough (sc .text) other place
-      → (ts : Tokens) (c : Condition) (n : ℕ) → SpellsC (sc .names) condition bracketLimit ts c → UsableC (sc .known) c → Spells other at n (ts ++ bytes "]" ∷ []) → ⊥
+      → (ts : Tokens) (c : Condition) (n : ℕ) → SpellsC (normals (sc .names)) condition bracketLimit ts c → UsableC (sc .known) c → Spells normal other at n (ts ++ bytes "]" ∷ []) → ⊥
   pub texts : (text other : List ℕ) (number place : ℕ) → programOf text ≡ A.refused number place → place < length text → length text ≤ textLimit → SameThrough text other place → (p : Program) → Spelled other p → ⊥

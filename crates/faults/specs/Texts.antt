@@ -8,13 +8,13 @@ use Rattle.limits.specs.Answer.{refused}
 use Rattle.lexer.specs.Token.{Kind, ending, TokenRead, token, fault}
 use Rattle.lexer.specs.Lexer.{tokenAt}
 use Rattle.grammar.specs.Parse.{programOf}
-use Rattle.grammar.specs.Derivation.{Tokens, Spells}
+use Rattle.grammar.specs.Derivation.{Tokens, asWritten, Spells}
 
 -- from the beginning of the text up to `end` stand just the tokens `before`; the next, `found`, is a token or none
 pub record Behind (text : List ℕ) (found : TokenRead) : Type 0 where
   pub before : Tokens
   pub end : ℕ
-  pub spells : Spells text 0 end before
+  pub spells : Spells asWritten text 0 end before
   pub next : tokenAt text end ≡ found
 
 -- a token of the text, or its end, begins at the place

@@ -17,7 +17,7 @@ use Rattle.bytecode.specs.Translation.{imageOf, RangesFit, Translatable}
 use Rattle.grammar.specs.Parsed.{Parsed, accepted, refused}
 use Rattle.grammar.specs.Parse.{parse, answerOf, programOf}
 use Rattle.lexer.specs.Spelling.{IsWord}
-use Rattle.grammar.specs.Derivation.{IsName}
+use Rattle.grammar.specs.Derivation.{normals, IsName}
 use Rattle.grammar.specs.Spelled.{namesOf, Spelled}
 use Rattle.grammar.specs.Inner.Names.{Named}
 use Rattle.grammar.proofs.Shape.{NamesFit}
@@ -73,7 +73,7 @@ module _ (text : List ℕ) (p : Program) (n : ℕ) (e : parse text ≡ accepted 
 
   -- 16 open brackets hold at most 38 values
   pub parse-depth : depthRules (p .rules) ≤ 38
-  parse-depth = rules-depth (namesOf p) (parse-spelled .rule-tokens) (p .rules) (parse-spelled .spells-rules)
+  parse-depth = rules-depth (normals (namesOf p)) (parse-spelled .rule-tokens) (p .rules) (parse-spelled .spells-rules)
 
   -- twice the image's bytes are at most three times the text's, and four
   pub parse-growth : 2 * length (imageOf p) ≤ 3 * length text + 4
@@ -98,7 +98,7 @@ module _ (text : List ℕ) (p : Program) (n : ℕ) (e : parse text ≡ accepted 
         };
         few = omega (arith, l, s .few);
         ranges-fit = fits;
-        shallow = rules-shallow (namesOf p) (s .rule-tokens) (p .rules) (s .spells-rules);
+        shallow = rules-shallow (normals (namesOf p)) (s .rule-tokens) (p .rules) (s .spells-rules);
         short = omega (arith, parse-growth, s .short);
       }
 

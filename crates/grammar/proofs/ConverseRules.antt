@@ -9,7 +9,8 @@ use lib.ListN.{length, getD, set, getElem?}
 use lib.Dec.{ltb→lt}
 use Rattle.limits.specs.Limits.{caseLimit, bracketLimit}
 use Rattle.arith.proofs.Basics.{T-true}
-use Rattle.lexer.specs.Bytes.{bytes, part}
+use Rattle.lexer.specs.Bytes.{bytes, part, capitals}
+use Rattle.lexer.specs.Spelling.{SpellsName}
 use Rattle.lexer.specs.Token.{kindNumber, ending, name, closeRound, tilde, is, token}
 use Rattle.lexer.specs.Lexer.{tokenAt}
 use Rattle.lexer.proofs.Laws.{token-at-moved}
@@ -18,16 +19,18 @@ use Rattle.grammar.specs.Parsed.{accepted, phrase, followed, itemBound}
 use Rattle.grammar.specs.Expressions.{Scope, productOf, sumOf, wholeExpression}
 use Rattle.grammar.specs.Forms.{valueOpening, functionClosing, formulaClosing, changeOpening, noChangeOpening, ruleOpening}
 use Rattle.grammar.specs.Rules.{Spanned, casesFrom, plainList, agrees, partsFrom, firstFound, agreeingList, casesOf, functionAt, changeAt, formulas, ruleAt, ruled, rulesFrom}
-use Rattle.grammar.specs.Derivation.{Spells, IsName, SpellsE}
+use Rattle.grammar.specs.Derivation.{Spells, IsName, SpellsE, normal, normals}
 use Rattle.grammar.specs.Derivation as D
 use Rattle.grammar.specs.Spelled.{SpellsCases, SpellsList, SpellsR, a-change, a-function, SpellsRules}
 use Rattle.grammar.specs.Spelled as S
 use Rattle.grammar.specs.Inner.Names.{Named}
 use Rattle.lexer.proofs.Spellings.{isFixed}
-use Rattle.grammar.proofs.Standing.{split, stands-in, spells-in, spells-append, is-read}
+use Rattle.grammar.proofs.Standing.{split, stands-in, spells-in, spells-append, is-read, normally, stands-raw}
 use Rattle.grammar.proofs.Phrases.{signs, fixed-at, name-at, phrase-reads, followed-reads, headTokens, middleTokens}
+use Rattle.grammar.proofs.Normal.{normal-twice, each-normal}
+use Rattle.grammar.proofs.SameRule.{formulas-same}
 use Rattle.grammar.proofs.Listed.{spells-parts}
-use Rattle.grammar.proofs.Converse.{named-id, spelled-expression}
+use Rattle.grammar.proofs.Converse.{named-id, spelled-expression, spells-normal}
 use Rattle.grammar.proofs.ConverseCases.{cases-read, no-change-reads}
 
 module _ (sc : Scope) (good : Named (sc .names)) (w : List ℕ) (nm : IsName w) (v : ℕ) where
@@ -37,18 +40,18 @@ module _ (sc : Scope) (good : Named (sc .names)) (w : List ℕ) (nm : IsName w) 
   unfolding functionAt
   function-goes a n1 n2 n3 e e1 e2 e3 = rw (e1, e2) e3
 
-  function-reads : (ts : List (List ℕ)) (e : Expression) → SpellsE (sc .names) D.expression bracketLimit ts e → UsableE (sc .known) e → (a m : ℕ) → a ≤ length (sc .text) → Spells (sc .text) a m (w ∷ bytes "=" ∷ bytes "(" ∷ ts ++ bytes ")" ∷ bytes ")" ∷ bytes ";" ∷ []) → functionAt sc w v a ≡ accepted (function v e) m
+  function-reads : (ts : List (List ℕ)) (e : Expression) → SpellsE (normals (sc .names)) D.expression bracketLimit ts e → UsableE (sc .known) e → (a m : ℕ) → a ≤ length (sc .text) → Spells normal (sc .text) a m (w ∷ bytes "=" ∷ bytes "(" ∷ ts ++ bytes ")" ∷ bytes ")" ∷ bytes ";" ∷ []) → functionAt sc w v a ≡ accepted (function v e) m
   unfolding signs isFixed kindNumber productOf sumOf is
   function-reads ts e d u a m h g =
       let text = sc .text in
-      let p = split text a m (w ∷ bytes "=" ∷ bytes "(" ∷ ts) (bytes ")" ∷ bytes ")" ∷ bytes ";" ∷ []) g in
-      let q = split text a (p .place) (w ∷ bytes "=" ∷ bytes "(" ∷ []) ts (p .first) in
-      let i1 = spells-in text a (q .place) (w ∷ bytes "=" ∷ bytes "(" ∷ []) h (q .first) .1 in
-      let i2 = spells-in text (q .place) (p .place) ts i1 (q .second) .1 in
+      let p = split normally text a m (w ∷ bytes "=" ∷ bytes "(" ∷ ts) (bytes ")" ∷ bytes ")" ∷ bytes ";" ∷ []) g in
+      let q = split normally text a (p .place) (w ∷ bytes "=" ∷ bytes "(" ∷ []) ts (p .first) in
+      let i1 = spells-in normally text a (q .place) (w ∷ bytes "=" ∷ bytes "(" ∷ []) h (q .first) .1 in
+      let i2 = spells-in normally text (q .place) (p .place) ts i1 (q .second) .1 in
       function-goes a (q .place) (p .place) m e
-      (phrase-reads text (valueOpening w) refl (nm, tt) a (q .place) h (q .first))
-      (spelled-expression sc good ts e d u (q .place) (p .place) i1 (q .second) closeRound (p .second .1 .start) (p .second .0) (fixed-at text closeRound refl (p .place) (p .second .0) i2 (p .second .1)) (refl, refl))
-      (followed-reads text functionClosing refl tt (function v e) (p .place) m i2 (p .second))
+      (phrase-reads normally text (valueOpening w) refl (nm, tt) a (q .place) h (q .first))
+      (spelled-expression sc good ts e d u (q .place) (p .place) i1 (q .second) closeRound (p .second .1 .start) (p .second .0) (fixed-at normally text closeRound refl (p .place) (p .second .0) i2 (p .second .1)) (refl, refl))
+      (followed-reads normally text functionClosing refl tt (function v e) (p .place) m i2 (p .second))
 
   -- ---- a change formula and its no-change formula, after `v: GX(~`
 
@@ -60,28 +63,28 @@ module _ (sc : Scope) (good : Named (sc .names)) (w : List ℕ) (nm : IsName w) 
   unfolding changeAt
   change-goes cases cs a n1 n2 n3 n4 n5 e1 e2 e3 e4 e5 = rw (e1, e2, e3, e4) e5
 
-  change-reads : (ts ls : List (List ℕ)) (ks : List Case) (cs : List Condition) → SpellsCases (sc .names) w ts ls ks → length ks ≤ caseLimit → SpellsList (sc .names) ls cs → UsableK (sc .known) ks → (a m : ℕ) → a ≤ length (sc .text) → Spells (sc .text) a m ((headTokens w ++ ts) ++ (middleTokens w ++ ls) ++ bytes ")" ∷ bytes ")" ∷ bytes ";" ∷ []) → changeAt sc w v a ≡ accepted (change v ks cs) m
+  change-reads : (ts ls : List (List ℕ)) (ks : List Case) (cs : List Condition) → SpellsCases (normals (sc .names)) w ts ls ks → length ks ≤ caseLimit → SpellsList (normals (sc .names)) ls cs → UsableK (sc .known) ks → (a m : ℕ) → a ≤ length (sc .text) → Spells normal (sc .text) a m ((headTokens w ++ ts) ++ (middleTokens w ++ ls) ++ bytes ")" ∷ bytes ")" ∷ bytes ";" ∷ []) → changeAt sc w v a ≡ accepted (change v ks cs) m
   unfolding signs isFixed kindNumber is
   change-reads ts ls ks cs d room e u a m h g =
       let text = sc .text in
-      let p = split text a m ((headTokens w ++ ts) ++ (middleTokens w ++ ls)) (bytes ")" ∷ bytes ")" ∷ bytes ";" ∷ []) g in
-      let q = split text a (p .place) (headTokens w ++ ts) (middleTokens w ++ ls) (p .first) in
-      let r = split text a (q .place) (headTokens w) ts (q .first) in
-      let t = split text (q .place) (p .place) (middleTokens w) ls (q .second) in
-      let i1 = spells-in text a (r .place) (headTokens w) h (r .first) .1 in
-      let i2 = spells-in text (r .place) (q .place) ts i1 (r .second) .1 in
-      let i3 = spells-in text (q .place) (t .place) (middleTokens w) i2 (t .first) .1 in
-      let i4 = spells-in text (t .place) (p .place) ls i3 (t .second) .1 in
+      let p = split normally text a m ((headTokens w ++ ts) ++ (middleTokens w ++ ls)) (bytes ")" ∷ bytes ")" ∷ bytes ";" ∷ []) g in
+      let q = split normally text a (p .place) (headTokens w ++ ts) (middleTokens w ++ ls) (p .first) in
+      let r = split normally text a (q .place) (headTokens w) ts (q .first) in
+      let t = split normally text (q .place) (p .place) (middleTokens w) ls (q .second) in
+      let i1 = spells-in normally text a (r .place) (headTokens w) h (r .first) .1 in
+      let i2 = spells-in normally text (r .place) (q .place) ts i1 (r .second) .1 in
+      let i3 = spells-in normally text (q .place) (t .place) (middleTokens w) i2 (t .first) .1 in
+      let i4 = spells-in normally text (t .place) (p .place) ls i3 (t .second) .1 in
       let n4 = p .second .0 in
-      let i5 = stands-in text (p .place) n4 (bytes ")") i4 (p .second .1) .1 in
-      let close = spells-append text (t .place) (p .place) n4 ls (bytes ")" ∷ []) (t .second) (n4, p .second .1, refl) in
-      let x = cases-read sc good w nm caseLimit [] ts ls ks d u room (r .place) (q .place) i1 (r .second) closeRound (t .first .1 .start) (t .first .0) (fixed-at text closeRound refl (q .place) (t .first .0) i2 (t .first .1)) refl in
+      let i5 = stands-in normally text (p .place) n4 (bytes ")") i4 (p .second .1) .1 in
+      let close = spells-append normally text (t .place) (p .place) n4 ls (bytes ")" ∷ []) (t .second) (n4, p .second .1, refl) in
+      let x = cases-read sc good w nm caseLimit [] ts ls ks d u room (r .place) (q .place) i1 (r .second) closeRound (t .first .1 .start) (t .first .0) (fixed-at normally text closeRound refl (q .place) (t .first .0) i2 (t .first .1)) refl in
       subst (λ (l : List Case). changeAt sc w v a ≡ accepted (change v l cs) m) (x .are-cases)
       (change-goes (x .spans) cs a (r .place) (q .place) (t .place) n4 m
-      (phrase-reads text (changeOpening w) refl (nm, (nm, tt)) a (r .place) h (r .first)) (x .reads)
-      (phrase-reads text (noChangeOpening w) refl (nm, (nm, (nm, tt))) (q .place) (t .place) i2 (t .first))
+      (phrase-reads normally text (changeOpening w) refl (nm, (nm, tt)) a (r .place) h (r .first)) (x .reads)
+      (phrase-reads normally text (noChangeOpening w) refl (nm, (nm, (nm, tt))) (q .place) (t .place) i2 (t .first))
       (agreeing-goes (x .spans) cs (t .place) n4 (no-change-reads sc good w ts ls ks cs d e u room (t .place) n4 i3 close) (spells-parts text (x .spans) ls (x .lists) (t .place) n4 i3 close))
-      (followed-reads text formulaClosing refl tt (change v (casesOf (x .spans)) cs) n4 m i5 (p .second .2)))
+      (followed-reads normally text formulaClosing refl tt (change v (casesOf (x .spans)) cs) n4 m i5 (p .second .2)))
 
   -- ---- the formulas of w, after its name
 
@@ -103,49 +106,51 @@ pub record RuleReads (sc : Scope) (a m : ℕ) (r : Rule) : Type 0 where
   pub reads : ruleAt sc start place ≡ accepted r m
 
 module _ (sc : Scope) (good : Named (sc .names)) where
-  rule-goes : (w : List ℕ) (v s n m : ℕ) (r : Rule) → s ≤ n → n ≤ length (sc .text) → part (sc .text) s n ≡ w → getElem? (sc .names) v ≡ some w → getD (sc .known) v false ≡ false → formulas sc w v n ≡ accepted r m → ruleAt sc s n ≡ accepted r m
+  rule-goes : (w : List ℕ) (v s n m : ℕ) (r : Rule) → s ≤ n → n ≤ length (sc .text) → SpellsName (part (sc .text) s n) → normal (part (sc .text) s n) ≡ w → getElem? (normals (sc .names)) v ≡ some w → getD (sc .known) v false ≡ false → formulas sc w v n ≡ accepted r m → ruleAt sc s n ≡ accepted r m
   unfolding ruleAt
-  rule-goes w v s n m r h i e ev new reads = named-id sc good {A = Rule} s s n v w _ h i e ev ∙ rw (new, e) reads
+  rule-goes w v s n m r h i nm e ev new reads =
+      let u = part (sc .text) s n in
+      named-id sc good {A = Rule} s s n v w _ h i nm e ev ∙ rw (new, formulas-same sc u w (sym (normal-twice u nm) ∙ ap capitals e) v n) reads
 
-  rule-reads : (ts : List (List ℕ)) (r : Rule) → SpellsR (sc .names) ts r → UsableR (sc .known) r → getD (sc .known) (target r) false ≡ false → (a m : ℕ) → a ≤ length (sc .text) → Spells (sc .text) a m ts → RuleReads sc a m r
+  rule-reads : (ts : List (List ℕ)) (r : Rule) → SpellsR (normals (sc .names)) ts r → UsableR (sc .known) r → getD (sc .known) (target r) false ≡ false → (a m : ℕ) → a ≤ length (sc .text) → Spells normal (sc .text) a m ts → RuleReads sc a m r
   unfolding signs isFixed kindNumber
   rule-reads ts r (a-function w v us e ev d) u new a m h g =
       let text = sc .text in
-      let nm = good .each v w ev in
+      let nm = each-normal (sc .names) good v w ev in
       let st = g .1 in
       let n = g .0 in
       let mv = token-at-moved text a (st .kind) (st .start) n h (is-read st) in
       let tail = w ∷ bytes "=" ∷ bytes "(" ∷ us ++ bytes ")" ∷ bytes ")" ∷ bytes ";" ∷ [] in
-      let p = split text n m (bytes ":" ∷ bytes "GX" ∷ bytes "(" ∷ []) tail (g .2) in
-      let i = spells-in text n (p .place) (bytes ":" ∷ bytes "GX" ∷ bytes "(" ∷ []) (mv .2) (p .first) .1 in
+      let p = split normally text n m (bytes ":" ∷ bytes "GX" ∷ bytes "(" ∷ []) tail (g .2) in
+      let i = spells-in normally text n (p .place) (bytes ":" ∷ bytes "GX" ∷ bytes "(" ∷ []) (mv .2) (p .first) .1 in
       record {
         start = st .start;
         place = n;
-        is-name = name-at text w nm a n h st;
-        reads = rule-goes w v (st .start) n m (function v e) (mv .1) (mv .2) (st .spelled) ev new
+        is-name = name-at normally text w nm a n h st;
+        reads = rule-goes w v (st .start) n m (function v e) (mv .1) (mv .2) (stands-raw normally text name w (spells-normal sc good v w ev) a n h st) (st .spelled) ev new
             (formulas-function sc good w nm v (function v e) n (p .place) (p .second .1 .start) (p .second .0) m
-            (phrase-reads text ruleOpening refl tt n (p .place) (mv .2) (p .first))
-            (name-at text w nm (p .place) (p .second .0) i (p .second .1))
+            (phrase-reads normally text ruleOpening refl tt n (p .place) (mv .2) (p .first))
+            (name-at normally text w nm (p .place) (p .second .0) i (p .second .1))
             (function-reads sc good w nm v us e d u (p .place) m i (p .second)));
       }
   rule-reads ts r (a-change w v us ls ks cs ev d room e) u new a m h g =
       let text = sc .text in
-      let nm = good .each v w ev in
+      let nm = each-normal (sc .names) good v w ev in
       let st = g .1 in
       let n = g .0 in
       let mv = token-at-moved text a (st .kind) (st .start) n h (is-read st) in
       let tail = (headTokens w ++ us) ++ (middleTokens w ++ ls) ++ bytes ")" ∷ bytes ")" ∷ bytes ";" ∷ [] in
-      let p = split text n m (bytes ":" ∷ bytes "GX" ∷ bytes "(" ∷ []) (bytes "~" ∷ tail) (g .2) in
-      let i = spells-in text n (p .place) (bytes ":" ∷ bytes "GX" ∷ bytes "(" ∷ []) (mv .2) (p .first) .1 in
-      let j = stands-in text (p .place) (p .second .0) (bytes "~") i (p .second .1) .1 in
+      let p = split normally text n m (bytes ":" ∷ bytes "GX" ∷ bytes "(" ∷ []) (bytes "~" ∷ tail) (g .2) in
+      let i = spells-in normally text n (p .place) (bytes ":" ∷ bytes "GX" ∷ bytes "(" ∷ []) (mv .2) (p .first) .1 in
+      let j = stands-in normally text (p .place) (p .second .0) (bytes "~") i (p .second .1) .1 in
       record {
         start = st .start;
         place = n;
-        is-name = name-at text w nm a n h st;
-        reads = rule-goes w v (st .start) n m (change v ks cs) (mv .1) (mv .2) (st .spelled) ev new
+        is-name = name-at normally text w nm a n h st;
+        reads = rule-goes w v (st .start) n m (change v ks cs) (mv .1) (mv .2) (stands-raw normally text name w (spells-normal sc good v w ev) a n h st) (st .spelled) ev new
             (formulas-change sc good w nm v (change v ks cs) n (p .place) (p .second .1 .start) (p .second .0) m
-            (phrase-reads text ruleOpening refl tt n (p .place) (mv .2) (p .first))
-            (fixed-at text tilde refl (p .place) (p .second .0) i (p .second .1))
+            (phrase-reads normally text ruleOpening refl tt n (p .place) (mv .2) (p .first))
+            (fixed-at normally text tilde refl (p .place) (p .second .0) i (p .second .1))
             (change-reads sc good w nm v us ls ks cs d room e u (p .second .0) m j (p .second .2)));
       }
 
@@ -177,13 +182,13 @@ rules-end : (sc : Scope) (f a s n : ℕ) (done : List Rule) → tokenAt (sc .tex
 unfolding rulesFrom is kindNumber
 rules-end sc f a s n done e1 e2 = rw (e1, e2)
 
-pub rules-read : (f : ℕ) (sc : Scope) → Named (sc .names) → (done : List Rule) (ts : List (List ℕ)) (rs : List Rule) → SpellsRules (sc .names) ts rs → OrderedRules (sc .known) rs → unruled (sc .known) < f → (a n : ℕ) → a ≤ length (sc .text) → Spells (sc .text) a n ts → (s m : ℕ) → tokenAt (sc .text) n ≡ token ending s m → rulesFrom f sc done a ≡ accepted (done ++ rs) m
+pub rules-read : (f : ℕ) (sc : Scope) → Named (sc .names) → (done : List Rule) (ts : List (List ℕ)) (rs : List Rule) → SpellsRules (normals (sc .names)) ts rs → OrderedRules (sc .known) rs → unruled (sc .known) < f → (a n : ℕ) → a ≤ length (sc .text) → Spells normal (sc .text) a n ts → (s m : ℕ) → tokenAt (sc .text) n ≡ token ending s m → rulesFrom f sc done a ≡ accepted (done ++ rs) m
 rules-read zero sc good done ts rs d o fuel a n h g s m et = absurd (omega arith)
 rules-read (suc f) sc good done ts rs S.SpellsRules.none o fuel a n h g s m et =
     rules-end sc f a s m done (subst (λ (y : ℕ). tokenAt (sc .text) y ≡ token ending s m) (sym g) et) (T-true (allTrue (sc .known)) o) ∙ ap (λ (y : List Rule). accepted y m) (sym (append-nil done))
 rules-read (suc f) sc good done ts rs (S.SpellsRules.more us vs r qs d e) o fuel a n h g s m et =
-    let p = split (sc .text) a n us vs g in
-    let i = spells-in (sc .text) a (p .place) us h (p .first) .1 in
+    let p = split normally (sc .text) a n us vs g in
+    let i = spells-in normally (sc .text) a (p .place) us h (p .first) .1 in
     let x = rule-reads sc good us r d (o .0) (o .2) a (p .place) h (p .first) in
     let c = rule-counts (sc .known) (target r) (ltb→lt (target r) (length (sc .known)) (o .1)) (o .2) in
     rules-on sc f a (x .start) (x .place) (p .place) done r (x .is-name) (x .reads)

@@ -17,13 +17,15 @@ use Rattle.grammar.specs.Parsed.{accepted, itemBound}
 use Rattle.grammar.specs.Declarations.{spellings, declarations}
 use Rattle.grammar.specs.Rules.{rulesFrom}
 use Rattle.grammar.specs.Parse.{program, parse, answerOf, programOf}
-use Rattle.grammar.specs.Derivation.{Spells, TokensOf}
+use Rattle.grammar.specs.Derivation.{asWritten, normal, normals, Spells}
 use Rattle.grammar.specs.Spelled.{declares, DeclareAll, Distinct, Apart, a-change, a-function, SpellsRules, namesOf, Spelled}
 use Rattle.grammar.specs.Spelled as S
 use Rattle.grammar.specs.Accepts.{Accepts}
 use Rattle.grammar.specs.Inner.Names.{Named}
+use Rattle.lexer.specs.Spelling.{Separated}
 use Rattle.lexer.proofs.Spellings.{isFixed}
-use Rattle.grammar.proofs.Standing.{split, spells-in, end-read}
+use Rattle.grammar.proofs.Normal.{each-normal}
+use Rattle.grammar.proofs.Standing.{split, spells-in, end-read, written, normally}
 use Rattle.grammar.proofs.Phrases.{fixed-at, name-at}
 use Rattle.grammar.proofs.Whole.{named, declared-fit, fit-append}
 use Rattle.grammar.proofs.Accepted.{parse-spelled, program-parsed}
@@ -51,19 +53,19 @@ module _ (text : List ℕ) where
     other : is kind word ≡ false
 
   -- the rules begin with a name, or the text ends
-  rules-next : (word : Kind) → is name word ≡ false → is ending word ≡ false → (names : List (List ℕ)) → Named names → (ts : List (List ℕ)) (rs : List Rule) → SpellsRules names ts rs → (a n : ℕ) → a ≤ length text → Spells text a n ts → (s m : ℕ) → tokenAt text n ≡ token ending s m → Next a word
+  rules-next : (word : Kind) → is name word ≡ false → is ending word ≡ false → (names : List (List ℕ)) → Named names → (ts : List (List ℕ)) (rs : List Rule) → SpellsRules (normals names) ts rs → (a n : ℕ) → a ≤ length text → Spells normal text a n ts → (s m : ℕ) → tokenAt text n ≡ token ending s m → Next a word
   rules-next word e1 e2 names good ts rs S.SpellsRules.none a n h g s m et = record { kind = ending; start = s; end = m; is-token = subst (λ (y : ℕ). tokenAt text y ≡ token ending s m) (sym g) et; other = e2 }
   rules-next word e1 e2 names good ts rs (S.SpellsRules.more us vs r qs (a-change w v xs ls ks cs ev d room e) q) a n h g s m et =
-      record { kind = name; start = g .1 .start; end = g .0; is-token = name-at text w (good .each v w ev) a (g .0) h (g .1); other = e1 }
+      record { kind = name; start = g .1 .start; end = g .0; is-token = name-at normally text w (each-normal names good v w ev) a (g .0) h (g .1); other = e1 }
   rules-next word e1 e2 names good ts rs (S.SpellsRules.more us vs r qs (a-function w v xs e ev d) q) a n h g s m et =
-      record { kind = name; start = g .1 .start; end = g .0; is-token = name-at text w (good .each v w ev) a (g .0) h (g .1); other = e1 }
+      record { kind = name; start = g .1 .start; end = g .0; is-token = name-at normally text w (each-normal names good v w ev) a (g .0) h (g .1); other = e1 }
 
   -- the variables begin with `var`
-  variables-next : (ts : List (List ℕ)) (l : List Name) → DeclareAll (bytes "var") ts l → (a n : ℕ) → a ≤ length text → Spells text a n ts → Next n inputWord → Next a inputWord
+  variables-next : (ts : List (List ℕ)) (l : List Name) → DeclareAll (bytes "var") ts l → (a n : ℕ) → a ≤ length text → Spells asWritten text a n ts → Next n inputWord → Next a inputWord
   unfolding isFixed is kindNumber
   variables-next ts l S.DeclareAll.none a n h g x = subst (λ (y : ℕ). Next y inputWord) (sym g) x
   variables-next ts l (S.DeclareAll.more us vs y k (declares w ls hs ws r nm dl dh ds fits) e) a n h g x =
-      record { kind = varWord; start = g .1 .start; end = g .0; is-token = fixed-at text varWord refl a (g .0) h (g .1); other = refl }
+      record { kind = varWord; start = g .1 .start; end = g .0; is-token = fixed-at written text varWord refl a (g .0) h (g .1); other = refl }
 
   -- ---- the whole
 
@@ -71,24 +73,23 @@ module _ (text : List ℕ) where
   unfolding program
   program-goes inputs names rules a b n e1 e2 e3 = rw (e1, e2, e3)
 
-  spelled-program : (inputs variables : List Name) (rules : List Rule) (its vts rts : List (List ℕ)) → TokensOf text (its ++ vts ++ rts) → DeclareAll (bytes "input") its inputs → DeclareAll (bytes "var") vts variables → Distinct (spellings (inputs ++ variables)) → length (inputs ++ variables) ≤ 64 → SpellsRules (spellings (inputs ++ variables)) rts rules → OrderedRules (knownFirst (length inputs) (length (inputs ++ variables))) rules → program text ≡ accepted (record { inputs = length inputs; names = inputs ++ variables; rules = rules }) (length text)
+  spelled-program : (inputs variables : List Name) (rules : List Rule) (its vts rts : List (List ℕ)) (b end : ℕ) → Spells asWritten text 0 b (its ++ vts) → Spells normal text b end rts → Separated text end (length text) → DeclareAll (bytes "input") its inputs → DeclareAll (bytes "var") vts variables → Distinct (spellings (inputs ++ variables)) → length (inputs ++ variables) ≤ 64 → SpellsRules (normals (spellings (inputs ++ variables))) rts rules → OrderedRules (knownFirst (length inputs) (length (inputs ++ variables))) rules → program text ≡ accepted (record { inputs = length inputs; names = inputs ++ variables; rules = rules }) (length text)
   unfolding declarations isFixed is kindNumber
-  spelled-program inputs variables rules its vts rts t di dv apart few dr ordered =
+  spelled-program inputs variables rules its vts rts b end sd sr ends di dv apart few dr ordered =
       let names = inputs ++ variables in
       let good : Named (spellings names) = named names (fit-append inputs variables (declared-fit (bytes "input") its inputs di) (declared-fit (bytes "var") vts variables dv)) apart in
-      let p = split text 0 (t .end) (its ++ vts) rts (t .spells) in
-      let q = split text 0 (p .place) its vts (p .first) in
-      let i1 = spells-in text 0 (q .place) its (omega arith) (q .first) .1 in
-      let i2 = spells-in text (q .place) (p .place) vts i1 (q .second) .1 in
+      let q = split written text 0 b its vts sd in
+      let i1 = spells-in written text 0 (q .place) its (omega arith) (q .first) .1 in
+      let i2 = spells-in written text (q .place) b vts i1 (q .second) .1 in
       let both : length (inputs ++ variables) ≡ length inputs + length variables = length-append inputs variables in
-      let end = rules-next varWord refl refl (spellings names) good rts rules dr (p .place) (t .end) i2 (p .second) (length text) (length text) (end-read text (t .end) (t .ends)) in
-      let none = rules-next inputWord refl refl (spellings names) good rts rules dr (p .place) (t .end) i2 (p .second) (length text) (length text) (end-read text (t .end) (t .ends)) in
-      let more = variables-next vts variables dv (q .place) (p .place) i1 (q .second) none in
+      let last = rules-next varWord refl refl (spellings names) good rts rules dr b end i2 sr (length text) (length text) (end-read text end ends) in
+      let none = rules-next inputWord refl refl (spellings names) good rts rules dr b end i2 sr (length text) (length text) (end-read text end ends) in
+      let more = variables-next vts variables dv (q .place) b i1 (q .second) none in
       let count : length (knownFirst (length inputs) (length names)) ≡ length names = length-known (length inputs) (length names) in
-      program-goes inputs names rules (q .place) (p .place) (length text)
+      program-goes inputs names rules (q .place) b (length text)
       (declarations-read text inputWord refl itemBound [] its inputs di (distinct-front inputs variables apart) (omega arith) (omega arith) 0 (q .place) (omega arith) (q .first) (more .kind) (more .start) (more .end) (more .is-token) (more .other))
-      (declarations-read text varWord refl itemBound inputs vts variables dv apart (omega arith) (omega arith) (q .place) (p .place) i1 (q .second) (end .kind) (end .start) (end .end) (end .is-token) (end .other))
-      (rules-read itemBound (record { text = text; names = spellings names; known = knownFirst (length inputs) (length names) }) good [] rts rules dr ordered (few-unruled (knownFirst (length inputs) (length names)) (omega arith)) (p .place) (t .end) i2 (p .second) (length text) (length text) (end-read text (t .end) (t .ends)))
+      (declarations-read text varWord refl itemBound inputs vts variables dv apart (omega arith) (omega arith) (q .place) b i1 (q .second) (last .kind) (last .start) (last .end) (last .is-token) (last .other))
+      (rules-read itemBound (record { text = text; names = spellings names; known = knownFirst (length inputs) (length names) }) good [] rts rules dr ordered (few-unruled (knownFirst (length inputs) (length names)) (omega arith)) b end i2 sr (length text) (length text) (end-read text end ends))
 
 made : (p : Program) (i : ℕ) (l : List Name) → p .inputs ≡ i → p .names ≡ l → p ≡ record { inputs = i; names = l; rules = p .rules }
 made p i l e f = ap₂ (λ (x : ℕ) (y : List Name). record { inputs = x; names = y; rules = p .rules }) e f
@@ -105,8 +106,8 @@ spelled-parse text p s =
     let count : length (rangesOf q) ≡ length (q .names) = length-map (q .names) (λ n. n .range) in
     let ordered : Ordered q = subst Ordered same (s .ordered) in
     short-parse text (s .short)
-    ∙ (spelled-program text (s .inputs) (s .variables) (p .rules) (s .input-tokens) (s .variable-tokens) (s .rule-tokens) (s .tokens) (s .declares-inputs) (s .declares-variables)
-    (subst (λ (x : Program). Distinct (namesOf x)) same (s .distinct)) (subst (λ (x : Program). length (x .names) ≤ 64) same (s .few)) (subst (λ (x : Program). SpellsRules (namesOf x) (s .rule-tokens) (x .rules)) same (s .spells-rules))
+    ∙ (spelled-program text (s .inputs) (s .variables) (p .rules) (s .input-tokens) (s .variable-tokens) (s .rule-tokens) (s .rules-from) (s .end) (s .spells-declarations) (s .spells-tokens) (s .ends) (s .declares-inputs) (s .declares-variables)
+    (subst (λ (x : Program). Distinct (namesOf x)) same (s .distinct)) (subst (λ (x : Program). length (x .names) ≤ 64) same (s .few)) (subst (λ (x : Program). SpellsRules (normals (namesOf x)) (s .rule-tokens) (x .rules)) same (s .spells-rules))
     (subst (λ (n : ℕ). OrderedRules (knownFirst (length (s .inputs)) n) (p .rules)) count ordered)
     ∙ ap (λ (x : Program). accepted x (length text)) (sym same))
 

@@ -6,7 +6,7 @@ use mathlib.Core.Bool.{Bool, true, false, cond}
 use mathlib.Core.Option.{Option, none, some}
 use Prim.Native.Nat.{ℕ, zero, suc, _+_, _≤_}
 use native.Mathlib.Omega.{arith}
-use lib.ListN.{length, getD, getElem?}
+use lib.ListN.{length, getD, getElem?, length-map}
 use lib.Dec.{ltb, lt→ltb}
 use lib.IntN.{pos}
 use borrow.Author.Tests.{ltb-false}
@@ -14,7 +14,7 @@ use Rattle.limits.specs.Limits.{bracketLimit, numberLimit}
 use Rattle.lexer.specs.Bytes.{bytes, part}
 use Rattle.lexer.specs.Token.{Kind, kindNumber, ending, name, digits, openRound, closeRound, openSquare, closeSquare, tilde, ampersand, bar, minus, is, TokenRead, token, fault}
 use Rattle.lexer.specs.Token as T
-use Rattle.lexer.specs.Spelling.{Spelling}
+use Rattle.lexer.specs.Spelling.{Spelling, SpellsName}
 use Rattle.lexer.specs.Lexer.{tokenAt, overLong, valueOf}
 use Rattle.lexer.specs.Names.{idOf}
 use Rattle.lexer.proofs.Laws.{cond-prop, token-at-moved}
@@ -24,18 +24,21 @@ use Rattle.semantics.specs.Program.{Expression, previous, operation, negate, Co
 use Rattle.grammar.specs.Parsed.{Parsed, accepted, refused, andThen, onToken, sign, expected, rest, chain}
 use Rattle.grammar.specs.Expressions.{Scope, withId, currentAt, previousValueAt, constantAt, primary, negative, factor, productOf, sumOf, term, expression, bracket, wholeExpression}
 use Rattle.grammar.specs.Conditions.{comparisonBy, compared, comparisonAt, opposite as opposed, inverted, atom, Connective, andAlso, orElse, connect, andOf, orOf, conjunction, condition, square, wholeCondition, listed}
-use Rattle.grammar.specs.Derivation.{Stands, Spells, Level, LevelC, SpellsE, a-number, a-current, a-previous, brackets, plain, opposite, one-factor, product, one-term, sum, SpellsC, not-square, one-atom, conjoined, one-conjunction, disjoined}
+use Rattle.grammar.specs.Derivation.{Stands, Spells, Level, LevelC, SpellsE, a-number, a-current, a-previous, brackets, plain, opposite, one-factor, product, one-term, sum, SpellsC, not-square, one-atom, conjoined, one-conjunction, disjoined, normal, normals}
 use Rattle.grammar.specs.Derivation as D
 use Rattle.grammar.proofs.Combine.{token-prop, then-prop, option-prop, one-sign}
-use Rattle.grammar.proofs.Bytes.{part-cons, heads, place-in}
+use Rattle.grammar.proofs.Bytes.{place-in}
+use Rattle.grammar.proofs.Normal.{other-seen, previous-seen, id-names}
+use Rattle.grammar.proofs.Phrases.{previous-name}
+use Rattle.lexer.proofs.Spellings.{word-not}
 use Rattle.grammar.proofs.NotEnd.{not-end, operator-end, products-end, sums-end, comparisons-end, ands-end, ors-end}
-use Rattle.grammar.proofs.Standing.{stands, stands-spelled, spells-in, spells-append, id-names, product-sign, sum-sign, comparison-sign, only-sign}
+use Rattle.grammar.proofs.Standing.{stands, stands-spelled, spells-in, spells-append, product-sign, sum-sign, comparison-sign, only-sign, View, written, normally}
 
-module _ (text : List ℕ) where
+module _ (v : View) (text : List ℕ) where
   -- tokens that spell e stand from `at` up to n
   pub record Derived {A : Type 0} (R : List (List ℕ) → A → Type 0) (at n : ℕ) (e : A) : Type 0 where
     pub tokens : List (List ℕ)
-    pub spells : Spells text at n tokens
+    pub spells : Spells (v .see) text at n tokens
     pub derives : R tokens e
 
   abbrev pub Derives : {A : Type 0} → (List (List ℕ) → A → Type 0) → ℕ → Parsed A → Type 0
@@ -43,12 +46,12 @@ module _ (text : List ℕ) where
   Derives R at (refused k q) = Unit {0}
 
   -- one token before a part
-  pub before : {A : Type 0} (Q R : List (List ℕ) → A → Type 0) (w : List ℕ) → ((ts : List (List ℕ)) (x : A) → Q ts x → R (w ∷ ts) x) → (at n : ℕ) → Stands text at n w → (p : Parsed A) → Derives Q n p → Derives R at p
+  pub before : {A : Type 0} (Q R : List (List ℕ) → A → Type 0) (w : List ℕ) → ((ts : List (List ℕ)) (x : A) → Q ts x → R (w ∷ ts) x) → (at n : ℕ) → Stands (v .see) text at n w → (p : Parsed A) → Derives Q n p → Derives R at p
   before Q R w f at n st (accepted x m) d = record { tokens = w ∷ d .tokens; spells = (n, st, d .spells); derives = f (d .tokens) x (d .derives) }
   before Q R w f at n st (refused k q) d = tt
 
   -- ... that makes something of it
-  pub making : {A B : Type 0} (Q : List (List ℕ) → A → Type 0) (R : List (List ℕ) → B → Type 0) (make : A → B) (w : List ℕ) → ((ts : List (List ℕ)) (x : A) → Q ts x → R (w ∷ ts) (make x)) → (at n : ℕ) → Stands text at n w → (p : Parsed A) → Derives Q n p → Derives R at (andThen p (λ x m. accepted (make x) m))
+  pub making : {A B : Type 0} (Q : List (List ℕ) → A → Type 0) (R : List (List ℕ) → B → Type 0) (make : A → B) (w : List ℕ) → ((ts : List (List ℕ)) (x : A) → Q ts x → R (w ∷ ts) (make x)) → (at n : ℕ) → Stands (v .see) text at n w → (p : Parsed A) → Derives Q n p → Derives R at (andThen p (λ x m. accepted (make x) m))
   making Q R make w f at n st (accepted x m) d = record { tokens = w ∷ d .tokens; spells = (n, st, d .spells); derives = f (d .tokens) x (d .derives) }
   making Q R make w f at n st (refused k q) d = tt
 
@@ -58,8 +61,8 @@ module _ (text : List ℕ) where
   weaker Q R f at (refused k q) d = tt
 
   -- a part, a token, a part
-  pub joined : (a n m l : ℕ) (w : List ℕ) (ts us : List (List ℕ)) → Spells text a n ts → Stands text n m w → Spells text m l us → Spells text a l (ts ++ w ∷ us)
-  joined a n m l w ts us h st g = spells-append text a n l ts (w ∷ us) h (m, st, g)
+  pub joined : (a n m l : ℕ) (w : List ℕ) (ts us : List (List ℕ)) → Spells (v .see) text a n ts → Stands (v .see) text n m w → Spells (v .see) text m l us → Spells (v .see) text a l (ts ++ w ∷ us)
+  joined a n m l w ts us h st g = spells-append v text a n l ts (w ∷ us) h (m, st, g)
 
   module _ {O A : Type 0} (Q R : List (List ℕ) → A → Type 0) (join : O → A → A → A) (operator : Kind → Option O) (no-end : operator ending ≡ none) (one : (ts : List (List ℕ)) (a : A) → Q ts a → R ts a) (more : (k : Kind) (w : List ℕ) (o : O) (ts us : List (List ℕ)) (a b : A) → operator k ≡ some o → Spelling k w → R ts a → Q us b → R (ts ++ w ∷ us) (join o a b)) (operand : ℕ → Parsed A) (ho : (at : ℕ) → at ≤ length text → Derives Q at (operand at)) where
     rest-derives : (f at : ℕ) (a : A) (n : ℕ) → n ≤ length text → Derived R at n a → Derives R at (rest join operator operand text f a n)
@@ -74,11 +77,11 @@ module _ (text : List ℕ) where
         then-prop (Derives R at) (operand m) _ (λ k q. tt)
         (λ b n2 es.
         let d : Derived Q m n2 b = subst (Derives Q m) es (ho m (mv .2)) in
-        rest-derives f at (join o a b) n2 (spells-in text m n2 (d .tokens) (mv .2) (d .spells) .1)
+        rest-derives f at (join o a b) n2 (spells-in v text m n2 (d .tokens) (mv .2) (d .spells) .1)
         (record {
-          tokens = h .tokens ++ part text s m ∷ d .tokens;
-          spells = joined at n m n2 (part text s m) (h .tokens) (d .tokens) (h .spells) (stands text n k s m l ne et) (d .spells);
-          derives = more k (part text s m) o (h .tokens) (d .tokens) a b eo (stands-spelled text n k s m l ne et) (h .derives) (d .derives);
+          tokens = h .tokens ++ v .see (part text s m) ∷ d .tokens;
+          spells = joined at n m n2 (v .see (part text s m)) (h .tokens) (d .tokens) (h .spells) (stands v text n k s m l ne et) (d .spells);
+          derives = more k (v .see (part text s m)) o (h .tokens) (d .tokens) a b eo (stands-spelled v text n k s m l ne et) (h .derives) (d .derives);
         }))))
 
     pub chain-derives : (at : ℕ) → at ≤ length text → Derives R at (chain join operator operand text at)
@@ -87,38 +90,38 @@ module _ (text : List ℕ) where
         then-prop (Derives R at) (operand at) _ (λ k q. tt)
         (λ a n es.
         let d : Derived Q at n a = subst (Derives Q at) es (ho at l) in
-        rest-derives (suc (length text)) at a n (spells-in text at n (d .tokens) l (d .spells) .1) (record { tokens = d .tokens; spells = d .spells; derives = one (d .tokens) a (d .derives) }))
+        rest-derives (suc (length text)) at a n (spells-in v text at n (d .tokens) l (d .spells) .1) (record { tokens = d .tokens; spells = d .spells; derives = one (d .tokens) a (d .derives) }))
 
   -- a sign that is read is spelled as its kind says
-  pub sign-stands : (w : Kind) → is ending w ≡ false → (a : ℕ) (k : Kind) (s n : ℕ) → a ≤ length text → tokenAt text a ≡ token k s n → is k w ≡ true → Stands text a n (part text s n) × Spelling w (part text s n)
+  pub sign-stands : (w : Kind) → is ending w ≡ false → (a : ℕ) (k : Kind) (s n : ℕ) → a ≤ length text → tokenAt text a ≡ token k s n → is k w ≡ true → Stands (v .see) text a n (v .see (part text s n)) × Spelling w (v .see (part text s n))
   sign-stands w ne a k s n h et e =
       let q : k ≡ w = same-kind k w e in
       let no = not-end k w ne e in
-      (stands text a k s n h no et, subst (λ (x : Kind). Spelling x (part text s n)) q (stands-spelled text a k s n h no et))
+      (stands v text a k s n h no et, subst (λ (x : Kind). Spelling x (v .see (part text s n))) q (stands-spelled v text a k s n h no et))
 
   -- a sign of one spelling
-  pub sign-is : (w : Kind) (v : List ℕ) → ((x : List ℕ) → Spelling w x → x ≡ v) → is ending w ≡ false → (a : ℕ) (k : Kind) (s n : ℕ) → a ≤ length text → tokenAt text a ≡ token k s n → is k w ≡ true → Stands text a n v
-  sign-is w v f ne a k s n h et e = let r = sign-stands w ne a k s n h et e in subst (Stands text a n) (f (part text s n) (r .1)) (r .0)
+  pub sign-is : (w : Kind) (z : List ℕ) → ((x : List ℕ) → Spelling w x → x ≡ z) → is ending w ≡ false → (a : ℕ) (k : Kind) (s n : ℕ) → a ≤ length text → tokenAt text a ≡ token k s n → is k w ≡ true → Stands (v .see) text a n z
+  sign-is w z f ne a k s n h et e = let r = sign-stands w ne a k s n h et e in subst (Stands (v .see) text a n) (f (v .see (part text s n)) (r .1)) (r .0)
 
   -- a part and one sign after it
-  pub record Closed {A : Type 0} (Q : List (List ℕ) → A → Type 0) (v : List ℕ) (ts : List (List ℕ)) (x : A) : Type 0 where
+  pub record Closed {A : Type 0} (Q : List (List ℕ) → A → Type 0) (z : List ℕ) (ts : List (List ℕ)) (x : A) : Type 0 where
     pub inner : List (List ℕ)
-    pub is-closed : ts ≡ inner ++ v ∷ []
+    pub is-closed : ts ≡ inner ++ z ∷ []
     pub derives : Q inner x
 
-  pub sign-derives : {A : Type 0} (Q : List (List ℕ) → A → Type 0) (w : Kind) (v : List ℕ) → ((x : List ℕ) → Spelling w x → x ≡ v) → is ending w ≡ false → (at : ℕ) (x : A) (n : ℕ) → n ≤ length text → Derived Q at n x → Derives (Closed Q v) at (andThen (expected text (sign w) n) (λ u m. accepted x m))
+  pub sign-derives : {A : Type 0} (Q : List (List ℕ) → A → Type 0) (w : Kind) (z : List ℕ) → ((x : List ℕ) → Spelling w x → x ≡ z) → is ending w ≡ false → (at : ℕ) (x : A) (n : ℕ) → n ≤ length text → Derived Q at n x → Derives (Closed Q z) at (andThen (expected text (sign w) n) (λ u m. accepted x m))
   unfolding expected
-  sign-derives Q w v f ne at x n h d = go (tokenAt text n) refl
+  sign-derives Q w z f ne at x n h d = go (tokenAt text n) refl
     where
-      go : (r : TokenRead) → tokenAt text n ≡ r → Derives (Closed Q v) at (andThen (onToken r (λ k s n. cond (is k w) (accepted (tt {0}) n) (refused 2 s))) (λ u m. accepted x m))
+      go : (r : TokenRead) → tokenAt text n ≡ r → Derives (Closed Q z) at (andThen (onToken r (λ k s n. cond (is k w) (accepted (tt {0}) n) (refused 2 s))) (λ u m. accepted x m))
       go (fault p) e = tt
       go (token k s m) e = close (is k w) refl
         where
-          close : (t : Bool) → is k w ≡ t → Derives (Closed Q v) at (andThen (cond t (accepted (tt {0}) m) (refused 2 s)) (λ u m. accepted x m))
+          close : (t : Bool) → is k w ≡ t → Derives (Closed Q z) at (andThen (cond t (accepted (tt {0}) m) (refused 2 s)) (λ u m. accepted x m))
           close true t =
               record {
-                tokens = d .tokens ++ v ∷ [];
-                spells = joined at n m m v (d .tokens) [] (d .spells) (sign-is w v f ne n k s m h e t) refl;
+                tokens = d .tokens ++ z ∷ [];
+                spells = joined at n m m z (d .tokens) [] (d .spells) (sign-is w z f ne n k s m h e t) refl;
                 derives = record { inner = d .tokens; is-closed = refl; derives = d .derives };
               }
           close false t = tt
@@ -128,30 +131,30 @@ module _ (text : List ℕ) where
 module _ (sc : Scope) where
   -- the tokens spell an expression or a condition, whose values may be used here
   abbrev pub ScopedE : Level → ℕ → List (List ℕ) → Expression → Type 0
-  ScopedE v l ts e = SpellsE (sc .names) v l ts e × (length (sc .names) ≡ length (sc .known) → UsableE (sc .known) e)
+  ScopedE v l ts e = SpellsE (normals (sc .names)) v l ts e × (length (sc .names) ≡ length (sc .known) → UsableE (sc .known) e)
 
   abbrev pub ScopedC : LevelC → ℕ → List (List ℕ) → Condition → Type 0
-  ScopedC v l ts c = SpellsC (sc .names) v l ts c × (length (sc .names) ≡ length (sc .known) → UsableC (sc .known) c)
+  ScopedC v l ts c = SpellsC (normals (sc .names)) v l ts c × (length (sc .names) ≡ length (sc .known) → UsableC (sc .known) c)
 
   -- what follows the `(` of a bracket, with l brackets left before it
   abbrev ClosedE : ℕ → List (List ℕ) → Expression → Type 0
   ClosedE zero ts e = ⊥
-  ClosedE (suc l) ts e = Closed (sc .text) (ScopedE D.expression l) (bytes ")") ts e
+  ClosedE (suc l) ts e = Closed normally (sc .text) (ScopedE D.expression l) (bytes ")") ts e
 
   bracketed : (l : ℕ) (ts : List (List ℕ)) (e : Expression) → ClosedE l ts e → ScopedE D.primary l (bytes "(" ∷ ts) e
   bracketed zero ts e c = absurd c
   bracketed (suc l) ts e c = rw (c .is-closed) (brackets (c .inner) e (c .derives .0), c .derives .1)
 
-  id-derives : {A : Type 0} (R : List (List ℕ) → A → Type 0) (at p s n : ℕ) (f : ℕ → Parsed A) → ((i : ℕ) → getElem? (sc .names) i ≡ some (part (sc .text) s n) → Derives (sc .text) R at (f i)) → Derives (sc .text) R at (withId sc p s n f)
+  id-derives : {A : Type 0} (R : List (List ℕ) → A → Type 0) (at p s n : ℕ) (f : ℕ → Parsed A) → SpellsName (part (sc .text) s n) → ((i : ℕ) → getElem? (normals (sc .names)) i ≡ some (normal (part (sc .text) s n)) → Derives normally (sc .text) R at (f i)) → Derives normally (sc .text) R at (withId sc p s n f)
   unfolding withId
-  id-derives R at p s n f h =
-      cond-prop (Derives (sc .text) R at) (overLong s n) _ _ (λ e. tt)
-      (λ e. option-prop (Derives (sc .text) R at) (idOf (sc .names) (part (sc .text) s n)) _ _ (λ z. tt)
-      (λ v ev. h v (id-names (sc .names) (part (sc .text) s n) v ev)))
+  id-derives R at p s n f nm h =
+      cond-prop (Derives normally (sc .text) R at) (overLong s n) _ _ (λ e. tt)
+      (λ e. option-prop (Derives normally (sc .text) R at) (idOf (sc .names) (part (sc .text) s n)) _ _ (λ z. tt)
+      (λ v ev. h v (id-names (sc .names) (part (sc .text) s n) v (word-not (part (sc .text) s n) (nm .no-word)) ev)))
 
-  module _ (l : ℕ) (inner : ℕ → ℕ → Parsed Expression) (hi : (s n : ℕ) → n ≤ length (sc .text) → Derives (sc .text) (ClosedE l) n (inner s n)) where
+  module _ (l : ℕ) (inner : ℕ → ℕ → Parsed Expression) (hi : (s n : ℕ) → n ≤ length (sc .text) → Derives normally (sc .text) (ClosedE l) n (inner s n)) where
     abbrev P : ℕ → Parsed Expression → Type 0
-    P at p = Derives (sc .text) (ScopedE D.primary l) at p
+    P at p = Derives normally (sc .text) (ScopedE D.primary l) at p
 
     pub primary-derives : (at : ℕ) → at ≤ length (sc .text) → P at (primary inner sc at)
     unfolding primary constantAt currentAt previousValueAt is kindNumber
@@ -161,67 +164,65 @@ module _ (sc : Scope) where
         let w = part (sc .text) s n in
         cond-prop (P at) (is k digits) _ _
         (λ e.
-        let r = sign-stands (sc .text) digits refl at k s n h et e in
+        let d = sign-stands written (sc .text) digits refl at k s n h et e .1 in
+        let q : normal w ≡ w = other-seen digits w refl refl d in
         cond-prop (P at) (ltb numberLimit (valueOf w)) _ _ (λ t. tt)
-        (λ t. record { tokens = w ∷ []; spells = (n, r .0, refl); derives = (a-number w (r .1) (ltb-false numberLimit (valueOf w) t), λ g. mag-int32 (pos (valueOf w)) (omega (arith, ltb-false numberLimit (valueOf w) t))) }))
+        (λ t. record { tokens = w ∷ []; spells = (n, subst (Stands normal (sc .text) at n) q (sign-stands normally (sc .text) digits refl at k s n h et e .0), refl); derives = (a-number w d (ltb-false numberLimit (valueOf w) t), λ g. mag-int32 (pos (valueOf w)) (omega (arith, ltb-false numberLimit (valueOf w) t))) }))
         (λ n1. cond-prop (P at) (is k name) _ _
         (λ e.
-        let r = sign-stands (sc .text) name refl at k s n h et e in
-        id-derives (ScopedE D.primary l) at s s n _
+        let nm = sign-stands written (sc .text) name refl at k s n h et e .1 in
+        id-derives (ScopedE D.primary l) at s s n _ nm
         (λ i ei. cond-prop (P at) (getD (sc .known) i false) _ _
-        (λ t. record { tokens = w ∷ []; spells = (n, r .0, refl); derives = (a-current w i ei, λ g. t) }) (λ t. tt)))
+        (λ t. record { tokens = normal w ∷ []; spells = (n, sign-stands normally (sc .text) name refl at k s n h et e .0, refl); derives = (a-current (normal w) i ei, λ g. t) }) (λ t. tt)))
         (λ n2. cond-prop (P at) (is k T.previous) _ _
         (λ e.
-        let r = sign-stands (sc .text) T.previous refl at k s n h et e in
-        let mv = token-at-moved (sc .text) at k s n h et in
-        let c = part-cons (sc .text) s n (mv .3 (not-end k T.previous refl e)) (mv .2) in
-        let b : getD (sc .text) s 0 ≡ 95 = heads (sym c ∙ r .1 .is-cons) in
-        let q : w ≡ bytes "_" ++ part (sc .text) (s + 1) n = c ∙ ap (λ (x : ℕ). x ∷ part (sc .text) (s + 1) n) b in
-        id-derives (ScopedE D.primary l) at s (s + 1) n _
+        let x = part (sc .text) (s + 1) n in
+        let r = previous-name (sc .text) at k s n h (not-end k T.previous refl e) et (same-kind k T.previous e) in
+        id-derives (ScopedE D.primary l) at s (s + 1) n _ (r .1)
         (λ i ei. record {
-          tokens = (bytes "_" ++ part (sc .text) (s + 1) n) ∷ [];
-          spells = (n, subst (Stands (sc .text) at n) q (r .0), refl);
-          derives = (a-previous (part (sc .text) (s + 1) n) i ei, λ g. lt→ltb i (length (sc .known)) (omega (arith, g, place-in (sc .names) i (part (sc .text) (s + 1) n) ei)));
+          tokens = (bytes "_" ++ normal x) ∷ [];
+          spells = (n, subst (Stands normal (sc .text) at n) (ap normal (r .0) ∙ previous-seen x (r .1)) (sign-stands normally (sc .text) T.previous refl at k s n h et e .0), refl);
+          derives = (a-previous (normal x) i ei, λ g. lt→ltb i (length (sc .known)) (omega (arith, g, length-map (sc .names) normal, place-in (normals (sc .names)) i (normal x) ei)));
         }))
         (λ n3. cond-prop (P at) (is k openRound) _ _
         (λ e.
         let mv = token-at-moved (sc .text) at k s n h et in
-        before (sc .text) (ClosedE l) (ScopedE D.primary l) (bytes "(") (bracketed l) at n (sign-is (sc .text) openRound (bytes "(") (λ x q. q) refl at k s n h et e) (inner s n) (hi s n (mv .2)))
+        before normally (sc .text) (ClosedE l) (ScopedE D.primary l) (bytes "(") (bracketed l) at n (sign-is normally (sc .text) openRound (bytes "(") (λ x q. q) refl at k s n h et e) (inner s n) (hi s n (mv .2)))
         (λ n4. tt)))))
 
-    pub factor-derives : (at : ℕ) → at ≤ length (sc .text) → Derives (sc .text) (ScopedE D.factor l) at (factor inner sc at)
+    pub factor-derives : (at : ℕ) → at ≤ length (sc .text) → Derives normally (sc .text) (ScopedE D.factor l) at (factor inner sc at)
     unfolding factor negative is kindNumber
     factor-derives at h =
-        token-prop (Derives (sc .text) (ScopedE D.factor l) at) (tokenAt (sc .text) at) _ (λ k q. tt)
+        token-prop (Derives normally (sc .text) (ScopedE D.factor l) at) (tokenAt (sc .text) at) _ (λ k q. tt)
         (λ k s n et.
         let mv = token-at-moved (sc .text) at k s n h et in
-        cond-prop (Derives (sc .text) (ScopedE D.factor l) at) (is k minus) _ _
-        (λ e. making (sc .text) (ScopedE D.primary l) (ScopedE D.factor l) (λ x. negate x) (bytes "-") (λ ts x d. (opposite ts x (d .0), d .1)) at n (sign-is (sc .text) minus (bytes "-") (λ x q. q) refl at k s n h et e) (primary inner sc n) (primary-derives n (mv .2)))
-        (λ e. weaker (sc .text) (ScopedE D.primary l) (ScopedE D.factor l) (λ ts x d. (plain ts x (d .0), d .1)) at (primary inner sc at) (primary-derives at h)))
+        cond-prop (Derives normally (sc .text) (ScopedE D.factor l) at) (is k minus) _ _
+        (λ e. making normally (sc .text) (ScopedE D.primary l) (ScopedE D.factor l) (λ x. negate x) (bytes "-") (λ ts x d. (opposite ts x (d .0), d .1)) at n (sign-is normally (sc .text) minus (bytes "-") (λ x q. q) refl at k s n h et e) (primary inner sc n) (primary-derives n (mv .2)))
+        (λ e. weaker normally (sc .text) (ScopedE D.primary l) (ScopedE D.factor l) (λ ts x d. (plain ts x (d .0), d .1)) at (primary inner sc at) (primary-derives at h)))
 
-    pub term-derives : (at : ℕ) → at ≤ length (sc .text) → Derives (sc .text) (ScopedE D.term l) at (term inner sc at)
+    pub term-derives : (at : ℕ) → at ≤ length (sc .text) → Derives normally (sc .text) (ScopedE D.term l) at (term inner sc at)
     unfolding term
     term-derives at h =
-        chain-derives (sc .text) (ScopedE D.factor l) (ScopedE D.term l) operation productOf products-end (λ ts a d. (one-factor ts a (d .0), d .1))
+        chain-derives normally (sc .text) (ScopedE D.factor l) (ScopedE D.term l) operation productOf products-end (λ ts a d. (one-factor ts a (d .0), d .1))
         (λ k w o ts us a b e sp d f. (product w o ts us a b (product-sign k w sp o e) (d .0) (f .0), λ g. (d .1 g, f .1 g))) (factor inner sc) factor-derives at h
 
-    pub expression-derives : (at : ℕ) → at ≤ length (sc .text) → Derives (sc .text) (ScopedE D.expression l) at (expression inner sc at)
+    pub expression-derives : (at : ℕ) → at ≤ length (sc .text) → Derives normally (sc .text) (ScopedE D.expression l) at (expression inner sc at)
     unfolding expression
     expression-derives at h =
-        chain-derives (sc .text) (ScopedE D.term l) (ScopedE D.expression l) operation sumOf sums-end (λ ts a d. (one-term ts a (d .0), d .1))
+        chain-derives normally (sc .text) (ScopedE D.term l) (ScopedE D.expression l) operation sumOf sums-end (λ ts a d. (one-term ts a (d .0), d .1))
         (λ k w o ts us a b e sp d f. (sum w o ts us a b (sum-sign k w sp o e) (d .0) (f .0), λ g. (d .1 g, f .1 g))) (term inner sc) term-derives at h
 
-  pub bracket-derives : (l s n : ℕ) → n ≤ length (sc .text) → Derives (sc .text) (ClosedE l) n (bracket l sc s n)
+  pub bracket-derives : (l s n : ℕ) → n ≤ length (sc .text) → Derives normally (sc .text) (ClosedE l) n (bracket l sc s n)
   unfolding bracket is kindNumber
   bracket-derives zero s n h = tt
   bracket-derives (suc l) s n h =
-      then-prop (Derives (sc .text) (ClosedE (suc l)) n) (expression (λ s n. bracket l sc s n) sc n) _ (λ k q. tt)
+      then-prop (Derives normally (sc .text) (ClosedE (suc l)) n) (expression (λ s n. bracket l sc s n) sc n) _ (λ k q. tt)
       (λ e m es.
-      let d : Derived (sc .text) (ScopedE D.expression l) n m e = subst (Derives (sc .text) (ScopedE D.expression l) n) es (expression-derives l (λ s n. bracket l sc s n) (bracket-derives l) n h) in
-      rw (one-sign (sc .text) closeRound e m) (sign-derives (sc .text) (ScopedE D.expression l) closeRound (bytes ")") (λ x q. q) refl n e m (spells-in (sc .text) n m (d .tokens) h (d .spells) .1) d))
+      let d : Derived normally (sc .text) (ScopedE D.expression l) n m e = subst (Derives normally (sc .text) (ScopedE D.expression l) n) es (expression-derives l (λ s n. bracket l sc s n) (bracket-derives l) n h) in
+      rw (one-sign (sc .text) closeRound e m) (sign-derives normally (sc .text) (ScopedE D.expression l) closeRound (bytes ")") (λ x q. q) refl n e m (spells-in normally (sc .text) n m (d .tokens) h (d .spells) .1) d))
 
   -- an expression that is accepted is spelled by the tokens from where it starts to where it ends
-  pub whole-expression-derives : (at : ℕ) → at ≤ length (sc .text) → Derives (sc .text) (ScopedE D.expression bracketLimit) at (wholeExpression sc at)
+  pub whole-expression-derives : (at : ℕ) → at ≤ length (sc .text) → Derives normally (sc .text) (ScopedE D.expression bracketLimit) at (wholeExpression sc at)
   unfolding wholeExpression
   whole-expression-derives at h = expression-derives bracketLimit (λ s n. bracket bracketLimit sc s n) (bracket-derives bracketLimit) at h
 
@@ -229,7 +230,7 @@ module _ (sc : Scope) where
 
   abbrev pub ClosedC : ℕ → List (List ℕ) → Condition → Type 0
   ClosedC zero ts c = ⊥
-  ClosedC (suc l) ts c = Closed (sc .text) (ScopedC D.condition l) (bytes "]") ts c
+  ClosedC (suc l) ts c = Closed normally (sc .text) (ScopedC D.condition l) (bytes "]") ts c
 
   squared : (l : ℕ) (ts : List (List ℕ)) (c : Condition) → ClosedC l ts c → ScopedC D.atom l (bytes "[" ∷ ts) c
   squared zero ts c h = absurd h
@@ -248,11 +249,11 @@ module _ (sc : Scope) where
   unfolding orOf connect
   or-derives l k w o ts us a b e sp d f = let r = only-sign k w sp bar orElse o e in rw (r .0, ← r .1) (disjoined ts us a b (d .0) (f .0), λ g. (d .1 g, f .1 g))
 
-  module _ (l : ℕ) (inner : ℕ → ℕ → Parsed Expression) (hi : (s n : ℕ) → n ≤ length (sc .text) → Derives (sc .text) (ClosedE l) n (inner s n)) (inside : ℕ → ℕ → Parsed Condition) (hd : (s n : ℕ) → n ≤ length (sc .text) → Derives (sc .text) (ClosedC l) n (inside s n)) where
+  module _ (l : ℕ) (inner : ℕ → ℕ → Parsed Expression) (hi : (s n : ℕ) → n ≤ length (sc .text) → Derives normally (sc .text) (ClosedE l) n (inner s n)) (inside : ℕ → ℕ → Parsed Condition) (hd : (s n : ℕ) → n ≤ length (sc .text) → Derives normally (sc .text) (ClosedC l) n (inside s n)) where
     abbrev A : ℕ → Parsed Condition → Type 0
-    A at p = Derives (sc .text) (ScopedC D.atom l) at p
+    A at p = Derives normally (sc .text) (ScopedC D.atom l) at p
 
-    compared-derives : (at : ℕ) (a : Expression) (n : ℕ) → n ≤ length (sc .text) → Derived (sc .text) (ScopedE D.expression l) at n a → A at (compared inner sc a n)
+    compared-derives : (at : ℕ) (a : Expression) (n : ℕ) → n ≤ length (sc .text) → Derived normally (sc .text) (ScopedE D.expression l) at n a → A at (compared inner sc a n)
     unfolding compared
     compared-derives at a n h d =
         token-prop (A at) (tokenAt (sc .text) n) _ (λ k q. tt)
@@ -262,12 +263,12 @@ module _ (sc : Scope) where
         let mv = token-at-moved (sc .text) n k s m h et in
         then-prop (A at) (expression inner sc m) _ (λ k q. tt)
         (λ b n2 es.
-        let f : Derived (sc .text) (ScopedE D.expression l) m n2 b = subst (Derives (sc .text) (ScopedE D.expression l) m) es (expression-derives l inner hi m (mv .2)) in
-        let w = part (sc .text) s m in
+        let f : Derived normally (sc .text) (ScopedE D.expression l) m n2 b = subst (Derives normally (sc .text) (ScopedE D.expression l) m) es (expression-derives l inner hi m (mv .2)) in
+        let w = normal (part (sc .text) s m) in
         record {
           tokens = d .tokens ++ w ∷ f .tokens;
-          spells = joined (sc .text) at n m n2 w (d .tokens) (f .tokens) (d .spells) (stands (sc .text) n k s m h ne et) (f .spells);
-          derives = (D.SpellsC.compared w o (d .tokens) (f .tokens) a b (comparison-sign k w (stands-spelled (sc .text) n k s m h ne et) o eo) (d .derives .0) (f .derives .0), λ g. (d .derives .1 g, f .derives .1 g));
+          spells = joined normally (sc .text) at n m n2 w (d .tokens) (f .tokens) (d .spells) (stands normally (sc .text) n k s m h ne et) (f .spells);
+          derives = (D.SpellsC.compared w o (d .tokens) (f .tokens) a b (comparison-sign k w (stands-spelled normally (sc .text) n k s m h ne et) o eo) (d .derives .0) (f .derives .0), λ g. (d .derives .1 g, f .derives .1 g));
         })))
 
     comparison-derives : (at : ℕ) → at ≤ length (sc .text) → A at (comparisonAt inner sc at)
@@ -275,20 +276,20 @@ module _ (sc : Scope) where
     comparison-derives at h =
         then-prop (A at) (expression inner sc at) _ (λ k q. tt)
         (λ a n es.
-        let d : Derived (sc .text) (ScopedE D.expression l) at n a = subst (Derives (sc .text) (ScopedE D.expression l) at) es (expression-derives l inner hi at h) in
-        compared-derives at a n (spells-in (sc .text) at n (d .tokens) h (d .spells) .1) d)
+        let d : Derived normally (sc .text) (ScopedE D.expression l) at n a = subst (Derives normally (sc .text) (ScopedE D.expression l) at) es (expression-derives l inner hi at h) in
+        compared-derives at a n (spells-in normally (sc .text) at n (d .tokens) h (d .spells) .1) d)
 
-    inverted-derives : (at n : ℕ) → n ≤ length (sc .text) → Stands (sc .text) at n (bytes "~") → A at (inverted inside sc n)
+    inverted-derives : (at n : ℕ) → n ≤ length (sc .text) → Stands normal (sc .text) at n (bytes "~") → A at (inverted inside sc n)
     unfolding inverted opposed is kindNumber
     inverted-derives at n h st =
         token-prop (A at) (tokenAt (sc .text) n) _ (λ k q. tt)
         (λ k s m et.
         let mv = token-at-moved (sc .text) n k s m h et in
         cond-prop (A at) (is k openSquare) _ _
-        (λ e. inverse at n m st (sign-is (sc .text) openSquare (bytes "[") (λ x q. q) refl n k s m h et e) (inside s m) (hd s m (mv .2)))
+        (λ e. inverse at n m st (sign-is normally (sc .text) openSquare (bytes "[") (λ x q. q) refl n k s m h et e) (inside s m) (hd s m (mv .2)))
         (λ e. tt))
       where
-        inverse : (at n m : ℕ) → Stands (sc .text) at n (bytes "~") → Stands (sc .text) n m (bytes "[") → (p : Parsed Condition) → Derives (sc .text) (ClosedC l) m p → A at (andThen p (λ c n. accepted (negated c) n))
+        inverse : (at n m : ℕ) → Stands normal (sc .text) at n (bytes "~") → Stands normal (sc .text) n m (bytes "[") → (p : Parsed Condition) → Derives normally (sc .text) (ClosedC l) m p → A at (andThen p (λ c n. accepted (negated c) n))
         inverse at n m st su (accepted c i) d = record { tokens = bytes "~" ∷ bytes "[" ∷ d .tokens; spells = (n, st, (m, su, d .spells)); derives = not-squared l (d .tokens) c (d .derives) }
         inverse at n m st su (refused k q) d = tt
 
@@ -299,40 +300,40 @@ module _ (sc : Scope) where
         (λ k s n et.
         let mv = token-at-moved (sc .text) at k s n h et in
         cond-prop (A at) (is k tilde) _ _
-        (λ e. inverted-derives at n (mv .2) (sign-is (sc .text) tilde (bytes "~") (λ x q. q) refl at k s n h et e))
+        (λ e. inverted-derives at n (mv .2) (sign-is normally (sc .text) tilde (bytes "~") (λ x q. q) refl at k s n h et e))
         (λ e. cond-prop (A at) (is k openSquare) _ _
-        (λ e2. before (sc .text) (ClosedC l) (ScopedC D.atom l) (bytes "[") (squared l) at n (sign-is (sc .text) openSquare (bytes "[") (λ x q. q) refl at k s n h et e2) (inside s n) (hd s n (mv .2)))
+        (λ e2. before normally (sc .text) (ClosedC l) (ScopedC D.atom l) (bytes "[") (squared l) at n (sign-is normally (sc .text) openSquare (bytes "[") (λ x q. q) refl at k s n h et e2) (inside s n) (hd s n (mv .2)))
         (λ e2. comparison-derives at h)))
 
-    pub conjunction-derives : (at : ℕ) → at ≤ length (sc .text) → Derives (sc .text) (ScopedC D.conjunction l) at (conjunction inner inside sc at)
+    pub conjunction-derives : (at : ℕ) → at ≤ length (sc .text) → Derives normally (sc .text) (ScopedC D.conjunction l) at (conjunction inner inside sc at)
     unfolding conjunction
     conjunction-derives at h =
-        chain-derives (sc .text) (ScopedC D.atom l) (ScopedC D.conjunction l) connect andOf ands-end (λ ts a d. (one-atom ts a (d .0), d .1)) (and-derives l)
+        chain-derives normally (sc .text) (ScopedC D.atom l) (ScopedC D.conjunction l) connect andOf ands-end (λ ts a d. (one-atom ts a (d .0), d .1)) (and-derives l)
         (atom inner inside sc) atom-derives at h
 
-    condition-derives : (at : ℕ) → at ≤ length (sc .text) → Derives (sc .text) (ScopedC D.condition l) at (condition inner inside sc at)
+    condition-derives : (at : ℕ) → at ≤ length (sc .text) → Derives normally (sc .text) (ScopedC D.condition l) at (condition inner inside sc at)
     unfolding condition
     condition-derives at h =
-        chain-derives (sc .text) (ScopedC D.conjunction l) (ScopedC D.condition l) connect orOf ors-end (λ ts a d. (one-conjunction ts a (d .0), d .1)) (or-derives l)
+        chain-derives normally (sc .text) (ScopedC D.conjunction l) (ScopedC D.condition l) connect orOf ors-end (λ ts a d. (one-conjunction ts a (d .0), d .1)) (or-derives l)
         (conjunction inner inside sc) conjunction-derives at h
 
-  pub square-derives : (l s n : ℕ) → n ≤ length (sc .text) → Derives (sc .text) (ClosedC l) n (square l sc s n)
+  pub square-derives : (l s n : ℕ) → n ≤ length (sc .text) → Derives normally (sc .text) (ClosedC l) n (square l sc s n)
   unfolding square is kindNumber
   square-derives zero s n h = tt
   square-derives (suc l) s n h =
       let inner : ℕ → ℕ → Parsed Expression = λ s n. bracket l sc s n in
       let inside : ℕ → ℕ → Parsed Condition = λ s n. square l sc s n in
-      then-prop (Derives (sc .text) (ClosedC (suc l)) n) (condition inner inside sc n) _ (λ k q. tt)
+      then-prop (Derives normally (sc .text) (ClosedC (suc l)) n) (condition inner inside sc n) _ (λ k q. tt)
       (λ c m es.
-      let d : Derived (sc .text) (ScopedC D.condition l) n m c = subst (Derives (sc .text) (ScopedC D.condition l) n) es (condition-derives l inner (bracket-derives l) inside (square-derives l) n h) in
-      rw (one-sign (sc .text) closeSquare c m) (sign-derives (sc .text) (ScopedC D.condition l) closeSquare (bytes "]") (λ x q. q) refl n c m (spells-in (sc .text) n m (d .tokens) h (d .spells) .1) d))
+      let d : Derived normally (sc .text) (ScopedC D.condition l) n m c = subst (Derives normally (sc .text) (ScopedC D.condition l) n) es (condition-derives l inner (bracket-derives l) inside (square-derives l) n h) in
+      rw (one-sign (sc .text) closeSquare c m) (sign-derives normally (sc .text) (ScopedC D.condition l) closeSquare (bytes "]") (λ x q. q) refl n c m (spells-in normally (sc .text) n m (d .tokens) h (d .spells) .1) d))
 
   -- `[c]` of a rule form, after its bracket
-  pub listed-scoped : (at : ℕ) → at ≤ length (sc .text) → Derives (sc .text) (Closed (sc .text) (ScopedC D.condition bracketLimit) (bytes "]")) at (listed sc at)
+  pub listed-scoped : (at : ℕ) → at ≤ length (sc .text) → Derives normally (sc .text) (Closed normally (sc .text) (ScopedC D.condition bracketLimit) (bytes "]")) at (listed sc at)
   unfolding listed wholeCondition square
   listed-scoped at h = square-derives (suc bracketLimit) 0 at h
 
-  pub listed-derives : (at : ℕ) → at ≤ length (sc .text) → Derives (sc .text) (Closed (sc .text) (SpellsC (sc .names) D.condition bracketLimit) (bytes "]")) at (listed sc at)
+  pub listed-derives : (at : ℕ) → at ≤ length (sc .text) → Derives normally (sc .text) (Closed normally (sc .text) (SpellsC (normals (sc .names)) D.condition bracketLimit) (bytes "]")) at (listed sc at)
   listed-derives at h =
-      weaker (sc .text) (Closed (sc .text) (ScopedC D.condition bracketLimit) (bytes "]")) (Closed (sc .text) (SpellsC (sc .names) D.condition bracketLimit) (bytes "]"))
+      weaker normally (sc .text) (Closed normally (sc .text) (ScopedC D.condition bracketLimit) (bytes "]")) (Closed normally (sc .text) (SpellsC (normals (sc .names)) D.condition bracketLimit) (bytes "]"))
       (λ ts c d. record { inner = d .inner; is-closed = d .is-closed; derives = d .derives .0 }) at (listed sc at) (listed-scoped at h)

@@ -8,7 +8,7 @@ use native.Mathlib.Omega.{arith}
 use lib.ListN.{length, getD, set, getElem?, length-set}
 use lib.Dec.{lt→ltb}
 use Rattle.limits.specs.Limits.{caseLimit, bracketLimit}
-use Rattle.lexer.specs.Bytes.{bytes, part}
+use Rattle.lexer.specs.Bytes.{bytes, part, capitals}
 use Rattle.lexer.specs.Token.{Kind, kindNumber, ending, name, tilde, is, token}
 use Rattle.lexer.specs.Lexer.{tokenAt, overLong}
 use Rattle.lexer.specs.Names.{idOf}
@@ -20,7 +20,7 @@ use Rattle.grammar.specs.Parsed.{Parsed, accepted, refused, phrase, foll
 use Rattle.grammar.specs.Expressions.{Scope, withId, wholeExpression}
 use Rattle.grammar.specs.Forms.{valueOpening, functionClosing, formulaClosing, changeOpening, noChangeOpening, ruleOpening}
 use Rattle.grammar.specs.Rules.{casesFrom, agreeingList, casesOf, functionAt, changeAt, formulas, ruleAt, ruled, rulesFrom}
-use Rattle.grammar.specs.Derivation.{Stands, Spells}
+use Rattle.grammar.specs.Derivation.{Stands, Spells, normal, normals}
 use Rattle.grammar.specs.Derivation as D
 use Rattle.grammar.specs.Spelled.{SpellsCases, SpellsList, SpellsR, a-change, a-function, SpellsRules}
 use Rattle.grammar.specs.Spelled as S
@@ -29,8 +29,11 @@ use Rattle.grammar.proofs.Combine.{token-prop, then-prop, option-prop}
 use Rattle.grammar.proofs.Bytes.{id-of}
 use Rattle.lexer.specs.Spelling.{Separated}
 use Rattle.lexer.proofs.Spellings.{isFixed}
-use Rattle.grammar.proofs.Standing.{spells-in, split, spells-append, id-names, end-separated}
+use Rattle.grammar.proofs.Standing.{spells-in, split, spells-append, end-separated, Seen, normally, seen-capitals}
 use Rattle.grammar.proofs.Phrases.{signs, fixed-stands, phrase-spells, headTokens, middleTokens}
+use Rattle.lexer.proofs.Capitals.{capitals-twice}
+use Rattle.grammar.proofs.Normal.{normal-capitals, id-word, id-names}
+use Rattle.grammar.proofs.SameRule.{formulas-same}
 use Rattle.grammar.proofs.DerivedCases.{cases-list}
 use Rattle.grammar.proofs.Lists.{cases-in, agreeing-same}
 use Rattle.grammar.proofs.Derived.{Derived, Derives, before, weaker, sign-stands, ScopedE, whole-expression-derives}
@@ -38,102 +41,105 @@ use Rattle.grammar.proofs.Derived.{Derived, Derives, before, weaker, si
 module _ (sc : Scope) (few : length (sc .names) ≤ 64) (lengths : length (sc .names) ≡ length (sc .known)) (good : Named (sc .names)) where
   -- ---- a function, after `v: GX(`
 
-  module _ (w : List ℕ) (v : ℕ) (ev : getElem? (sc .names) v ≡ some w) where
+  module _ (w : List ℕ) (big : capitals w ≡ w) (v : ℕ) (ev : getElem? (normals (sc .names)) v ≡ some w) where
+    seen : Seen normally w
+    seen = subst (Seen normally) big (seen-capitals w)
+
     -- a rule of v whose values may be used here, and whose lists agree
     abbrev ScopedR : Rule → Type 0
     ScopedR r = UsableR (sc .known) r × AgreesR r × (target r ≡ v)
 
     abbrev Ruling : List (List ℕ) → Rule → Type 0
-    Ruling ts r = SpellsR (sc .names) (w ∷ bytes ":" ∷ bytes "GX" ∷ bytes "(" ∷ ts) r × ScopedR r
+    Ruling ts r = SpellsR (normals (sc .names)) (w ∷ bytes ":" ∷ bytes "GX" ∷ bytes "(" ∷ ts) r × ScopedR r
 
-    function-derives : (at : ℕ) → at ≤ length (sc .text) → Derives (sc .text) Ruling at (functionAt sc w v at)
+    function-derives : (at : ℕ) → at ≤ length (sc .text) → Derives normally (sc .text) Ruling at (functionAt sc w v at)
     unfolding functionAt followed signs isFixed kindNumber
     function-derives at h =
-        then-prop (Derives (sc .text) Ruling at) (phrase (sc .text) (valueOpening w) at) _ (λ k q. tt)
+        then-prop (Derives normally (sc .text) Ruling at) (phrase (sc .text) (valueOpening w) at) _ (λ k q. tt)
         (λ u n1 e1.
-        let s1 = phrase-spells (sc .text) (valueOpening w) refl at u n1 h e1 in
-        let i1 = spells-in (sc .text) at n1 (w ∷ bytes "=" ∷ bytes "(" ∷ []) h s1 .1 in
-        then-prop (Derives (sc .text) Ruling at) (wholeExpression sc n1) _ (λ k q. tt)
+        let s1 = phrase-spells normally (sc .text) (valueOpening w) refl (seen, tt) at u n1 h e1 in
+        let i1 = spells-in normally (sc .text) at n1 (w ∷ bytes "=" ∷ bytes "(" ∷ []) h s1 .1 in
+        then-prop (Derives normally (sc .text) Ruling at) (wholeExpression sc n1) _ (λ k q. tt)
         (λ e n2 e2.
-        let d2 = subst (Derives (sc .text) (ScopedE sc D.expression bracketLimit) n1) e2 (whole-expression-derives sc n1 i1) in
-        let i2 = spells-in (sc .text) n1 n2 (d2 .tokens) i1 (d2 .spells) .1 in
-        then-prop (Derives (sc .text) Ruling at) (phrase (sc .text) functionClosing n2) _ (λ k q. tt)
+        let d2 = subst (Derives normally (sc .text) (ScopedE sc D.expression bracketLimit) n1) e2 (whole-expression-derives sc n1 i1) in
+        let i2 = spells-in normally (sc .text) n1 n2 (d2 .tokens) i1 (d2 .spells) .1 in
+        then-prop (Derives normally (sc .text) Ruling at) (phrase (sc .text) functionClosing n2) _ (λ k q. tt)
         (λ u2 n3 e3.
-        let s3 = phrase-spells (sc .text) functionClosing refl n2 u2 n3 i2 e3 in
-        let s12 = spells-append (sc .text) at n1 n2 (w ∷ bytes "=" ∷ bytes "(" ∷ []) (d2 .tokens) s1 (d2 .spells) in
+        let s3 = phrase-spells normally (sc .text) functionClosing refl tt n2 u2 n3 i2 e3 in
+        let s12 = spells-append normally (sc .text) at n1 n2 (w ∷ bytes "=" ∷ bytes "(" ∷ []) (d2 .tokens) s1 (d2 .spells) in
         record {
           tokens = w ∷ bytes "=" ∷ bytes "(" ∷ d2 .tokens ++ bytes ")" ∷ bytes ")" ∷ bytes ";" ∷ [];
-          spells = spells-append (sc .text) at n2 n3 (w ∷ bytes "=" ∷ bytes "(" ∷ d2 .tokens) (bytes ")" ∷ bytes ")" ∷ bytes ";" ∷ []) s12 s3;
+          spells = spells-append normally (sc .text) at n2 n3 (w ∷ bytes "=" ∷ bytes "(" ∷ d2 .tokens) (bytes ")" ∷ bytes ")" ∷ bytes ";" ∷ []) s12 s3;
           derives = (a-function w v (d2 .tokens) e ev (d2 .derives .0), (d2 .derives .1 lengths, tt, refl));
         })))
 
     -- ---- a change formula and its no-change formula, after `v: GX(~`
 
     abbrev Changing : List (List ℕ) → Rule → Type 0
-    Changing ts r = SpellsR (sc .names) (w ∷ bytes ":" ∷ bytes "GX" ∷ bytes "(" ∷ bytes "~" ∷ ts) r × ScopedR r
+    Changing ts r = SpellsR (normals (sc .names)) (w ∷ bytes ":" ∷ bytes "GX" ∷ bytes "(" ∷ bytes "~" ∷ ts) r × ScopedR r
 
     -- the tokens from after `v: GX(~` on
-    change-spells : (a b c d e f : ℕ) (ts ls : List (List ℕ)) → Spells (sc .text) a b (headTokens w) → Spells (sc .text) b c ts → Spells (sc .text) c d (middleTokens w) → Spells (sc .text) d e (ls ++ bytes ")" ∷ []) → Spells (sc .text) e f (bytes ")" ∷ bytes ";" ∷ []) → Spells (sc .text) a f ((headTokens w ++ ts) ++ (middleTokens w ++ ls) ++ bytes ")" ∷ bytes ")" ∷ bytes ";" ∷ [])
+    change-spells : (a b c d e f : ℕ) (ts ls : List (List ℕ)) → Spells normal (sc .text) a b (headTokens w) → Spells normal (sc .text) b c ts → Spells normal (sc .text) c d (middleTokens w) → Spells normal (sc .text) d e (ls ++ bytes ")" ∷ []) → Spells normal (sc .text) e f (bytes ")" ∷ bytes ";" ∷ []) → Spells normal (sc .text) a f ((headTokens w ++ ts) ++ (middleTokens w ++ ls) ++ bytes ")" ∷ bytes ")" ∷ bytes ";" ∷ [])
     change-spells a b c d e f ts ls s1 s2 s3 s4 s5 =
-        let p = split (sc .text) d e ls (bytes ")" ∷ []) s4 in
-        let front = spells-append (sc .text) a b c (headTokens w) ts s1 s2 in
-        let back = spells-append (sc .text) c d (p .place) (middleTokens w) ls s3 (p .first) in
-        let tail = spells-append (sc .text) (p .place) e f (bytes ")" ∷ []) (bytes ")" ∷ bytes ";" ∷ []) (p .second) s5 in
-        spells-append (sc .text) a (p .place) f ((headTokens w ++ ts) ++ (middleTokens w ++ ls)) (bytes ")" ∷ bytes ")" ∷ bytes ";" ∷ []) (spells-append (sc .text) a c (p .place) (headTokens w ++ ts) (middleTokens w ++ ls) front back) tail
+        let p = split normally (sc .text) d e ls (bytes ")" ∷ []) s4 in
+        let front = spells-append normally (sc .text) a b c (headTokens w) ts s1 s2 in
+        let back = spells-append normally (sc .text) c d (p .place) (middleTokens w) ls s3 (p .first) in
+        let tail = spells-append normally (sc .text) (p .place) e f (bytes ")" ∷ []) (bytes ")" ∷ bytes ";" ∷ []) (p .second) s5 in
+        spells-append normally (sc .text) a (p .place) f ((headTokens w ++ ts) ++ (middleTokens w ++ ls)) (bytes ")" ∷ bytes ")" ∷ bytes ";" ∷ []) (spells-append normally (sc .text) a c (p .place) (headTokens w ++ ts) (middleTokens w ++ ls) front back) tail
 
-    change-is : (ts ls : List (List ℕ)) (ks : List Case) (ds : List Condition) → SpellsCases (sc .names) w ts ls ks → length ks ≤ caseLimit → ds ≡ map (λ k. k .condition) ks → UsableK (sc .known) ks → Changing ((headTokens w ++ ts) ++ (middleTokens w ++ ls) ++ bytes ")" ∷ bytes ")" ∷ bytes ";" ∷ []) (change v ks ds)
-    change-is ts ls ks ds d l e u = (a-change w v ts ls ks ds ev d l (subst (SpellsList (sc .names) ls) (sym e) (cases-list (sc .names) w ts ls ks d)), (u, e, refl))
+    change-is : (ts ls : List (List ℕ)) (ks : List Case) (ds : List Condition) → SpellsCases (normals (sc .names)) w ts ls ks → length ks ≤ caseLimit → ds ≡ map (λ k. k .condition) ks → UsableK (sc .known) ks → Changing ((headTokens w ++ ts) ++ (middleTokens w ++ ls) ++ bytes ")" ∷ bytes ")" ∷ bytes ";" ∷ []) (change v ks ds)
+    change-is ts ls ks ds d l e u = (a-change w v ts ls ks ds ev d l (subst (SpellsList (normals (sc .names)) ls) (sym e) (cases-list (normals (sc .names)) w ts ls ks d)), (u, e, refl))
 
-    change-derives : (at : ℕ) → at ≤ length (sc .text) → Derives (sc .text) Changing at (changeAt sc w v at)
+    change-derives : (at : ℕ) → at ≤ length (sc .text) → Derives normally (sc .text) Changing at (changeAt sc w v at)
     unfolding changeAt followed signs isFixed kindNumber
     change-derives at h =
-        then-prop (Derives (sc .text) Changing at) (phrase (sc .text) (changeOpening w) at) _ (λ k q. tt)
+        then-prop (Derives normally (sc .text) Changing at) (phrase (sc .text) (changeOpening w) at) _ (λ k q. tt)
         (λ u n1 e1.
-        let s1 = phrase-spells (sc .text) (changeOpening w) refl at u n1 h e1 in
-        let i1 = spells-in (sc .text) at n1 (headTokens w) h s1 .1 in
-        then-prop (Derives (sc .text) Changing at) (casesFrom caseLimit sc w [] n1) _ (λ k q. tt)
+        let s1 = phrase-spells normally (sc .text) (changeOpening w) refl (seen, (seen, tt)) at u n1 h e1 in
+        let i1 = spells-in normally (sc .text) at n1 (headTokens w) h s1 .1 in
+        then-prop (Derives normally (sc .text) Changing at) (casesFrom caseLimit sc w [] n1) _ (λ k q. tt)
         (λ cases n2 e2.
         let r = cases-in sc few lengths w n1 n2 cases i1 e2 in
-        then-prop (Derives (sc .text) Changing at) (phrase (sc .text) (noChangeOpening w) n2) _ (λ k q. tt)
+        then-prop (Derives normally (sc .text) Changing at) (phrase (sc .text) (noChangeOpening w) n2) _ (λ k q. tt)
         (λ u2 n3 e3.
-        let s3 = phrase-spells (sc .text) (noChangeOpening w) refl n2 u2 n3 (r .within) e3 in
-        let i3 = spells-in (sc .text) n2 n3 (middleTokens w) (r .within) s3 .1 in
-        then-prop (Derives (sc .text) Changing at) (agreeingList sc cases n3) _ (λ k q. tt)
+        let s3 = phrase-spells normally (sc .text) (noChangeOpening w) refl (seen, (seen, (seen, tt))) n2 u2 n3 (r .within) e3 in
+        let i3 = spells-in normally (sc .text) n2 n3 (middleTokens w) (r .within) s3 .1 in
+        then-prop (Derives normally (sc .text) Changing at) (agreeingList sc cases n3) _ (λ k q. tt)
         (λ ds n4 e4.
         let ag = agreeing-same sc few lengths good w n1 n2 cases r n3 n4 ds i3 e4 in
-        let i4 = spells-in (sc .text) n3 n4 (r .list ++ bytes ")" ∷ []) i3 (ag .spells) .1 in
-        then-prop (Derives (sc .text) Changing at) (phrase (sc .text) formulaClosing n4) _ (λ k q. tt)
+        let i4 = spells-in normally (sc .text) n3 n4 (r .list ++ bytes ")" ∷ []) i3 (ag .spells) .1 in
+        then-prop (Derives normally (sc .text) Changing at) (phrase (sc .text) formulaClosing n4) _ (λ k q. tt)
         (λ u3 n5 e5.
-        let s5 = phrase-spells (sc .text) formulaClosing refl n4 u3 n5 i4 e5 in
+        let s5 = phrase-spells normally (sc .text) formulaClosing refl tt n4 u3 n5 i4 e5 in
         record {
           tokens = (headTokens w ++ r .tokens) ++ (middleTokens w ++ r .list) ++ bytes ")" ∷ bytes ")" ∷ bytes ";" ∷ [];
           spells = change-spells at n1 n2 n3 n4 n5 (r .tokens) (r .list) s1 (r .spells) s3 (ag .spells) s5;
-          derives = change-is (r .tokens) (r .list) (casesOf cases) ds (r .derives) (r .counted) (ag .same) (r .usable);
+          derives = change-is (r .tokens) (r .list) (casesOf cases) ds (subst (λ (x : List ℕ). SpellsCases (normals (sc .names)) x (r .tokens) (r .list) (casesOf cases)) big (r .derives)) (r .counted) (ag .same) (r .usable);
         })))))
 
     -- the formulas of w, after its name
-    formulas-derive : (at : ℕ) → at ≤ length (sc .text) → Derives (sc .text) (λ ts r. SpellsR (sc .names) (w ∷ ts) r × ScopedR r) at (formulas sc w v at)
+    formulas-derive : (at : ℕ) → at ≤ length (sc .text) → Derives normally (sc .text) (λ ts r. SpellsR (normals (sc .names)) (w ∷ ts) r × ScopedR r) at (formulas sc w v at)
     unfolding formulas signs isFixed kindNumber
     formulas-derive at h =
         then-prop R (phrase (sc .text) ruleOpening at) _ (λ k q. tt)
         (λ u n e1.
-        let s1 = phrase-spells (sc .text) ruleOpening refl at u n h e1 in
-        let i1 = spells-in (sc .text) at n (bytes ":" ∷ bytes "GX" ∷ bytes "(" ∷ []) h s1 .1 in
+        let s1 = phrase-spells normally (sc .text) ruleOpening refl tt at u n h e1 in
+        let i1 = spells-in normally (sc .text) at n (bytes ":" ∷ bytes "GX" ∷ bytes "(" ∷ []) h s1 .1 in
         token-prop R (tokenAt (sc .text) n) _ (λ k q. tt)
         (λ k s m et.
         let mv = token-at-moved (sc .text) n k s m i1 et in
         cond-prop R (is k tilde) _ _
-        (λ e. after at n s1 (changeAt sc w v m) (before (sc .text) Changing Ruling (bytes "~") (λ ts x d. d) n m (fixed-stands (sc .text) tilde refl n k s m i1 et e) (changeAt sc w v m) (change-derives m (mv .2))))
+        (λ e. after at n s1 (changeAt sc w v m) (before normally (sc .text) Changing Ruling (bytes "~") (λ ts x d. d) n m (fixed-stands normally (sc .text) tilde refl n k s m i1 et e) (changeAt sc w v m) (change-derives m (mv .2))))
         (λ e. after at n s1 (functionAt sc w v n) (function-derives n i1))))
       where
         R : Parsed Rule → Type 0
-        R p = Derives (sc .text) (λ ts r. SpellsR (sc .names) (w ∷ ts) r × ScopedR r) at p
+        R p = Derives normally (sc .text) (λ ts r. SpellsR (normals (sc .names)) (w ∷ ts) r × ScopedR r) at p
 
-        after : (at n : ℕ) → Spells (sc .text) at n (bytes ":" ∷ bytes "GX" ∷ bytes "(" ∷ []) → (p : Parsed Rule) → Derives (sc .text) Ruling n p → Derives (sc .text) (λ ts r. SpellsR (sc .names) (w ∷ ts) r × ScopedR r) at p
+        after : (at n : ℕ) → Spells normal (sc .text) at n (bytes ":" ∷ bytes "GX" ∷ bytes "(" ∷ []) → (p : Parsed Rule) → Derives normally (sc .text) Ruling n p → Derives normally (sc .text) (λ ts r. SpellsR (normals (sc .names)) (w ∷ ts) r × ScopedR r) at p
         after at n sp (accepted r m) d =
             record {
               tokens = bytes ":" ∷ bytes "GX" ∷ bytes "(" ∷ d .tokens;
-              spells = spells-append (sc .text) at n m (bytes ":" ∷ bytes "GX" ∷ bytes "(" ∷ []) (d .tokens) sp (d .spells);
+              spells = spells-append normally (sc .text) at n m (bytes ":" ∷ bytes "GX" ∷ bytes "(" ∷ []) (d .tokens) sp (d .spells);
               derives = d .derives;
             }
         after at n sp (refused k q) d = tt
@@ -145,18 +151,24 @@ module _ (sc : Scope) (few : length (sc .names) ≤ 64) (lengths : length (sc .n
   First r = (UsableR (sc .known) r × AgreesR r) × (target r < length (sc .known)) × (getD (sc .known) (target r) false ≡ false)
 
   -- after its name, which stands from s up to n
-  pub rule-derives : (s n : ℕ) → n ≤ length (sc .text) → Derives (sc .text) (λ ts r. SpellsR (sc .names) (part (sc .text) s n ∷ ts) r × First r) n (ruleAt sc s n)
+  pub rule-derives : (s n : ℕ) → n ≤ length (sc .text) → Derives normally (sc .text) (λ ts r. SpellsR (normals (sc .names)) (normal (part (sc .text) s n) ∷ ts) r × First r) n (ruleAt sc s n)
   unfolding ruleAt withId
   rule-derives s n h =
-      let w = part (sc .text) s n in
-      let R : Parsed Rule → Type 0 = Derives (sc .text) (λ ts r. SpellsR (sc .names) (w ∷ ts) r × First r) n in
+      let u = part (sc .text) s n in
+      let w = normal u in
+      let R : Parsed Rule → Type 0 = Derives normally (sc .text) (λ ts r. SpellsR (normals (sc .names)) (w ∷ ts) r × First r) n in
       cond-prop R (overLong s n) _ _ (λ e. tt)
-      (λ e. option-prop R (idOf (sc .names) w) _ _ (λ z. tt)
+      (λ e. option-prop R (idOf (sc .names) u) _ _ (λ z. tt)
       (λ v ev. cond-prop R (getD (sc .known) v false) _ _ (λ t. tt)
       (λ t.
-      let l : v < length (sc .known) = omega (arith, lengths, id-of (sc .names) w v ev) in
-      weaker (sc .text) (λ ts r. SpellsR (sc .names) (w ∷ ts) r × ScopedR w v (id-names (sc .names) w v ev) r) (λ ts r. SpellsR (sc .names) (w ∷ ts) r × First r)
-      (λ ts r d. (d .0, ((d .1 .0, d .1 .1), subst (λ (x : ℕ). x < length (sc .known)) (sym (d .1 .2)) l, subst (λ (x : ℕ). getD (sc .known) x false ≡ false) (sym (d .1 .2)) t))) n (formulas sc w v n) (formulas-derive w v (id-names (sc .names) w v ev) n h))))
+      let l : v < length (sc .known) = omega (arith, lengths, id-of (sc .names) u v ev) in
+      let no = id-word (sc .names) good u v ev in
+      let seen-u = normal-capitals u no in
+      let big : capitals w ≡ w = ap capitals seen-u ∙ (capitals-twice u ∙ sym seen-u) in
+      let at-v = id-names (sc .names) u v no ev in
+      rw (formulas-same sc u w (sym (capitals-twice u) ∙ ap capitals (sym seen-u)) v n)
+      (weaker normally (sc .text) (λ ts r. SpellsR (normals (sc .names)) (w ∷ ts) r × ScopedR w big v at-v r) (λ ts r. SpellsR (normals (sc .names)) (w ∷ ts) r × First r)
+      (λ ts r d. (d .0, ((d .1 .0, d .1 .1), subst (λ (x : ℕ). x < length (sc .known)) (sym (d .1 .2)) l, subst (λ (x : ℕ). getD (sc .known) x false ≡ false) (sym (d .1 .2)) t))) n (formulas sc w v n) (formulas-derive w big v at-v n h)))))
 
 -- rules from a place to the end of the text, after those done
 pub record RulesRead (text : List ℕ) (names : List (List ℕ)) (known : List Bool) (done : List Rule) (at : ℕ) (rs : List Rule) : Type 0 where
@@ -164,9 +176,9 @@ pub record RulesRead (text : List ℕ) (names : List (List ℕ)) (known : List B
   pub is-more : rs ≡ done ++ more
   pub tokens : List (List ℕ)
   pub end : ℕ
-  pub spells : Spells text at end tokens
+  pub spells : Spells normal text at end tokens
   pub ends : Separated text end (length text)
-  pub derives : SpellsRules names tokens more
+  pub derives : SpellsRules (normals names) tokens more
   pub ordered : OrderedRules known more
   pub agrees : AgreesAll more
 
@@ -184,10 +196,10 @@ rules-derive (suc f) sc few lengths good done at h =
     cond-prop R (is k name) _ _
     (λ e. then-prop R (ruleAt sc s n) _ (λ k q. tt)
     (λ r m er.
-    let d = subst (Derives (sc .text) (λ ts r. SpellsR (sc .names) (part (sc .text) s n ∷ ts) r × First sc few lengths good r) n) er (rule-derives sc few lengths good s n (mv .2)) in
-    let i = spells-in (sc .text) n m (d .tokens) (mv .2) (d .spells) .1 in
+    let d = subst (Derives normally (sc .text) (λ ts r. SpellsR (normals (sc .names)) (normal (part (sc .text) s n) ∷ ts) r × First sc few lengths good r) n) er (rule-derives sc few lengths good s n (mv .2)) in
+    let i = spells-in normally (sc .text) n m (d .tokens) (mv .2) (d .spells) .1 in
     let l = lengths ∙ sym (length-set (sc .known) (target r) true) in
-    next (part (sc .text) s n) n m r (sign-stands (sc .text) name refl at k s n h et e .0) d
+    next (normal (part (sc .text) s n)) n m r (sign-stands normally (sc .text) name refl at k s n h et e .0) d
     (rulesFrom f (ruled sc (target r)) (done ++ (r ∷ [])) m) (rules-derive f (ruled sc (target r)) few l good (done ++ (r ∷ [])) m i)))
     (λ n1. cond-prop R (is k ending) _ _
     (λ e.
@@ -210,7 +222,7 @@ rules-derive (suc f) sc few lengths good done at h =
     R : Parsed (List Rule) → Type 0
     R p = RulesReads (sc .text) (sc .names) (sc .known) done at p
 
-    next : (w : List ℕ) (n m : ℕ) (r : Rule) → Stands (sc .text) at n w → Derived (sc .text) (λ ts r. SpellsR (sc .names) (w ∷ ts) r × First sc few lengths good r) n m r → (p : Parsed (List Rule)) → RulesReads (sc .text) (sc .names) (set (sc .known) (target r) true) (done ++ (r ∷ [])) m p → R p
+    next : (w : List ℕ) (n m : ℕ) (r : Rule) → Stands normal (sc .text) at n w → Derived normally (sc .text) (λ ts r. SpellsR (normals (sc .names)) (w ∷ ts) r × First sc few lengths good r) n m r → (p : Parsed (List Rule)) → RulesReads (sc .text) (sc .names) (set (sc .known) (target r) true) (done ++ (r ∷ [])) m p → R p
     next w n m r st d (accepted rs i) q =
         let f = d .derives .1 in
         record {
@@ -218,7 +230,7 @@ rules-derive (suc f) sc few lengths good done at h =
           is-more = q .is-more ∙ append-assoc done (r ∷ []) (q .more);
           tokens = (w ∷ d .tokens) ++ q .tokens;
           end = q .end;
-          spells = spells-append (sc .text) at m (q .end) (w ∷ d .tokens) (q .tokens) (n, st, d .spells) (q .spells);
+          spells = spells-append normally (sc .text) at m (q .end) (w ∷ d .tokens) (q .tokens) (n, st, d .spells) (q .spells);
           ends = q .ends;
           derives = S.SpellsRules.more (w ∷ d .tokens) (q .tokens) r (q .more) (d .derives .0) (q .derives);
           ordered = (f .0 .0, lt→ltb (target r) (length (sc .known)) (f .1), f .2, q .ordered);

@@ -1,6 +1,6 @@
 -- A text that is accepted spells its program, and the two lists of each of its rules agree. Assumes nothing.
 use mathlib.Core.Path.{_≡_, refl, sym, _∙_, subst}
-use mathlib.Core.List.{List, [], _++_}
+use mathlib.Core.List.{List, []}
 use mathlib.Core.Bool.{Bool, true, false, cond}
 use Prim.Native.Nat.{ℕ, _≤_}
 use native.Mathlib.Nat.{le-refl}
@@ -18,10 +18,11 @@ use Rattle.grammar.specs.Expressions.{Scope}
 use Rattle.grammar.specs.Declarations.{spellings, declarations}
 use Rattle.grammar.specs.Rules.{rulesFrom}
 use Rattle.grammar.specs.Parse.{program, parse}
+use Rattle.grammar.specs.Derivation.{normals}
 use Rattle.grammar.specs.Spelled.{DeclareAll, Distinct, SpellsRules, Spelled}
 use Rattle.grammar.proofs.Combine.{Holds, then-prop, never}
 use Rattle.lexer.proofs.Spellings.{isFixed}
-use Rattle.grammar.proofs.Standing.{spells-append}
+use Rattle.grammar.proofs.Standing.{written, spells-append}
 use Rattle.grammar.proofs.Whole.{Ends, Names, declarations-fit, spellings-length, named}
 use Rattle.grammar.proofs.DerivedDeclarations.{DeclaredFrom, DeclaresFrom, declarations-derive}
 use Rattle.grammar.proofs.DerivedRules.{RulesRead, RulesReads, rules-derive}
@@ -37,11 +38,11 @@ read text inputs names rules a b d e distinct few r short =
       input-tokens = d .tokens;
       variable-tokens = e .tokens;
       rule-tokens = r .tokens;
-      tokens = record {
-        end = r .end;
-        spells = spells-append text 0 b (r .end) (d .tokens ++ e .tokens) (r .tokens) (spells-append text 0 a b (d .tokens) (e .tokens) (d .spells) (e .spells)) (r .spells);
-        ends = r .ends;
-      };
+      rules-from = b;
+      end = r .end;
+      spells-declarations = spells-append written text 0 a b (d .tokens) (e .tokens) (d .spells) (e .spells);
+      spells-tokens = r .spells;
+      ends = r .ends;
       inputs = inputs;
       variables = e .more;
       declares-inputs = subst (DeclareAll (bytes "input") (d .tokens)) (sym (d .is-more)) (d .derives);
@@ -50,7 +51,7 @@ read text inputs names rules a b d e distinct few r short =
       input-count = refl;
       distinct = distinct;
       few = few;
-      spells-rules = subst (SpellsRules (spellings names) (r .tokens)) (sym (r .is-more)) (r .derives);
+      spells-rules = subst (SpellsRules (normals (spellings names)) (r .tokens)) (sym (r .is-more)) (r .derives);
       ordered = rw (length-map names (λ n. n .range), r .is-more) (r .ordered);
     }
 

@@ -6,21 +6,13 @@ use mathlib.Core.Option.{none, some}
 use Prim.Native.Nat.{ℕ, zero, suc, _+_}
 use native.Mathlib.Omega.{arith}
 use lib.ListN.{getElem?}
-use borrow.Author.Tests.{eq-eqb}
-use Rattle.lexer.specs.Bytes.{sameBytes}
 use Rattle.lexer.specs.Lexer.{sameName}
 use Rattle.lexer.specs.Names.{idFrom, idOf}
-use Rattle.lexer.proofs.Same.{same-name}
+use Rattle.lexer.proofs.Same.{same-name, names-same}
 use Rattle.grammar.specs.Spelled.{Apart, Distinct}
 
-same-bytes-itself : (w : List ℕ) → sameBytes w w ≡ true
-unfolding sameBytes
-same-bytes-itself [] = refl
-same-bytes-itself (b ∷ w) = rw (eq-eqb b b refl, same-bytes-itself w)
-
 pub same-itself : (w : List ℕ) → sameName w w ≡ true
-unfolding sameName
-same-itself w = same-bytes-itself w
+same-itself w = names-same w w refl
 
 -- what is not the same one way is not the same the other
 apart-back : (a b : List ℕ) → sameName a b ≡ false → sameName b a ≡ false
@@ -28,8 +20,7 @@ apart-back a b e = go (sameName b a) refl
   where
     go : (t : Bool) → sameName b a ≡ t → sameName b a ≡ false
     go true t =
-        let q : b ≡ a = same-name b a t in
-        let y : true ≡ false = sym (same-itself a) ∙ (ap (λ (x : List ℕ). sameName a x) (sym q) ∙ e) in
+        let y : true ≡ false = sym (names-same a b (sym (same-name b a t))) ∙ e in
         let z : _≡_ {A = ℕ} 0 1 = cc in
         absurd (omega arith)
     go false t = t

@@ -253,5 +253,39 @@ manyCases =
     ∷ at (kept 31) 7 "|[1=1]));"
     ∷ []
 
+-- Names are the same in any letter case, declared, used and repeated; a word of the grammar in another case is 2 wherever it stands, but
+-- directly after `_` the `_` is lone, 1 (document 02, A.2). Numbers compare by their spelling; the bytes beside the letters are none.
+abbrev recased : List ℕ
+recased = bytes "input Go 0..1; var run 0..1; RUN: GX(~(Run = _rUn) -> [_RUN = 0 & GO = 1] & ruN = (go)); "
+
+abbrev pub recasedRule : List ℕ
+recasedRule = recased ++ bytes "run: GX(run = _run -> ~([_run = 0 & go = 1])); "
+
+abbrev pub letterCases : List Example
+letterCases =
+    fine recasedRule
+    ∷ fine (bytes "input moda 0..1; input limit 0..1; input Timer 0..1;")
+    ∷ at (bytes "input a 0..1; input ") 4 "A 0..1;"
+    ∷ at (bytes "input day 0..9; input ") 4 "Day 0..9;"
+    ∷ at [] 2 "Input a 0..1;"
+    ∷ at (bytes "input ") 2 "Var 0..1;"
+    ∷ at (bytes "input a 0..1 ") 2 "INIT 0;"
+    ∷ at (one ++ bytes "v: ") 2 "gx(v = (1));"
+    ∷ at (one ++ bytes "v: GX(v = (_v ") 2 "MOD 2));"
+    ∷ at (recased ++ bytes "run: GX(run = _run -> ~([_run = 0 & go = 1 ") 2 "Mod"
+    ∷ at (one ++ bytes "v: GX(~(v = _v) -> [_v mod 2 = 0] & v = (1)); v: GX(v = _v -> ~([_v ") 2 "MOD 2 = 0]));"
+    ∷ at (one ++ bytes "v: GX(v = (") 1 "_Mod));"
+    ∷ at (recased ++ bytes "run: GX(run = _run -> ~([") 1 "_MOD"
+    ∷ at (recased ++ bytes "run: GX(run = _run -> ~([_run = ") 7 "00"
+    ∷ at (recased ++ bytes "run: GX(run = _run -> ~([_run = 0 & gO ") 7 "<> 1"
+    ∷ at (bytes "input Go 0..1; var run 0..1; ") 6 "gO: GX(go = (1));"
+    ∷ at recasedRule 6 "RUN: GX(run = (1));"
+    ∷ at (bytes "var A 0..1; var b 0..1; a: GX(A = (") 5 "B));"
+    ∷ at (bytes "var v") 1 "@ 0..1;"
+    ∷ at (bytes "var a") 1 "{ 0..1;"
+    ∷ at (bytes "var a") 1 "` 0..1;"
+    ∷ at (bytes "var ") 8 "AbcdefghijklmnopQ 0..1;"
+    ∷ []
+
 abbrev pub examples : List (List Example)
-examples = numberOrder ∷ afterChange ∷ otherTokens ∷ longNames ∷ manyNames ∷ missingRules ∷ numbers ∷ longestMatch ∷ manyBrackets ∷ manyCases ∷ []
+examples = numberOrder ∷ afterChange ∷ otherTokens ∷ longNames ∷ manyNames ∷ missingRules ∷ numbers ∷ longestMatch ∷ manyBrackets ∷ manyCases ∷ letterCases ∷ []

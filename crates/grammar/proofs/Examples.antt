@@ -7,9 +7,9 @@ use lib.ListN.{length}
 use borrow.Author.Tests.{lt-ltb}
 use Rattle.limits.specs.Limits.{textLimit, tooLong}
 use Rattle.limits.specs.Answer.{Answer, accepted, refused}
-use Rattle.lexer.specs.Bytes.{bytes, sameBytes}
+use Rattle.lexer.specs.Bytes.{bytes, sameBytes, capital, capitals}
 use Rattle.lexer.specs.Token.{is, kindNumber}
-use Rattle.lexer.specs.Lexer.{isSpace, isDigit, isLetter, isAlphanumeric, runOn, runEnd, sameName, wordOf, overLong, pairOf, signOf, readOf, signAt, wordAt, digitsAt, previousAt, tokenOf, tokenPast, tokenAt, sameToken, valueOn, valueOf}
+use Rattle.lexer.specs.Lexer.{isSpace, isDigit, isLetter, isAlphanumeric, runOn, runEnd, sameName, grammarWord, exactWord, wordOf, overLong, pairOf, signOf, readOf, signAt, wordAt, digitsAt, previousAt, tokenOf, tokenPast, tokenAt, sameSpelling, sameToken, valueOn, valueOf}
 use Rattle.lexer.specs.Names.{idFrom, idOf}
 use Rattle.leb128.specs.Numbers.{number, groups, zigzag}
 use Rattle.semantics.specs.Program.{Program}
@@ -20,7 +20,7 @@ use Rattle.grammar.specs.Conditions.{comparisonBy, compared, comparisonA
 use Rattle.grammar.specs.Declarations.{inRange, signedDigits, boundAt, newName, startAt, declaration, declarationsFrom, declarations}
 use Rattle.grammar.specs.Rules.{caseAt, casesFrom, listFrom, plainList, partFrom, kindAt, partsFrom, firstFound, agreeingList, functionAt, changeAt, formulas, ruleAt, rulesFrom}
 use Rattle.grammar.specs.Parse.{program, parse, programOf}
-use Rattle.grammar.proofs.ExampleTexts.{Example, numberOrder, afterChange, otherTokens, longNames, manyNames, missingRules, numbers, longestMatch, manyBrackets, manyCases, examples, round, computing}
+use Rattle.grammar.proofs.ExampleTexts.{Example, numberOrder, afterChange, otherTokens, longNames, manyNames, missingRules, numbers, longestMatch, manyBrackets, manyCases, letterCases, recasedRule, examples, round, computing}
 use Rattle.grammar.proofs.Bytes.{heads, tails}
 
 -- ---- the two statements
@@ -66,7 +66,7 @@ hold (e ∷ es) h = (heads h, hold es (tails h))
 
 -- what a computation opens
 opened : Unit {0}
-unfolding isSpace isDigit isLetter isAlphanumeric runOn runEnd sameName sameBytes wordOf overLong pairOf signOf readOf signAt wordAt digitsAt previousAt tokenOf tokenPast tokenAt sameToken valueOn valueOf is kindNumber idFrom idOf expected phrase followed rest chain withId currentAt previousIn constantAt primary negative factor productOf sumOf term expression bracket wholeExpression comparisonBy compared comparisonAt opposite inverted atom connect andOf orOf conjunction condition square wholeCondition listed inRange signedDigits boundAt newName startAt declaration declarationsFrom declarations caseAt casesFrom listFrom plainList partFrom kindAt partsFrom firstFound agreeingList functionAt changeAt formulas ruleAt rulesFrom program parse programOf imageOf number groups zigzag
+unfolding isSpace isDigit isLetter isAlphanumeric runOn runEnd capital capitals sameName sameBytes grammarWord exactWord wordOf overLong pairOf signOf readOf signAt wordAt digitsAt previousAt tokenOf tokenPast tokenAt sameSpelling sameToken valueOn valueOf is kindNumber idFrom idOf expected phrase followed rest chain withId currentAt previousIn constantAt primary negative factor productOf sumOf term expression bracket wholeExpression comparisonBy compared comparisonAt opposite inverted atom connect andOf orOf conjunction condition square wholeCondition listed inRange signedDigits boundAt newName startAt declaration declarationsFrom declarations caseAt casesFrom listFrom plainList partFrom kindAt partsFrom firstFound agreeingList functionAt changeAt formulas ruleAt rulesFrom program parse programOf imageOf number groups zigzag
 opened = tt
 
 numberOrder-computed : answersOf numberOrder ≡ wanted numberOrder
@@ -109,6 +109,10 @@ manyCases-computed : answersOf manyCases ≡ wanted manyCases
 unfolding opened
 manyCases-computed = refl
 
+letterCases-computed : answersOf letterCases ≡ wanted letterCases
+unfolding opened
+letterCases-computed = refl
+
 pub examples-hold : Every (Every Holds) examples
 examples-hold = (
   hold numberOrder numberOrder-computed,
@@ -130,7 +134,7 @@ examples-hold = (
                   hold manyBrackets manyBrackets-computed,
                   (
                     hold manyCases manyCases-computed,
-                    tt,
+                    (hold letterCases letterCases-computed, tt),
                   ),
                 ),
               ),
@@ -163,6 +167,12 @@ latches =
     }
     -- L5: 16 brackets pass (17 are in ExampleTexts)
     ∷ record { text = computing (round 16 (bytes "1")); image = 0x00 ∷ 0x01 ∷ 0x00 ∷ 0x02 ∷ 0x00 ∷ 0x01 ∷ 0x02 ∷ 0x15 ∷ 0x00 ∷ [] }
+    -- names in other letter cases (document 02, A.2), one of 16 bytes
+    ∷ record {
+      text = recasedRule;
+      image = 0x01 ∷ 0x01 ∷ 0x00 ∷ 0x02 ∷ 0x00 ∷ 0x00 ∷ 0x02 ∷ 0x00 ∷ 0x03 ∷ 0x01 ∷ 0x01 ∷ 0x00 ∷ 0x0a ∷ 0x02 ∷ 0x00 ∷ 0x01 ∷ 0x02 ∷ 0x0a ∷ 0x11 ∷ 0x13 ∷ 0x02 ∷ 0x00 ∷ 0x14 ∷ 0x01 ∷ 0x16 ∷ 0x01 ∷ [];
+    }
+    ∷ record { text = bytes "var aaaaaaaaaaaaaaaa 0..1; AAAAAAAAAAAAAAAA: GX(aaaaaaaaAAAAAAAA = (0));"; image = 0x00 ∷ 0x01 ∷ 0x00 ∷ 0x02 ∷ 0x00 ∷ 0x01 ∷ 0x00 ∷ 0x15 ∷ 0x00 ∷ [] }
     -- operators of one kind are read left to right, `* / mod` before `+ -`
     ∷ record {
       text = computing (bytes "9 - 4 - 2 * 3");

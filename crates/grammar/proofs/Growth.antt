@@ -1,11 +1,11 @@
 -- How far parsers read, and how much of an image what they accept makes: by the tokens that spell it. Assumes nothing.
-use mathlib.Core.Path.{_≡_, refl, subst}
+use mathlib.Core.Path.{_≡_, refl, _∙_, subst}
 use mathlib.Core.List.{List, [], _∷_, _++_}
 use Prim.Native.Nat.{ℕ, zero, suc, _+_, _-_, _*_, _≤_, _<_}
 use native.Mathlib.Omega.{arith}
-use lib.ListN.{length, length-append}
+use lib.ListN.{length, length-append, length-map}
 use Rattle.limits.specs.Limits.{bracketLimit}
-use Rattle.lexer.specs.Bytes.{bytes}
+use Rattle.lexer.specs.Bytes.{bytes, part}
 use Rattle.lexer.specs.Lexer.{tokenAt}
 use Rattle.lexer.proofs.Laws.{cond-prop, token-at-moved}
 use Rattle.semantics.specs.Program.{Expression, operation, negate, Condition, comparison, negated, both, either}
@@ -14,12 +14,12 @@ use Rattle.grammar.specs.Parsed.{Parsed, accepted, refused, Wanted, isWa
 use Rattle.grammar.specs.Expressions.{Scope, primary, factor, term, expression, bracket, wholeExpression}
 use Rattle.grammar.specs.Conditions.{Connective, andAlso, orElse, connect, connectiveCode, atom, conjunction, square, listed}
 use Rattle.lexer.specs.Spelling.{IsDigits}
-use Rattle.grammar.specs.Derivation.{Stands, Spells, Level, SpellsE, a-number, a-current, a-previous, brackets, plain, opposite, one-factor, product, one-term, sum, LevelC, SpellsC, not-square, one-atom, conjoined, one-conjunction, disjoined}
+use Rattle.grammar.specs.Derivation.{Stands, Spells, Level, SpellsE, a-number, a-current, a-previous, brackets, plain, opposite, one-factor, product, one-term, sum, LevelC, SpellsC, not-square, one-atom, conjoined, one-conjunction, disjoined, normal, normals}
 use Rattle.grammar.specs.Derivation as D
 use Rattle.grammar.specs.Inner.Bytes.{bytesE, bytesC}
 use Rattle.grammar.proofs.Combine.{token-prop, then-prop}
 use Rattle.grammar.proofs.Bytes.{digits-bytes, id-bytes, place-in, part-length}
-use Rattle.grammar.proofs.Standing.{is-read, stands-in, spells-in}
+use Rattle.grammar.proofs.Standing.{is-read, stands-in, spells-in, View, normally}
 use Rattle.grammar.proofs.Derived.{Derives, ScopedE, ScopedC, ClosedC, primary-derives, factor-derives, term-derives, expression-derives, bracket-derives, whole-expression-derives, atom-derives, conjunction-derives, square-derives, listed-scoped}
 pub use Rattle.grammar.proofs.NotEnd.{operator-end, products-end, sums-end, ands-end, ors-end, comparisons-end, not-end}
 
@@ -75,18 +75,18 @@ unfolding laterBytes
 token-bytes [] h = absurd (omega arith)
 token-bytes (b ∷ l) h = refl
 
-stands-bytes : (text : List ℕ) (a n : ℕ) (w : List ℕ) → a ≤ length text → Stands text a n w → suc (laterBytes w) + a ≤ n
-stands-bytes text a n w h st =
+stands-bytes : (v : View) (text : List ℕ) (a n : ℕ) (w : List ℕ) → a ≤ length text → Stands (v .see) text a n w → suc (laterBytes w) + a ≤ n
+stands-bytes v text a n w h st =
     let mv = token-at-moved text a (st .kind) (st .start) n h (is-read st) in
     let some = st .is-token .some-bytes in
-    let l : length w ≡ n - st .start = subst (λ (x : List ℕ). length x ≡ n - st .start) (st .spelled) (part-length text (st .start) n (mv .1) (mv .2)) in
+    let l : length w ≡ n - st .start = subst (λ (x : List ℕ). length x ≡ n - st .start) (st .spelled) (v .sized (part text (st .start) n) ∙ part-length text (st .start) n (mv .1) (mv .2)) in
     omega (arith, l, mv .0, token-bytes w (omega (arith, l)))
 
 -- the tokens of a part of a text have no more bytes than it
-pub spells-bytes : (text : List ℕ) (a n : ℕ) (ts : List (List ℕ)) → a ≤ length text → Spells text a n ts → bytesOf ts + a ≤ n
-spells-bytes text a n [] h g = omega (arith, g)
-spells-bytes text a n (t ∷ ts) h g =
-    omega (arith, stands-bytes text a (g .0) t h (g .1), spells-bytes text (g .0) n ts (stands-in text a (g .0) t h (g .1) .1) (g .2))
+pub spells-bytes : (v : View) (text : List ℕ) (a n : ℕ) (ts : List (List ℕ)) → a ≤ length text → Spells (v .see) text a n ts → bytesOf ts + a ≤ n
+spells-bytes v text a n [] h g = omega (arith, g)
+spells-bytes v text a n (t ∷ ts) h g =
+    omega (arith, stands-bytes v text a (g .0) t h (g .1), spells-bytes v text (g .0) n ts (stands-in v text a (g .0) t h (g .1) .1) (g .2))
 
 -- ---- expressions and conditions
 
@@ -142,14 +142,17 @@ module _ (names : List (List ℕ)) (few : length names ≤ 64) where
 -- ---- what is accepted
 
 -- tokens from n on that make a part, with nothing before them from `at` on that is no token of the text
-grown-by : {A : Type 0} (R : List (List ℕ) → A → Type 0) (code : A → List ℕ) → ((ts : List (List ℕ)) (x : A) → R ts x → Makes code ts x) → (text : List ℕ) (at n : ℕ) → at ≤ n → n ≤ length text → (p : Parsed A) → Derives text R n p → Grown code (length text) at p
+grown-by : {A : Type 0} (R : List (List ℕ) → A → Type 0) (code : A → List ℕ) → ((ts : List (List ℕ)) (x : A) → R ts x → Makes code ts x) → (text : List ℕ) (at n : ℕ) → at ≤ n → n ≤ length text → (p : Parsed A) → Derives normally text R n p → Grown code (length text) at p
 grown-by R code f text at n i h (accepted x m) d =
     let g = f (d .tokens) x (d .derives) in
-    let b = spells-bytes text n m (d .tokens) h (d .spells) in
-    (omega (arith, b, g .0), spells-in text n m (d .tokens) h (d .spells) .1, omega (arith, b, g .1))
+    let b = spells-bytes normally text n m (d .tokens) h (d .spells) in
+    (omega (arith, b, g .0), spells-in normally text n m (d .tokens) h (d .spells) .1, omega (arith, b, g .1))
 grown-by R code f text at n i h (refused k q) d = tt
 
 module _ (sc : Scope) (few : length (sc .names) ≤ 64) where
+  few2 : length (normals (sc .names)) ≤ 64
+  few2 = omega (arith, few, length-map (sc .names) normal)
+
   abbrev pub Reads : {A : Type 0} → (A → List ℕ) → (ℕ → Parsed A) → Type 0
   Reads code p = (at : ℕ) → at ≤ length (sc .text) → Grown code (length (sc .text)) at (p at)
 
@@ -159,11 +162,11 @@ module _ (sc : Scope) (few : length (sc .names) ≤ 64) where
   abbrev inside : ℕ → ℕ → ℕ → Parsed Condition
   inside left s n = square left sc s n
 
-  grownE : (v : Level) (left at : ℕ) (p : Parsed Expression) → at ≤ length (sc .text) → Derives (sc .text) (ScopedE sc v left) at p → Grown bytesE (length (sc .text)) at p
-  grownE v left at p h d = grown-by (ScopedE sc v left) bytesE (λ ts e d. expression-makes (sc .names) few v left ts e (d .0)) (sc .text) at at (omega arith) h p d
+  grownE : (v : Level) (left at : ℕ) (p : Parsed Expression) → at ≤ length (sc .text) → Derives normally (sc .text) (ScopedE sc v left) at p → Grown bytesE (length (sc .text)) at p
+  grownE v left at p h d = grown-by (ScopedE sc v left) bytesE (λ ts e d. expression-makes (normals (sc .names)) few2 v left ts e (d .0)) (sc .text) at at (omega arith) h p d
 
-  grownC : (v : LevelC) (left at : ℕ) (p : Parsed Condition) → at ≤ length (sc .text) → Derives (sc .text) (ScopedC sc v left) at p → Grown bytesC (length (sc .text)) at p
-  grownC v left at p h d = grown-by (ScopedC sc v left) bytesC (λ ts c d. condition-makes (sc .names) few v left ts c (d .0)) (sc .text) at at (omega arith) h p d
+  grownC : (v : LevelC) (left at : ℕ) (p : Parsed Condition) → at ≤ length (sc .text) → Derives normally (sc .text) (ScopedC sc v left) at p → Grown bytesC (length (sc .text)) at p
+  grownC v left at p h d = grown-by (ScopedC sc v left) bytesC (λ ts c d. condition-makes (normals (sc .names)) few2 v left ts c (d .0)) (sc .text) at at (omega arith) h p d
 
   pub primary-grown : (left : ℕ) → Reads bytesE (λ at. primary (inner left) sc at)
   primary-grown left at h = grownE D.primary left at (primary (inner left) sc at) h (primary-derives sc left (inner left) (bracket-derives sc left) at h)
@@ -190,7 +193,7 @@ module _ (sc : Scope) (few : length (sc .names) ≤ 64) where
   closed-makes : (left : ℕ) (ts : List (List ℕ)) (c : Condition) → ClosedC sc left ts c → Makes bytesC ts c
   closed-makes zero ts c d = absurd d
   closed-makes (suc left) ts c d =
-      let g = condition-makes (sc .names) few D.condition left (d .inner) c (d .derives .0) in
+      let g = condition-makes (normals (sc .names)) few2 D.condition left (d .inner) c (d .derives .0) in
       let b = bytes-append (d .inner) (bytes "]" ∷ []) in
       rw (d .is-closed) (omega (arith, b, g .0), omega (arith, b, g .1))
 

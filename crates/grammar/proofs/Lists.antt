@@ -6,18 +6,20 @@ use Prim.Native.Nat.{ℕ, _≤_}
 use lib.ListN.{length}
 use lib.Dec.{ltb, leb, eqb}
 use Rattle.limits.specs.Limits.{caseLimit}
-use Rattle.lexer.specs.Bytes.{bytes}
+use Rattle.lexer.specs.Bytes.{bytes, capitals}
+use Rattle.lexer.proofs.Capitals.{capitals-twice}
 use Rattle.lexer.proofs.Laws.{cond-prop}
 use Rattle.semantics.specs.Program.{Condition, UsableK}
 use Rattle.grammar.specs.Parsed.{Parsed, accepted, refused}
 use Rattle.grammar.specs.Expressions.{Scope}
 use Rattle.grammar.specs.Rules.{Spanned, casesFrom, plainList, Compared, agrees, differs, partsFrom, firstFound, agreeingList, casesOf}
-use Rattle.grammar.specs.Derivation.{Spells}
+use Rattle.grammar.specs.Derivation.{Spells, normal, normals}
 use Rattle.grammar.specs.Spelled.{SpellsCases}
 use Rattle.grammar.specs.Inner.Names.{Named}
 use Rattle.grammar.proofs.Shape.{conditionsOf}
 use Rattle.grammar.proofs.Combine.{never}
-use Rattle.grammar.proofs.Standing.{spells-in}
+use Rattle.grammar.proofs.Standing.{spells-in, normally, seen-capitals}
+use Rattle.grammar.proofs.SameRule.{cases-same}
 use Rattle.grammar.proofs.Listed.{Listed, parts-spells}
 use Rattle.grammar.proofs.DerivedCases.{CasesRead, CasesReads, cases-derive, cases-list}
 use Rattle.grammar.proofs.ConverseCases.{no-change-reads}
@@ -47,34 +49,35 @@ module _ (sc : Scope) (few : length (sc .names) ≤ 64) (lengths : length (sc .n
     pub within : n ≤ length (sc .text)
     pub tokens : List (List ℕ)
     pub list : List (List ℕ)
-    pub spells : Spells (sc .text) at n tokens
-    pub derives : SpellsCases (sc .names) w tokens list (casesOf cs)
+    pub spells : Spells normal (sc .text) at n tokens
+    pub derives : SpellsCases (normals (sc .names)) (capitals w) tokens list (casesOf cs)
     pub lists : Listed (sc .text) cs list
 
   pub cases-in : (w : List ℕ) (at n : ℕ) (cs : List Spanned) → at ≤ length (sc .text) → casesFrom caseLimit sc w [] at ≡ accepted cs n → CasesIn w at n cs
   cases-in w at n cs h e =
-      let r : CasesRead sc w caseLimit [] at n cs = subst (CasesReads sc w caseLimit [] at) e (cases-derive sc w caseLimit [] at h) in
+      let same = cases-same sc w (capitals w) (sym (capitals-twice w)) caseLimit [] at in
+      let r : CasesRead sc (capitals w) caseLimit [] at n cs = subst (CasesReads sc (capitals w) caseLimit [] at) (sym same ∙ e) (cases-derive sc (capitals w) (seen-capitals w) caseLimit [] at h) in
       record {
         counted = subst (λ (x : List Spanned). length (casesOf x) ≤ caseLimit) (sym (r .is-more)) (r .counted);
         usable = subst (λ (x : List Spanned). UsableK (sc .known) (casesOf x)) (sym (r .is-more)) (r .usable lengths);
-        within = spells-in (sc .text) at n (r .tokens) h (r .spells) .1;
+        within = spells-in normally (sc .text) at n (r .tokens) h (r .spells) .1;
         tokens = r .tokens;
         list = r .list;
         spells = r .spells;
-        derives = subst (λ (x : List Spanned). SpellsCases (sc .names) w (r .tokens) (r .list) (casesOf x)) (sym (r .is-more)) (r .derives);
+        derives = subst (λ (x : List Spanned). SpellsCases (normals (sc .names)) (capitals w) (r .tokens) (r .list) (casesOf x)) (sym (r .is-more)) (r .derives);
         lists = subst (λ (x : List Spanned). Listed (sc .text) x (r .list)) (sym (r .is-more)) (r .lists);
       }
 
   -- a list that agrees reads as the conditions of the cases
   pub agreeing-reads : Named (sc .names) → (w : List ℕ) (from to : ℕ) (cs : List Spanned) → CasesIn w from to cs → (at n : ℕ) → at ≤ length (sc .text) → partsFrom (sc .text) cs at ≡ agrees n → plainList sc at ≡ accepted (conditionsOf (casesOf cs)) n
   agreeing-reads good w from to cs c at n h e =
-      no-change-reads sc good w (c .tokens) (c .list) (casesOf cs) (conditionsOf (casesOf cs)) (c .derives) (cases-list (sc .names) w (c .tokens) (c .list) (casesOf cs) (c .derives))
+      no-change-reads sc good (capitals w) (c .tokens) (c .list) (casesOf cs) (conditionsOf (casesOf cs)) (c .derives) (cases-list (normals (sc .names)) (capitals w) (c .tokens) (c .list) (casesOf cs) (c .derives))
       (c .usable) (c .counted) at n h (parts-spells (sc .text) cs (c .list) (c .lists) at n h e)
 
   -- a no-change list that is accepted lists the conditions of the cases, in the same tokens, and a `)`
   pub record Agreeing (cs : List Spanned) (ls : List (List ℕ)) (at m : ℕ) (ds : List Condition) : Type 0 where
     pub same : ds ≡ conditionsOf (casesOf cs)
-    pub spells : Spells (sc .text) at m (ls ++ bytes ")" ∷ [])
+    pub spells : Spells normal (sc .text) at m (ls ++ bytes ")" ∷ [])
 
   pub agreeing-same : Named (sc .names) → (w : List ℕ) (from to : ℕ) (cs : List Spanned) (c : CasesIn w from to cs) (at m : ℕ) (ds : List Condition) → at ≤ length (sc .text) → agreeingList sc cs at ≡ accepted ds m → Agreeing cs (c .list) at m ds
   unfolding agreeingList
@@ -83,5 +86,5 @@ module _ (sc : Scope) (few : length (sc .names) ≤ 64) (lengths : length (sc .n
       let s = parts-spells (sc .text) cs (c .list) (c .lists) at (i .place) h (i .agrees-at) in
       same (i .place) s (sym (i .plain) ∙ agreeing-reads good w from to cs c at (i .place) h (i .agrees-at))
     where
-      same : (n : ℕ) → Spells (sc .text) at n (c .list ++ bytes ")" ∷ []) → accepted ds m ≡ accepted (conditionsOf (casesOf cs)) n → Agreeing cs (c .list) at m ds
-      same n s q = let j : n ≡ m = cc in record { same = cc; spells = subst (λ (x : ℕ). Spells (sc .text) at x (c .list ++ bytes ")" ∷ [])) j s }
+      same : (n : ℕ) → Spells normal (sc .text) at n (c .list ++ bytes ")" ∷ []) → accepted ds m ≡ accepted (conditionsOf (casesOf cs)) n → Agreeing cs (c .list) at m ds
+      same n s q = let j : n ≡ m = cc in record { same = cc; spells = subst (λ (x : ℕ). Spells normal (sc .text) at x (c .list ++ bytes ")" ∷ [])) j s }

@@ -1,6 +1,6 @@
 -- The image of an accepted text: twice its bytes are at most three times the text's, and four; by the tokens that spell it. Assumes
 -- nothing.
-use mathlib.Core.Path.{_≡_, refl, subst}
+use mathlib.Core.Path.{_≡_, refl, subst, sym}
 use mathlib.Core.List.{List, [], _∷_, _++_}
 use mathlib.Core.Bool.{true, false}
 use Prim.Native.Nat.{ℕ, zero, suc, _+_, _-_, _*_, _≤_, _<_}
@@ -9,7 +9,7 @@ use lib.ListN.{length, getD, length-append, length-map}
 use lib.IntN.{ℤ, pos, negℤ}
 use Rattle.limits.specs.Limits.{caseLimit, bracketLimit}
 use Rattle.leb128.specs.Numbers.{number, zigzag}
-use Rattle.lexer.specs.Bytes.{bytes, part}
+use Rattle.lexer.specs.Bytes.{bytes, part, capitals}
 use Rattle.lexer.specs.Token.{Kind, kindNumber, name, previous, ending, tilde, is}
 use Rattle.lexer.specs.Lexer.{tokenAt, overLong, valueOf, sameName}
 use Rattle.lexer.specs.Names.{idOf}
@@ -20,15 +20,17 @@ use Rattle.grammar.specs.Parsed.{Parsed, accepted, refused, Wanted, sign
 use Rattle.grammar.specs.Expressions.{Scope, withId, wholeExpression}
 use Rattle.grammar.specs.Declarations.{declaration, declarationsFrom}
 use Rattle.grammar.specs.Rules.{Spanned, caseAt, casesFrom, agreeingList, casesOf, functionAt, changeAt, formulas, ruleAt}
-use Rattle.grammar.specs.Derivation.{SpellsE, SpellsC}
+use Rattle.grammar.specs.Derivation.{SpellsE, SpellsC, normal, normals}
 use Rattle.grammar.specs.Derivation as D
 use Rattle.grammar.specs.Spelled.{SpellsZ, positive, negative, SpellsStart, absent, given, Declares, declares, DeclareAll, cased, SpellsCases, one-case, more-cases, changeForm, SpellsR, a-change, a-function, SpellsRules, namesOf, Spelled}
 use Rattle.grammar.specs.Spelled as S
 use Rattle.grammar.specs.Inner.Bytes.{bytesE, bytesK, bytesR, header, image}
 use Rattle.grammar.proofs.Combine.{token-prop, then-prop, option-prop}
 use Rattle.grammar.proofs.Bytes.{digits-bytes, value-bytes, id-bytes, id-of, place-in}
-use Rattle.grammar.proofs.Standing.{spells-in}
+use Rattle.grammar.proofs.Standing.{written, normally, seen-capitals, spells-in}
 use Rattle.grammar.proofs.Phrases.{headTokens, middleTokens}
+use Rattle.lexer.proofs.Capitals.{capitals-twice}
+use Rattle.grammar.proofs.SameRule.{case-same, cases-same}
 use Rattle.grammar.proofs.Derived.{Derives}
 use Rattle.grammar.proofs.Growth.{Grown, Kept, phrase-kept, whole-expression-grown, not-end, laterBytes, bytesOf, bytes-append, token-bytes, spells-bytes, digits-some, expression-makes, condition-makes}
 use Rattle.grammar.proofs.DerivedCases.{caseRest, CaseReads, case-derives, CasesReads, cases-derive}
@@ -112,22 +114,25 @@ module _ (names : List (List ℕ)) (few : length names ≤ 64) (v : ℕ) (hv : v
       omega (arith, case-makes us vs k c e, case-bytes w us vs, cases-code v k js, cases-make w cs ms js r, bytes-append (cased w us vs) (bytes "|" ∷ cs))
 
 module _ (sc : Scope) (few : length (sc .names) ≤ 64) (v : ℕ) (hv : v < 64) where
+  few2 : length (normals (sc .names)) ≤ 64
+  few2 = omega (arith, few, length-map (sc .names) normal)
+
   pub case-pays : (w : List ℕ) (at n : ℕ) → n ≤ length (sc .text) → Pays (λ c. length (bytesK v (casesOf (c ∷ [])))) (length (sc .text)) n (caseAt sc w at n)
-  case-pays w at n h = pays (caseAt sc w at n) (case-derives sc w at n h)
+  case-pays w at n h = rw (case-same sc w (capitals w) (sym (capitals-twice w)) at n) (pays (capitals w) (caseAt sc (capitals w) at n) (case-derives sc (capitals w) (seen-capitals w) at n h))
     where
-      pays : (p : Parsed Spanned) → CaseReads sc w at n p → Pays (λ c. length (bytesK v (casesOf (c ∷ [])))) (length (sc .text)) n p
-      pays (accepted c m) r =
+      pays : (w : List ℕ) (p : Parsed Spanned) → CaseReads sc w at n p → Pays (λ c. length (bytesK v (casesOf (c ∷ [])))) (length (sc .text)) n p
+      pays w (accepted c m) r =
           let ts = caseRest w (r .conditions) (r .values) in
-          (omega (arith, spells-bytes (sc .text) n m ts h (r .spells), case-bytes w (r .conditions) (r .values), case-makes (sc .names) few v hv (r .conditions) (r .values) (c .case) (r .condition .0) (r .value .0)), spells-in (sc .text) n m ts h (r .spells) .1)
-      pays (refused k q) r = tt
+          (omega (arith, spells-bytes normally (sc .text) n m ts h (r .spells), case-bytes w (r .conditions) (r .values), case-makes (normals (sc .names)) few2 v hv (r .conditions) (r .values) (c .case) (r .condition .0) (r .value .0)), spells-in normally (sc .text) n m ts h (r .spells) .1)
+      pays w (refused k q) r = tt
 
   pub cases-pay : (w : List ℕ) (left : ℕ) (done : List Spanned) (from at : ℕ) → at ≤ length (sc .text) → 2 * length (bytesK v (casesOf done)) + 3 * from ≤ 3 * at → Pays (λ cs. length (bytesK v (casesOf cs))) (length (sc .text)) from (casesFrom left sc w done at)
-  cases-pay w left done from at h g = pays (casesFrom left sc w done at) (cases-derive sc w left done at h)
+  cases-pay w left done from at h g = rw (cases-same sc w (capitals w) (sym (capitals-twice w)) left done at) (pays (capitals w) (casesFrom left sc (capitals w) done at) (cases-derive sc (capitals w) (seen-capitals w) left done at h))
     where
-      pays : (p : Parsed (List Spanned)) → CasesReads sc w left done at p → Pays (λ cs. length (bytesK v (casesOf cs))) (length (sc .text)) from p
-      pays (accepted cs n) r =
-          (rw (r .is-more) (omega (arith, cases-append v done (r .more), cases-make (sc .names) few v hv w (r .tokens) (r .list) (casesOf (r .more)) (r .derives), spells-bytes (sc .text) at n (r .tokens) h (r .spells))), spells-in (sc .text) at n (r .tokens) h (r .spells) .1)
-      pays (refused k q) r = tt
+      pays : (w : List ℕ) (p : Parsed (List Spanned)) → CasesReads sc w left done at p → Pays (λ cs. length (bytesK v (casesOf cs))) (length (sc .text)) from p
+      pays w (accepted cs n) r =
+          (rw (r .is-more) (omega (arith, cases-append v done (r .more), cases-make (normals (sc .names)) few2 v hv w (r .tokens) (r .list) (casesOf (r .more)) (r .derives), spells-bytes normally (sc .text) at n (r .tokens) h (r .spells))), spells-in normally (sc .text) at n (r .tokens) h (r .spells) .1)
+      pays w (refused k q) r = tt
 
 -- ---- declarations
 
@@ -175,8 +180,8 @@ module _ (text : List ℕ) where
   declaration-pays : (names : List Name) (at : ℕ) → at ≤ length text → Pays nameBytes (length text) at (declaration text names at)
   declaration-pays names at h = pays (declaration text names at) (declaration-derives text [] names at h)
     where
-      pays : (p : Parsed Name) → Derives text (AfterWord text [] names) at p → Pays nameBytes (length text) at p
-      pays (accepted x n) d = (omega (arith, declares-make [] ([] ∷ d .tokens) x (d .derives .0), spells-bytes text at n (d .tokens) h (d .spells)), spells-in text at n (d .tokens) h (d .spells) .1)
+      pays : (p : Parsed Name) → Derives written text (AfterWord text [] names) at p → Pays nameBytes (length text) at p
+      pays (accepted x n) d = (omega (arith, declares-make [] ([] ∷ d .tokens) x (d .derives .0), spells-bytes written text at n (d .tokens) h (d .spells)), spells-in written text at n (d .tokens) h (d .spells) .1)
       pays (refused k q) d = tt
 
   pub declarations-pay : (f : ℕ) (word : Kind) (names : List Name) (at : ℕ) → at ≤ length text → 2 * length (header names) ≤ 3 * at → Pays (λ l. length (header l)) (length text) 0 (declarationsFrom f word text names at)
@@ -293,17 +298,17 @@ module _ (names : List (List ℕ)) (few : length names ≤ 64) where
 pub spelled-small : (text : List ℕ) (p : Program) → Spelled text p → 2 * length (image p) ≤ 3 * length text + 4
 unfolding image
 spelled-small text p s =
-    let t = s .tokens in
     let front = s .input-tokens ++ s .variable-tokens in
-    let all = front ++ s .rule-tokens in
-    let few : length (namesOf p) ≤ 64 = omega (arith, s .few, length-map (p .names) (λ x. x .spelling)) in
+    let few : length (normals (namesOf p)) ≤ 64 = omega (arith, s .few, length-map (p .names) (λ x. x .spelling), length-map (namesOf p) normal) in
     let count : length (p .names) ≡ length (s .inputs) + length (s .variables) = rw (s .names) (length-append (s .inputs) (s .variables)) in
     let heads : length (header (p .names)) ≡ length (header (s .inputs)) + length (header (s .variables)) = rw (s .names) (header-append (s .inputs) (s .variables)) in
     let inputs = all-make (bytes "input") (s .input-tokens) (s .inputs) (s .declares-inputs) in
     let variables = all-make (bytes "var") (s .variable-tokens) (s .variables) (s .declares-variables) in
-    let rules = rules-make (namesOf p) few (s .rule-tokens) (p .rules) (s .spells-rules) in
-    let tokens = spells-bytes text 0 (t .end) all (omega arith) (t .spells) in
-    let within = spells-in text 0 (t .end) all (omega arith) (t .spells) .1 in
+    let rules = rules-make (normals (namesOf p)) few (s .rule-tokens) (p .rules) (s .spells-rules) in
+    let declared = spells-bytes written text 0 (s .rules-from) front (omega arith) (s .spells-declarations) in
+    let before = spells-in written text 0 (s .rules-from) front (omega arith) (s .spells-declarations) .1 in
+    let ruled = spells-bytes normally text (s .rules-from) (s .end) (s .rule-tokens) before (s .spells-tokens) in
+    let within = spells-in normally text (s .rules-from) (s .end) (s .rule-tokens) before (s .spells-tokens) .1 in
     let small = id-bytes (p .inputs) (omega (arith, s .few, s .input-count, count)) in
     let small2 = id-bytes (length (p .names) - p .inputs) (omega (arith, s .few)) in
-    simp length-append (omega (arith, heads, inputs, variables, rules, tokens, within, small, small2, bytes-append front (s .rule-tokens), bytes-append (s .input-tokens) (s .variable-tokens)))
+    simp length-append (omega (arith, heads, inputs, variables, rules, declared, ruled, within, small, small2, bytes-append (s .input-tokens) (s .variable-tokens)))

@@ -37,7 +37,11 @@ spaces-spelled n h =
       input-tokens = [];
       variable-tokens = [];
       rule-tokens = [];
-      tokens = record { end = 0; spells = refl; ends = record { ordered = omega arith; within = le-refl (length (spaces n)); spaces = rw (take-all (length (spaces n) - 0) (spaces n) (omega arith)) (all-spaces n) } };
+      rules-from = 0;
+      end = 0;
+      spells-declarations = refl;
+      spells-tokens = refl;
+      ends = record { ordered = omega arith; within = le-refl (length (spaces n)); spaces = rw (take-all (length (spaces n) - 0) (spaces n) (omega arith)) (all-spaces n) };
       inputs = [];
       variables = [];
       declares-inputs = S.DeclareAll.none;

@@ -5,28 +5,55 @@ use mathlib.Core.Bool.{Bool, true, false, cond}
 use mathlib.Core.Option.{Option, none, some}
 use Prim.Native.Nat.{ℕ, suc, _+_, _≤_, _<_}
 use native.Mathlib.Omega.{arith}
-use lib.ListN.{length, getElem?}
-use Rattle.lexer.specs.Bytes.{part}
+use lib.ListN.{length}
+use Rattle.lexer.specs.Bytes.{bytes, part, capitals}
 use Rattle.lexer.specs.Token.{Kind, ending, is, TokenRead, token}
 use Rattle.lexer.specs.Token as T
-use Rattle.lexer.specs.Spelling.{Spelling, TokenFrom, Separated, FirstRead, a-token, the-end, no-token}
+use Rattle.lexer.specs.Spelling.{SpellsName, Spelling, TokenFrom, Separated, FirstRead, a-token, the-end, no-token}
 use Rattle.lexer.specs.Lexer.{tokenAt, sameName}
-use Rattle.lexer.specs.Names.{idFrom, idOf}
 use Rattle.lexer.proofs.Laws.{cond-prop, token-at-moved}
-use Rattle.lexer.proofs.Same.{same-kind, same-name}
+use Rattle.lexer.proofs.Same.{same-kind, same-name, names-same}
+use Rattle.lexer.proofs.Capitals.{capitals-twice}
 use Rattle.lexer.proofs.Longest.{tokens-exactly}
 use Rattle.arith.specs.Values.{Operation, add, subtract, multiply, divide, modulo, Comparison, equal, notEqual, less, lessEqual, greater, greaterEqual}
 use Rattle.grammar.specs.Expressions.{productOf, sumOf}
 use Rattle.grammar.specs.Conditions.{comparisonBy}
-use Rattle.grammar.specs.Derivation.{Stands, Spells, SumSign, ProductSign, ComparisonSign}
+use Rattle.grammar.specs.Derivation.{asWritten, normal, Stands, Spells, SumSign, ProductSign, ComparisonSign}
 use Rattle.grammar.specs.Derivation as D
 use Rattle.lexer.proofs.Spellings.{token-spelled, one-kind}
+use Rattle.grammar.proofs.Distinct.{same-itself}
+use Rattle.grammar.proofs.Normal.{normal-length, normal-spelled, normal-twice, previous-seen, name-seen}
+
+-- ---- ways of seeing a token
+
+pub record View : Type 0 where
+  pub see : List ℕ → List ℕ
+  -- tokens keep their kind and length
+  pub kept : (k : Kind) (w : List ℕ) → Spelling k w → Spelling k (see w)
+  pub sized : (w : List ℕ) → length (see w) ≡ length w
+  -- `_` stays
+  pub behind : (u : List ℕ) → SpellsName u → see (bytes "_" ++ u) ≡ bytes "_" ++ see u
+  -- a name is the same as what is seen of it
+  pub alike : (u w : List ℕ) → SpellsName u → see u ≡ w → sameName w u ≡ true
+
+abbrev pub written : View
+written = record { see = asWritten; kept = λ k w h. h; sized = λ w. refl; behind = λ u h. refl; alike = λ u w h e. subst (λ (x : List ℕ). sameName w x ≡ true) (sym e) (same-itself w) }
+
+abbrev pub normally : View
+normally = record { see = normal; kept = normal-spelled; sized = normal-length; behind = previous-seen; alike = λ u w h e. names-same w u (subst (λ (x : List ℕ). capitals x ≡ capitals u) e (normal-twice u h)) }
+
+-- what is seen of each name that is the same as w
+abbrev pub Seen : View → List ℕ → Type 0
+Seen v w = (u : List ℕ) → SpellsName u → sameName w u ≡ true → v .see u ≡ w
+
+pub seen-capitals : (x : List ℕ) → Seen normally (capitals x)
+seen-capitals x u g e = name-seen u g ∙ (sym (same-name (capitals x) u e) ∙ capitals-twice x)
 
 -- ---- what stands is what is read
 
 -- a token that stands is read
-pub is-read : {text : List ℕ} {a n : ℕ} {w : List ℕ} (st : Stands text a n w) → tokenAt text a ≡ token (st .kind) (st .start) n
-is-read {text} {a} {n} st = tokens-exactly .only text a _ (a-token (st .kind) (st .start) n (st .separated) (st .is-token))
+pub is-read : {see : List ℕ → List ℕ} {text : List ℕ} {a n : ℕ} {w : List ℕ} (st : Stands see text a n w) → tokenAt text a ≡ token (st .kind) (st .start) n
+is-read {see} {text} {a} {n} st = tokens-exactly .only text a _ (a-token (st .kind) (st .start) n (st .separated) (st .is-token))
 
 module _ (text : List ℕ) where
   first-token : (a : ℕ) (k : Kind) (s n : ℕ) (r : TokenRead) → FirstRead text a r → r ≡ token k s n → s < n → Separated text a s × TokenFrom text s n k
@@ -37,12 +64,6 @@ module _ (text : List ℕ) where
       (subst (Separated text a) q sep, subst (λ (x : Kind). TokenFrom text s n x) i (subst (λ (x : ℕ). TokenFrom text s x j) o (subst (λ (x : ℕ). TokenFrom text x m j) q t)))
   first-token a k s n r (the-end sep) e l = let q : length text ≡ s = cc in let o : length text ≡ n = cc in absurd (omega arith)
   first-token a k s n r (no-token p sep l2 f g) e l = let z : _≡_ {A = ℕ} 0 1 = cc in absurd (omega arith)
-
-  -- a token that is read, and has a byte, stands there
-  pub stands-read : (a : ℕ) (k : Kind) (s n : ℕ) → a ≤ length text → s < n → tokenAt text a ≡ token k s n → (w : List ℕ) → part text s n ≡ w → Stands text a n w
-  stands-read a k s n h l e w q =
-      let f = first-token a k s n (tokenAt text a) (tokens-exactly .reads text a h) e l in
-      record { kind = k; start = s; separated = f .0; is-token = f .1; spelled = q }
 
   -- the end of the text is read where only space is left
   pub end-read : (a : ℕ) → Separated text a (length text) → tokenAt text a ≡ token ending (length text) (length text)
@@ -56,69 +77,64 @@ module _ (text : List ℕ) where
   pub end-separated : (a s n : ℕ) → a ≤ length text → tokenAt text a ≡ token ending s n → Separated text a (length text)
   end-separated a s n h e = end-first a s n (tokenAt text a) (tokens-exactly .reads text a h) e
 
+module _ (v : View) (text : List ℕ) where
+  -- a token that is read, and has a byte, stands there
+  pub stands-read : (a : ℕ) (k : Kind) (s n : ℕ) → a ≤ length text → s < n → tokenAt text a ≡ token k s n → (w : List ℕ) → v .see (part text s n) ≡ w → Stands (v .see) text a n w
+  stands-read a k s n h l e w q =
+      let f = first-token text a k s n (tokenAt text a) (tokens-exactly .reads text a h) e l in
+      record { kind = k; start = s; separated = f .0; is-token = f .1; spelled = q }
+
   -- a token that is read, and is not the end, stands there
-  pub stands : (a : ℕ) (k : Kind) (s n : ℕ) → a ≤ length text → (k ≡ ending → ⊥) → tokenAt text a ≡ token k s n → Stands text a n (part text s n)
-  stands a k s n h ne e = stands-read a k s n h (token-at-moved text a k s n h e .3 ne) e (part text s n) refl
+  pub stands : (a : ℕ) (k : Kind) (s n : ℕ) → a ≤ length text → (k ≡ ending → ⊥) → tokenAt text a ≡ token k s n → Stands (v .see) text a n (v .see (part text s n))
+  stands a k s n h ne e = stands-read a k s n h (token-at-moved text a k s n h e .3 ne) e (v .see (part text s n)) refl
 
-  pub stands-spelled : (a : ℕ) (k : Kind) (s n : ℕ) → a ≤ length text → (k ≡ ending → ⊥) → tokenAt text a ≡ token k s n → Spelling k (part text s n)
-  stands-spelled a k s n h ne e = token-spelled text a k s n h (token-at-moved text a k s n h e .3 ne) e
+  pub stands-spelled : (a : ℕ) (k : Kind) (s n : ℕ) → a ≤ length text → (k ≡ ending → ⊥) → tokenAt text a ≡ token k s n → Spelling k (v .see (part text s n))
+  stands-spelled a k s n h ne e = v .kept k (part text s n) (token-spelled text a k s n h (token-at-moved text a k s n h e .3 ne) e)
 
-  pub stands-kind : (a n : ℕ) (w : List ℕ) → a ≤ length text → (st : Stands text a n w) → Spelling (st .kind) w
-  stands-kind a n w h st = subst (Spelling (st .kind)) (st .spelled) (st .is-token .spells)
+  pub stands-kind : (a n : ℕ) (w : List ℕ) → a ≤ length text → (st : Stands (v .see) text a n w) → Spelling (st .kind) w
+  stands-kind a n w h st = subst (Spelling (st .kind)) (st .spelled) (v .kept (st .kind) (part text (st .start) n) (st .is-token .spells))
+
+  -- ... and so is its part of the text
+  pub stands-raw : (k : Kind) (w : List ℕ) → Spelling k w → (a n : ℕ) → a ≤ length text → (st : Stands (v .see) text a n w) → Spelling k (part text (st .start) n)
+  stands-raw k w sp a n h st = subst (λ (x : Kind). Spelling x (part text (st .start) n)) (one-kind (st .kind) k w (stands-kind a n w h st) sp) (st .is-token .spells)
 
   -- a token whose spelling is of a kind is read as one of that kind
-  pub at-kind : (k : Kind) (w : List ℕ) → Spelling k w → (a n : ℕ) → a ≤ length text → (st : Stands text a n w) → tokenAt text a ≡ token k (st .start) n
+  pub at-kind : (k : Kind) (w : List ℕ) → Spelling k w → (a n : ℕ) → a ≤ length text → (st : Stands (v .see) text a n w) → tokenAt text a ≡ token k (st .start) n
   at-kind k w sp a n h st = is-read st ∙ ap (λ (x : Kind). token x (st .start) n) (one-kind (st .kind) k w (stands-kind a n w h st) sp)
 
   -- ---- lists of tokens
 
-  pub spells-append : (a b c : ℕ) (ts us : List (List ℕ)) → Spells text a b ts → Spells text b c us → Spells text a c (ts ++ us)
-  spells-append a b c [] us h g = subst (λ (x : ℕ). Spells text x c us) (sym h) g
+  pub spells-append : (a b c : ℕ) (ts us : List (List ℕ)) → Spells (v .see) text a b ts → Spells (v .see) text b c us → Spells (v .see) text a c (ts ++ us)
+  spells-append a b c [] us h g = subst (λ (x : ℕ). Spells (v .see) text x c us) (sym h) g
   spells-append a b c (t ∷ ts) us h g = (h .0, h .1, spells-append (h .0) b c ts us (h .2) g)
 
-  pub spells-append-left : (a b c : ℕ) (ts us vs : List (List ℕ)) → Spells text a b ts → Spells text b c (us ++ vs) → Spells text a c (ts ++ us ++ vs)
-  spells-append-left a b c ts us vs h g = subst (Spells text a c) (sym (append-assoc ts us vs)) (spells-append a b c ts (us ++ vs) h g)
+  pub spells-append-left : (a b c : ℕ) (ts us vs : List (List ℕ)) → Spells (v .see) text a b ts → Spells (v .see) text b c (us ++ vs) → Spells (v .see) text a c (ts ++ us ++ vs)
+  spells-append-left a b c ts us vs h g = subst (Spells (v .see) text a c) (sym (append-assoc ts us vs)) (spells-append a b c ts (us ++ vs) h g)
 
   -- a list of tokens in two parts stands in two parts
   pub record Split (a n : ℕ) (ts us : List (List ℕ)) : Type 0 where
     pub place : ℕ
-    pub first : Spells text a place ts
-    pub second : Spells text place n us
+    pub first : Spells (v .see) text a place ts
+    pub second : Spells (v .see) text place n us
 
-  pub split : (a n : ℕ) (ts us : List (List ℕ)) → Spells text a n (ts ++ us) → Split a n ts us
+  pub split : (a n : ℕ) (ts us : List (List ℕ)) → Spells (v .see) text a n (ts ++ us) → Split a n ts us
   split a n [] us h = record { place = a; first = refl; second = h }
   split a n (t ∷ ts) us h =
       let r = split (h .0) n ts us (h .2) in
       record { place = r .place; first = (h .0, h .1, r .first); second = r .second }
 
-  pub stands-in : (a n : ℕ) (w : List ℕ) → a ≤ length text → Stands text a n w → (a < n) × (n ≤ length text)
+  pub stands-in : (a n : ℕ) (w : List ℕ) → a ≤ length text → Stands (v .see) text a n w → (a < n) × (n ≤ length text)
   stands-in a n w h st =
       let some = st .is-token .some-bytes in
       (omega (arith, st .separated .ordered), st .is-token .within)
 
   -- tokens stand within the text
-  pub spells-in : (a n : ℕ) (ts : List (List ℕ)) → a ≤ length text → Spells text a n ts → (a ≤ n) × (n ≤ length text)
+  pub spells-in : (a n : ℕ) (ts : List (List ℕ)) → a ≤ length text → Spells (v .see) text a n ts → (a ≤ n) × (n ≤ length text)
   spells-in a n [] h g = (omega (arith, g), subst (λ (x : ℕ). x ≤ length text) g h)
   spells-in a n (t ∷ ts) h g =
       let mv = stands-in a (g .0) t h (g .1) in
       let r = spells-in (g .0) n ts (mv .1) (g .2) in
       (omega (arith, mv .0, r .0), r .1)
-
--- ---- names
-
-id-from-names : (l : List (List ℕ)) (w : List ℕ) (i j : ℕ) → idFrom l w i ≡ some j → (d : ℕ) × (j ≡ i + d) × (getElem? l d ≡ some w)
-unfolding idFrom
-id-from-names [] w i j e = let z : _≡_ {A = ℕ} 0 1 = cc in absurd (omega arith)
-id-from-names (x ∷ l) w i j e = go (sameName w x) refl (λ h. id-from-names l w (i + 1) j h) e
-  where
-    go : (t : Bool) → sameName w x ≡ t → (idFrom l w (i + 1) ≡ some j → (d : ℕ) × (j ≡ i + 1 + d) × (getElem? l d ≡ some w)) → cond t (some i) (idFrom l w (i + 1)) ≡ some j → (d : ℕ) × (j ≡ i + d) × (getElem? (x ∷ l) d ≡ some w)
-    go true t f h = let q : i ≡ j = cc in (0, omega arith, ap some (sym (same-name w x t)))
-    go false t f h = let r = f h in (suc (r .0), omega (arith, r .1), r .2)
-
--- the id of a name is its place among the names
-pub id-names : (names : List (List ℕ)) (w : List ℕ) (i : ℕ) → idOf names w ≡ some i → getElem? names i ≡ some w
-unfolding idOf
-id-names names w i e = let r = id-from-names names w 0 i e in let q : r .0 ≡ i = omega (arith, r .1) in subst (λ (d : ℕ). getElem? names d ≡ some w) q (r .2)
 
 -- ---- signs of operations
 

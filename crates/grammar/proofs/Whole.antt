@@ -18,13 +18,13 @@ use Rattle.grammar.specs.Conditions.{listed}
 use Rattle.grammar.specs.Declarations.{spellings, declaration, declarationsFrom}
 use Rattle.grammar.specs.Rules.{Spanned, listFrom, plainList, Compared, agrees, differs, partsFrom, firstFound, agreeingList, ruleAt}
 use Rattle.grammar.specs.Inner.Bytes.{bytesC}
-use Rattle.grammar.specs.Derivation.{IsName}
+use Rattle.grammar.specs.Derivation.{IsName, normal, normals}
 use Rattle.grammar.specs.Spelled.{declares, DeclareAll, Distinct, SpellsR, Spelled}
 use Rattle.grammar.specs.Spelled as S
 use Rattle.grammar.specs.Inner.Names.{Named}
 use Rattle.grammar.proofs.Shape.{NameFits, NamesFit}
 use Rattle.grammar.proofs.Combine.{token-prop, then-prop}
-use Rattle.grammar.proofs.Standing.{spells-in}
+use Rattle.grammar.proofs.Standing.{spells-in, View, written, normally}
 use Rattle.grammar.proofs.Distinct.{distinct-snoc}
 use Rattle.grammar.proofs.Derived.{Derives}
 use Rattle.grammar.proofs.Growth.{Grown, Kept, kept-later, phrase-kept, listed-grown}
@@ -37,9 +37,9 @@ abbrev pub Ends : {A : Type 0} → ℕ → (A → Type 0) → Parsed A → Type 
 Ends len P (accepted a n) = P a × (n ≤ len)
 Ends len P (refused k q) = Unit {0}
 
-ends-by : {A : Type 0} (R : List (List ℕ) → A → Type 0) (P : A → Type 0) → ((ts : List (List ℕ)) (x : A) → R ts x → P x) → (text : List ℕ) (at : ℕ) → at ≤ length text → (p : Parsed A) → Derives text R at p → Ends (length text) P p
-ends-by R P f text at h (accepted x n) d = (f (d .tokens) x (d .derives), spells-in text at n (d .tokens) h (d .spells) .1)
-ends-by R P f text at h (refused k q) d = tt
+ends-by : {A : Type 0} (R : List (List ℕ) → A → Type 0) (P : A → Type 0) → ((ts : List (List ℕ)) (x : A) → R ts x → P x) → (v : View) (text : List ℕ) (at : ℕ) → at ≤ length text → (p : Parsed A) → Derives v text R at p → Ends (length text) P p
+ends-by R P f v text at h (accepted x n) d = (f (d .tokens) x (d .derives), spells-in v text at n (d .tokens) h (d .spells) .1)
+ends-by R P f v text at h (refused k q) d = tt
 
 -- ---- rules
 
@@ -83,13 +83,13 @@ module _ (sc : Scope) (few : length (sc .names) ≤ 64) (lengths : length (sc .n
 
   pub rule-fits : (good : Named (sc .names)) (s n : ℕ) → n ≤ length (sc .text) → Ends (length (sc .text)) (First sc few lengths good) (ruleAt sc s n)
   rule-fits good s n h =
-      ends-by (λ ts r. SpellsR (sc .names) (part (sc .text) s n ∷ ts) r × First sc few lengths good r) (First sc few lengths good) (λ ts r d. d .1) (sc .text) n h (ruleAt sc s n) (rule-derives sc few lengths good s n h)
+      ends-by (λ ts r. SpellsR (normals (sc .names)) (normal (part (sc .text) s n) ∷ ts) r × First sc few lengths good r) (First sc few lengths good) (λ ts r d. d .1) normally (sc .text) n h (ruleAt sc s n) (rule-derives sc few lengths good s n h)
 
 -- ---- names
 
 module _ (text : List ℕ) where
   declaration-fits : (names : List Name) (at : ℕ) → at ≤ length text → Ends (length text) (Declared text names) (declaration text names at)
-  declaration-fits names at h = ends-by (AfterWord text [] names) (Declared text names) (λ ts x d. d .1) text at h (declaration text names at) (declaration-derives text [] names at h)
+  declaration-fits names at h = ends-by (AfterWord text [] names) (Declared text names) (λ ts x d. d .1) written text at h (declaration text names at) (declaration-derives text [] names at h)
 
   names-append : (names : List Name) (x : Name) → NamesFit names → NameFits x → NamesFit (names ++ (x ∷ []))
   names-append [] x h g = (g, tt)

@@ -1,17 +1,18 @@
 -- Which token lists spell an expression or a condition, apart from any way of reading them. Document 01, "The text". Assumes nothing.
 use Prim.Native.Nat.{ℕ, suc, _≤_}
 use mathlib.Core.Path.{_≡_}
-use mathlib.Core.List.{List, [], _∷_, _++_}
+use mathlib.Core.Bool.{cond}
+use mathlib.Core.List.{List, [], _∷_, _++_, map}
 use mathlib.Core.Option.{some}
 use lib.ListN.{length, getElem?}
 use lib.IntN.{pos}
 use Rattle.limits.specs.Limits.{spellingLimit, numberLimit}
 use Rattle.arith.specs.Values.{Operation, add, subtract, multiply, divide, modulo, Comparison, equal, notEqual, less, lessEqual, greater, greaterEqual}
 use Rattle.semantics.specs.Program.{Expression, constant, current, previous, operation, negate, Condition, comparison, negated, both, either}
-use Rattle.lexer.specs.Bytes.{bytes, part}
+use Rattle.lexer.specs.Bytes.{bytes, part, capitals}
 use Rattle.lexer.specs.Token.{Kind, wordKinds}
-use Rattle.lexer.specs.Lexer.{valueOf}
-use Rattle.lexer.specs.Spelling.{IsWord, IsDigits, NoneOf, TokenFrom, Separated}
+use Rattle.lexer.specs.Lexer.{grammarWord, valueOf}
+use Rattle.lexer.specs.Spelling.{IsWord, IsDigits, NoneAgree, TokenFrom, Separated}
 
 -- ---- tokens
 
@@ -19,30 +20,36 @@ use Rattle.lexer.specs.Spelling.{IsWord, IsDigits, NoneOf, TokenFrom, Separated
 abbrev pub Tokens : Type 0
 Tokens = List (List ℕ)
 
--- The token w is the first from a on, and ends at n.
-pub record Stands (text : List ℕ) (a n : ℕ) (w : List ℕ) : Type 0 where
+-- ... as it stands there
+abbrev pub asWritten : List ℕ → List ℕ
+asWritten w = w
+
+-- ... or as the rule forms know it (document 02, A.2): a name, behind `_` too, with a to z read as A to Z; a word of the grammar, in its
+-- own case or another, as it stands. (Numbers and signs have no letters.)
+unfoldable pub normal : List ℕ → List ℕ
+normal w = let c = capitals w in cond (grammarWord w) w c
+
+abbrev pub normals : List (List ℕ) → List (List ℕ)
+normals names = map normal names
+
+-- The first token from a on is w, seen in one of these ways, and ends at n.
+pub record Stands (see : List ℕ → List ℕ) (text : List ℕ) (a n : ℕ) (w : List ℕ) : Type 0 where
   pub kind : Kind
   pub start : ℕ
   pub separated : Separated text a start
   pub is-token : TokenFrom text start n kind
-  pub spelled : part text start n ≡ w
+  pub spelled : see (part text start n) ≡ w
 
 -- from a up to b stand just the tokens listed
-abbrev pub Spells : List ℕ → ℕ → ℕ → Tokens → Type 0
-Spells text a b [] = a ≡ b
-Spells text a b (w ∷ ws) = (n : ℕ) × Stands text a n w × Spells text n b ws
+abbrev pub Spells : (List ℕ → List ℕ) → List ℕ → ℕ → ℕ → Tokens → Type 0
+Spells see text a b [] = a ≡ b
+Spells see text a b (w ∷ ws) = (n : ℕ) × Stands see text a n w × Spells see text n b ws
 
--- the tokens of the whole text
-pub record TokensOf (text : List ℕ) (ws : Tokens) : Type 0 where
-  pub end : ℕ
-  pub spells : Spells text 0 end ws
-  pub ends : Separated text end (length text)
-
--- A name is a letter, then letters or digits (ASCII), 1 to 16 bytes. Words of the grammar are no names.
+-- A name is a letter, then letters or digits (ASCII), 1 to 16 bytes. Words of the grammar are no names, in any case.
 pub record IsName (w : List ℕ) : Type 0 where
   pub is-word : IsWord w
   pub short : length w ≤ spellingLimit
-  pub no-word : NoneOf wordKinds w
+  pub no-word : NoneAgree wordKinds w
 
 -- ---- expressions
 

@@ -11,8 +11,8 @@ use Rattle.limits.specs.Limits.{textLimit, nameLimit, caseLimit, bracketLimit}
 use Rattle.semantics.specs.Program.{Range, Name, Expression, Condition, Case, Rule, function, change, Program, Ordered, RangeFits}
 use Rattle.lexer.specs.Bytes.{bytes}
 use Rattle.lexer.specs.Lexer.{sameName, valueOf}
-use Rattle.lexer.specs.Spelling.{IsDigits}
-use Rattle.grammar.specs.Derivation.{Tokens, TokensOf, IsName, SpellsE, expression, SpellsC, condition}
+use Rattle.lexer.specs.Spelling.{IsDigits, Separated}
+use Rattle.grammar.specs.Derivation.{Tokens, asWritten, normal, normals, Spells, IsName, SpellsE, expression, SpellsC, condition}
 
 -- ---- declarations
 
@@ -38,7 +38,7 @@ pub data DeclareAll (word : List ℕ) : Tokens → List Name → Type 0 where
   none : DeclareAll word [] []
   more : (ts us : Tokens) (x : Name) (l : List Name) → Declares word ts x → DeclareAll word us l → DeclareAll word (ts ++ us) (x ∷ l)
 
--- names are the same when their bytes are the same; none is declared twice
+-- names are the same when they agree with a to z read as A to Z (document 02, A.2); none is declared twice
 abbrev pub Apart : List ℕ → List (List ℕ) → Type 0
 Apart w [] = Unit {0}
 Apart w (x ∷ l) = (sameName w x ≡ false) × Apart w l
@@ -96,11 +96,15 @@ namesOf p = map (λ x. x .spelling) (p .names)
 pub record Spelled (text : List ℕ) (p : Program) : Type 0 where
   -- At most 32,768 bytes.
   pub short : length text ≤ textLimit
-  -- All inputs, then all variables. Then the rules.
+  -- All inputs, then all variables. Then the rules. A declaration's name is as it stands there; in rules only sameness counts.
   pub input-tokens : Tokens
   pub variable-tokens : Tokens
   pub rule-tokens : Tokens
-  pub tokens : TokensOf text (input-tokens ++ variable-tokens ++ rule-tokens)
+  pub rules-from : ℕ
+  pub end : ℕ
+  pub spells-declarations : Spells asWritten text 0 rules-from (input-tokens ++ variable-tokens)
+  pub spells-tokens : Spells normal text rules-from end rule-tokens
+  pub ends : Separated text end (length text)
   pub inputs : List Name
   pub variables : List Name
   pub declares-inputs : DeclareAll (bytes "input") input-tokens inputs
@@ -110,7 +114,7 @@ pub record Spelled (text : List ℕ) (p : Program) : Type 0 where
   pub distinct : Distinct (namesOf p)
   -- At most 64 names in all.
   pub few : length (p .names) ≤ nameLimit
-  pub spells-rules : SpellsRules (namesOf p) rule-tokens (p .rules)
+  pub spells-rules : SpellsRules (normals (namesOf p)) rule-tokens (p .rules)
   -- The rules are in the order of work; every variable has exactly one. A current value is used only for inputs and for variables
   -- whose rule stands earlier; a previous value for any name.
   pub ordered : Ordered p

@@ -8,7 +8,7 @@ use lib.ListN.{length, getD}
 use lib.Dec.{eqb, ltb}
 use borrow.Author.Tests.{eq-eqb, ltb-true, ltb-false}
 use Rattle.lexer.specs.Bytes.{part, sameBytes}
-use Rattle.lexer.specs.Token.{Kind, kindNumber, unknown, ending, name, previous, digits, inputWord, varWord, initWord, modWord, nextWord, dots, arrow, lessEqual, greaterEqual, notEqual, semicolon, colon, openRound, closeRound, openSquare, closeSquare, tilde, ampersand, bar, equals, less, greater, plus, minus, star, slash, is, token}
+use Rattle.lexer.specs.Token.{Kind, kindNumber, unknown, ending, name, previous, digits, inputWord, varWord, initWord, modWord, nextWord, dots, arrow, lessEqual, greaterEqual, notEqual, semicolon, colon, openRound, closeRound, openSquare, closeSquare, tilde, ampersand, bar, equals, less, greater, plus, minus, star, slash, otherCase, is, token}
 use Rattle.lexer.specs.Lexer.{isDigit, isLetter, isAlphanumeric, runEnd, pairOf, signOf}
 use Rattle.lexer.specs.Spelling.{AllBytes, IsWord, IsDigits, SpellsName, IsPrevious, Spelling}
 use Rattle.lexer.proofs.Laws.{letter-in-run, run-stop, run-step, run-from}
@@ -59,6 +59,7 @@ class-of plus w h = single 43 h refl refl refl refl
 class-of minus w h = single 45 h refl refl refl refl
 class-of star w h = single 42 h refl refl refl refl
 class-of slash w h = single 47 h refl refl refl refl
+class-of otherCase w h = lettered (h .is-word)
 
 -- ---- runs
 

@@ -7,7 +7,7 @@ use native.Mathlib.Omega.{arith}
 use lib.ListN.{length, getD, List·getD-eq-default}
 use lib.Dec.{eqb, leb}
 use borrow.Author.Tests.{eq-eqb, ne-eqb, eqb-true, eqb-false, leb-true, leb-false}
-use Rattle.lexer.specs.Token.{Kind, kindNumber, unknown, ending, name, previous, digits, inputWord, varWord, initWord, modWord, nextWord, dots, arrow, lessEqual, greaterEqual, notEqual, semicolon, colon, openRound, closeRound, openSquare, closeSquare, tilde, ampersand, bar, equals, less, greater, plus, minus, star, slash, is, lastKind}
+use Rattle.lexer.specs.Token.{Kind, kindNumber, unknown, ending, name, previous, digits, inputWord, varWord, initWord, modWord, nextWord, dots, arrow, lessEqual, greaterEqual, notEqual, semicolon, colon, openRound, closeRound, openSquare, closeSquare, tilde, ampersand, bar, equals, less, greater, plus, minus, star, slash, otherCase, is, lastKind}
 use Rattle.lexer.specs.Results.{kinds, kindOf}
 use Rattle.lexer.proofs.Laws.{cond-prop, both-true}
 
@@ -45,6 +45,7 @@ number-kind plus = refl
 number-kind minus = refl
 number-kind star = refl
 number-kind slash = refl
+number-kind otherCase = refl
 
 -- the kinds are those of the numbers from i on
 abbrev counted : ℕ → List Kind → Bool

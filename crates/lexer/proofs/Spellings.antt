@@ -1,23 +1,24 @@
 -- A token's kind tells its spelling, and its spelling its kind. Assumes nothing.
 use mathlib.Core.Path.{_≡_, refl, ap, sym, _∙_, subst}
 use mathlib.Core.List.{List, [], _∷_}
-use mathlib.Core.Bool.{Bool, true, false, _&&_, cond}
+use mathlib.Core.Bool.{Bool, true, false, false≢true, _&&_, cond}
+use mathlib.Core.Logic.{_⊎_, inl, inr}
 use Prim.Native.Nat.{ℕ, zero, suc, _+_, _-_, _≤_, _<_}
 use native.Mathlib.Omega.{arith}
 use lib.ListN.{length, getD, take, drop, List·getD-eq-default}
 use lib.Dec.{eqb, ltb, leb}
 use borrow.Author.Tests.{eqb-true, ltb-true, ltb-false, lt-leb}
-use Rattle.lexer.specs.Bytes.{bytes, part, sameBytes}
-use Rattle.lexer.specs.Token.{Kind, kindNumber, unknown, ending, name, previous, digits, inputWord, varWord, initWord, modWord, nextWord, dots, arrow, lessEqual, greaterEqual, notEqual, semicolon, colon, openRound, closeRound, openSquare, closeSquare, tilde, ampersand, bar, equals, less, greater, plus, minus, star, slash, spellingOf, wordKinds, pairKinds, signKinds, is, TokenRead, token, fault}
-use Rattle.lexer.specs.Lexer.{isSpace, isDigit, isLetter, isAlphanumeric, runOn, runEnd, kindIn, wordOf, pairOf, signOf, readOf, signAt, wordAt, digitsAt, previousAt, tokenOf, tokenPast, tokenAt}
-use Rattle.lexer.specs.Spelling.{AllBytes, IsWord, IsDigits, NoneOf, Spelling}
+use Rattle.lexer.specs.Bytes.{bytes, part, sameBytes, capital, capitals}
+use Rattle.lexer.specs.Token.{Kind, kindNumber, unknown, ending, name, previous, digits, inputWord, varWord, initWord, modWord, nextWord, dots, arrow, lessEqual, greaterEqual, notEqual, semicolon, colon, openRound, closeRound, openSquare, closeSquare, tilde, ampersand, bar, equals, less, greater, plus, minus, star, slash, otherCase, spellingOf, wordKinds, pairKinds, signKinds, is, TokenRead, token, fault}
+use Rattle.lexer.specs.Lexer.{isSpace, isDigit, isLetter, isAlphanumeric, runOn, runEnd, sameName, sameIn, grammarWord, exactWord, kindIn, wordOf, pairOf, signOf, readOf, signAt, wordAt, digitsAt, previousAt, tokenOf, tokenPast, tokenAt}
+use Rattle.lexer.specs.Spelling.{AllBytes, IsWord, IsDigits, NoneOf, NoneAgree, OneAgrees, Spelling}
 use Rattle.lexer.proofs.Laws.{cond-prop, run-on-ge, run-from, run-within, run-some, token-at-moved}
-use Rattle.lexer.proofs.Same.{same-bytes, same-kind}
+use Rattle.lexer.proofs.Same.{same-bytes, same-kind, bytes-differ, same-name, names-same}
 use Rattle.lexer.proofs.Values.{part-cons}
 
--- the kinds with one spelling are those from number 5 on
+-- the kinds with one spelling are those from number 5 on, but for a word in another case
 unfoldable pub isFixed : Kind → Bool
-isFixed k = ltb 4 (kindNumber k)
+isFixed k = cond (eqb (kindNumber k) 31) false (ltb 4 (kindNumber k))
 
 pub fixed-spelling : (k : Kind) → isFixed k ≡ true → (w : List ℕ) → (Spelling k w → w ≡ spellingOf k) × (w ≡ spellingOf k → Spelling k w)
 unfolding isFixed kindNumber
@@ -52,6 +53,7 @@ fixed-spelling plus e w = (λ h. h, λ h. h)
 fixed-spelling minus e w = (λ h. h, λ h. h)
 fixed-spelling star e w = (λ h. h, λ h. h)
 fixed-spelling slash e w = (λ h. h, λ h. h)
+fixed-spelling otherCase e w = let z : _≡_ {A = ℕ} 0 1 = cc in absurd (omega arith)
 
 -- ---- words of the grammar are no names
 
@@ -59,31 +61,79 @@ none-in : (ks : List Kind) (w : List ℕ) (other : Kind) → NoneOf ks w → kin
 none-in [] w other h = refl
 none-in (k ∷ ks) w other h = cond-prop (λ (x : Kind). x ≡ other) (sameBytes w (spellingOf k)) _ _ (λ e. absurd (h .0 (same-bytes w (spellingOf k) e))) (λ e. none-in ks w other (h .1))
 
-pub word-name : (w : List ℕ) → NoneOf wordKinds w → wordOf w ≡ name
-unfolding wordOf
-word-name w h = none-in wordKinds w name h
+none-same : (ks : List Kind) (w : List ℕ) → NoneAgree ks w → sameIn ks w ≡ false
+none-same [] w h = refl
+none-same (k ∷ ks) w h = cond-prop (λ (x : Bool). x ≡ false) (sameName w (spellingOf k)) _ _ (λ e. absurd (h .0 (same-name w (spellingOf k) e))) (λ e. none-same ks w (h .1))
 
-pub name-word : (w : List ℕ) → wordOf w ≡ name → NoneOf wordKinds w
-unfolding wordOf sameBytes
-name-word w e = (
-  no inputWord refl (λ z. let y : _≡_ {A = ℕ} 0 1 = cc in omega arith),
-  (
-    no varWord refl (λ z. let y : _≡_ {A = ℕ} 0 1 = cc in omega arith),
-    (
-      no initWord refl (λ z. let y : _≡_ {A = ℕ} 0 1 = cc in omega arith),
-      (
-        no modWord refl (λ z. let y : _≡_ {A = ℕ} 0 1 = cc in omega arith),
-        (
-          no nextWord refl (λ z. let y : _≡_ {A = ℕ} 0 1 = cc in omega arith),
-          tt,
-        ),
-      ),
-    ),
-  ),
-)
+same-none : (ks : List Kind) (w : List ℕ) → sameIn ks w ≡ false → NoneAgree ks w
+same-none [] w e = tt
+same-none (k ∷ ks) w e = go (sameName w (spellingOf k)) refl (λ q. same-none ks w q) e
   where
-    no : (k : Kind) → wordOf (spellingOf k) ≡ k → (k ≡ name → ⊥) → w ≡ spellingOf k → ⊥
-    no k f g q = g (sym f ∙ (ap wordOf (sym q) ∙ e))
+    go : (t : Bool) → sameName w (spellingOf k) ≡ t → (sameIn ks w ≡ false → NoneAgree ks w) → cond t true (sameIn ks w) ≡ false → NoneAgree (k ∷ ks) w
+    go true t f q = absurd (false≢true (sym q))
+    go false t f q = (λ z. false≢true (sym t ∙ names-same w (spellingOf k) z), f q)
+
+one-same : (ks : List Kind) (w : List ℕ) → OneAgrees ks w → sameIn ks w ≡ true
+one-same [] w h = absurd h
+one-same (k ∷ ks) w (inl e) = rw (names-same w (spellingOf k) e)
+one-same (k ∷ ks) w (inr h) = cond-prop (λ (x : Bool). x ≡ true) (sameName w (spellingOf k)) _ _ (λ e. refl) (λ e. one-same ks w h)
+
+same-one : (ks : List Kind) (w : List ℕ) → sameIn ks w ≡ true → OneAgrees ks w
+same-one [] w e = absurd (false≢true e)
+same-one (k ∷ ks) w e = go (sameName w (spellingOf k)) refl (λ q. same-one ks w q) e
+  where
+    go : (t : Bool) → sameName w (spellingOf k) ≡ t → (sameIn ks w ≡ true → OneAgrees ks w) → cond t true (sameIn ks w) ≡ true → OneAgrees (k ∷ ks) w
+    go true t f q = inl (same-name w (spellingOf k) t)
+    go false t f q = inr (f q)
+
+-- no name is a word of the grammar, in any case
+pub word-not : (w : List ℕ) → NoneAgree wordKinds w → grammarWord w ≡ false
+unfolding grammarWord
+word-not w h = none-same wordKinds w h
+
+pub word-some : (w : List ℕ) → OneAgrees wordKinds w → grammarWord w ≡ true
+unfolding grammarWord
+word-some w h = one-same wordKinds w h
+
+pub not-word : (w : List ℕ) → grammarWord w ≡ false → NoneAgree wordKinds w
+unfolding grammarWord
+not-word w e = same-none wordKinds w e
+
+pub word-name : (w : List ℕ) → NoneAgree wordKinds w → wordOf w ≡ name
+unfolding wordOf
+word-name w h = rw (word-not w h)
+
+-- which word it is
+abbrev AllFixed : List Kind → Type 0
+AllFixed [] = Unit {0}
+AllFixed (k ∷ ks) = (isFixed k ≡ true) × AllFixed ks
+
+word-in : (ks : List Kind) (w : List ℕ) → AllFixed ks → (NoneOf ks w → Spelling otherCase w) → Spelling (kindIn ks w otherCase) w
+word-in [] w f g = g tt
+word-in (k ∷ ks) w f g =
+    cond-prop (λ (x : Kind). Spelling x w) (sameBytes w (spellingOf k)) _ _ (λ e. fixed-spelling k (f .0) w .1 (same-bytes w (spellingOf k) e))
+    (λ e. word-in ks w (f .1) (λ h. g (bytes-differ w (spellingOf k) e, h)))
+
+exact-spelled : (w : List ℕ) → IsWord w → grammarWord w ≡ true → Spelling (exactWord w) w
+unfolding exactWord grammarWord isFixed kindNumber
+exact-spelled w h e = word-in wordKinds w (refl, (refl, (refl, (refl, (refl, tt))))) (λ n. record { is-word = h; some-word = same-one wordKinds w e; other-bytes = n })
+
+no-name-in : (ks : List Kind) (w : List ℕ) → AllFixed ks → kindIn ks w otherCase ≡ name → ⊥
+unfolding isFixed kindNumber
+no-name-in [] w f e = let z : kindNumber otherCase ≡ kindNumber name = ap kindNumber e in omega arith
+no-name-in (k ∷ ks) w f e = go (sameBytes w (spellingOf k)) (λ q. no-name-in ks w (f .1) q) e
+  where
+    go : (t : Bool) → (kindIn ks w otherCase ≡ name → ⊥) → cond t k (kindIn ks w otherCase) ≡ name → ⊥
+    go true g q = let z : false ≡ true = subst (λ (x : Kind). isFixed x ≡ true) q (f .0) in false≢true z
+    go false g q = g q
+
+pub name-word : (w : List ℕ) → wordOf w ≡ name → NoneAgree wordKinds w
+unfolding wordOf exactWord isFixed kindNumber
+name-word w e = go (grammarWord w) refl e
+  where
+    go : (t : Bool) → grammarWord w ≡ t → cond t (kindIn wordKinds w otherCase) name ≡ name → NoneAgree wordKinds w
+    go true t q = absurd (no-name-in wordKinds w (refl, (refl, (refl, (refl, (refl, tt))))) q)
+    go false t q = not-word w t
 
 -- ---- from kind to spelling
 
@@ -131,20 +181,7 @@ run-digits text s h e =
 -- a word of the grammar is spelled as its kind says, and any other is a name
 pub word-spelled : (w : List ℕ) → IsWord w → Spelling (wordOf w) w
 unfolding wordOf
-word-spelled w h =
-    cond-prop P (sameBytes w (bytes "input")) _ _ (λ e q. same-bytes w (bytes "input") e)
-    (λ n1. cond-prop P (sameBytes w (bytes "var")) _ _ (λ e q. same-bytes w (bytes "var") e)
-    (λ n2. cond-prop P (sameBytes w (bytes "init")) _ _ (λ e q. same-bytes w (bytes "init") e)
-    (λ n3. cond-prop P (sameBytes w (bytes "mod")) _ _ (λ e q. same-bytes w (bytes "mod") e)
-    (λ n4. cond-prop P (sameBytes w (bytes "GX")) _ _ (λ e q. same-bytes w (bytes "GX") e)
-    (λ n5 q. record { is-word = h; no-word = name-word w q }))))) refl
-  where
-    P : Kind → Type 0
-    P k = wordOf w ≡ k → Spelling k w
-
-abbrev AllFixed : List Kind → Type 0
-AllFixed [] = Unit {0}
-AllFixed (k ∷ ks) = (isFixed k ≡ true) × AllFixed ks
+word-spelled w h = cond-prop (λ (x : Kind). Spelling x w) (grammarWord w) _ _ (λ e. exact-spelled w h e) (λ e. record { is-word = h; no-word = not-word w e })
 
 -- bytes that a table lookup finds are spelled as the kind found says
 in-spelled : (ks : List Kind) (w : List ℕ) → AllFixed ks → is (kindIn ks w unknown) unknown ≡ false → Spelling (kindIn ks w unknown) w
@@ -264,13 +301,18 @@ unfolding kindSpelled
 name-kind [] h e = absurd h
 name-kind (b ∷ l) h e = rw (h .0, e)
 
+other-kind : (w : List ℕ) → IsWord w → OneAgrees wordKinds w → NoneOf wordKinds w → kindSpelled w ≡ otherCase
+unfolding kindSpelled wordOf grammarWord exactWord
+other-kind [] h a n = absurd h
+other-kind (b ∷ l) h a n = rw (h .0, one-same wordKinds (b ∷ l) a) (none-in wordKinds (b ∷ l) otherCase n)
+
 digits-kind : (w : List ℕ) → IsDigits w → kindSpelled w ≡ digits
 unfolding kindSpelled
 digits-kind [] h = absurd h
 digits-kind (b ∷ l) h = rw (digit-letter b (h .0), h .0)
 
 kind-of : (k : Kind) (w : List ℕ) → Spelling k w → kindSpelled w ≡ k
-unfolding kindSpelled signKind isLetter isDigit wordOf sameBytes signOf pairOf
+unfolding kindSpelled signKind isLetter isDigit wordOf grammarWord exactWord sameName capitals capital sameBytes signOf pairOf
 kind-of unknown w h = absurd h
 kind-of ending w h = absurd h
 kind-of name w h = name-kind w (h .is-word) (word-name w (h .no-word))
@@ -302,6 +344,7 @@ kind-of plus w h = rw h
 kind-of minus w h = rw h
 kind-of star w h = rw h
 kind-of slash w h = rw h
+kind-of otherCase w h = other-kind w (h .is-word) (h .some-word) (h .other-bytes)
 
 -- one spelling is of one kind
 pub one-kind : (k m : Kind) (w : List ℕ) → Spelling k w → Spelling m w → k ≡ m

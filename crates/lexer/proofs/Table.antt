@@ -9,9 +9,10 @@ use native.Mathlib.Numerals.{add-one}
 use native.Mathlib.Omega.{arith}
 use lib.ListN.{length, getD, drop, set}
 use lib.Seq.{drop-cons}
-use Rattle.lexer.specs.Bytes.{part}
+use Rattle.lexer.specs.Bytes.{part, capitals}
 use Rattle.lexer.specs.Lexer.{sameName}
 use Rattle.lexer.specs.Names.{idFrom, idOf, tableNames, Table}
+use Rattle.lexer.proofs.Same.{same-left}
 
 pub names-none : (text starts ends : List ℕ) → tableNames text starts ends 0 ≡ []
 unfolding tableNames
@@ -49,6 +50,16 @@ module _ (text starts ends : List ℕ) (n i : ℕ) (t : Table starts ends n) whe
 pub id-start : (text starts ends : List ℕ) (n : ℕ) (w : List ℕ) → idFrom (tableNames text (drop 0 starts) (drop 0 ends) (n - 0)) w 0 ≡ idOf (tableNames text starts ends n) w
 unfolding idOf
 id-start text starts ends n w = ap (λ (m : ℕ). idFrom (tableNames text starts ends m) w 0) (sub-zero n)
+
+-- names that are the same have the same id
+from-same : (l : List (List ℕ)) (a b : List ℕ) (i : ℕ) → capitals a ≡ capitals b → idFrom l a i ≡ idFrom l b i
+unfolding idFrom
+from-same [] a b i e = refl
+from-same (x ∷ l) a b i e = rw (same-left a b x e, from-same l a b (i + 1) e)
+
+pub id-same : (names : List (List ℕ)) (a b : List ℕ) → capitals a ≡ capitals b → idOf names a ≡ idOf names b
+unfolding idOf
+id-same names a b e = from-same names a b 0 e
 
 -- a name more
 pub names-add : (text starts ends : List ℕ) (n s e : ℕ) → n < length starts → n < length ends → tableNames text (set starts n s) (set ends n e) (suc n) ≡ tableNames text starts ends n ++ (part text s e ∷ [])

@@ -10,8 +10,8 @@ use lib.IntN.{pos}
 use borrow.Author.Tests.{eq-eqb, ne-eqb, lt-ltb, le-ltb, leb-true, leb-false}
 use Rattle.limits.specs.Limits.{noToken}
 use Rattle.lexer.specs.Bytes.{part, sameBytes}
-use Rattle.lexer.specs.Token.{Kind, kindNumber, unknown, ending, name, digits, is, TokenRead, token, fault, lastKind, spellingOf, wordKinds}
-use Rattle.lexer.specs.Lexer.{isSpace, isDigit, isLetter, isAlphanumeric, runEnd, kindIn, wordOf, pairOf, signOf, readOf, signAt, wordAt, digitsAt, previousAt, tokenOf, tokenPast, tokenAt}
+use Rattle.lexer.specs.Token.{Kind, kindNumber, unknown, ending, name, otherCase, digits, is, TokenRead, token, fault, lastKind, spellingOf, wordKinds}
+use Rattle.lexer.specs.Lexer.{isSpace, isDigit, isLetter, isAlphanumeric, runEnd, kindIn, grammarWord, exactWord, wordOf, pairOf, signOf, readOf, signAt, wordAt, digitsAt, previousAt, tokenOf, tokenPast, tokenAt}
 use Rattle.lexer.specs.Results.{kindOf, tokenIs, tokenStep, Lies, PlacedIn}
 use Rattle.lexer.specs.declared.Place.{Place}
 use Rattle.lexer.specs.declared.Step.{Step}
@@ -65,14 +65,14 @@ abbrev AllKnown : List Kind → Type 0
 AllKnown [] = Unit {0}
 AllKnown (k ∷ ks) = (is k unknown ≡ false) × AllKnown ks
 
-word-in-known : (ks : List Kind) (run : List ℕ) → AllKnown ks → is (kindIn ks run name) unknown ≡ false
+word-in-known : (ks : List Kind) (run : List ℕ) → AllKnown ks → is (kindIn ks run otherCase) unknown ≡ false
 unfolding is kindNumber
 word-in-known [] run h = refl
 word-in-known (k ∷ ks) run h = cond-prop (λ (w : Kind). is w unknown ≡ false) (sameBytes run (spellingOf k)) _ _ (λ t. h .0) (λ t. word-in-known ks run (h .1))
 
 word-known : (run : List ℕ) → is (wordOf run) unknown ≡ false
-unfolding wordOf is kindNumber
-word-known run = word-in-known wordKinds run (refl, (refl, (refl, (refl, (refl, tt)))))
+unfolding wordOf exactWord is kindNumber
+word-known run = cond-prop (λ (w : Kind). is w unknown ≡ false) (grammarWord run) _ _ (λ t. word-in-known wordKinds run (refl, (refl, (refl, (refl, (refl, tt)))))) (λ t. refl)
 
 sign-known : (a b s : ℕ) → Known (signAt a b s)
 unfolding signAt readOf

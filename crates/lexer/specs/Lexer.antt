@@ -5,8 +5,8 @@ use mathlib.Core.List.{List, [], _∷_}
 use lib.ListN.{length, getD, drop}
 use lib.Dec.{ltb, leb, eqb}
 use Rattle.limits.specs.Limits.{spellingLimit}
-use Rattle.lexer.specs.Bytes.{part, sameBytes}
-use Rattle.lexer.specs.Token.{Kind, unknown, ending, name, previous, digits, spellingOf, wordKinds, pairKinds, signKinds, is, TokenRead, token, fault}
+use Rattle.lexer.specs.Bytes.{part, sameBytes, capitals}
+use Rattle.lexer.specs.Token.{Kind, unknown, ending, name, previous, digits, otherCase, spellingOf, wordKinds, pairKinds, signKinds, is, TokenRead, token, fault}
 
 -- ---- bytes
 
@@ -36,22 +36,36 @@ runEnd p text at = runOn p (drop at text) at
 
 -- ---- names
 
+-- Names are the same when they agree with a to z read as A to Z (document 02, A.2); a name is the part of the text itself that spells it
+-- (`part`).
+unfoldable pub sameName : List ℕ → List ℕ → Bool
+sameName a b = sameBytes (capitals a) (capitals b)
+
 -- the kind among those listed that the bytes spell, by the table, or else another
 abbrev pub kindIn : List Kind → List ℕ → Kind → Kind
 kindIn [] w other = other
 kindIn (k ∷ ks) w other = let r = kindIn ks w other in cond (sameBytes w (spellingOf k)) k r
 
+-- whether the bytes are the same as the spelling of one of the kinds listed
+abbrev pub sameIn : List Kind → List ℕ → Bool
+sameIn [] w = false
+sameIn (k ∷ ks) w = let r = sameIn ks w in cond (sameName w (spellingOf k)) true r
+
+-- a word of the grammar, in its own case or another
+unfoldable pub grammarWord : List ℕ → Bool
+grammarWord run = sameIn wordKinds run
+
+-- which one; in another case it is none of them
+unfoldable pub exactWord : List ℕ → Kind
+exactWord run = kindIn wordKinds run otherCase
+
 -- A name is a letter, then letters or digits: such a run is a word of the grammar, else a name.
 unfoldable pub wordOf : List ℕ → Kind
-wordOf run = kindIn wordKinds run name
+wordOf run = let word = exactWord run in cond (grammarWord run) word name
 
 -- 1 to 16 bytes (a longer run is a name too, but is refused 8): the name that begins at s and ends before n is over-long.
 unfoldable pub overLong : ℕ → ℕ → Bool
 overLong s n = ltb spellingLimit (n - s)
-
--- Names are the same when their bytes are the same; a name is the part of the text itself that spells it (`part`).
-unfoldable pub sameName : List ℕ → List ℕ → Bool
-sameName a b = sameBytes a b
 
 -- ---- signs
 
@@ -110,9 +124,13 @@ tokenPast text s =
 unfoldable pub tokenAt : List ℕ → ℕ → TokenRead
 tokenAt text at = tokenPast text (runEnd isSpace text at)
 
--- ---- equality of tokens: the same kind, the same spelling. (Names, numbers and signs are compared as names are.)
+-- ---- equality of tokens: the same kind and spelling; names, behind a `_` too, are the same as said above
+
+unfoldable pub sameSpelling : Kind → List ℕ → List ℕ → Bool
+sameSpelling k a b = let names = sameName a b in let others = sameBytes a b in cond (is k name) names (cond (is k previous) names others)
+
 unfoldable pub sameToken : List ℕ → Kind → ℕ → ℕ → Kind → ℕ → ℕ → Bool
-sameToken text k s n k2 s2 n2 = let r = sameName (part text s n) (part text s2 n2) in cond (is k k2) r false
+sameToken text k s n k2 s2 n2 = let r = sameSpelling k (part text s n) (part text s2 n2) in cond (is k k2) r false
 
 -- ---- the value of a run of digits
 

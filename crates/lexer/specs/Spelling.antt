@@ -4,9 +4,10 @@ use Prim.Native.Nat.{ℕ, _+_, _≤_, _<_}
 use mathlib.Core.Path.{_≡_}
 use mathlib.Core.Bool.{Bool, true, false}
 use mathlib.Core.List.{List, [], _∷_, _++_}
+use mathlib.Core.Logic.{_⊎_}
 use lib.ListN.{length, getD}
-use Rattle.lexer.specs.Bytes.{bytes, part}
-use Rattle.lexer.specs.Token.{Kind, unknown, ending, name, previous, digits, inputWord, varWord, initWord, modWord, nextWord, dots, arrow, lessEqual, greaterEqual, notEqual, semicolon, colon, openRound, closeRound, openSquare, closeSquare, tilde, ampersand, bar, equals, less, greater, plus, minus, star, slash, spellingOf, wordKinds, TokenRead, token, fault}
+use Rattle.lexer.specs.Bytes.{bytes, part, capitals}
+use Rattle.lexer.specs.Token.{Kind, unknown, ending, name, previous, digits, inputWord, varWord, initWord, modWord, nextWord, dots, arrow, lessEqual, greaterEqual, notEqual, semicolon, colon, openRound, closeRound, openSquare, closeSquare, tilde, ampersand, bar, equals, less, greater, plus, minus, star, slash, otherCase, spellingOf, wordKinds, TokenRead, token, fault}
 use Rattle.lexer.specs.Lexer.{isSpace, isDigit, isLetter, isAlphanumeric, tokenAt}
 
 -- ---- spellings
@@ -30,10 +31,26 @@ abbrev pub NoneOf : List Kind → List ℕ → Type 0
 NoneOf [] w = Unit {0}
 NoneOf (k ∷ ks) w = (w ≡ spellingOf k → ⊥) × NoneOf ks w
 
--- A name is a letter, then letters or digits (ASCII), 1 to 16 bytes (a longer run is a name too). Words of the grammar are no names.
+-- they agree, with a to z read as A to Z, with none of these; with one of these (document 02, A.2)
+abbrev pub NoneAgree : List Kind → List ℕ → Type 0
+NoneAgree [] w = Unit {0}
+NoneAgree (k ∷ ks) w = (capitals w ≡ capitals (spellingOf k) → ⊥) × NoneAgree ks w
+
+abbrev pub OneAgrees : List Kind → List ℕ → Type 0
+OneAgrees [] w = ⊥
+OneAgrees (k ∷ ks) w = (capitals w ≡ capitals (spellingOf k)) ⊎ OneAgrees ks w
+
+-- A name is a letter, then letters or digits (ASCII), 1 to 16 bytes (a longer run is a name too). Words of the grammar are no names, in any
+-- case.
 pub record SpellsName (w : List ℕ) : Type 0 where
   pub is-word : IsWord w
-  pub no-word : NoneOf wordKinds w
+  pub no-word : NoneAgree wordKinds w
+
+-- a word of the grammar in another case
+pub record IsOtherCase (w : List ℕ) : Type 0 where
+  pub is-word : IsWord w
+  pub some-word : OneAgrees wordKinds w
+  pub other-bytes : NoneOf wordKinds w
 
 -- `_` directly before a name
 pub record IsPrevious (w : List ℕ) : Type 0 where
@@ -74,6 +91,7 @@ Spelling plus w = w ≡ spellingOf plus
 Spelling minus w = w ≡ spellingOf minus
 Spelling star w = w ≡ spellingOf star
 Spelling slash w = w ≡ spellingOf slash
+Spelling otherCase w = IsOtherCase w
 
 -- ---- tokens in a text
 
@@ -85,7 +103,7 @@ pub record TokenFrom (text : List ℕ) (s n : ℕ) (k : Kind) : Type 0 where
   pub spells : Spelling k (part text s n)
   -- Tokens are read by longest match: no longer part from there spells a token.
   pub longest : (m : ℕ) (j : Kind) → n < m → m ≤ length text → Spelling j (part text s m) → ⊥
-  -- The name behind a `_` is read by longest match too, so that before a word of the grammar `_` is lone.
+  -- The name behind a `_` is read by longest match too, so that before a word of the grammar, in any case, `_` is lone.
   pub longest-name : k ≡ previous → (m : ℕ) (j : Kind) → n < m → m ≤ length text → Spelling j (part text (s + 1) m) → ⊥
 
 -- Space, tab, CR and LF separate: nothing else stands from a up to s.

@@ -16,6 +16,7 @@ pub data Kind : Type 0 where
   tilde ampersand bar : Kind
   equals less greater : Kind
   plus minus star slash : Kind
+  otherCase : Kind  -- a word of the grammar in another case (document 02, A.2)
 
 -- The table of spellings: words of the grammar, `input var init mod GX`, `..` `->` `<=` `>=` `<>`, and `; : ( ) [ ] ~ & | = < > + - * /`.
 -- A kind that has more than one spelling, or none, has no bytes here.
@@ -51,6 +52,7 @@ spellingOf plus = bytes "+"
 spellingOf minus = bytes "-"
 spellingOf star = bytes "*"
 spellingOf slash = bytes "/"
+spellingOf otherCase = []
 
 -- the kinds in it: words of the grammar, signs of two bytes, signs of one byte
 abbrev pub wordKinds : List Kind
@@ -96,10 +98,11 @@ kindNumber plus = 27
 kindNumber minus = 28
 kindNumber star = 29
 kindNumber slash = 30
+kindNumber otherCase = 31
 
 -- the greatest of them
 abbrev pub lastKind : ℕ
-lastKind = 30
+lastKind = 31
 
 -- the same kind
 unfoldable pub is : Kind → Kind → Bool

@@ -1,8 +1,10 @@
 // Classes of bytes, the runs that they make, and bytes compared.
 ghost use mathlib.Core.Path.{_≡_};
 ghost use lib.ListN.{getD};
-ghost use Rattle.lexer.specs.Bytes.{sameBytes};
-ghost use Rattle.lexer.specs.Lexer.{isSpace, isDigit, isLetter, runEnd};
+ghost use mathlib.Core.Bool.{_&&_};
+ghost use lib.Dec.{eqb, leb, ltb};
+ghost use Rattle.lexer.specs.Bytes.{sameBytes, capital};
+ghost use Rattle.lexer.specs.Lexer.{isSpace, isDigit, isLetter, runEnd, sameName};
 ghost use Rattle.lexer.specs.Inner.Classes.{member};
 
 // Classes of bytes that make runs.
@@ -108,6 +110,50 @@ pub fn same_bytes(a: &[u8], b: &[u8]) -> bool
             return false;
         }
         i += 1;
+    }
+    true
+}
+
+fn is_capital(b: u8) -> bool
+    ensures { λ r. ⌜ r ≡ (leb 65 b && ltb b 91) ⌝ }
+{
+    if b < 65 {
+        return false;
+    }
+    b < 91
+}
+
+// The same byte, or one letter in both cases: a small letter is 32 behind its capital.
+fn same_letter(x: u8, y: u8) -> bool
+    ensures { λ r. ⌜ r ≡ eqb (capital x) (capital y) ⌝ }
+{
+    if x == y {
+        return true;
+    }
+    let p = wide(x);
+    let q = wide(y);
+    if p + 32 == q {
+        return is_capital(x);
+    }
+    if q + 32 == p {
+        return is_capital(y);
+    }
+    false
+}
+
+pub fn same_capitals(a: &[u8], b: &[u8]) -> bool
+    ensures { λ r. ⌜ r ≡ sameName (now (a .entry)) (now (b .entry)) ⌝ }
+{
+    if a.len() != b.len() {
+        return false;
+    }
+    let mut i = 0;
+    while i < a.len() {
+        if same_letter(a[i], b[i]) {
+            i += 1;
+        } else {
+            return false;
+        }
     }
     true
 }

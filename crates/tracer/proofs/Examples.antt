@@ -6,9 +6,9 @@ use mathlib.Core.List.{List, [], _∷_, map}
 use Rattle.arith.specs.Values.{arithmetic, negation, compares}
 use Rattle.semantics.specs.Program.{within}
 use Rattle.semantics.specs.ReferenceScan.{picked, newValue, referenceScan}
-use Rattle.lexer.specs.Bytes.{bytes, sameBytes}
+use Rattle.lexer.specs.Bytes.{bytes, sameBytes, capital, capitals}
 use Rattle.lexer.specs.Token.{kindNumber, is}
-use Rattle.lexer.specs.Lexer.{isSpace, isDigit, isLetter, isAlphanumeric, runOn, runEnd, sameName, wordOf, overLong, pairOf, signOf, readOf, signAt, wordAt, digitsAt, previousAt, tokenOf, tokenPast, tokenAt, sameToken, valueOn, valueOf}
+use Rattle.lexer.specs.Lexer.{isSpace, isDigit, isLetter, isAlphanumeric, runOn, runEnd, sameName, grammarWord, exactWord, wordOf, overLong, pairOf, signOf, readOf, signAt, wordAt, digitsAt, previousAt, tokenOf, tokenPast, tokenAt, sameSpelling, sameToken, valueOn, valueOf}
 use Rattle.lexer.specs.Names.{idFrom, idOf}
 use Rattle.grammar.specs.Parsed.{expected, phrase, followed, rest, chain}
 use Rattle.grammar.specs.Expressions.{withId, currentAt, previousValueAt, constantAt as literalAt, primary, negative, factor, productOf, sumOf, term, expression, bracket, wholeExpression}
@@ -33,6 +33,8 @@ pub examples : List Example
 examples =
     prints "input go 0..1; var run 0..1;\nrun: GX(~(run = _run) -> [_run = 0 & go = 1] & run = (1) | [_run = 1 & go = 0] & run = (0));\nrun: GX(run = _run -> ~([_run = 0 & go = 1] | [_run = 1 & go = 0]));\n#\n1\n1\n2\n0\n"
     "scan go run result\n0 0 0 0\n1 1 1 0\n2 1 1 0\n3 1 1 13\n4 0 0 0\n"
+    -- names in other letter cases: the declared spelling is printed (document 02, A.2)
+    ∷ prints "input Go 0..1; var run 0..1; RUN: GX(~(Run = _rUn) -> [_RUN = 0 & GO = 1] & ruN = (go)); run: GX(run = _run -> ~([_run = 0 & go = 1]));\n#\n1\n" "scan Go run result\n0 0 0 0\n1 1 1 0\n"
     -- a refused text prints no rows; the line end before the `#` line belongs to it
     ∷ prints "var v 0..1;\n#\n0\n" "refused 6 at 12\n"
     -- without a `#` line there are no rows
@@ -47,5 +49,5 @@ examples =
 
 -- the definition gives what the table says
 pub examples-hold : map (λ (e : Example). printed (bytes (e .reads))) examples ≡ map (λ (e : Example). bytes (e .writes)) examples
-unfolding examples sameBytes kindNumber is isSpace isDigit isLetter isAlphanumeric runOn runEnd sameName wordOf overLong pairOf signOf readOf signAt wordAt digitsAt previousAt tokenOf tokenPast tokenAt sameToken valueOn valueOf expected phrase followed rest chain idFrom idOf withId currentAt previousValueAt literalAt primary negative factor productOf sumOf term expression bracket wholeExpression comparisonBy compared comparisonAt opposite inverted atom connect andOf orOf conjunction condition square wholeCondition listed inRange signedLiteralAt boundAt newName startAt declaration declarationsFrom declarations caseAt casesFrom listFrom plainList partFrom kindAt partsFrom firstFound agreeingList functionAt changeAt formulas ruleAt rulesFrom program parse programOf within picked newValue referenceScan arithmetic negation compares linesOf bare isHashLine textIn textOf rowsIn rowLines numberOf fieldsOf numbersOf rowOf longRow handedOf digitsUpTo unsignedDecimal decimalOf refusedLine headLine rowLine printed
+unfolding examples sameBytes kindNumber is isSpace isDigit isLetter isAlphanumeric runOn runEnd capital capitals sameName grammarWord exactWord wordOf overLong pairOf signOf readOf signAt wordAt digitsAt previousAt tokenOf tokenPast tokenAt sameSpelling sameToken valueOn valueOf expected phrase followed rest chain idFrom idOf withId currentAt previousValueAt literalAt primary negative factor productOf sumOf term expression bracket wholeExpression comparisonBy compared comparisonAt opposite inverted atom connect andOf orOf conjunction condition square wholeCondition listed inRange signedLiteralAt boundAt newName startAt declaration declarationsFrom declarations caseAt casesFrom listFrom plainList partFrom kindAt partsFrom firstFound agreeingList functionAt changeAt formulas ruleAt rulesFrom program parse programOf within picked newValue referenceScan arithmetic negation compares linesOf bare isHashLine textIn textOf rowsIn rowLines numberOf fieldsOf numbersOf rowOf longRow handedOf digitsUpTo unsignedDecimal decimalOf refusedLine headLine rowLine printed
 examples-hold = refl

@@ -4,7 +4,7 @@ use mathlib.Core.Path.{_≡_}
 use mathlib.Core.List.{List}
 use mathlib.Core.Option.{some}
 use lib.ListN.{length, getElem?}
-use Rattle.grammar.specs.Derivation.{Tokens, Spells, IsName}
+use Rattle.grammar.specs.Derivation.{Tokens, normal, Spells, IsName}
 use Rattle.grammar.specs.Spelled.{Distinct}
 
 -- the names of a text: no two the same, each of them a name
@@ -16,4 +16,4 @@ pub record Named (names : List (List ℕ)) : Type 0 where
 pub record TokensIn (text : List ℕ) (a b : ℕ) : Type 0 where
   pub tokens : Tokens
   pub within : a ≤ length text
-  pub spells : Spells text a b tokens
+  pub spells : Spells normal text a b tokens

@@ -1,12 +1,10 @@
 -- `lexer::same_name` meets its contract. Assumes nothing.
 use borrow.Author.Needs.{needs}
-use Rattle.lexer.specs.Lexer.{sameName}
 use Rattle.lexer.proofs.same_name.Statement.{statement}
 use Rattle.lexer.proofs.same_name.Tie as tie
 
 returns : tie.Need-returns
-unfolding sameName
-returns c = c .same-bytes .ensures
+returns c = c .same-capitals .ensures
 
 pub same-name-spec : {M : Type 1} → statement M
 same-name-spec = tie.close (tie.spec (λ c κs. search needs) returns)

@@ -7,60 +7,12 @@ use Rattle.lexer.proofs.word.Statement.{statement}
 use Rattle.lexer.proofs.word.Tie as tie
 
 returns : tie.Need-returns
-unfolding wordOf kindNumber
-returns c = rw (sym (c .before .same-bytes .ensures) ∙ c .if1 .taken)
+unfolding wordOf
+returns c = rw (sym (c .before .before .grammar-word .ensures) ∙ c .before .if1 .taken) (c .exact-word .ensures)
 
 returns-2 : tie.Need-returns-2
 unfolding wordOf kindNumber
-returns-2 c =
-    let c1 = c .before .before .before in
-    rw (sym (c .before .before .before .before .same-bytes .ensures) ∙ c1 .if1 .left, sym (c .before .same-bytes2 .ensures) ∙ c .if2 .taken)
-
-returns-3 : tie.Need-returns-3
-unfolding wordOf kindNumber
-returns-3 c =
-    let c2 = c .before .before .before in
-    let c1 = c2 .before .before .before in
-    let at-same-bytes = c1 .before in
-    rw (sym (at-same-bytes .same-bytes .ensures) ∙ c1 .if1 .left, sym (c .before .before .before .before .same-bytes2 .ensures) ∙ c2 .if2 .left, sym (c .before .same-bytes3 .ensures) ∙ c .if3 .taken)
-
-returns-4 : tie.Need-returns-4
-unfolding wordOf kindNumber
-returns-4 c =
-    let c3 = c .before .before .before in
-    let c2 = c3 .before .before .before in
-    let at-same-bytes2 = c2 .before in
-    let c1 = at-same-bytes2 .before .before in
-    let at-same-bytes = c1 .before in
-    rw (sym (at-same-bytes .same-bytes .ensures) ∙ c1 .if1 .left, sym (at-same-bytes2 .same-bytes2 .ensures) ∙ c2 .if2 .left, sym (c .before .before .before .before .same-bytes3 .ensures) ∙ c3 .if3 .left, sym (c .before .same-bytes4 .ensures) ∙ c .if4 .taken)
-
-returns-5 : tie.Need-returns-5
-unfolding wordOf kindNumber
-returns-5 c =
-    let c4 = c .before .before .before in
-    let c3 = c4 .before .before .before in
-    let at-same-bytes3 = c3 .before in
-    let c2 = at-same-bytes3 .before .before in
-    let at-same-bytes2 = c2 .before in
-    let c1 = at-same-bytes2 .before .before in
-    let at-same-bytes = c1 .before in
-    rw (sym (at-same-bytes .same-bytes .ensures) ∙ c1 .if1 .left, sym (at-same-bytes2 .same-bytes2 .ensures) ∙ c2 .if2 .left, sym (at-same-bytes3 .same-bytes3 .ensures) ∙ c3 .if3 .left, sym (c .before .before .before .before .same-bytes4 .ensures) ∙ c4 .if4 .left, sym (c .before .same-bytes5 .ensures) ∙ c .if5 .taken)
-
-returns-6 : tie.Need-returns-6
-unfolding wordOf kindNumber
-returns-6 c =
-    let c4 = c .before .before .before in
-    let c3 = c4 .before .before .before in
-    let at-same-bytes3 = c3 .before in
-    let c2 = at-same-bytes3 .before .before in
-    let at-same-bytes2 = c2 .before in
-    let c1 = at-same-bytes2 .before .before in
-    let at-same-bytes = c1 .before in
-    rw (sym (at-same-bytes .same-bytes .ensures) ∙ c1 .if1 .left, sym (at-same-bytes2 .same-bytes2 .ensures) ∙ c2 .if2 .left, sym (at-same-bytes3 .same-bytes3 .ensures) ∙ c3 .if3 .left, sym (c .before .before .before .before .same-bytes4 .ensures) ∙ c4 .if4 .left, sym (c .before .same-bytes5 .ensures) ∙ c .if5 .left)
+returns-2 c = rw (sym (c .before .grammar-word .ensures) ∙ c .if1 .left)
 
 pub word-spec : {M : Type 1} → statement M
-word-spec =
-    tie.close
-    (tie.spec (λ c. search needs) (λ c κs. search needs) returns (λ c. search needs) (λ c κs. search needs) returns-2 (λ c. search needs)
-    (λ c κs. search needs) returns-3 (λ c. search needs) (λ c κs. search needs) returns-4 (λ c. search needs) (λ c κs. search needs)
-    returns-5 returns-6)
+word-spec = tie.close (tie.spec (λ c κs. search needs) (λ c κs. search needs) returns returns-2)
