@@ -5,7 +5,7 @@ use mathlib.Core.Path.{_≡_, refl, ap, _∙_}
 use mathlib.Core.Bool.{Bool, true, false, not, _&&_}
 use mathlib.Core.List.{List, [], _∷_, _++_}
 use mathlib.Core.Option.{Option, none, some}
-use lib.Dec.{T, eqb, leb, ltb, ltb→lt, le→leb, eqb→eq, eqb-refl}
+use lib.Dec.{T, leb, ltb, ltb→lt, le→leb}
 use lib.ListN.{length, getD, drop}
 use lib.Seq.{drop-append-seam}
 use lib.Signed.{leZ}
@@ -18,7 +18,7 @@ use Rattle.leb128.specs.Numbers.{Read, got, nothing, numberAt, signedAt}
 use Rattle.bytecode.specs.Instructions.{Instruction, fetch}
 use Rattle.bytecode.specs.Translation.{RangesFit}
 use Rattle.bytecode.specs.Signature.{Sort, number, truth, Role, pushes, computes, tests, opens, picks, lets, settles, signature}
-use Rattle.bytecode.specs.Check.{Known, known, one, empty, unset, closed, fresh, opened, taking, admits, advance, complete, item, checkRange, checkRanges, checkCounts, Header, checkHeader, ends, checkCode, atStart, checkBody, checkOf}
+use Rattle.bytecode.specs.Check.{Picks, Known, known, one, empty, unset, closed, fresh, opened, taking, admits, advance, complete, item, checkRange, checkRanges, checkCounts, Header, checkHeader, ends, checkCode, atStart, checkBody, checkOf}
 use Rattle.bytecode.specs.Parts.{headerOf, codeOf, counted, countFrom, instructionsIn}
 use Rattle.bytecode.specs.Sound.{RangesAt, SpellsCode}
 use Rattle.bytecode.specs.Allowed.{leftIn, leftBy, leftByAll, AllowedIn, Allowed, Finished}
@@ -41,13 +41,9 @@ empty-is : (vs : List Sort) → T (empty vs) → vs ≡ []
 empty-is [] h = refl
 empty-is (v ∷ vs) h = absurd h
 
-closed-is : (o : Option ℕ) → T (closed o) → o ≡ none
+closed-is : (o : Option Picks) → T (closed o) → o ≡ none
 closed-is none h = refl
 closed-is (some u) h = absurd h
-
-opened-is : (o : Option ℕ) (v : ℕ) → T (opened o v) → o ≡ some v
-opened-is none v h = absurd h
-opened-is (some u) v h = ap some (eqb→eq u v h)
 
 -- the operands taken are those on top
 pub taking-shape : (xs vs : List Sort) (k : List Sort → Option Known) (d : Known) → taking xs vs k ≡ some d → (rest : List Sort) × (vs ≡ xs ++ rest) × (k rest ≡ some d)
@@ -63,11 +59,11 @@ taking-is (number ∷ xs) rest k = taking-is xs rest k
 taking-is (truth ∷ xs) rest k = taking-is xs rest k
 
 -- what an instruction of a role that keeps soundness needed, and leaves
-record KeptIn (r : Role) (rest : List Sort) (g : Bool) (o : Option ℕ) (ids : List Bool) (d : Known) : Type 0 where
+record KeptIn (r : Role) (rest : List Sort) (g : Bool) (o : Option Picks) (ids : List Bool) (d : Known) : Type 0 where
   allowed : AllowedIn r rest g o ids
   left : leftIn r rest g o ids ≡ d
 
-admitted : (r : Role) (rest : List Sort) (g : Bool) (o : Option ℕ) (ids : List Bool) (d : Known) → admits r rest g o ids ≡ some d → KeptIn r rest g o ids d
+admitted : (r : Role) (rest : List Sort) (g : Bool) (o : Option Picks) (ids : List Bool) (d : Known) → admits r rest g o ids ≡ some d → KeptIn r rest g o ids d
 admitted (pushes fits) rest g o ids d e =
     let h = guard-some (fits ids && ltb (length rest) 40) _ d e in
     record { allowed = (and-left (fits ids) _ (h .0), ltb→lt (length rest) 40 (and-right (fits ids) _ (h .0))); left = h .1 }
@@ -77,12 +73,12 @@ admitted opens rest g o ids d e =
     let h = guard-some (not g && empty rest) _ d e in
     let s : rest ≡ [] = empty-is rest (and-right (not g) _ (h .0)) in
     record { allowed = (T-not-false g (and-left (not g) _ (h .0)), s); left = rw s (h .1) }
-admitted (picks v) rest g o ids d e =
-    let h = guard-some (g && empty rest && unset ids v && fresh o v) _ d e in
-    let q = and-left (g && empty rest && unset ids v) (fresh o v) (h .0) in
+admitted (picks side v) rest g o ids d e =
+    let h = guard-some (g && empty rest && unset ids v && fresh o side v) _ d e in
+    let q = and-left (g && empty rest && unset ids v) (fresh o side v) (h .0) in
     let p = and-left (g && empty rest) (unset ids v) q in
     let s : rest ≡ [] = empty-is rest (and-right g _ p) in
-    record { allowed = (T-true g (and-left g _ p), s, and-right (g && empty rest) (unset ids v) q, and-right (g && empty rest && unset ids v) (fresh o v) (h .0)); left = rw s (h .1) }
+    record { allowed = (T-true g (and-left g _ p), s, and-right (g && empty rest) (unset ids v) q, and-right (g && empty rest && unset ids v) (fresh o side v) (h .0)); left = rw s (h .1) }
 admitted (lets v) rest g o ids d e =
     let h = guard-some (not g && empty rest && unset ids v && closed o) _ d e in
     let q = and-left (not g && empty rest && unset ids v) (closed o) (h .0) in
@@ -97,17 +93,17 @@ admitted (settles v) rest g o ids d e =
     let p = and-left (not g && empty rest) (unset ids v) q in
     let s : rest ≡ [] = empty-is rest (and-right (not g) _ p) in
     let f : g ≡ false = T-not-false g (and-left (not g) _ p) in
-    record { allowed = (f, s, and-right (not g && empty rest) (unset ids v) q, opened-is o v (and-right (not g && empty rest && unset ids v) (opened o v) (h .0))); left = rw (s, f) (h .1) }
+    record { allowed = (f, s, and-right (not g && empty rest) (unset ids v) q, and-right (not g && empty rest && unset ids v) (opened o v) (h .0)); left = rw (s, f) (h .1) }
 
 -- an instruction of a role that is allowed keeps soundness
-admits-allowed : (r : Role) (rest : List Sort) (g : Bool) (o : Option ℕ) (ids : List Bool) → AllowedIn r rest g o ids → admits r rest g o ids ≡ some (leftIn r rest g o ids)
+admits-allowed : (r : Role) (rest : List Sort) (g : Bool) (o : Option Picks) (ids : List Bool) → AllowedIn r rest g o ids → admits r rest g o ids ≡ some (leftIn r rest g o ids)
 admits-allowed (pushes fits) rest g o ids a = rw (T-true (fits ids) (a .0), lt-ltb (length rest) 40 (a .1))
 admits-allowed computes rest g o ids a = refl
 admits-allowed tests rest g o ids a = rw a
 admits-allowed opens rest g o ids a = rw (a .0, a .1)
-admits-allowed (picks v) rest g o ids a = rw (a .0, a .1, T-true (unset ids v) (a .2), T-true (fresh o v) (a .3))
+admits-allowed (picks side v) rest g o ids a = rw (a .0, a .1, T-true (unset ids v) (a .2), T-true (fresh o side v) (a .3))
 admits-allowed (lets v) rest g o ids a = rw (a .0, a .1, T-true (unset ids v) (a .2), a .3)
-admits-allowed (settles v) rest g o ids a = rw (a .0, a .1, T-true (unset ids v) (a .2), a .3, T-true (eqb v v) (eqb-refl v))
+admits-allowed (settles v) rest g o ids a = rw (a .0, a .1, T-true (unset ids v) (a .2), T-true (opened o v) (a .3))
 
 -- the values below the operands
 below : (i : Instruction) (vs rest : List Sort) → vs ≡ signature i .takes ++ rest → drop (length (signature i .takes)) vs ≡ rest

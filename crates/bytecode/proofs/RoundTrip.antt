@@ -10,6 +10,7 @@ use lib.ListN.{length, getD, drop, length-append, length-drop}
 use lib.Seq.{getD-drop}
 use borrow.Author.Tests.{lt-ltb, ltb-true}
 use Rattle.arith.specs.Values.{isInt32, add, subtract, multiply, divide, modulo, equal, notEqual, less, lessEqual, greater, greaterEqual}
+use Rattle.semantics.specs.Program.{changing}
 use Rattle.leb128.specs.Numbers.{number, zigzag, Read, got, nothing, _then_, numberAt}
 use Rattle.leb128.proofs.Signs.{unzigzag-zigzag}
 use Rattle.leb128.proofs.RoundTrip.{drop-behind, number-at, number-next, zigzag-small}
@@ -29,7 +30,7 @@ Small negated = Unit {0}
 Small both = Unit {0}
 Small either = Unit {0}
 Small gate = Unit {0}
-Small (pick i) = i < 2 ^ 32
+Small (pick side i) = i < 2 ^ 32
 Small (assign i) = i < 2 ^ 32
 Small (settle i) = i < 2 ^ 32
 
@@ -89,7 +90,7 @@ fetch-encoded bytes at negated rest l h = alone bytes at 16 negated rest refl re
 fetch-encoded bytes at both rest l h = alone bytes at 17 both rest refl refl h
 fetch-encoded bytes at either rest l h = alone bytes at 18 either rest refl refl h
 fetch-encoded bytes at gate rest l h = alone bytes at 19 gate rest refl refl h
-fetch-encoded bytes at (pick i) rest l h = with-number bytes at 20 i (pick i) rest refl l refl h
+fetch-encoded bytes at (pick changing i) rest l h = with-number bytes at 20 i (pick changing i) rest refl l refl h
 fetch-encoded bytes at (assign i) rest l h = with-number bytes at 21 i (assign i) rest refl l refl h
 fetch-encoded bytes at (settle i) rest l h = with-number bytes at 22 i (settle i) rest refl l refl h
 
@@ -104,7 +105,7 @@ length-encode negated = omega arith
 length-encode both = omega arith
 length-encode either = omega arith
 length-encode gate = omega arith
-length-encode (pick i) = omega arith
+length-encode (pick side i) = omega arith
 length-encode (assign i) = omega arith
 length-encode (settle i) = omega arith
 

@@ -12,7 +12,7 @@ use lib.Signed.{leZ}
 use borrow.Author.Tests.{lt-ltb, le-ltb}
 use Rattle.limits.specs.Answer.{Answer, accepted}
 use Rattle.arith.specs.Values.{isInt32}
-use Rattle.semantics.specs.Program.{Program, Range, Expression, Condition, Case, Rule, function, change, target, rangesOf, UsableE, UsableC, UsableK, UsableR, OrderedRules, knownFirst, allTrue, RangeFits}
+use Rattle.semantics.specs.Program.{Program, Range, Expression, Condition, Side, Case, Rule, function, change, target, rangesOf, UsableE, UsableC, UsableK, UsableR, OrderedRules, knownFirst, allTrue, RangeFits}
 use Rattle.semantics.specs.Program as P
 use Rattle.arith.proofs.Basics.{T-true, and-left, and-right}
 use Rattle.semantics.proofs.Reference.{length-known}
@@ -20,7 +20,7 @@ use Rattle.leb128.specs.Numbers.{number, zigzag}
 use Rattle.bytecode.specs.Instructions.{Instruction, constant, current, previous, operation, negate, comparison, negated, both, either, gate, pick, assign, settle, encode, encodeAll}
 use Rattle.bytecode.specs.Translation.{codeE, codeC, codeCase, codeK, codeR, codeRules, encodeRanges, encodeHeader, imageOf, depthE, depthC, ShallowK, ShallowR, Shallow, RangesFit, Translatable}
 use Rattle.bytecode.specs.Signature.{Sort, truth}
-use Rattle.bytecode.specs.Check.{Known, known, guard, one, empty, unset, closed, fresh, opened, advance, complete, checkRange, checkRanges, Header, checkCounts, checkHeader, checkCode, checkBody, checkOf}
+use Rattle.bytecode.specs.Check.{Picks, Known, known, guard, one, empty, unset, closed, fresh, opened, advance, complete, checkRange, checkRanges, Header, checkCounts, checkHeader, checkCode, checkBody, checkOf}
 use Rattle.bytecode.specs.Parts.{headerOf, codeOf}
 use Rattle.leb128.proofs.RoundTrip.{drop-behind, number-at, signed-at}
 use Rattle.bytecode.proofs.RoundTrip.{Small, AllSmall, fetch-encoded, length-encode, encoded-inside}
@@ -52,7 +52,7 @@ eqb-self : (n : ℕ) → eqb n n ≡ true
 eqb-self n = T-true (eqb n n) (eqb-refl n)
 
 module _ (ids : List Bool) where
-  adv-E : (e : Expression) (vs : List Sort) (g : Bool) (o : Option ℕ) → UsableE ids e → depthE e + length vs ≤ 40
+  adv-E : (e : Expression) (vs : List Sort) (g : Bool) (o : Option Picks) → UsableE ids e → depthE e + length vs ≤ 40
       → advances (codeE e) (known vs g o ids) ≡ some (known (Sort.number ∷ vs) g o ids)
   adv-E (P.constant z) vs g o u d = rw (T-true (isInt32 z) u, ltb-is (length vs) 40 (omega arith))
   adv-E (P.current i) vs g o u d = rw (u, ltb-is (length vs) 40 (omega arith))
@@ -63,7 +63,7 @@ module _ (ids : List Bool) where
       simp (advances-append, ha, hb)
   adv-E (P.negate a) vs g o u d = simp (advances-append, adv-E a vs g o u d)
 
-  adv-C : (c : Condition) (vs : List Sort) (o : Option ℕ) → UsableC ids c → depthC c + length vs ≤ 40
+  adv-C : (c : Condition) (vs : List Sort) (o : Option Picks) → UsableC ids c → depthC c + length vs ≤ 40
       → advances (codeC c) (known vs false o ids) ≡ some (known (truth ∷ vs) false o ids)
   adv-C (P.comparison x a b) vs o u d =
       let ha = adv-E a vs false o (u .0) (omega arith) in
@@ -80,19 +80,24 @@ module _ (ids : List Bool) where
       simp (advances-append, ha, hb)
 
   module _ (v : ℕ) (declared : v < length ids) (first : getD ids v false ≡ false) where
-    adv-case : (k : Case) (o : Option ℕ) → fresh o v ≡ true → UsableC ids (k .condition) → UsableE ids (k .value)
+    abbrev picksOn : Side → Picks
+    picksOn side = record { side = side; id = v }
+
+    adv-case : (k : Case) (o : Option Picks) → fresh o (k .side) v ≡ true → UsableC ids (k .condition) → UsableE ids (k .value)
         → depthC (k .condition) ≤ 40 → depthE (k .value) ≤ 40
-        → advances (codeCase v k) (known [] false o ids) ≡ some (known [] false (some v) ids)
+        → advances (codeCase v k) (known [] false o ids) ≡ some (known [] false (some (picksOn (k .side))) ids)
     adv-case k o h uc ue dc de =
         let hc = adv-C (k .condition) [] o uc (omega arith) in
         let he = adv-E (k .value) [] true o ue (omega arith) in
         simp (advances-append, hc, he, ltb-is v (length ids) declared, first, h)
 
-    adv-K : (ks : List Case) → UsableK ids ks → ShallowK ks → advances (codeK v ks) (known [] false (some v) ids) ≡ some (known [] false (some v) ids)
-    adv-K [] u d = refl
-    adv-K (k ∷ ks) u d =
-        let h = adv-case k (some v) (eqb-self v) (u .0) (u .1) (d .0) (d .1) in
-        rw (advances-append (codeCase v k) (codeK v ks), h) (adv-K ks (u .2) (d .2))
+    adv-K : (side : Side) (ks : List Case) → UsableK ids ks → ShallowK ks
+        → (last : Side) × (advances (codeK v ks) (known [] false (some (picksOn side)) ids) ≡ some (known [] false (some (picksOn last)) ids))
+    adv-K side [] u d = (side, refl)
+    adv-K side (k ∷ ks) u d =
+        let h = adv-case k (some (picksOn side)) (eqb-self v) (u .0) (u .1) (d .0) (d .1) in
+        let ih = adv-K (k .side) ks (u .2) (d .2) in
+        (ih .0, rw (advances-append (codeCase v k) (codeK v ks), h) (ih .1))
 
   adv-R : (r : Rule) → UsableR ids r → ShallowR r → target r < length ids → getD ids (target r) false ≡ false
       → advances (codeR r) (known [] false none ids) ≡ some (known [] false none (set ids (target r) true))
@@ -102,8 +107,8 @@ module _ (ids : List Bool) where
   adv-R (change v [] cs) u d l f = let b : ⊥ = omega (arith, d .0) in absurd b
   adv-R (change v (k ∷ ks) cs) u d l f =
       let h = adv-case v l f k none refl (u .0) (u .1) (d .1 .0) (d .1 .1) in
-      let hs = adv-K v l f ks (u .2) (d .1 .2) in
-      rw (advances-append (codeCase v k ++ codeK v ks) (settle v ∷ []), advances-append (codeCase v k) (codeK v ks), h, hs, ltb-is v (length ids) l, f, eqb-self v)
+      let hs = adv-K v l f (k .side) ks (u .2) (d .1 .2) in
+      rw (advances-append (codeCase v k ++ codeK v ks) (settle v ∷ []), advances-append (codeCase v k) (codeK v ks), h, hs .1, ltb-is v (length ids) l, f, eqb-self v)
 
 adv-rules : (rs : List Rule) (ids : List Bool) → OrderedRules ids rs → Shallow rs
     → (end : List Bool) × (advances (codeRules rs) (known [] false none ids) ≡ some (known [] false none end)) × (allTrue end ≡ true)
@@ -156,13 +161,13 @@ record Advanced (i : Instruction) (ids : List Bool) (d : Known) : Type 0 where
   same : length (idsOf d) ≡ length ids
 
 module _ (ids : List Bool) (few : length ids ≤ 64) where
-  same-ids : (i : Instruction) (vs : List Sort) (g : Bool) (o : Option ℕ) (d : Known) → Small i → known vs g o ids ≡ d → Advanced i ids d
+  same-ids : (i : Instruction) (vs : List Sort) (g : Bool) (o : Option Picks) (d : Known) → Small i → known vs g o ids ≡ d → Advanced i ids d
   same-ids i vs g o d s e = record { small = s; same = ap (λ c. length (idsOf c)) (sym e) }
 
-  set-ids : (i : Instruction) (vs : List Sort) (g : Bool) (o : Option ℕ) (v : ℕ) (d : Known) → Small i → known vs g o (set ids v true) ≡ d → Advanced i ids d
+  set-ids : (i : Instruction) (vs : List Sort) (g : Bool) (o : Option Picks) (v : ℕ) (d : Known) → Small i → known vs g o (set ids v true) ≡ d → Advanced i ids d
   set-ids i vs g o v d s e = record { small = s; same = ap (λ c. length (idsOf c)) (sym e) ∙ length-set ids v true }
 
-  advanced : (i : Instruction) (vs : List Sort) (g : Bool) (o : Option ℕ) (d : Known) → advance i (known vs g o ids) ≡ some d → Advanced i ids d
+  advanced : (i : Instruction) (vs : List Sort) (g : Bool) (o : Option Picks) (d : Known) → advance i (known vs g o ids) ≡ some d → Advanced i ids d
   advanced (constant z) vs g o d e =
       let h = guard-some (isInt32 z && ltb (length vs) 40) _ d e in
       same-ids (constant z) (Sort.number ∷ vs) g o d (and-left (isInt32 z) _ (h .0)) (h .1)
@@ -193,11 +198,11 @@ module _ (ids : List Bool) (few : length ids ≤ 64) where
       let b = one-some Sort.truth (a .0) _ d (a .1) in
       same-ids either (truth ∷ b .0) g o d tt (guard-some (not g) _ d (b .1) .1)
   advanced gate vs g o d e = let a = one-some Sort.truth vs _ d e in same-ids gate [] true o d tt (guard-some (not g && empty (a .0)) _ d (a .1) .1)
-  advanced (pick v) vs g o d e =
+  advanced (pick side v) vs g o d e =
       let a = one-some Sort.number vs _ d e in
-      let h = guard-some (g && empty (a .0) && unset ids v && fresh o v) _ d (a .1) in
-      let l : v < length ids = unset-inside ids v (third g (empty (a .0)) (unset ids v) (fresh o v) (h .0)) in
-      same-ids (pick v) [] false (some v) d (omega arith) (h .1)
+      let h = guard-some (g && empty (a .0) && unset ids v && fresh o side v) _ d (a .1) in
+      let l : v < length ids = unset-inside ids v (third g (empty (a .0)) (unset ids v) (fresh o side v) (h .0)) in
+      same-ids (pick side v) [] false (some (record { side = side; id = v })) d (omega arith) (h .1)
   advanced (assign v) vs g o d e =
       let a = one-some Sort.number vs _ d e in
       let h = guard-some (not g && empty (a .0) && unset ids v && closed o) _ d (a .1) in

@@ -12,7 +12,7 @@ use lib.ListN.{length, getD, drop, drop-of-length-le}
 use lib.Seq.{drop-cons}
 use borrow.Author.Tests.{eqb-true, leb-true, le-leb, lt-leb, ltb-true}
 use Rattle.arith.proofs.Basics.{T-true, true-T, and-left, and-right}
-use Rattle.semantics.specs.Program.{Range}
+use Rattle.semantics.specs.Program.{Range, changing}
 use Rattle.leb128.specs.Numbers.{number, zigzag, unzigzag, Read, got, nothing, _then_, numberAt, signedAt}
 use Rattle.leb128.proofs.Laws.{Bytes}
 use Rattle.leb128.proofs.Signs.{zigzag-unzigzag}
@@ -103,7 +103,7 @@ module _ (c n : ℕ) (i : Instruction) where
       case (eqb c 17) _ _ (single 17 both refl) (λ z₈.
       case (eqb c 18) _ _ (single 18 either refl) (λ z₉.
       case (eqb c 19) _ _ (single 19 gate refl) (λ z₁₀.
-      case (eqb c 20) _ _ (single 20 (pick n) refl) (λ z₁₁.
+      case (eqb c 20) _ _ (single 20 (pick changing n) refl) (λ z₁₁.
       case (eqb c 21) _ _ (single 21 (assign n) refl) (λ z₁₂.
       case (eqb c 22) _ _ (single 22 (settle n) refl) (λ z₁₃. unlisted)))))))))))))
 

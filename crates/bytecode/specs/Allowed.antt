@@ -1,6 +1,6 @@
 -- Soundness place by place: what must hold at an instruction, of what those before it leave. Document 01, "The image" (Sound). Assumes
 -- nothing.
-use Prim.Native.Nat.{ℕ, _<_}
+use Prim.Native.Nat.{_<_}
 use mathlib.Core.Path.{_≡_}
 use mathlib.Core.Bool.{Bool, true, false}
 use mathlib.Core.List.{List, [], _∷_, _++_}
@@ -11,7 +11,7 @@ use Rattle.limits.specs.Limits.{stackLimit}
 use Rattle.semantics.specs.Program.{allTrue}
 use Rattle.bytecode.specs.Instructions.{Instruction}
 use Rattle.bytecode.specs.Signature.{Sort, Role, pushes, computes, tests, opens, picks, lets, settles, signature, giving}
-use Rattle.bytecode.specs.Check.{Known, known, unset, fresh}
+use Rattle.bytecode.specs.Check.{Picks, Known, known, unset, fresh, opened}
 use Rattle.bytecode.specs.Sound.{idsIn}
 
 -- ---- what instructions leave
@@ -22,22 +22,22 @@ gateBy (pushes fits) g = g
 gateBy computes g = g
 gateBy tests g = g
 gateBy opens g = true
-gateBy (picks v) g = false
+gateBy (picks side v) g = false
 gateBy (lets v) g = g
 gateBy (settles v) g = g
 
--- the variable whose picks await their settle
-abbrev pub picksBy : Role → Option ℕ → Option ℕ
+-- the picks that await their settle
+abbrev pub picksBy : Role → Option Picks → Option Picks
 picksBy (pushes fits) o = o
 picksBy computes o = o
 picksBy tests o = o
 picksBy opens o = o
-picksBy (picks v) o = some v
+picksBy (picks side v) o = some (record { side = side; id = v })
 picksBy (lets v) o = o
 picksBy (settles v) o = none
 
 -- all that is known after an instruction of a role, of the values below its operands
-abbrev pub leftIn : Role → List Sort → Bool → Option ℕ → List Bool → Known
+abbrev pub leftIn : Role → List Sort → Bool → Option Picks → List Bool → Known
 leftIn r rest g o ids = known (giving r rest) (gateBy r g) (picksBy r o) (idsIn r ids)
 
 abbrev pub leftBy : Instruction → Known → Known
@@ -49,7 +49,7 @@ leftByAll (i ∷ is) c = leftByAll is (leftBy i c)
 
 -- ---- what must hold at an instruction, and at the end
 
-abbrev pub AllowedIn : Role → List Sort → Bool → Option ℕ → List Bool → Type 0
+abbrev pub AllowedIn : Role → List Sort → Bool → Option Picks → List Bool → Type 0
 -- constants in signed 32-bit range, ids of names declared, current values by the rule above; never over 40 values held
 AllowedIn (pushes fits) rest g o ids = T (fits ids) × (length rest < stackLimit)
 AllowedIn computes rest g o ids = Unit {0}
@@ -58,14 +58,14 @@ AllowedIn tests rest g o ids = g ≡ false
 -- gate finds just one yes-no; each gate has its pick
 AllowedIn opens rest g o ids = (g ≡ false) × (rest ≡ [])
 -- pick just one number; each pick its gate; no pick of another id before the settle; a variable neither settled nor let, no input
-AllowedIn (picks v) rest g o ids = (g ≡ true) × (rest ≡ []) × T (unset ids v) × T (fresh o v)
+AllowedIn (picks side v) rest g o ids = (g ≡ true) × (rest ≡ []) × T (unset ids v) × T (fresh o side v)
 -- let just one number; no let between picks and their settle
 AllowedIn (lets v) rest g o ids = (g ≡ false) × (rest ≡ []) × T (unset ids v) × (o ≡ none)
 -- settle none; picks of the same id, at least one, before it
-AllowedIn (settles v) rest g o ids = (g ≡ false) × (rest ≡ []) × T (unset ids v) × (o ≡ some v)
+AllowedIn (settles v) rest g o ids = (g ≡ false) × (rest ≡ []) × T (unset ids v) × T (opened o v)
 
 -- operands of the right sort, numbers or yes-no, then what the role asks for
-pub record AllowedOn (i : Instruction) (vs : List Sort) (g : Bool) (o : Option ℕ) (ids : List Bool) : Type 0 where
+pub record AllowedOn (i : Instruction) (vs : List Sort) (g : Bool) (o : Option Picks) (ids : List Bool) : Type 0 where
   pub rest : List Sort
   pub operands : vs ≡ signature i .takes ++ rest
   pub in-role : AllowedIn (signature i .role) rest g o ids

@@ -9,7 +9,7 @@ use lib.Signed.{leZ}
 use Rattle.limits.specs.Limits.{stackLimit, nameLimit, imageLimit, tooLong, brokenImage}
 use Rattle.limits.specs.Answer.{Answer, accepted, refused, _andThen_}
 use Rattle.arith.specs.Values.{isInt32}
-use Rattle.semantics.specs.Program.{Range, allTrue, knownFirst}
+use Rattle.semantics.specs.Program.{Range, Side, allTrue, knownFirst}
 use Rattle.leb128.specs.Numbers.{Read, got, nothing, numberAt, signedAt}
 use Rattle.bytecode.specs.Instructions.{Instruction, fetch}
 use Rattle.bytecode.specs.Signature.{Sort, number, truth, Role, pushes, computes, tests, opens, picks, lets, settles, signature}
@@ -73,10 +73,15 @@ checkHeader bytes = checkCounts bytes andThen λ c. checkRanges bytes (c .names)
 
 -- ---- one instruction
 
--- What is known before an instruction: the sorts of the values held; whether a gate awaits its pick; the variable whose picks
--- await their settle; and of each id whether its current value may be used.
+-- picks that await their settle: the side of the last, and their variable
+pub record Picks : Type 0 where
+  pub side : Side
+  pub id : ℕ
+
+-- What is known before an instruction: the sorts of the values held; whether a gate awaits its pick; the picks that await their
+-- settle; and of each id whether its current value may be used.
 pub data Known : Type 0 where
-  known : List Sort → Bool → Option ℕ → List Bool → Known
+  known : List Sort → Bool → Option Picks → List Bool → Known
 
 abbrev pub guard : Bool → Known → Option Known
 guard true c = some c
@@ -100,19 +105,19 @@ abbrev pub unset : List Bool → ℕ → Bool
 unset ids v = ltb v (length ids) && not (getD ids v false)
 
 -- no picks await a settle
-abbrev pub closed : Option ℕ → Bool
+abbrev pub closed : Option Picks → Bool
 closed none = true
-closed (some u) = false
+closed (some p) = false
 
--- picks of v may follow
-abbrev pub fresh : Option ℕ → ℕ → Bool
-fresh none v = true
-fresh (some u) v = eqb u v
+-- a pick of v on a side may follow
+abbrev pub fresh : Option Picks → Side → ℕ → Bool
+fresh none side v = true
+fresh (some p) side v = eqb (p .id) v
 
 -- picks of v await their settle
-abbrev pub opened : Option ℕ → ℕ → Bool
+abbrev pub opened : Option Picks → ℕ → Bool
 opened none v = false
-opened (some u) v = eqb u v
+opened (some p) v = eqb (p .id) v
 
 -- the operands taken are on top, of the right sorts, and what follows goes on with the values below them
 abbrev pub taking : List Sort → List Sort → (List Sort → Option Known) → Option Known
@@ -120,8 +125,8 @@ taking [] vs k = k vs
 taking (x ∷ xs) vs k = one x vs λ rest. taking xs rest k
 
 -- What an instruction of a role leaves, or that it breaks soundness: of the values below its operands, whether a gate awaits its pick,
--- the variable whose picks await their settle, and the ids whose current values may be used.
-abbrev pub admits : Role → List Sort → Bool → Option ℕ → List Bool → Option Known
+-- the picks that await their settle, and the ids whose current values may be used.
+abbrev pub admits : Role → List Sort → Bool → Option Picks → List Bool → Option Known
 -- constants in signed 32-bit range, ids of names declared, current values by the rule above; never over 40 values held
 admits (pushes fits) rest g o ids = guard (fits ids && ltb (length rest) stackLimit) (known (number ∷ rest) g o ids)
 admits computes rest g o ids = some (known (number ∷ rest) g o ids)
@@ -130,7 +135,7 @@ admits tests rest g o ids = guard (not g) (known (truth ∷ rest) g o ids)
 -- gate finds just one yes-no; each gate has its pick
 admits opens rest g o ids = guard (not g && empty rest) (known [] true o ids)
 -- pick just one number; each pick its gate; not picked after it is settled or let, no input ever; no pick of another id before the settle
-admits (picks v) rest g o ids = guard (g && empty rest && unset ids v && fresh o v) (known [] false (some v) ids)
+admits (picks side v) rest g o ids = guard (g && empty rest && unset ids v && fresh o side v) (known [] false (some (record { side = side; id = v })) ids)
 -- let just one number; each variable settled or let once, no input ever; no let between picks and their settle
 admits (lets v) rest g o ids = guard (not g && empty rest && unset ids v && closed o) (known [] false none (set ids v true))
 -- settle none; each variable settled or let once, no input ever; picks of the same id before it, at least one

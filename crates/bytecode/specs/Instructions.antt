@@ -7,6 +7,7 @@ use lib.Dec.{eqb, leb, ltb}
 use lib.IntN.{ℤ}
 use lib.ListN.{length, getD}
 use Rattle.arith.specs.Values.{Operation, add, subtract, multiply, divide, modulo, Comparison, equal, notEqual, less, lessEqual, greater, greaterEqual}
+use Rattle.semantics.specs.Program.{Side, changing}
 use Rattle.leb128.specs.Numbers.{number, zigzag, unzigzag, Read, got, nothing, _then_, numberAt}
 
 -- Instructions (decimal code byte): 1 constant (signed), 2 current id, 3 previous id, 4 + 5 − 6 × 7 / 8 mod 9 negate, 10 = 11 <>
@@ -22,7 +23,7 @@ pub data Instruction : Type 0 where
   both : Instruction
   either : Instruction
   gate : Instruction
-  pick : ℕ → Instruction
+  pick : Side → ℕ → Instruction
   assign : ℕ → Instruction
   settle : ℕ → Instruction
 
@@ -43,6 +44,9 @@ comparisonCode lessEqual = 13
 comparisonCode greater = 14
 comparisonCode greaterEqual = 15
 
+abbrev pub pickCode : Side → ℕ
+pickCode changing = 20
+
 abbrev pub encode : Instruction → List ℕ
 encode (constant z) = 1 ∷ number (zigzag z)
 encode (current i) = 2 ∷ number i
@@ -54,7 +58,7 @@ encode negated = 16 ∷ []
 encode both = 17 ∷ []
 encode either = 18 ∷ []
 encode gate = 19 ∷ []
-encode (pick i) = 20 ∷ number i
+encode (pick side i) = pickCode side ∷ number i
 encode (assign i) = 21 ∷ number i
 encode (settle i) = 22 ∷ number i
 
@@ -84,7 +88,7 @@ instructionOf code n =
     (cond (eqb code 17) (some both)
     (cond (eqb code 18) (some either)
     (cond (eqb code 19) (some gate)
-    (cond (eqb code 20) (some (pick n))
+    (cond (eqb code 20) (some (pick changing n))
     (cond (eqb code 21) (some (assign n))
     (cond (eqb code 22) (some (settle n)) none))))))))))))
 

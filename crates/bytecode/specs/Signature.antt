@@ -6,6 +6,7 @@ use mathlib.Core.List.{List, [], _∷_}
 use lib.Dec.{ltb}
 use lib.ListN.{length, getD, drop}
 use Rattle.arith.specs.Values.{isInt32}
+use Rattle.semantics.specs.Program.{Side}
 use Rattle.bytecode.specs.Instructions.{Instruction, constant, current, previous, operation, negate, comparison, negated, both, either, gate, pick, assign, settle}
 
 -- operands of the right sort, numbers or yes-no
@@ -19,9 +20,10 @@ pub data Role : Type 0 where
   computes : Role
   -- codes 10 to 18: a yes-no
   tests : Role
-  -- gate; pick, let and settle, of a variable
+  -- gate; pick, on a side, let and settle, of a variable
   opens : Role
-  picks lets settles : ℕ → Role
+  picks : Side → ℕ → Role
+  lets settles : ℕ → Role
 
 pub record Signature : Type 0 where
   pub takes : List Sort
@@ -39,7 +41,7 @@ signature negated = record { takes = truth ∷ []; role = tests }
 signature both = record { takes = truth ∷ truth ∷ []; role = tests }
 signature either = record { takes = truth ∷ truth ∷ []; role = tests }
 signature gate = record { takes = truth ∷ []; role = opens }
-signature (pick v) = record { takes = number ∷ []; role = picks v }
+signature (pick side v) = record { takes = number ∷ []; role = picks side v }
 signature (assign v) = record { takes = number ∷ []; role = lets v }
 signature (settle v) = record { takes = []; role = settles v }
 
@@ -49,7 +51,7 @@ giving (pushes fits) rest = number ∷ rest
 giving computes rest = number ∷ rest
 giving tests rest = truth ∷ rest
 giving opens rest = rest
-giving (picks v) rest = rest
+giving (picks side v) rest = rest
 giving (lets v) rest = rest
 giving (settles v) rest = rest
 

@@ -6,7 +6,7 @@ use mathlib.Core.List.{List, [], _∷_, _++_}
 use lib.Dec.{T}
 use lib.ListN.{length, set, drop}
 use Rattle.limits.specs.Limits.{stackLimit, nameLimit, imageLimit}
-use Rattle.semantics.specs.Program.{Range, allTrue, knownFirst}
+use Rattle.semantics.specs.Program.{Range, Side, allTrue, knownFirst}
 use Rattle.leb128.specs.Numbers.{got, numberAt, signedAt}
 use Rattle.bytecode.specs.Instructions.{Instruction, gate, pick, settle, fetch}
 use Rattle.bytecode.specs.Signature.{Sort, Role, pushes, computes, tests, opens, picks, lets, settles, signature, heldBy}
@@ -24,7 +24,7 @@ idsIn (pushes fits) ids = ids
 idsIn computes ids = ids
 idsIn tests ids = ids
 idsIn opens ids = ids
-idsIn (picks v) ids = ids
+idsIn (picks side v) ids = ids
 idsIn (lets v) ids = set ids v true
 idsIn (settles v) ids = set ids v true
 
@@ -38,7 +38,7 @@ PlainIn (pushes fits) = Unit {0}
 PlainIn computes = Unit {0}
 PlainIn tests = ⊥
 PlainIn opens = ⊥
-PlainIn (picks v) = ⊥
+PlainIn (picks side v) = ⊥
 PlainIn (lets v) = ⊥
 PlainIn (settles v) = ⊥
 
@@ -51,7 +51,7 @@ WithinIn v (pushes fits) = Unit {0}
 WithinIn v computes = Unit {0}
 WithinIn v tests = Unit {0}
 WithinIn v opens = Unit {0}
-WithinIn v (picks u) = u ≡ v
+WithinIn v (picks side u) = u ≡ v
 WithinIn v (lets u) = ⊥
 WithinIn v (settles u) = ⊥
 
@@ -65,9 +65,10 @@ Every P (i ∷ is) = P i × Every P is
 -- the code after a gate: codes 1 to 9, then the pick
 pub record HasPick (after : List Instruction) : Type 0 where
   pub between : List Instruction
+  pub side : Side
   pub id : ℕ
   pub rest : List Instruction
-  pub found : after ≡ between ++ pick id ∷ rest
+  pub found : after ≡ between ++ pick side id ∷ rest
   pub plain : Every Plain between
 
 -- the code after a pick of v: no let, and no pick or settle of another id, up to the settle of v
@@ -88,7 +89,8 @@ pub record HasGate (before : List Instruction) : Type 0 where
 pub record HasPicks (v : ℕ) (before : List Instruction) : Type 0 where
   pub first : List Instruction
   pub between : List Instruction
-  pub found : before ≡ first ++ pick v ∷ between
+  pub side : Side
+  pub found : before ≡ first ++ pick side v ∷ between
   pub same : Every (Within v) between
 
 -- what a role asks for, of the values below the operands and the ids known there
@@ -101,7 +103,7 @@ FittingIn tests rest ids = Unit {0}
 -- gate finds just one yes-no
 FittingIn opens rest ids = rest ≡ []
 -- pick and let just one number, settle none; each variable settled or let once, not picked after that, no input ever
-FittingIn (picks v) rest ids = (rest ≡ []) × T (unset ids v)
+FittingIn (picks side v) rest ids = (rest ≡ []) × T (unset ids v)
 FittingIn (lets v) rest ids = (rest ≡ []) × T (unset ids v)
 FittingIn (settles v) rest ids = (rest ≡ []) × T (unset ids v)
 
@@ -116,9 +118,9 @@ pub record SoundCode (first : List Bool) (code : List Instruction) : Type 0 wher
   pub fitting : (before : List Instruction) (i : Instruction) (after : List Instruction) → code ≡ before ++ i ∷ after → Fitting i (heldAfter before []) (idsAfter before first)
   -- each gate has its pick and each pick its gate, with only codes 1 to 9 between
   pub gates : (before after : List Instruction) → code ≡ before ++ gate ∷ after → HasPick after
-  pub gated : (before : List Instruction) (v : ℕ) (after : List Instruction) → code ≡ before ++ pick v ∷ after → HasGate before
+  pub gated : (before : List Instruction) (side : Side) (v : ℕ) (after : List Instruction) → code ≡ before ++ pick side v ∷ after → HasGate before
   -- picks followed by the settle of the same id, at least one, with no let, and no pick or settle of another id, in between
-  pub settled : (before : List Instruction) (v : ℕ) (after : List Instruction) → code ≡ before ++ pick v ∷ after → HasSettle v after
+  pub settled : (before : List Instruction) (side : Side) (v : ℕ) (after : List Instruction) → code ≡ before ++ pick side v ∷ after → HasSettle v after
   pub picked : (before : List Instruction) (v : ℕ) (after : List Instruction) → code ≡ before ++ settle v ∷ after → HasPicks v before
   -- nothing missing at the end: no value held, each variable settled or let
   pub none-held : heldAfter code [] ≡ []

@@ -24,7 +24,7 @@ codeC (P.either a b) = codeC a ++ codeC b ++ either ∷ []
 
 -- A case is: condition, gate, expression, pick.
 abbrev pub codeCase : ℕ → Case → List Instruction
-codeCase v k = codeC (k .condition) ++ (gate ∷ codeE (k .value) ++ pick v ∷ [])
+codeCase v k = codeC (k .condition) ++ (gate ∷ codeE (k .value) ++ pick (k .side) v ∷ [])
 
 abbrev pub codeK : ℕ → List Case → List Instruction
 codeK v [] = []

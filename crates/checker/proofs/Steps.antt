@@ -12,10 +12,11 @@ use borrow.Author.Tests.{eq-eqb, ne-eqb}
 use Rattle.arith.specs.Inner.Flags.{flagsOf}
 use Rattle.arith.specs.Values.{Operation, Comparison, isInt32}
 use Rattle.arith.proofs.Basics.{T-true}
+use Rattle.semantics.specs.Program.{Side, changing}
 use Rattle.leb128.specs.Numbers.{unzigzag}
 use Rattle.bytecode.specs.Instructions.{constant, operation, negate, comparison, negated, both, either, gate, pick, assign}
 use Rattle.bytecode.specs.Signature.{Sort, number, truth}
-use Rattle.bytecode.specs.Check.{Known, known, guard, one, empty, unset, closed, fresh, opened, advance}
+use Rattle.bytecode.specs.Check.{Picks, Known, known, guard, one, empty, unset, closed, fresh, opened, advance}
 use Rattle.bytecode.proofs.Heading.{unzigzag-int32}
 use Rattle.bytecode.proofs.Paired.{gateOf}
 use Rattle.checker.specs.declared.advance.Walk.{Walk}
@@ -136,7 +137,7 @@ pub closed-not : (p : ℕ) → (p ≡ 0 → ⊥) → closed (picksOf p) ≡ fals
 closed-not zero h = absurd (h refl)
 closed-not (suc p) h = refl
 
-pub suc-picks : (v : ℕ) → picksOf (v + 1) ≡ some v
+pub suc-picks : (v : ℕ) → picksOf (v + 1) ≡ some (record { side = changing; id = v })
 suc-picks v = rw (add-one v)
 
 pub opened-yes : (p v : ℕ) → p ≡ v + 1 → opened (picksOf p) v ≡ true
@@ -150,7 +151,7 @@ opened-not (suc p) v h = ne-eqb p v (λ e. h (omega arith))
 same-suc : (p v : ℕ) → eqb (suc p) (v + 1) ≡ eqb p v
 same-suc p v = rw (add-one v) (eqb·suc-suc p v)
 
-pub fresh-is : (p v : ℕ) → (p ≡ 0 → ⊥) → fresh (picksOf p) v ≡ eqb p (v + 1)
+pub fresh-is : (p v : ℕ) → (p ≡ 0 → ⊥) → fresh (picksOf p) changing v ≡ eqb p (v + 1)
 fresh-is zero v h = absurd (h refl)
 fresh-is (suc p) v h = sym (same-suc p v)
 
@@ -164,7 +165,7 @@ two-none truth [] = refl
 two-none truth (number ∷ vs) = refl
 two-none truth (truth ∷ vs) = one-none truth vs
 
-two-is : (s : Sort) (vs : List Sort) (g : Bool) (o : Option ℕ) (ids : List Bool)
+two-is : (s : Sort) (vs : List Sort) (g : Bool) (o : Option Picks) (ids : List Bool)
     → (one s vs λ vs₁. one s vs₁ λ vs₂. guard (not g) (known (truth ∷ vs₂) g o ids)) ≡ outside g (joined s truth (known vs g o ids))
 unfolding joined
 two-is s vs true o ids = two-none s vs
@@ -192,7 +193,7 @@ unfolding kept
 negated-is (known vs true o ids) = one-none truth vs
 negated-is (known vs false o ids) = refl
 
-module _ (g : Bool) (o : Option ℕ) (ids : List Bool) where
+module _ (g : Bool) (o : Option Picks) (ids : List Bool) where
   pub gate-is : (vs : List Sort) → advance gate (known vs g o ids) ≡ guard (not g && only truth vs) (known [] true o ids)
   gate-is vs = go g vs
     where
@@ -213,8 +214,9 @@ module _ (g : Bool) (o : Option ℕ) (ids : List Bool) where
   number-is h a b c (number ∷ []) = refl
   number-is h a b c (number ∷ x ∷ vs) = refl
 
-  pub pick-is : (v : ℕ) (vs : List Sort) → advance (pick v) (known vs g o ids) ≡ guard (g && only number vs && unset ids v && fresh o v) (known [] false (some v) ids)
-  pick-is v vs = number-is g (unset ids v) (fresh o v) _ vs
+  pub pick-is : (side : Side) (v : ℕ) (vs : List Sort)
+      → advance (pick side v) (known vs g o ids) ≡ guard (g && only number vs && unset ids v && fresh o side v) (known [] false (some (record { side = side; id = v })) ids)
+  pick-is side v vs = number-is g (unset ids v) (fresh o side v) _ vs
 
   pub assign-is : (v : ℕ) (vs : List Sort)
       → advance (assign v) (known vs g o ids) ≡ guard (not g && only number vs && unset ids v && closed o) (known [] false none (set ids v true))

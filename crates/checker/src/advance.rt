@@ -6,6 +6,7 @@ ghost use mathlib.Core.Bool.{true, false};
 ghost use Prim.Native.Nat.{_<_, _^_};
 ghost use lib.ListN.{getD, set};
 ghost use Rattle.arith.specs.Inner.Flags.{flagsOf};
+ghost use Rattle.semantics.specs.Program.{changing};
 ghost use Rattle.bytecode.specs.Instructions.{current as currentOf, previous as previousOf, gate as gateOf, pick as pickOf, assign as assignOf, settle as settleOf, instructionOf};
 ghost use Rattle.bytecode.specs.Signature.{truth};
 ghost use Rattle.bytecode.specs.Check.{known as knownAs, advance as advanceOf, unset as unsetOf, fresh};
@@ -188,7 +189,7 @@ fn is_unset(w: Walk, id: u64) -> bool
 // Picks of this id may follow.
 fn may_pick(w: Walk, id: u64) -> bool
     requires { ⌜ id < 2 ^ 32 ⌝ }
-    ensures { λ r. ⌜ r ≡ fresh (picksOf (w .picking)) id ⌝ }
+    ensures { λ r. ⌜ r ≡ fresh (picksOf (w .picking)) changing id ⌝ }
 {
     if w.picking == 0 {
         return true;
@@ -198,7 +199,7 @@ fn may_pick(w: Walk, id: u64) -> bool
 
 pub fn pick(w: Walk, id: u64) -> Advanced
     requires { ⌜ (Small w) × (id < 2 ^ 32) ⌝ }
-    ensures { λ r. ⌜ advancedKnown r ≡ advanceOf (pickOf id) (knownOf w) ⌝ }
+    ensures { λ r. ⌜ advancedKnown r ≡ advanceOf (pickOf changing id) (knownOf w) ⌝ }
     ensures { λ r. ⌜ SmallAfter r ⌝ }
 {
     if w.gate == 0 {

@@ -152,5 +152,5 @@ module _ (names : List (List ℕ)) (good : Named names) where
   balanced-more ts us f g = joined-balanced (bytes "|") ts us or-other f g
 
   pub balanced-cases : (v : List ℕ) (ts ls : Tokens) (ks : List Case) → SpellsCases (normals names) v ts ls ks → Balanced ls
-  balanced-cases v ts ls ks (one-case us vs k c e) = balanced-squared _ us _ c
-  balanced-cases v ts ls ks (more-cases us vs ws ms k js c e r) = balanced-more (squared us) ms (balanced-squared _ us _ c) (balanced-cases v ws ms js r)
+  balanced-cases v ts ls ks (one-case us vs k s c e) = balanced-squared _ us _ c
+  balanced-cases v ts ls ks (more-cases us vs ws ms k js s c e r) = balanced-more (squared us) ms (balanced-squared _ us _ c) (balanced-cases v ws ms js r)

@@ -14,7 +14,7 @@ use Rattle.arith.specs.Values.{ok}
 use Rattle.semantics.specs.Program.{Range}
 use Rattle.bytecode.specs.Instructions.{Instruction, instructionOf, decoded, fetch}
 use Rattle.bytecode.specs.Signature.{Sort}
-use Rattle.bytecode.specs.Check.{known}
+use Rattle.bytecode.specs.Check.{Picks, known}
 use Rattle.bytecode.proofs.Soundness.{none≢some}
 use Rattle.bytecode.proofs.Codes.{comparison-of, none-above, past}
 use Rattle.checker.specs.declared.advance.Advanced.{Advanced}
@@ -58,7 +58,7 @@ at-each {P} k code l y n = by (eqb code k) (eqb-true code k) (eqb-false code k)
     by true a b = y (a refl)
     by false a b = n (past k code l (b refl))
 
-module _ (vs : List Sort) (o : Option ℕ) (ids : List Bool) (code n : ℕ) where
+module _ (vs : List Sort) (o : Option Picks) (ids : List Bool) (code n : ℕ) where
   open-above : 16 ≤ code → (code ≡ 20 → ⊥) → advanceBy (instructionOf code n) (known vs true o ids) ≡ none
   unfolding instructionOf
   open-above l no-pick =

@@ -12,7 +12,7 @@ use Rattle.arith.proofs.Laws.{mag-int32}
 use Rattle.lexer.specs.Bytes.{bytes}
 use Rattle.lexer.specs.Token.{Kind, kindNumber, closeRound, openSquare, bar, is, token}
 use Rattle.lexer.specs.Lexer.{tokenAt, valueOf}
-use Rattle.semantics.specs.Program.{Expression, Condition, Case, UsableE, UsableC, UsableK}
+use Rattle.semantics.specs.Program.{Expression, Condition, changing, Case, UsableE, UsableC, UsableK}
 use Rattle.grammar.specs.Parsed.{accepted, sign, phrase, followed}
 use Rattle.grammar.specs.Expressions.{Scope, productOf, sumOf, wholeExpression}
 use Rattle.grammar.specs.Conditions.{listed}
@@ -85,13 +85,13 @@ module _ (sc : Scope) (good : Named (sc .names)) where
     pub reads : caseAt sc w at place ≡ accepted (spanned k at to) m
     pub lists : Spells normal (sc .text) at to (squared ts)
 
-  case-goes : (w : List ℕ) (at n n1 n2 n3 n4 : ℕ) (k : Case) → listed sc n ≡ accepted (k .condition) n1 → phrase (sc .text) (caseValueOpening w) n1 ≡ accepted tt n2 → wholeExpression sc n2 ≡ accepted (k .value) n3 → followed (sc .text) (sign closeRound ∷ []) (spanned k at n1) n3 ≡ accepted (spanned k at n1) n4 → caseAt sc w at n ≡ accepted (spanned k at n1) n4
+  case-goes : (w : List ℕ) (at n n1 n2 n3 n4 : ℕ) (k : Case) → k .side ≡ changing → listed sc n ≡ accepted (k .condition) n1 → phrase (sc .text) (caseValueOpening w) n1 ≡ accepted tt n2 → wholeExpression sc n2 ≡ accepted (k .value) n3 → followed (sc .text) (sign closeRound ∷ []) (spanned k at n1) n3 ≡ accepted (spanned k at n1) n4 → caseAt sc w at n ≡ accepted (spanned k at n1) n4
   unfolding caseAt
-  case-goes w at n n1 n2 n3 n4 k e1 e2 e3 e4 = rw (e1, e2, e3) e4
+  case-goes w at n n1 n2 n3 n4 k es e1 e2 e3 e4 = rw (e1, e2, e3, ← es) e4
 
-  case-reads : (w : List ℕ) → IsName w → (ts us : List (List ℕ)) (k : Case) → SpellsC (normals (sc .names)) D.condition bracketLimit ts (k .condition) → SpellsE (normals (sc .names)) D.expression bracketLimit us (k .value) → UsableC (sc .known) (k .condition) → UsableE (sc .known) (k .value) → (at m : ℕ) → at ≤ length (sc .text) → Spells normal (sc .text) at m (cased w ts us) → CaseReads w at m ts k
+  case-reads : (w : List ℕ) → IsName w → (ts us : List (List ℕ)) (k : Case) → k .side ≡ changing → SpellsC (normals (sc .names)) D.condition bracketLimit ts (k .condition) → SpellsE (normals (sc .names)) D.expression bracketLimit us (k .value) → UsableC (sc .known) (k .condition) → UsableE (sc .known) (k .value) → (at m : ℕ) → at ≤ length (sc .text) → Spells normal (sc .text) at m (cased w ts us) → CaseReads w at m ts k
   unfolding signs isFixed kindNumber productOf sumOf is
-  case-reads w nm ts us k dc de uc ue at m h g =
+  case-reads w nm ts us k es dc de uc ue at m h g =
       let text = sc .text in
       let p = split normally text at m (squared ts ++ bytes "&" ∷ w ∷ bytes "=" ∷ bytes "(" ∷ us) (bytes ")" ∷ []) g in
       let q = split normally text at (p .place) (squared ts) (bytes "&" ∷ w ∷ bytes "=" ∷ bytes "(" ∷ us) (p .first) in
@@ -107,7 +107,7 @@ module _ (sc : Scope) (good : Named (sc .names)) where
         place = n;
         to = q .place;
         opens = fixed-at normally text openSquare refl at n h (q .first .1);
-        reads = case-goes w at n (q .place) (r .place) (p .place) m k
+        reads = case-goes w at n (q .place) (r .place) (p .place) m k es
             (spelled-listed sc good ts (k .condition) dc uc n (q .place) i0 (q .first .2))
             (phrase-reads normally text (caseValueOpening w) refl (nm, tt) (q .place) (r .place) i1 (r .first))
             (spelled-expression sc good us (k .value) de ue (r .place) (p .place) i2 (r .second) closeRound (p .second .1 .start) (p .second .0) close (refl, refl))
@@ -131,15 +131,15 @@ module _ (sc : Scope) (good : Named (sc .names)) where
 
   pub cases-read : (w : List ℕ) → IsName w → (left : ℕ) (done : List Spanned) (us ls : List (List ℕ)) (ks : List Case) → SpellsCases (normals (sc .names)) w us ls ks → UsableK (sc .known) ks → length ks ≤ left → (at n : ℕ) → at ≤ length (sc .text) → Spells normal (sc .text) at n us → (k : Kind) (s m : ℕ) → tokenAt (sc .text) n ≡ token k s m → is k bar ≡ false → CasesReads w left done at n ls ks
   unfolding isFixed kindNumber
-  cases-read w nm zero done us ls ks (one-case ts vs c dc de) u room at n h g k s m et nb = absurd (omega arith)
-  cases-read w nm zero done us ls ks (more-cases ts vs cs ms c js dc de r) u room at n h g k s m et nb = absurd (omega arith)
-  cases-read w nm (suc left) done us ls ks (one-case ts vs c dc de) u room at n h g k s m et nb =
-      let x = case-reads w nm ts vs c dc de (u .0) (u .1) at n h g in
+  cases-read w nm zero done us ls ks (one-case ts vs c es dc de) u room at n h g k s m et nb = absurd (omega arith)
+  cases-read w nm zero done us ls ks (more-cases ts vs cs ms c js es dc de r) u room at n h g k s m et nb = absurd (omega arith)
+  cases-read w nm (suc left) done us ls ks (one-case ts vs c es dc de) u room at n h g k s m et nb =
+      let x = case-reads w nm ts vs c es dc de (u .0) (u .1) at n h g in
       let sp = spanned c at (x .to) in
       record { spans = sp ∷ []; reads = cases-stop w left done at (x .start) (x .place) n k s m sp (x .opens) (x .reads) et nb; are-cases = refl; lists = last sp (squared ts) h (x .lists) }
-  cases-read w nm (suc left) done us ls ks (more-cases ts vs cs ms c js dc de r) u room at n h g k s m et nb =
+  cases-read w nm (suc left) done us ls ks (more-cases ts vs cs ms c js es dc de r) u room at n h g k s m et nb =
       let p = split normally (sc .text) at n (cased w ts vs) (bytes "|" ∷ cs) g in
-      let x = case-reads w nm ts vs c dc de (u .0) (u .1) at (p .place) h (p .first) in
+      let x = case-reads w nm ts vs c es dc de (u .0) (u .1) at (p .place) h (p .first) in
       let i1 = spells-in normally (sc .text) at (p .place) (cased w ts vs) h (p .first) .1 in
       let m2 = p .second .0 in
       let i2 = stands-in normally (sc .text) (p .place) m2 (bytes "|") i1 (p .second .1) .1 in

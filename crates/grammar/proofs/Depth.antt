@@ -62,9 +62,9 @@ depthRules (r ∷ rs) = max (depthR r) (depthRules rs)
 
 module _ (names : List (List ℕ)) where
   cases-depth : (w : List ℕ) (ts ls : List (List ℕ)) (ks : List Case) → SpellsCases names w ts ls ks → (1 ≤ length ks) × (depthK ks ≤ 38)
-  cases-depth w ts ls ks (one-case us vs k c e) =
+  cases-depth w ts ls ks (one-case us vs k s c e) =
       (omega arith, omega (arith, condition-depth names D.condition bracketLimit us (k .condition) c, expression-depth names D.expression bracketLimit vs (k .value) e))
-  cases-depth w ts ls ks (more-cases us vs cs ms k js c e r) =
+  cases-depth w ts ls ks (more-cases us vs cs ms k js s c e r) =
       (omega arith, omega (arith, condition-depth names D.condition bracketLimit us (k .condition) c, expression-depth names D.expression bracketLimit vs (k .value) e, cases-depth w cs ms js r .1))
 
   pub rules-depth : (ts : List (List ℕ)) (rs : List Rule) → SpellsRules names ts rs → depthRules rs ≤ 38

@@ -9,7 +9,7 @@ use Rattle.lexer.specs.Bytes.{bytes}
 use Rattle.lexer.specs.Token.{kindNumber, closeRound, openSquare, bar, is}
 use Rattle.lexer.specs.Lexer.{tokenAt}
 use Rattle.lexer.proofs.Laws.{cond-prop, token-at-moved}
-use Rattle.semantics.specs.Program.{Case, UsableK}
+use Rattle.semantics.specs.Program.{changing, Case, UsableK}
 use Rattle.grammar.specs.Parsed.{Parsed, accepted, refused, sign, phrase, followed}
 use Rattle.grammar.specs.Expressions.{Scope, wholeExpression}
 use Rattle.grammar.specs.Conditions.{listed}
@@ -31,8 +31,8 @@ caseRest w ts us = (ts ++ bytes "]" ∷ []) ++ bytes "&" ∷ w ∷ bytes "=" ∷
 
 -- the list of the conditions of cases is one
 pub cases-list : (names : List (List ℕ)) (v : List ℕ) (ts ls : List (List ℕ)) (ks : List Case) → SpellsCases names v ts ls ks → SpellsList names ls (map (λ k. k .condition) ks)
-cases-list names v ts ls ks (one-case us vs k c e) = one-listed us (k .condition) c
-cases-list names v ts ls ks (more-cases us vs ws ms k js c e r) = more-listed us ms (k .condition) (map (λ k. k .condition) js) c (cases-list names v ws ms js r)
+cases-list names v ts ls ks (one-case us vs k s c e) = one-listed us (k .condition) c
+cases-list names v ts ls ks (more-cases us vs ws ms k js s c e r) = more-listed us ms (k .condition) (map (λ k. k .condition) js) c (cases-list names v ws ms js r)
 
 module _ (sc : Scope) where
   -- a case after its `[`, which begins at `at` and ends at n
@@ -42,6 +42,7 @@ module _ (sc : Scope) where
     pub lists : Spells normal (sc .text) n (c .span .to) (conditions ++ bytes "]" ∷ [])
     pub spells : Spells normal (sc .text) n m (caseRest w conditions values)
     pub begins : c .span .from ≡ at
+    pub sided : c .case .side ≡ changing
     pub condition : ScopedC sc D.condition bracketLimit conditions (c .case .condition)
     pub value : ScopedE sc D.expression bracketLimit values (c .case .value)
 
@@ -77,6 +78,7 @@ module _ (sc : Scope) where
         lists = s1;
         spells = spells-append normally (sc .text) n n3 n4 ((ts ++ bytes "]" ∷ []) ++ bytes "&" ∷ w ∷ bytes "=" ∷ bytes "(" ∷ d3 .tokens) (bytes ")" ∷ []) s13 s4;
         begins = refl;
+        sided = refl;
         condition = d1 .derives .derives;
         value = d3 .derives;
       }))))
@@ -116,7 +118,7 @@ module _ (sc : Scope) where
           tokens = tokens;
           list = squared (r .conditions);
           spells = (n, st, r .spells);
-          derives = one-case (r .conditions) (r .values) (c .case) (r .condition .0) (r .value .0);
+          derives = one-case (r .conditions) (r .values) (c .case) (r .sided) (r .condition .0) (r .value .0);
           lists = last c (squared (r .conditions)) span-within span-spells;
           counted = omega arith;
           usable = λ g. (r .condition .1 g, r .value .1 g, tt);
@@ -130,7 +132,7 @@ module _ (sc : Scope) where
           tokens = tokens ++ bytes "|" ∷ q .tokens;
           list = squared (r .conditions) ++ bytes "|" ∷ q .list;
           spells = spells-append normally (sc .text) at m j tokens (bytes "|" ∷ q .tokens) (n, st, r .spells) (i, su, q .spells);
-          derives = more-cases (r .conditions) (r .values) (q .tokens) (q .list) (c .case) (casesOf (q .more)) (r .condition .0) (r .value .0) (q .derives);
+          derives = more-cases (r .conditions) (r .values) (q .tokens) (q .list) (c .case) (casesOf (q .more)) (r .sided) (r .condition .0) (r .value .0) (q .derives);
           lists = next c (q .more) (squared (r .conditions)) (q .list) span-within span-spells (q .lists);
           counted = omega (arith, q .counted);
           usable = λ g. (r .condition .1 g, r .value .1 g, q .usable g);

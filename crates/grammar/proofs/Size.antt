@@ -109,8 +109,8 @@ module _ (names : List (List ℕ)) (few : length names ≤ 64) (v : ℕ) (hv : v
       simp length-append (omega (arith, g .1, f .1, id-bytes v (omega arith)))
 
   cases-make : (w : List ℕ) (ts ls : List (List ℕ)) (ks : List Case) → SpellsCases names w ts ls ks → 2 * length (bytesK v ks) ≤ 3 * bytesOf ts
-  cases-make w ts ls ks (one-case us vs k c e) = omega (arith, case-makes us vs k c e, case-bytes w us vs)
-  cases-make w ts ls ks (more-cases us vs cs ms k js c e r) =
+  cases-make w ts ls ks (one-case us vs k s c e) = omega (arith, case-makes us vs k c e, case-bytes w us vs)
+  cases-make w ts ls ks (more-cases us vs cs ms k js s c e r) =
       omega (arith, case-makes us vs k c e, case-bytes w us vs, cases-code v k js, cases-make w cs ms js r, bytes-append (cased w us vs) (bytes "|" ∷ cs))
 
 module _ (sc : Scope) (few : length (sc .names) ≤ 64) (v : ℕ) (hv : v < 64) where

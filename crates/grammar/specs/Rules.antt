@@ -8,7 +8,7 @@ use Rattle.limits.specs.Limits.{caseLimit, notAllowed, wrongRule, listsDiffer, 
 use Rattle.lexer.specs.Bytes.{part}
 use Rattle.lexer.specs.Token.{Kind, name, ending, closeRound, openSquare, tilde, bar, is, TokenRead, token, fault}
 use Rattle.lexer.specs.Lexer.{tokenAt, sameToken}
-use Rattle.semantics.specs.Program.{Condition, Case, Rule, function, change, target, allTrue}
+use Rattle.semantics.specs.Program.{Condition, changing, Case, Rule, function, change, target, allTrue}
 use Rattle.grammar.specs.Parsed.{Parsed, accepted, refused, andThen, onToken, sign, phrase, followed}
 use Rattle.grammar.specs.Expressions.{Scope, withId, wholeExpression}
 use Rattle.grammar.specs.Conditions.{listed}
@@ -32,7 +32,7 @@ caseAt sc w at n =
     andThen (listed sc n) (λ c n1.
     andThen (phrase (sc .text) (caseValueOpening w) n1) (λ u n2.
     andThen (wholeExpression sc n2) (λ e n3.
-    followed (sc .text) (sign closeRound ∷ []) (record { case = record { condition = c; value = e }; span = record { from = at; to = n1 } }) n3)))
+    followed (sc .text) (sign closeRound ∷ []) (record { case = record { side = changing; condition = c; value = e }; span = record { from = at; to = n1 } }) n3)))
 
 -- cases with `|` between them, after those done, with `left` cases left to read: the next is refused by 8 at its bracket
 unfoldable pub casesFrom : ℕ → Scope → List ℕ → List Spanned → ℕ → Parsed (List Spanned)

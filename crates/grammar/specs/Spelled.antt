@@ -8,7 +8,7 @@ use mathlib.Core.Option.{some}
 use lib.ListN.{length, getElem?}
 use lib.IntN.{ℤ, pos, negℤ}
 use Rattle.limits.specs.Limits.{textLimit, nameLimit, caseLimit, bracketLimit}
-use Rattle.semantics.specs.Program.{Range, Name, Expression, Condition, Case, Rule, function, change, Program, Ordered, RangeFits}
+use Rattle.semantics.specs.Program.{Range, Name, Expression, Condition, changing, Case, Rule, function, change, Program, Ordered, RangeFits}
 use Rattle.lexer.specs.Bytes.{bytes}
 use Rattle.lexer.specs.Lexer.{sameName, valueOf}
 use Rattle.lexer.specs.Spelling.{IsDigits, Separated}
@@ -59,8 +59,8 @@ cased v ts us = squared ts ++ bytes "&" ∷ v ∷ bytes "=" ∷ bytes "(" ∷ us
 
 -- the cases of the variable v, `[c] & v = (e) | [c] & v = (e)`; the tokens of their list of conditions, `[c] | [c]`
 pub data SpellsCases (names : List (List ℕ)) (v : List ℕ) : Tokens → Tokens → List Case → Type 0 where
-  one-case : (ts us : Tokens) (k : Case) → SpellsC names condition bracketLimit ts (k .condition) → SpellsE names expression bracketLimit us (k .value) → SpellsCases names v (cased v ts us) (squared ts) (k ∷ [])
-  more-cases : (ts us cs ls : Tokens) (k : Case) (ks : List Case) → SpellsC names condition bracketLimit ts (k .condition) → SpellsE names expression bracketLimit us (k .value) → SpellsCases names v cs ls ks → SpellsCases names v (cased v ts us ++ bytes "|" ∷ cs) (squared ts ++ bytes "|" ∷ ls) (k ∷ ks)
+  one-case : (ts us : Tokens) (k : Case) → k .side ≡ changing → SpellsC names condition bracketLimit ts (k .condition) → SpellsE names expression bracketLimit us (k .value) → SpellsCases names v (cased v ts us) (squared ts) (k ∷ [])
+  more-cases : (ts us cs ls : Tokens) (k : Case) (ks : List Case) → k .side ≡ changing → SpellsC names condition bracketLimit ts (k .condition) → SpellsE names expression bracketLimit us (k .value) → SpellsCases names v cs ls ks → SpellsCases names v (cased v ts us ++ bytes "|" ∷ cs) (squared ts ++ bytes "|" ∷ ls) (k ∷ ks)
 
 -- `[c] | [c]`
 pub data SpellsList (names : List (List ℕ)) : Tokens → List Condition → Type 0 where

@@ -8,10 +8,10 @@ use lib.Dec.{ltb}
 use lib.IntN.{ℤ}
 use lib.ListN.{length, getD, set, length-map}
 use lib.Signed.{leZ}
-use Rattle.arith.specs.Values.{ok, refusal, eqZ}
-use Rattle.semantics.specs.Program.{Range, within}
+use Rattle.arith.specs.Values.{ok, refusal}
+use Rattle.semantics.specs.Program.{Range, Side, within}
 use Rattle.semantics.specs.Formula.{State, at}
-use Rattle.semantics.specs.ReferenceScan.{noRange, rangeAt, picked}
+use Rattle.semantics.specs.ReferenceScan.{noRange, rangeAt, moves, stays, picked}
 use Rattle.bytecode.specs.Instructions.{assign, pick, settle}
 use Rattle.machine.specs.Step.{machine, perform}
 use Rattle.machine.specs.Inner.Memory.{heldOf, RangesIn}
@@ -42,8 +42,8 @@ module _ (ns : List Range) (low high : List ℤ) (names : RangesIn ns low high) 
     pub assign-undeclared : length low ≤ i → refusal 11 ≡ perform ns s (assign i) c (heldOf l n) t
     assign-undeclared h = rw (pop-top l n _ some, undeclared-here i h)
 
-    pub pick-undeclared : length low ≤ i → refusal 11 ≡ perform ns s (pick i) c (heldOf l n) t
-    pick-undeclared h = rw (pop-top l n _ some, undeclared-here i h)
+    pub pick-undeclared : (side : Side) → length low ≤ i → refusal 11 ≡ perform ns s (pick side i) c (heldOf l n) t
+    pick-undeclared side h = rw (pop-top l n _ some, undeclared-here i h)
 
     module _ (h : i < length low) where
       pub assign-outside : (leZ (at low i) (at l (n - 1)) && leZ (at l (n - 1)) (at high i)) ≡ false → refusal 17 ≡ perform ns s (assign i) c (heldOf l n) t
@@ -53,14 +53,14 @@ module _ (ns : List Range) (low high : List ℤ) (names : RangesIn ns low high) 
           → ok (machine false c (heldOf l (n - 1)) (set t i (at l (n - 1)))) ≡ perform ns s (assign i) c (heldOf l n) t
       assign-inside e = rw (pop-top l n _ some, declared-here i h, range-at i (at l (n - 1)), e)
 
-      pub pick-equal : eqZ (at l (n - 1)) (at s i) ≡ true → refusal 16 ≡ perform ns s (pick i) c (heldOf l n) t
+      pub pick-refused : (side : Side) → moves side (at s i) (at l (n - 1)) ≡ false → refusal (stays side) ≡ perform ns s (pick side i) c (heldOf l n) t
       unfolding picked
-      pick-equal e = rw (pop-top l n _ some, declared-here i h, e)
+      pick-refused side e = rw (pop-top l n _ some, declared-here i h, e)
 
-      -- another value than the previous one is assigned
-      pub pick-other : eqZ (at l (n - 1)) (at s i) ≡ false → perform ns s (assign i) true (heldOf l n) t ≡ perform ns s (pick i) c (heldOf l n) t
+      -- a value on the side wanted is assigned
+      pub pick-moved : (side : Side) → moves side (at s i) (at l (n - 1)) ≡ true → perform ns s (assign i) true (heldOf l n) t ≡ perform ns s (pick side i) c (heldOf l n) t
       unfolding picked
-      pick-other e = rw (held-top l n (not-none n some), declared-here i h, e)
+      pick-moved side e = rw (held-top l n (not-none n some), declared-here i h, e)
 
 module _ (ns : List Range) (s : State) (l : List ℤ) (n i : ℕ) (t : State) (size : length ns ≡ length s) where
   pub settle-undeclared : (c : Bool) → length s ≤ i → refusal 11 ≡ perform ns s (settle i) c (heldOf l n) t

@@ -1,15 +1,15 @@
 -- A run keeps every current value in its range, whatever the code. Assumes nothing.
 use Prim.Native.Nat.{ℕ, zero, suc, _+_}
 use mathlib.Core.Path.{_≡_, refl, _∙_}
-use mathlib.Core.Bool.{Bool, true, false, not, cond}
+use mathlib.Core.Bool.{Bool, true, false, cond}
 use mathlib.Core.List.{List, [], _∷_}
 use lib.Dec.{T, ltb}
 use lib.IntN.{ℤ}
 use lib.ListN.{length, set, length-set}
-use Rattle.arith.specs.Values.{Outcome, ok, refusal, _>>=_, require, eqZ, arithmetic, negation}
-use Rattle.semantics.specs.Program.{Range, within}
+use Rattle.arith.specs.Values.{Outcome, ok, refusal, _>>=_, require, arithmetic, negation}
+use Rattle.semantics.specs.Program.{Range, Side, within}
 use Rattle.semantics.specs.Formula.{State, at}
-use Rattle.semantics.specs.ReferenceScan.{rangeAt, allWithin, ranged, picked}
+use Rattle.semantics.specs.ReferenceScan.{rangeAt, allWithin, ranged, moves, stays, picked}
 use Rattle.arith.proofs.Basics.{Bound, bound, unbind, passed}
 use Rattle.semantics.proofs.Unique.{allWithin-at, allWithin-set}
 use Rattle.leb128.specs.Numbers.{Read, got, nothing}
@@ -60,11 +60,11 @@ module _ (ns : List Range) (s : State) (old : Within ns s) where
   ranged-within : (v : ℕ) (x z : ℤ) → ranged ns v x ≡ ok z → T (within (rangeAt ns v) z)
   ranged-within v x z e = let b = passed (within (rangeAt ns v) x) 17 x z e in rw (← (b .1)) (b .0)
 
-  picked-within : (v : ℕ) (x z : ℤ) → picked ns s v x ≡ ok z → T (within (rangeAt ns v) z)
+  picked-within : (side : Side) (v : ℕ) (x z : ℤ) → picked side ns s v x ≡ ok z → T (within (rangeAt ns v) z)
   unfolding picked
-  picked-within v x z e = go (unbind (require (not (eqZ x (at s v))) 16 x) _ z e)
+  picked-within side v x z e = go (unbind (require (moves side (at s v) x) (stays side) x) _ z e)
     where
-      go : Bound (require (not (eqZ x (at s v))) 16 x) (λ y. ranged ns v y) z → T (within (rangeAt ns v) z)
+      go : Bound (require (moves side (at s v) x) (stays side) x) (λ y. ranged ns v y) z → T (within (rangeAt ns v) z)
       go (bound y p q) = ranged-within v y z q
 
   perform-within : (i : Instruction) (c : Bool) (vs : List ℤ) (t : State) → Within ns t → AllWithin ns (perform ns s i c vs t)
@@ -78,7 +78,7 @@ module _ (ns : List Range) (s : State) (old : Within ns s) where
   perform-within both c vs t w = pop-within vs _ λ b vs₁. pop-within vs₁ _ λ a vs₂. w
   perform-within either c vs t w = pop-within vs _ λ b vs₁. pop-within vs₁ _ λ a vs₂. w
   perform-within gate c vs t w = pop-within vs _ λ a vs₁. gated-within (yes a) c vs₁ t w
-  perform-within (pick v) c vs t w = pop-within vs _ λ x vs₁. cond-within (ltb v (length ns)) _ (bind-within (picked ns s v x) _ λ z e. set-within t v z w (picked-within v x z e))
+  perform-within (pick side v) c vs t w = pop-within vs _ λ x vs₁. cond-within (ltb v (length ns)) _ (bind-within (picked side ns s v x) _ λ z e. set-within t v z w (picked-within side v x z e))
   perform-within (assign v) c vs t w = pop-within vs _ λ x vs₁. cond-within (ltb v (length ns)) _ (bind-within (ranged ns v x) _ λ z e. set-within t v z w (ranged-within v x z e))
   perform-within (settle v) c vs t w = cond-within (ltb v (length ns)) _ (settled-within v c vs t w)
 

@@ -13,13 +13,13 @@ use lib.Signed.{quotZ}
 use borrow.Author.Tests.{lt-ltb, ltb-true}
 use Rattle.limits.specs.Answer.{accepted}
 use Rattle.arith.specs.Values.{Outcome, ok, refusal, _>>=_, require, eqZ, isInt32, int32, nonZero, remainder, Operation, add, subtract, multiply, divide, modulo, arithmetic, negation, compares}
-use Rattle.semantics.specs.Program.{Range, within}
+use Rattle.semantics.specs.Program.{Range, Side, changing, within}
 use Rattle.semantics.specs.Formula.{State, at}
-use Rattle.semantics.specs.ReferenceScan.{rangeAt, ranged, picked}
+use Rattle.semantics.specs.ReferenceScan.{rangeAt, ranged, moves, stays, picked}
 use Rattle.arith.proofs.Basics.{T-true, and-left, and-right, ok≢refusal}
 use Rattle.bytecode.specs.Instructions.{Instruction, constant, current, previous, operation, negate, comparison, negated, both, either, gate, pick, assign, settle}
 use Rattle.bytecode.specs.Signature.{Sort, Role, pushes, computes, tests, opens, picks, lets, settles, signature}
-use Rattle.bytecode.specs.Check.{Known, known, one, empty, unset, closed, fresh, opened, admits, advance, checkCode}
+use Rattle.bytecode.specs.Check.{Picks, Known, known, one, empty, unset, closed, fresh, opened, admits, advance, checkCode}
 use Rattle.bytecode.proofs.RoundTrip.{fetch-next}
 use Rattle.bytecode.proofs.Soundness.{some-inj, none≢some, guard-some, idsOf, known-inside, advance-small, third}
 use Rattle.bytecode.proofs.Exactly.{taking-shape}
@@ -80,11 +80,14 @@ negation-rules a k e = int32-rules (negℤ a) k e
 ranged-rules : (ns : List Range) (v : ℕ) (z : ℤ) (k : ℕ) → ranged ns v z ≡ refusal k → ByRules k
 ranged-rules ns v z k e = by-rules 17 k (omega arith) (omega arith) (require-number (within (rangeAt ns v) z) 17 z k e)
 
-picked-rules : (ns : List Range) (s : State) (v : ℕ) (z : ℤ) (k : ℕ) → picked ns s v z ≡ refusal k → ByRules k
+stays-rules : (side : Side) (k : ℕ) → stays side ≡ k → ByRules k
+stays-rules changing k e = by-rules 16 k (omega arith) (omega arith) e
+
+picked-rules : (side : Side) (ns : List Range) (s : State) (v : ℕ) (z : ℤ) (k : ℕ) → picked side ns s v z ≡ refusal k → ByRules k
 unfolding picked
-picked-rules ns s v z k e =
-    bind-number (require (not (eqZ z (at s v))) 16 z) _ k e
-    (λ j h. by-rules 16 j (omega arith) (omega arith) (require-number (not (eqZ z (at s v))) 16 z j h)) (λ y h. ranged-rules ns v y k h)
+picked-rules side ns s v z k e =
+    bind-number (require (moves side (at s v) z) (stays side) z) _ k e
+    (λ j h. stays-rules side j (require-number (moves side (at s v) z) (stays side) z j h)) (λ y h. ranged-rules ns v y k h)
 
 -- ---- one instruction
 
@@ -111,7 +114,7 @@ popped x (m ∷ ms) (v ∷ vs) k f d l e h = h m ms vs (omega arith) (one-cons x
 moved : (c d : Known) (m : Machine) → c ≡ d → Matches c m → Matches d m
 moved c d m e h = subst (λ x. Matches x m) e h
 
-held-kept : (z : ℤ) (c : Bool) (ms : List ℤ) (t : State) (vs : List Sort) (g : Bool) (o : Option ℕ) (ids : List Bool) (fits : List Bool → Bool) (d : Known) → length ms ≡ length vs
+held-kept : (z : ℤ) (c : Bool) (ms : List ℤ) (t : State) (vs : List Sort) (g : Bool) (o : Option Picks) (ids : List Bool) (fits : List Bool → Bool) (d : Known) → length ms ≡ length vs
     → admits (pushes fits) vs g o ids ≡ some d → Kept d (push z c ms t)
 held-kept z c ms t vs g o ids fits d l e =
     let h = guard-some (fits ids && ltb (length vs) 40) _ d e in
@@ -124,21 +127,21 @@ empty-nil [] [] l h = refl
 empty-nil [] (m ∷ ms) l h = let b : ⊥ = omega arith in absurd b
 empty-nil (v ∷ vs) ms l h = absurd h
 
-over : (vs : List Sort) (o : Option ℕ) (ids : List Bool) (d : Known) (c : Bool) (ms : List ℤ) (t : State) → known vs true o ids ≡ d → ms ≡ [] → Matches d (machine true c ms t)
+over : (vs : List Sort) (o : Option Picks) (ids : List Bool) (d : Known) (c : Bool) (ms : List ℤ) (t : State) → known vs true o ids ≡ d → ms ≡ [] → Matches d (machine true c ms t)
 over vs o ids d c ms t e h = let x : Matches (known vs true o ids) (machine true c ms t) = (refl, h) in moved (known vs true o ids) d (machine true c ms t) e x
 
 -- an instruction that is passed over
-over-in : (r : Role) (rest : List Sort) (o : Option ℕ) (ids : List Bool) (d : Known) (c : Bool) (ms : List ℤ) (t : State)
+over-in : (r : Role) (rest : List Sort) (o : Option Picks) (ids : List Bool) (d : Known) (c : Bool) (ms : List ℤ) (t : State)
     → admits r rest true o ids ≡ some d → ms ≡ [] → Matches d (machine (not (endsPassing r)) c ms t)
 over-in (pushes fits) rest o ids d c ms t e h = over (Sort.number ∷ rest) o ids d c ms t (guard-some (fits ids && ltb (length rest) 40) _ d e .1) h
 over-in computes rest o ids d c ms t e h = over (Sort.number ∷ rest) o ids d c ms t (some-inj e) h
 over-in tests rest o ids d c ms t e h = none≢some d e
 over-in opens rest o ids d c ms t e h = none≢some d e
-over-in (picks v) rest o ids d c ms t e h = moved (known [] false (some v) ids) d (machine false c ms t) (guard-some (true && empty rest && unset ids v && fresh o v) _ d e .1) (rw h)
+over-in (picks side v) rest o ids d c ms t e h = moved (known [] false (some (record { side = side; id = v })) ids) d (machine false c ms t) (guard-some (true && empty rest && unset ids v && fresh o side v) _ d e .1) (rw h)
 over-in (lets v) rest o ids d c ms t e h = none≢some d e
 over-in (settles v) rest o ids d c ms t e h = none≢some d e
 
-over-keeps : (i : Instruction) (vs : List Sort) (o : Option ℕ) (ids : List Bool) (d : Known) (c : Bool) (ms : List ℤ) (t : State)
+over-keeps : (i : Instruction) (vs : List Sort) (o : Option Picks) (ids : List Bool) (d : Known) (c : Bool) (ms : List ℤ) (t : State)
     → advance i (known vs true o ids) ≡ some d → ms ≡ [] → Matches d (machine (not (isPick i)) c ms t)
 over-keeps i vs o ids d c ms t e h =
     let x = taking-shape (signature i .takes) vs _ d e in
@@ -150,12 +153,12 @@ second a b c e h = and-right a b (and-left (a && b) c (and-left (a && b && c) e 
 none-held : (ms : List ℤ) → ms ≡ [] → length ms ≡ 0
 none-held ms h = rw h
 
-gate-kept : (b c : Bool) (ms : List ℤ) (t : State) (o : Option ℕ) (ids : List Bool) (d : Known) → known [] true o ids ≡ d → ms ≡ [] → Kept d (gated b c ms t)
+gate-kept : (b c : Bool) (ms : List ℤ) (t : State) (o : Option Picks) (ids : List Bool) (d : Known) → known [] true o ids ≡ d → ms ≡ [] → Kept d (gated b c ms t)
 gate-kept false c ms t o ids d e h = over [] o ids d c ms t e h
 gate-kept true true ms t o ids d e h = record { least = omega arith; most = omega arith }
 gate-kept true false ms t o ids d e h = moved (known [] true o ids) d (machine false false ms t) e (none-held ms h)
 
-settled-kept : (v : ℕ) (z : ℤ) (c : Bool) (ms : List ℤ) (t : State) (d : Known) (o : Option ℕ) (ids : List Bool) → known [] false o ids ≡ d → ms ≡ [] → Matches d (settled v z c ms t)
+settled-kept : (v : ℕ) (z : ℤ) (c : Bool) (ms : List ℤ) (t : State) (d : Known) (o : Option Picks) (ids : List Bool) → known [] false o ids ≡ d → ms ≡ [] → Matches d (settled v z c ms t)
 settled-kept v z true ms t d o ids e h = moved (known [] false o ids) d (machine false false ms t) e (none-held ms h)
 settled-kept v z false ms t d o ids e h = moved (known [] false o ids) d (machine false false ms (set t v z)) e (none-held ms h)
 
@@ -168,7 +171,7 @@ module _ (ns : List Range) (s : State) where
     unset-declared v h = omega (arith, ltb→lt v (length ids) (and-left (ltb v (length ids)) (not (getD ids v false)) h))
 
     -- an instruction that is not passed over
-    perform-keeps : (i : Instruction) (vs : List Sort) (g : Bool) (o : Option ℕ) (d : Known) (c : Bool) (ms : List ℤ) (t : State) → length ms ≡ length vs
+    perform-keeps : (i : Instruction) (vs : List Sort) (g : Bool) (o : Option Picks) (d : Known) (c : Bool) (ms : List ℤ) (t : State) → length ms ≡ length vs
         → advance i (known vs g o ids) ≡ some d → Kept d (perform ns s i c ms t)
     perform-keeps (constant z) vs g o d c ms t l e = held-kept z c ms t vs g o ids (λ flags. isInt32 z) d l e
     perform-keeps (current i) vs g o d c ms t l e =
@@ -202,12 +205,12 @@ module _ (ns : List Range) (s : State) where
     perform-keeps gate vs g o d c ms t l e = popped Sort.truth ms vs _ _ d l e λ a ms₁ vs₁ l₁ e₁.
         let q = guard-some (not g && empty vs₁) _ d e₁ in
         gate-kept (yes a) c ms₁ t o ids d (q .1) (empty-nil vs₁ ms₁ l₁ (and-right (not g) _ (q .0)))
-    perform-keeps (pick v) vs g o d c ms t l e = popped Sort.number ms vs _ _ d l e λ x ms₁ vs₁ l₁ e₁.
-        let q = guard-some (g && empty vs₁ && unset ids v && fresh o v) _ d e₁ in
-        let nil : ms₁ ≡ [] = empty-nil vs₁ ms₁ l₁ (second g (empty vs₁) (unset ids v) (fresh o v) (q .0)) in
-        declared-kept v _ d (unset-declared v (third g (empty vs₁) (unset ids v) (fresh o v) (q .0)))
-        (kept-bind (picked ns s v x) _ d (λ k h. picked-rules ns s v x k h) λ z.
-        moved (known [] false (some v) ids) d (machine false true ms₁ (set t v z)) (q .1) (none-held ms₁ nil))
+    perform-keeps (pick side v) vs g o d c ms t l e = popped Sort.number ms vs _ _ d l e λ x ms₁ vs₁ l₁ e₁.
+        let q = guard-some (g && empty vs₁ && unset ids v && fresh o side v) _ d e₁ in
+        let nil : ms₁ ≡ [] = empty-nil vs₁ ms₁ l₁ (second g (empty vs₁) (unset ids v) (fresh o side v) (q .0)) in
+        declared-kept v _ d (unset-declared v (third g (empty vs₁) (unset ids v) (fresh o side v) (q .0)))
+        (kept-bind (picked side ns s v x) _ d (λ k h. picked-rules side ns s v x k h) λ z.
+        moved (known [] false (some (record { side = side; id = v })) ids) d (machine false true ms₁ (set t v z)) (q .1) (none-held ms₁ nil))
     perform-keeps (assign v) vs g o d c ms t l e = popped Sort.number ms vs _ _ d l e λ x ms₁ vs₁ l₁ e₁.
         let q = guard-some (not g && empty vs₁ && unset ids v && closed o) _ d e₁ in
         let nil : ms₁ ≡ [] = empty-nil vs₁ ms₁ l₁ (second (not g) (empty vs₁) (unset ids v) (closed o) (q .0)) in

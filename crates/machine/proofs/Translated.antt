@@ -12,7 +12,7 @@ use lib.ListN.{length, set, getD, drop, length-append, length-set, length-drop}
 use lib.Seq.{getD-set-other}
 use borrow.Author.Tests.{lt-ltb, le-ltb}
 use Rattle.arith.specs.Values.{Outcome, ok, refusal, _>>=_}
-use Rattle.semantics.specs.Program.{Range, Expression, Condition, Case, Rule, function, change, target, UsableE, UsableC, UsableK, UsableR, OrderedRules}
+use Rattle.semantics.specs.Program.{Range, Expression, Condition, Side, Case, Rule, function, change, target, UsableE, UsableC, UsableK, UsableR, OrderedRules}
 use Rattle.semantics.specs.Program as P
 use Rattle.semantics.specs.Formula.{State, at, evalE, evalC}
 use Rattle.semantics.specs.ReferenceScan.{tryCase, tryCases, orPrevious, newValue, scanRules}
@@ -109,25 +109,25 @@ module _ (ns : List Range) (s : State) where
       picked-agrees t (some z) i k = getD-set-other t v i z (pos 0) (apart i k)
 
       -- after the gate, expression and pick are one case
-      gated-case : (e : Expression) (b : Bool) (f : Option ℤ) (t : State) → UsableE ids e → depthE e ≤ 40
-          → (gated b (held f) [] (values t v f) >>= λ m. exec ns s (codeE e ++ pick v ∷ []) m) ≡ (tryCase ns s t v f e b >>= λ q. ok (machine false (held q) [] (values t v q)))
-      gated-case e false f t u d = exec-append (codeE e) (pick v ∷ []) _ ∙ rw (over-E e (held f) [] (values t v f))
-      gated-case e true (some y) t u d = refl
-      gated-case e true none t u d =
+      gated-case : (side : Side) (e : Expression) (b : Bool) (f : Option ℤ) (t : State) → UsableE ids e → depthE e ≤ 40
+          → (gated b (held f) [] (values t v f) >>= λ m. exec ns s (codeE e ++ pick side v ∷ []) m) ≡ (tryCase ns s t v f side e b >>= λ q. ok (machine false (held q) [] (values t v q)))
+      gated-case side e false f t u d = exec-append (codeE e) (pick side v ∷ []) _ ∙ rw (over-E e (held f) [] (values t v f))
+      gated-case side e true (some y) t u d = refl
+      gated-case side e true none t u d =
           let l : ltb v (length ns) ≡ true = lt-ltb v (length ns) (omega arith) in
-          exec-append (codeE e) (pick v ∷ []) _ ∙ rw (exec-E e false [] t u (omega arith)) (simp (bind-assoc, l))
+          exec-append (codeE e) (pick side v ∷ []) _ ∙ rw (exec-E e false [] t u (omega arith)) (simp (bind-assoc, l))
 
       -- gate, expression and pick are one case, its condition on the stack
-      exec-case : (e : Expression) (b : Bool) (f : Option ℤ) (t : State) → UsableE ids e → depthE e ≤ 40
-          → exec ns s (gate ∷ codeE e ++ pick v ∷ []) (machine false (held f) (bit b ∷ []) (values t v f)) ≡ (tryCase ns s t v f e b >>= λ q. ok (machine false (held q) [] (values t v q)))
-      exec-case e b f t u d = rw yes-bit (gated-case e b f t u d)
+      exec-case : (side : Side) (e : Expression) (b : Bool) (f : Option ℤ) (t : State) → UsableE ids e → depthE e ≤ 40
+          → exec ns s (gate ∷ codeE e ++ pick side v ∷ []) (machine false (held f) (bit b ∷ []) (values t v f)) ≡ (tryCase ns s t v f side e b >>= λ q. ok (machine false (held q) [] (values t v q)))
+      exec-case side e b f t u d = rw yes-bit (gated-case side e b f t u d)
 
       exec-codeCase : (k : Case) (f : Option ℤ) (t : State) → UsableC ids (k .condition) → UsableE ids (k .value) → depthC (k .condition) ≤ 40 → depthE (k .value) ≤ 40
-          → exec ns s (codeCase v k) (machine false (held f) [] (values t v f)) ≡ (evalC s t (k .condition) >>= λ b. tryCase ns s t v f (k .value) b >>= λ q. ok (machine false (held q) [] (values t v q)))
+          → exec ns s (codeCase v k) (machine false (held f) [] (values t v f)) ≡ (evalC s t (k .condition) >>= λ b. tryCase ns s t v f (k .side) (k .value) b >>= λ q. ok (machine false (held q) [] (values t v q)))
       exec-codeCase k f t uc ue dc de =
           exec-append (codeC (k .condition)) _ _
           ∙ rw (exec-C (k .condition) (held f) [] (values t v f) uc (omega arith), evalC-agree ids s (values t v f) t (picked-agrees t f) (k .condition) uc, bind-assoc)
-          (bind-cong {m = evalC s t (k .condition)} refl λ b. exec-case (k .value) b f t ue de)
+          (bind-cong {m = evalC s t (k .condition)} refl λ b. exec-case (k .side) (k .value) b f t ue de)
 
       exec-K : (ks : List Case) (f : Option ℤ) (t : State) → UsableK ids ks → ShallowK ks
           → exec ns s (codeK v ks) (machine false (held f) [] (values t v f)) ≡ (tryCases ns s t v f ks >>= λ q. ok (machine false (held q) [] (values t v q)))

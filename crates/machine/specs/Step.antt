@@ -54,7 +54,7 @@ endsPassing (pushes fits) = false
 endsPassing computes = false
 endsPassing tests = false
 endsPassing opens = false
-endsPassing (picks v) = true
+endsPassing (picks side v) = true
 endsPassing (lets v) = false
 endsPassing (settles v) = false
 
@@ -79,7 +79,7 @@ module _ (ns : List Range) (s : State) where
   perform both c vs t = pop vs λ b vs₁. pop vs₁ λ a vs₂. ok (machine false c (bit (yes a && yes b) ∷ vs₂) t)
   perform either c vs t = pop vs λ b vs₁. pop vs₁ λ a vs₂. ok (machine false c (bit (yes a || yes b) ∷ vs₂) t)
   perform gate c vs t = pop vs λ a vs₁. gated (yes a) c vs₁ t
-  perform (pick v) c vs t = pop vs λ x vs₁. declared v (picked ns s v x >>= λ z. ok (machine false true vs₁ (set t v z)))
+  perform (pick side v) c vs t = pop vs λ x vs₁. declared v (picked side ns s v x >>= λ z. ok (machine false true vs₁ (set t v z)))
   perform (assign v) c vs t = pop vs λ x vs₁. declared v (ranged ns v x >>= λ z. ok (machine false c vs₁ (set t v z)))
   perform (settle v) c vs t = declared v (ok (settled v (at s v) c vs t))
 

@@ -8,7 +8,7 @@ ghost use Prim.Native.Nat.{_≤_};
 ghost use lib.IntN.{ℤ};
 ghost use lib.ListN.{length};
 ghost use Rattle.limits.specs.Limits.{stackLimit};
-ghost use Rattle.semantics.specs.Program.{Range};
+ghost use Rattle.semantics.specs.Program.{Range, changing};
 ghost use Rattle.semantics.specs.Formula.{State};
 ghost use Rattle.bytecode.specs.Instructions.{gate as gating, pick as picking, assign as assigning, settle as settling};
 ghost use Rattle.machine.specs.Step.{perform};
@@ -94,7 +94,7 @@ pub fn pick(
     requires { ⌜ OneEach (now low) (now high) (now prev) (now cur) ⌝ }
     ensures { λ r. ⌜ ((ns : List Range) → RangesIn ns (now (low .entry)) (now (high .entry))
         → stepOutcome r (now (vals .entry)) (now (cur .exit))
-        ≡ perform ns (now (prev .entry)) (picking id) (m .picked) (heldOf (now (vals .entry)) (m .held)) (now (cur .entry))) ⌝ }
+        ≡ perform ns (now (prev .entry)) (picking changing id) (m .picked) (heldOf (now (vals .entry)) (m .held)) (now (cur .entry))) ⌝ }
     ensures { λ r. ⌜ Few r ⌝ }
 {
     let n = m.held;

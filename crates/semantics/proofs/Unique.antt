@@ -5,7 +5,7 @@ use native.Mathlib.Omega.{arith}
 use native.Mathlib.Decide.{ℕ-discrete}
 use mathlib.Core.Path.{_≡_, refl, sym, ap, _∙_, subst}
 use mathlib.Core.Logic.{_≢_}
-use mathlib.Core.Bool.{Bool, true, false, not, false≢true}
+use mathlib.Core.Bool.{Bool, true, false, false≢true}
 use mathlib.Core.List.{List, [], _∷_, _++_, map}
 use mathlib.Core.Option.{Option, none, some}
 use lib.Dec.{T, ltb→lt}
@@ -13,9 +13,9 @@ use lib.IntN.{ℤ, pos}
 use lib.ListN.{length, getD, set, drop, length-set}
 use lib.Seq.{drop-nil, getD-set-same, getD-set-other, ext-getD}
 use Rattle.arith.specs.Values.{ok, _>>=_, require, eqZ}
-use Rattle.semantics.specs.Program.{Range, Expression, constant, current, previous, operation, negate, Condition, comparison, negated, both, either, Case, Rule, function, change, target, UsableE, UsableC, UsableK, UsableR, OrderedRules, AgreesR, AgreesAll, allTrue, within}
+use Rattle.semantics.specs.Program.{Range, Expression, constant, current, previous, operation, negate, Condition, comparison, negated, both, either, Side, changing, Case, Rule, function, change, target, UsableE, UsableC, UsableK, UsableR, OrderedRules, AgreesR, AgreesAll, allTrue, within}
 use Rattle.semantics.specs.Formula.{State, at, evalE, evalC, anyCase, anyCondition, changeFormula, noChangeFormula, functionFormula, formulasOfRule, Holds, All}
-use Rattle.semantics.specs.ReferenceScan.{noRange, allWithin, rangeAt, ranged, picked, tryCase, tryCases, orPrevious, newValue, scanRules}
+use Rattle.semantics.specs.ReferenceScan.{noRange, allWithin, rangeAt, ranged, moves, stays, picked, tryCase, tryCases, orPrevious, newValue, scanRules}
 use borrow.Author.Tests.{not-true}
 use Rattle.arith.proofs.Basics.{and-left, and-right, and-T, T-true, eqZ-self, eqZ-true, ok≢refusal, ok-inj, Bound, bound, unbind, passed, bind-cong, bind-assoc, or-true, or-false, or-second, T-not-false}
 
@@ -48,15 +48,15 @@ module _ (known : List Bool) (s a b : State) (agree : Agree known a b) where
   evalC-agree (both x y) u = rw (evalC-agree x (u .0), evalC-agree y (u .1))
   evalC-agree (either x y) u = rw (evalC-agree x (u .0), evalC-agree y (u .1))
 
-  tryCase-agree : (ns : List Range) (v : ℕ) (found : Option ℤ) (e : Expression) (c : Bool) → UsableE known e → tryCase ns s a v found e c ≡ tryCase ns s b v found e c
-  tryCase-agree ns v found e false u = refl
-  tryCase-agree ns v (some y) e true u = refl
-  tryCase-agree ns v none e true u = rw (evalE-agree e u)
+  tryCase-agree : (ns : List Range) (v : ℕ) (found : Option ℤ) (side : Side) (e : Expression) (c : Bool) → UsableE known e → tryCase ns s a v found side e c ≡ tryCase ns s b v found side e c
+  tryCase-agree ns v found side e false u = refl
+  tryCase-agree ns v (some y) side e true u = refl
+  tryCase-agree ns v none side e true u = rw (evalE-agree e u)
 
   tryCases-agree : (ns : List Range) (v : ℕ) (found : Option ℤ) (ks : List Case) → UsableK known ks → tryCases ns s a v found ks ≡ tryCases ns s b v found ks
   tryCases-agree ns v found [] u = refl
   tryCases-agree ns v found (k ∷ ks) u =
-      bind-cong (evalC-agree (k .condition) (u .0)) λ c. bind-cong (tryCase-agree ns v found (k .value) c (u .1)) λ f. tryCases-agree ns v f ks (u .2)
+      bind-cong (evalC-agree (k .condition) (u .0)) λ c. bind-cong (tryCase-agree ns v found (k .side) (k .value) c (u .1)) λ f. tryCases-agree ns v f ks (u .2)
 
   newValue-agree : (ns : List Range) (r : Rule) → UsableR known r → newValue ns s a r ≡ newValue ns s b r
   unfolding newValue
@@ -69,6 +69,10 @@ module _ (known : List Bool) (s a b : State) (agree : Agree known a b) where
 data Tried (ns : List Range) (s t : State) (v : ℕ) (ks : List Case) : Option ℤ → Type 0 where
   noneHeld : anyCondition (conditions ks) s t ≡ ok false → anyCase v ks s t ≡ ok false → Tried ns s t v ks none
   oneHeld : (z : ℤ) → T (within (rangeAt ns v) z) → eqZ z (at s v) ≡ false → anyCondition (conditions ks) s t ≡ ok true → anyCase v ks s t ≡ ok (eqZ (at t v) z) → Tried ns s t v ks (some z)
+
+-- a value on any side of the previous one is another
+moves-apart : (side : Side) (before z : ℤ) → moves side before z ≡ true → eqZ z before ≡ false
+moves-apart changing before z e = T-not-false (eqZ z before) (rw e tt)
 
 -- no further case holds after one that did
 data Quiet (s t : State) (v : ℕ) (ks : List Case) (y : ℤ) (f : Option ℤ) : Type 0 where
@@ -83,7 +87,7 @@ tried-cons ns s t v k ks f p (oneHeld z w d c a) = oneHeld z w d (rw (p, c)) (rw
 
 module _ (ns : List Range) (s t : State) (v : ℕ) where
   after-case : (k : Case) (ks : List Case) (y : ℤ) (f : Option ℤ)
-      → Bound (evalC s t (k .condition)) (λ c. tryCase ns s t v (some y) (k .value) c >>= λ g. tryCases ns s t v g ks) f
+      → Bound (evalC s t (k .condition)) (λ c. tryCase ns s t v (some y) (k .side) (k .value) c >>= λ g. tryCases ns s t v g ks) f
       → (tryCases ns s t v (some y) ks ≡ ok f → Quiet s t v ks y f) → Quiet s t v (k ∷ ks) y f
   after-case k ks y f (bound true p q) ih = ok≢refusal f 15 (sym q)
   after-case k ks y f (bound false p q) ih = quiet-cons s t v k ks y f p (ih q)
@@ -92,35 +96,35 @@ module _ (ns : List Range) (s t : State) (v : ℕ) where
   after [] y f e = quiet (sym (ok-inj e)) refl refl
   after (k ∷ ks) y f e = after-case k ks y f (unbind (evalC s t (k .condition)) _ f e) λ q. after ks y f q
 
-  picked-is : (x z : ℤ) → picked ns s v x ≡ ok z → (x ≡ z) × (eqZ z (at s v) ≡ false) × T (within (rangeAt ns v) z)
+  picked-is : (side : Side) (x z : ℤ) → picked side ns s v x ≡ ok z → (x ≡ z) × (moves side (at s v) z ≡ true) × T (within (rangeAt ns v) z)
   unfolding picked
-  picked-is x z e =
-      let go : Bound (require (not (eqZ x (at s v))) 16 x) (λ y. ranged ns v y) z → (x ≡ z) × (eqZ z (at s v) ≡ false) × T (within (rangeAt ns v) z) =
+  picked-is side x z e =
+      let go : Bound (require (moves side (at s v) x) (stays side) x) (λ y. ranged ns v y) z → (x ≡ z) × (moves side (at s v) z ≡ true) × T (within (rangeAt ns v) z) =
       elim [
         | bound y p q ↦
-            let a = passed (not (eqZ x (at s v))) 16 x y p in
+            let a = passed (moves side (at s v) x) (stays side) x y p in
             let b = passed (within (rangeAt ns v) y) 17 y z q in
-            (a .1 ∙ b .1, rw (← (a .1 ∙ b .1)) (T-not-false (eqZ x (at s v)) (a .0)), rw (← (b .1)) (b .0))
+            (a .1 ∙ b .1, rw (← (a .1 ∙ b .1)) (T-true (moves side (at s v) x) (a .0)), rw (← (b .1)) (b .0))
       ] in
-      go (unbind (require (not (eqZ x (at s v))) 16 x) (λ y. ranged ns v y) z e)
+      go (unbind (require (moves side (at s v) x) (stays side) x) (λ y. ranged ns v y) z e)
 
-  held : (k : Case) (ks : List Case) (x z : ℤ) (f : Option ℤ) → evalC s t (k .condition) ≡ ok true → evalE s t (k .value) ≡ ok x → picked ns s v x ≡ ok z
+  held : (k : Case) (ks : List Case) (x z : ℤ) (f : Option ℤ) → evalC s t (k .condition) ≡ ok true → evalE s t (k .value) ≡ ok x → picked (k .side) ns s v x ≡ ok z
       → Quiet s t v ks z f → Tried ns s t v (k ∷ ks) f
   held k ks x z f p q w (quiet e c a) =
-      let d = picked-is x z w in
-      rw e (oneHeld z (d .2) (d .1) (rw (p, c)) (rw (p, q, a, or-false) (rw (d .0))))
+      let d = picked-is (k .side) x z w in
+      rw e (oneHeld z (d .2) (moves-apart (k .side) (at s v) z (d .1)) (rw (p, c)) (rw (p, q, a, or-false) (rw (d .0))))
 
   tried-case : (k : Case) (ks : List Case) (f : Option ℤ)
-      → Bound (evalC s t (k .condition)) (λ c. tryCase ns s t v none (k .value) c >>= λ g. tryCases ns s t v g ks) f
+      → Bound (evalC s t (k .condition)) (λ c. tryCase ns s t v none (k .side) (k .value) c >>= λ g. tryCases ns s t v g ks) f
       → (tryCases ns s t v none ks ≡ ok f → Tried ns s t v ks f) → Tried ns s t v (k ∷ ks) f
   tried-case k ks f (bound false p q) ih = tried-cons ns s t v k ks f p (ih q)
   tried-case k ks f (bound true p q) ih = go (unbind (evalE s t (k .value)) _ f (rw bind-assoc at q))
     where
-      go₁ : (x : ℤ) → evalE s t (k .value) ≡ ok x → Bound (picked ns s v x) (λ z. tryCases ns s t v (some z) ks) f → Tried ns s t v (k ∷ ks) f
+      go₁ : (x : ℤ) → evalE s t (k .value) ≡ ok x → Bound (picked (k .side) ns s v x) (λ z. tryCases ns s t v (some z) ks) f → Tried ns s t v (k ∷ ks) f
       go₁ x q₁ (bound z q₂ q₃) = held k ks x z f p q₁ q₂ (after ks z f q₃)
 
-      go : Bound (evalE s t (k .value)) (λ x. picked ns s v x >>= (λ z. ok (some z)) >>= λ g. tryCases ns s t v g ks) f → Tried ns s t v (k ∷ ks) f
-      go (bound x q₁ q₂) = go₁ x q₁ (unbind (picked ns s v x) _ f (rw bind-assoc at q₂))
+      go : Bound (evalE s t (k .value)) (λ x. picked (k .side) ns s v x >>= (λ z. ok (some z)) >>= λ g. tryCases ns s t v g ks) f → Tried ns s t v (k ∷ ks) f
+      go (bound x q₁ q₂) = go₁ x q₁ (unbind (picked (k .side) ns s v x) _ f (rw bind-assoc at q₂))
 
   tried : (ks : List Case) (f : Option ℤ) → tryCases ns s t v none ks ≡ ok f → Tried ns s t v ks f
   tried [] f e = subst (λ g. Tried ns s t v [] g) (ok-inj e) (noneHeld refl refl)

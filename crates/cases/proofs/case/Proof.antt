@@ -3,6 +3,7 @@ use mathlib.Core.Path.{refl, _∙_}
 use native.Mathlib.Omega.{arith}
 use Rattle.lexer.specs.Results.{kindOf}
 use Rattle.lexer.specs.Token.{is, kindNumber}
+use Rattle.semantics.specs.Program.{changing}
 use Rattle.grammar.proofs.Growth.{listed-grown, whole-expression-grown}
 use Rattle.expressions.proofs.Steps.{accepted-by, room-after}
 use Rattle.expressions.proofs.Scopes.{few-names}
@@ -134,7 +135,7 @@ returns-5 c =
     let v = accepted-by (at-whole-expression .whole-expression .ensures) (at-second .second .given .1) in
     let q = found (at-expect .expect .ensures) (at-closed .closed .given .1) in
     writes (c .reached .ensures) (record {
-      tree = record { case = record { condition = l .tree; value = v .tree }; span = record { from = from; to = at-first .first .given .0 .0 .at } };
+      tree = record { case = record { side = changing; condition = l .tree; value = v .tree }; span = record { from = from; to = at-first .first .given .0 .0 .at } };
       is = case-accepted _ _ from _ (l .is) p (v .is) q;
       ended = case-length _ _ _ (l .count) (at-put-byte .put-byte .ensures .0) (v .count) (c .before .before .before .put-instruction .ensures .0);
       tells-it = refl;

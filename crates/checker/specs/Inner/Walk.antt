@@ -5,9 +5,10 @@ use mathlib.Core.List.{List, [], _∷_}
 use mathlib.Core.Option.{Option, none, some}
 use Rattle.limits.specs.Limits.{stackLimit, nameLimit}
 use Rattle.arith.specs.Inner.Flags.{flagsOf}
+use Rattle.semantics.specs.Program.{changing}
 use Rattle.bytecode.specs.Instructions.{Instruction}
 use Rattle.bytecode.specs.Signature.{Sort, number, truth, pushes}
-use Rattle.bytecode.specs.Check.{Known, known, one, admits, advance}
+use Rattle.bytecode.specs.Check.{Picks, Known, known, one, admits, advance}
 use Rattle.checker.specs.declared.advance.Walk.{Walk}
 use Rattle.checker.specs.declared.advance.Advanced.{Advanced}
 use Rattle.checker.specs.declared.advance.Advanced.the-variants.{Kept, Broken}
@@ -30,9 +31,9 @@ openOf zero = false
 openOf (suc n) = true
 
 -- `picking` is the id whose picks await their settle plus 1, or 0
-abbrev pub picksOf : ℕ → Option ℕ
+abbrev pub picksOf : ℕ → Option Picks
 picksOf zero = none
-picksOf (suc v) = some v
+picksOf (suc v) = some (record { side = changing; id = v })
 
 -- `known` tells of each id whether its current value may be used, the lowest bit that of id 0
 abbrev pub knownOf : Walk → Known

@@ -4,7 +4,7 @@ use Prim.Native.Nat.{ℕ, _-_}
 use mathlib.Core.List.{List, [], _∷_, _++_}
 use lib.ListN.{length}
 use Rattle.leb128.specs.Numbers.{number, zigzag}
-use Rattle.bytecode.specs.Instructions.{operationCode, comparisonCode}
+use Rattle.bytecode.specs.Instructions.{operationCode, comparisonCode, pickCode}
 use Rattle.semantics.specs.Program.{Name, Expression, constant, current, previous, operation, negate, Condition, comparison, negated, both, either, Case, Rule, function, change, Program}
 
 -- operands before their operation, left first
@@ -23,7 +23,7 @@ bytesC (either a b) = bytesC a ++ (bytesC b ++ (18 ∷ []))
 
 unfoldable pub bytesK : ℕ → List Case → List ℕ
 bytesK v [] = []
-bytesK v (k ∷ ks) = bytesC (k .condition) ++ (19 ∷ (bytesE (k .value) ++ (20 ∷ (number v ++ bytesK v ks))))
+bytesK v (k ∷ ks) = bytesC (k .condition) ++ (19 ∷ (bytesE (k .value) ++ (pickCode (k .side) ∷ (number v ++ bytesK v ks))))
 
 unfoldable pub bytesR : List Rule → List ℕ
 bytesR [] = []

@@ -8,8 +8,9 @@ use lib.ListN.{length}
 use mir.Val.{SFits}
 use mir.Syntax.{w32}
 use mir.Facts.{toZ-ofZ}
-use Rattle.machine.proofs.Changes.{pick-undeclared, pick-equal, pick-other}
+use Rattle.machine.proofs.Changes.{pick-undeclared, pick-refused, pick-moved}
 use Rattle.machine.proofs.Stack.{pop-none}
+use Rattle.semantics.specs.Program.{changing}
 use Rattle.semantics.specs.Formula.{at}
 use Rattle.arith.specs.Values.{eqZ, compares}
 use Rattle.machine.proofs.variable.pick.Statement.{statement}
@@ -22,7 +23,7 @@ returns-2 : tie.Need-returns-2
 returns-2 c =
     let a = c .before .before .args in
     let h : length (a .low .now) ≤ a .id = omega (arith, c .before .before .pre .1 .previous, c .if2 .taken) in
-    (λ ns r. pick-undeclared ns (a .low .now) (a .high .now) r (a .prev .now) (a .vals .now) (a .m .held) (a .m .picked) (a .cur .now) (a .id) (c .before .if1 .left) h, search needs)
+    (λ ns r. pick-undeclared ns (a .low .now) (a .high .now) r (a .prev .now) (a .vals .now) (a .m .held) (a .m .picked) (a .cur .now) (a .id) (c .before .if1 .left) changing h, search needs)
 
 returns-3 : tie.Need-returns-3
 unfolding compares
@@ -34,7 +35,7 @@ returns-3 c =
     let fp : SFits w32 p = record { sfits = c .before .before .is-equal-arg2 .given } in
     let e : eqZ v p ≡ true = rw (toZ-ofZ fv, toZ-ofZ fp) at (sym (c .before .is-equal .ensures) ∙ c .if3 .taken) in
     let h : a .id < length (a .low .now) = omega (arith, c .before .before .before .before .before .before .pre .1 .previous, c .before .before .before .before .if2 .left) in
-    (λ ns r. pick-equal ns (a .low .now) (a .high .now) r (a .prev .now) (a .vals .now) (a .m .held) (a .m .picked) (a .cur .now) (a .id) (c .before .before .before .before .before .if1 .left) h e, search needs)
+    (λ ns r. pick-refused ns (a .low .now) (a .high .now) r (a .prev .now) (a .vals .now) (a .m .held) (a .m .picked) (a .cur .now) (a .id) (c .before .before .before .before .before .if1 .left) h changing (rw e), search needs)
 
 returns-4 : tie.Need-returns-4
 unfolding compares
@@ -53,7 +54,7 @@ returns-4 c =
     let h : a .id < length (a .low .now) = omega (arith, start .pre .1 .previous, at-if2 .if2 .left) in
     let some = at-if1 .if1 .left in
     let done = c .before .assign .ensures in
-    (λ ns r. done .0 ns (a .prev .now) r ∙ pick-other ns (a .low .now) (a .high .now) r (a .prev .now) (a .vals .now) (a .m .held) (a .m .picked) (a .cur .now) (a .id) some h e, done .1)
+    (λ ns r. done .0 ns (a .prev .now) r ∙ pick-moved ns (a .low .now) (a .high .now) r (a .prev .now) (a .vals .now) (a .m .held) (a .m .picked) (a .cur .now) (a .id) some h changing (rw e), done .1)
 
 pub pick-spec : {M : Type 1} → statement M
 pick-spec =
