@@ -100,21 +100,22 @@ fn condition(
     requires { ⌜ Room (now text) at to ⌝ }
     ensures { λ r. ⌜ Parses (now (text .entry)) bytesC (conditionIn left (scopeOf (now (text .entry)) (now (starts .entry)) (now (ends .entry)) names) at) to (now (out .entry)) (now (out .exit)) r ⌝ }
 {
-    let first = conjunction(text, starts, ends, names, at, left, out, to);
-    let Step::Done(mut behind) = first else {
-        return first;
-    };
+    // with code 0 nothing is read yet, else the parts so far and the operator of that code
+    let mut a = at;
+    let mut t = to;
+    let mut code: u8 = 0;
     loop {
-        let code = or_code(behind.kind);
+        let part = conjunction(text, starts, ends, names, a, left, out, t);
+        let Step::Done(mut behind) = part else {
+            return part;
+        };
+        behind.to = expressions::put_operator(out, behind.to, code);
+        code = or_code(behind.kind);
         if code == 0 {
             return Step::Done(behind);
         }
-        let more = conjunction(text, starts, ends, names, behind.end, left, out, behind.to);
-        let Step::Done(mut next) = more else {
-            return more;
-        };
-        next.to = leb128::put_byte(out, next.to, code);
-        behind = next;
+        a = behind.end;
+        t = behind.to;
     }
 }
 
@@ -133,21 +134,22 @@ fn conjunction(
     requires { ⌜ Room (now text) at to ⌝ }
     ensures { λ r. ⌜ Parses (now (text .entry)) bytesC (conjunctionIn left (scopeOf (now (text .entry)) (now (starts .entry)) (now (ends .entry)) names) at) to (now (out .entry)) (now (out .exit)) r ⌝ }
 {
-    let first = atom(text, starts, ends, names, at, left, out, to);
-    let Step::Done(mut behind) = first else {
-        return first;
-    };
+    // with code 0 nothing is read yet, else the parts so far and the operator of that code
+    let mut a = at;
+    let mut t = to;
+    let mut code: u8 = 0;
     loop {
-        let code = and_code(behind.kind);
+        let part = atom(text, starts, ends, names, a, left, out, t);
+        let Step::Done(mut behind) = part else {
+            return part;
+        };
+        behind.to = expressions::put_operator(out, behind.to, code);
+        code = and_code(behind.kind);
         if code == 0 {
             return Step::Done(behind);
         }
-        let more = atom(text, starts, ends, names, behind.end, left, out, behind.to);
-        let Step::Done(mut next) = more else {
-            return more;
-        };
-        next.to = leb128::put_byte(out, next.to, code);
-        behind = next;
+        a = behind.end;
+        t = behind.to;
     }
 }
 

@@ -1,25 +1,28 @@
 -- Operators between operands, left to right: a law for each way through a loop that reads them. Expressions, terms, conditions and
 -- conjunctions cite them. Assumes nothing.
 use mathlib.Core.Path.{_≡_, refl, ap, sym, _∙_, subst}
-use mathlib.Core.List.{List, [], _∷_, _++_, append-assoc, append-nil}
+use mathlib.Core.List.{List, [], _∷_, _++_, append-nil}
 use mathlib.Core.Option.{Option, none, some}
-use Prim.Native.Nat.{ℕ, zero, suc, _+_, _-_, _^_, _<_}
+use Prim.Native.Nat.{ℕ, zero, suc, _+_, _-_, _^_, _≤_, _<_}
 use native.Mathlib.Nat.{add-zero}
 use native.Mathlib.Omega.{arith}
-use lib.ListN.{length, set, length-append, length-set}
+use lib.ListN.{length, set, length-append}
 use lib.Seq.{sets, length-sets}
+use borrow.Author.Tests.{ne-eqb}
 use Rattle.limits.specs.Limits.{noToken}
 use Rattle.lexer.specs.Token.{Kind, ending, fault}
 use Rattle.lexer.specs.Lexer.{tokenAt}
 use Rattle.grammar.specs.Parsed.{Parsed, accepted, andThen, rest, chain}
 use Rattle.grammar.proofs.Growth.{Grown}
 use Rattle.leb128.proofs.Stores.{sets-append}
+use Rattle.lexer.proofs.Laws.{token-at-moved}
 use Rattle.lexer.specs.declared.Place.{Place}
 use Rattle.lexer.specs.declared.Step.{Step}
 use Rattle.lexer.specs.declared.Step.the-variants.{Done, Refused}
 use Rattle.expressions.specs.Inner.Steps.{lookedAhead, Parses, Room}
-use Rattle.expressions.specs.Inner.Readers.{StandsAt, codeOrNone, Codes}
-use Rattle.expressions.proofs.Steps.{Refuses, upTo, stands-up-to, Accepted, accepted-by, accepts, passed, then-refused, room-fits, room-after, room-next, room-more}
+use Rattle.expressions.specs.Inner.Readers.{StandsAt, codeOrNone, Codes, operatorBytes}
+use Rattle.expressions.specs.Inner.Chains.{Pending}
+use Rattle.expressions.proofs.Steps.{Refuses, upTo, stands-up-to, Accepted, accepted-by, accepts, passed, then-refused}
 
 -- ---- operators
 
@@ -50,30 +53,28 @@ module _ {O : Type 0} (operator : Kind → Option O) (number : O → ℕ) (k : K
       go none i f = i
       go (some o) i f = absurd (g o (sym f ∙ z))
 
--- ---- how far a chain has come
+-- ---- the byte of an operator
 
--- from the first operand a₀, whose end is n₀, with t₀ bytes written in out₀, to the end n, with t bytes written in out
-pub record Chained {O A : Type 0} (code : A → List ℕ) (join : O → A → A → A) (operator : Kind → Option O) (operand : ℕ → Parsed A) (text : List ℕ) (a₀ : A) (n₀ t₀ : ℕ) (out₀ : List ℕ) (n t : ℕ) (out : List ℕ) : Type 0 where
-  pub fuel : ℕ
-  pub tree : A
-  pub tail : List ℕ
-  pub same : rest join operator operand text (suc (length text)) a₀ n₀ ≡ rest join operator operand text fuel tree n
-  pub spelt : code tree ≡ code a₀ ++ tail
-  pub wrote : out ≡ sets out₀ t₀ tail
-  pub count : t ≡ t₀ + length tail
-  pub fuels : length text < fuel + n
+operator-bytes : {c : ℕ} → (c ≡ 0 → ⊥) → operatorBytes c ≡ c ∷ []
+operator-bytes z = rw (ne-eqb _ _ z)
+
+pub no-operator : {c : ℕ} (to : ℕ) {out : List ℕ} → c ≡ 0 → (to ≡ to + length (operatorBytes c)) × (out ≡ sets out to (operatorBytes c))
+no-operator to e = rw e (sym (add-zero to), refl)
+
+pub one-operator : {c r : ℕ} (to : ℕ) (out : List ℕ) {after : List ℕ} → (c ≡ 0 → ⊥) → (r ≡ to + 1) × (after ≡ set out to c) → (r ≡ to + length (operatorBytes c)) × (after ≡ sets out to (operatorBytes c))
+one-operator to out z p = rw (operator-bytes z) p
+
+-- ---- the loop
 
 -- an operand's code takes no more room than the text that it is read from gives
 abbrev pub Grows : {A : Type 0} → (A → List ℕ) → (ℕ → Parsed A) → List ℕ → Type 0
 Grows code operand text = (at to : ℕ) → Room text at to → Grown code (length text) at (operand at)
 
--- the invariant of the loop: h is the token behind what was read
-pub record Turn {O A : Type 0} (code : A → List ℕ) (join : O → A → A → A) (operator : Kind → Option O) (operand : ℕ → Parsed A) (text : List ℕ) (out₀ : List ℕ) (h₀ : Place) (out : List ℕ) (h : Place) : Type 0 where
-  pub room : Room text (h .at) (h .to)
-  pub stands : StandsAt text h
+-- the invariant
+pub record Turn {O A : Type 0} (code : A → List ℕ) (join : O → A → A → A) (operator : Kind → Option O) (operand : ℕ → Parsed A) (text : List ℕ) (at to : ℕ) (out₀ : List ℕ) (a t c : ℕ) (out : List ℕ) : Type 0 where
+  pub pending : Pending code join operator operand text at to out₀ a t c out
   pub size : length out ≡ length out₀
   pub grows : Grows code operand text
-  pub chained : (a₀ : A) → Chained code join operator operand text a₀ (h₀ .at) (h₀ .to) out₀ (h .at) (h .to) out
 
 module _ {O A : Type 0} {code : A → List ℕ} {join : O → A → A → A} {operator : Kind → Option O} {number : O → ℕ} (ops : Operators code join operator number) (operand : ℕ → Parsed A) (text : List ℕ) where
   -- ---- the ways through `rest`
@@ -94,135 +95,127 @@ module _ {O A : Type 0} {code : A → List ℕ} {join : O → A → A → A} {op
 
   -- ---- the loop's needs
 
-  -- the first operand is refused
-  first-refuses : (at : ℕ) {k q : ℕ} → Refuses text (operand at) k q → Refuses text (chain join operator operand text at) k q
-  unfolding chain
-  first-refuses at e = then-refused text _ (rest-fault (suc (length text))) (operand at) e
-
-  pub chain-first : (at : ℕ) {to u : ℕ} {b a before after : List ℕ} {r : Step} {k q : ℕ} → Parses text code (operand at) u b a r → r ≡ Refused k q → Parses text code (chain join operator operand text at) to before after r
-  chain-first at c e = passed c e (first-refuses at)
-
   -- the loop begins
-  pub turn-first : {at to : ℕ} {before out : List ℕ} {r : Step} {h : Place} → Grows code operand text → Room text at to → Parses text code (operand at) to before out r → r ≡ Done h → Turn code join operator operand text out h out h
-  turn-first {at} {to} {h = h} g m p i = record {
-    room = room-after m (g at to m) (accepted-by p i);
-    stands = accepted-by p i .stands;
+  pub turn-first : {at to : ℕ} {out : List ℕ} → Grows code operand text → Room text at to → Turn code join operator operand text at to out at to 0 out
+  unfolding chain
+  turn-first {at} {to} {out} g m = record {
+    pending = record {
+      made = λ b. b;
+      written = [];
+      fuel = suc (length text);
+      same = refl;
+      spelt = λ b. sym (append-nil (code b));
+      wrote = refl;
+      count = sym (add-zero to);
+      fuels = omega arith;
+      room = subst (Room text at) (sym (add-zero to)) m;
+    };
     size = refl;
     grows = g;
-    chained = λ a₀. record {
-      fuel = suc (length text);
-      tree = a₀;
-      tail = [];
-      same = refl;
-      spelt = sym (append-nil (code a₀));
-      wrote = refl;
-      count = sym (add-zero (h .to));
-      fuels = omega arith;
-    };
   }
 
-  module _ {out₀ : List ℕ} {h₀ : Place} {out : List ℕ} {h : Place} (w : Turn code join operator operand text out₀ h₀ out h) where
-    here : StandsAt text h
-    here = w .stands
+  module _ {at to : ℕ} {out₀ : List ℕ} {a t c : ℕ} {out : List ℕ} (w : Turn code join operator operand text at to out₀ a t c out) where
+    p : Pending code join operator operand text at to out₀ a t c out
+    p = w .pending
 
-    -- an operand may follow the token behind
-    pub turn-next : Room text (h .end) (h .to)
-    turn-next = room-next (w .room) here
+    -- an operand may follow
+    pub turn-room : Room text a t
+    turn-room = record { short = p .room .short; within = p .room .within; room = omega (arith, p .room .room) }
 
-    -- fuel is left while the text is
-    with-fuel : (P : ℕ → Type 0) (a₀ : A) → ((f : ℕ) → P (suc f)) → P (w .chained a₀ .fuel)
-    with-fuel P a₀ g = go (w .chained a₀ .fuel) (w .chained a₀ .fuels)
-      where
-        go : (f : ℕ) → length text < f + h .at → P f
-        go zero i = absurd (omega (arith, w .room .within))
-        go (suc f) i = g f
+    -- it is refused
+    operand-refuses : {k q : ℕ} → Refuses text (operand a) k q → Refuses text (chain join operator operand text at) k q
+    operand-refuses {k} {q} r =
+        subst (λ (x : Parsed A). Refuses text x k q) (sym (p .same)) (then-refused text _ (λ b. rest-fault (p .fuel) (p .made b)) (operand a) r)
 
-    module _ {at to : ℕ} {before : List ℕ} (a : Accepted text code (operand at) to before out₀ h₀ (h₀ .to)) where
-      come : chain join operator operand text at ≡ rest join operator operand text (w .chained (a .tree) .fuel) (w .chained (a .tree) .tree) (h .at)
-      unfolding chain
-      come = rw (a .is) (w .chained (a .tree) .same)
+    pub turn-refused : {u v : ℕ} {b x before after : List ℕ} {s : Step} {k q : ℕ} → Parses text code (operand a) u b x s → s ≡ Refused k q → Parses text code (chain join operator operand text at) v before after s
+    turn-refused d i = passed d i operand-refuses
 
-    -- c is the code of the token behind
-    module _ {c : ℕ} (e : Codes number operator (h .kind) c) where
-      sign : (c ≡ 0 → ⊥) → Operator operator number (here .kind) c
-      sign z = operator-some operator number (here .kind) c (e (here .kind) (here .numbered)) z
+    -- it is accepted, with the token g behind it
+    module _ {out′ : List ℕ} {s : Step} {g : Place} (d : Parses text code (operand a) t out out′ s) (done : s ≡ Done g) where
+      b : Accepted text code (operand a) t out out′ g (g .to)
+      b = accepted-by d done
 
-      -- no operator: the chain ends here
-      ends : {at to : ℕ} {before : List ℕ} → Accepted text code (operand at) to before out₀ h₀ (h₀ .to) → c ≡ 0 → Accepted text code (chain join operator operand text at) to before out h (h .to)
-      ends {to = to} {before = before} a z =
-          let d = w .chained (a .tree) in
-          let i : operator (here .kind) ≡ none = operator-none operator number (here .kind) c (e (here .kind) (here .numbered)) (ops .some-code) z in
-          record {
-            tree = d .tree;
-            is = come a ∙ rest-none (d .fuel) (d .tree) here i;
-            stands = w .stands;
-            count = rw (d .spelt) (simp length-append (omega (arith, d .count, a .count)));
-            wrote = d .wrote ∙ rw (a .wrote, a .count, d .spelt) (sym (sets-append before to (code (a .tree)) (d .tail)));
-          }
+      here : StandsAt text g
+      here = b .stands
 
-      pub turn-done : {at to : ℕ} {before : List ℕ} {r : Step} → Parses text code (operand at) to before out₀ r → r ≡ Done h₀ → c ≡ 0 → Parses text code (chain join operator operand text at) to before out (Done h)
-      turn-done p f z = accepts refl (ends (accepted-by p f) z)
+      grown : Grown code (length text) a (accepted (b .tree) (g .at))
+      grown = subst (Grown code (length text) a) (b .is) (w .grows a t turn-room)
 
-      -- the operand that follows is refused
-      module _ (z : c ≡ 0 → ⊥) where
-        operand-refuses : {at to : ℕ} {before : List ℕ} → Accepted text code (operand at) to before out₀ h₀ (h₀ .to) → {k q : ℕ} → Refuses text (operand (h .end)) k q → Refuses text (chain join operator operand text at) k q
-        operand-refuses {at} a {k} {q} r =
-            let o = sign z in
-            subst (λ (p : Parsed A). Refuses text p k q) (sym (come a))
-            (with-fuel (λ f. Refuses text (rest join operator operand text f (w .chained (a .tree) .tree) (h .at)) k q) (a .tree)
-            (λ f. subst (λ (p : Parsed A). Refuses text p k q) (sym (rest-some f (w .chained (a .tree) .tree) here (o .which) (o .is)))
-            (then-refused text _ (λ b. rest-fault f (join (o .which) (w .chained (a .tree) .tree) b)) (operand (h .end)) r)))
+      pub turn-fits : g .to < 2 ^ 32
+      turn-fits = omega (arith, grown .0, grown .1, grown .2, b .count, p .room .room, p .room .short)
 
-        pub turn-refused : {at to u : ℕ} {before b x after : List ℕ} {r s : Step} {k q : ℕ} → Parses text code (operand at) to before out₀ r → r ≡ Done h₀ → Parses text code (operand (h .end)) u b x s → s ≡ Refused k q → Parses text code (chain join operator operand text at) to before after s
-        turn-refused p f d i = passed d i (operand-refuses (accepted-by p f))
+      -- its operator's byte is written
+      module _ {v : ℕ} {out″ : List ℕ} (put : (v ≡ g .to + length (operatorBytes c)) × (out″ ≡ sets out′ (g .to) (operatorBytes c))) where
+        abbrev tree : A
+        tree = p .made (b .tree)
 
-        -- the operand that follows is accepted
-        module _ {out′ : List ℕ} {s : Step} {g : Place} (d : Parses text code (operand (h .end)) (h .to) out out′ s) (done : s ≡ Done g) where
-          b : Accepted text code (operand (h .end)) (h .to) out out′ g (g .to)
-          b = accepted-by d done
+        come : chain join operator operand text at ≡ rest join operator operand text (p .fuel) tree (g .at)
+        come = p .same ∙ rw (b .is)
 
-          no-end : here .kind ≡ ending → ⊥
-          no-end i =
-              let f : operator ending ≡ some (sign z .which) = ap operator (sym i) ∙ sign z .is in
-              let y : _≡_ {A = ℕ} 0 1 = cc (ops .none-ends) in
-              omega arith
+        counted : v ≡ to + length (code tree)
+        counted = rw (p .spelt (b .tree)) (simp length-append (omega (arith, put .0, b .count, p .count)))
 
-          turn-room : Room text (g .at) (g .to + 1) × (h .at < g .at)
-          turn-room = room-more (w .room) here no-end (w .grows (h .end) (h .to) turn-next) b
+        wrote : out″ ≡ sets out₀ to (code tree)
+        wrote =
+            put .1 ∙ rw (p .spelt (b .tree), sets-append out₀ to (p .written) (code (b .tree) ++ operatorBytes c), ← p .wrote, ← p .count, sets-append out t (code (b .tree)) (operatorBytes c), ← b .wrote, ← b .count)
 
-          pub turn-fits : g .to < 2 ^ 32
-          turn-fits = omega (arith, room-fits (turn-room .0))
+        room : Room text (g .at) v
+        room = record { short = p .room .short; within = grown .1; room = omega (arith, grown .0, grown .2, put .0, b .count, p .room .room) }
 
-          pub turn-less : length text - g .at < length text - h .at
-          turn-less = omega (arith, turn-room .0 .within, turn-room .1)
+        -- e is the code of the token behind
+        module _ {e : ℕ} (f : Codes number operator (g .kind) e) where
+          -- no operator: the chain ends here
+          pub turn-done : e ≡ 0 → Parses text code (chain join operator operand text at) to out₀ out″ (Done (upTo g v))
+          turn-done z =
+              let i : operator (here .kind) ≡ none = operator-none operator number (here .kind) e (f (here .kind) (here .numbered)) (ops .some-code) z in
+              accepts refl (record {
+                tree = tree;
+                is = come ∙ rest-none (p .fuel) tree here i;
+                stands = stands-up-to v here;
+                count = counted;
+                wrote = wrote;
+              })
 
-          module _ {out″ : List ℕ} (put : out″ ≡ set out′ (g .to) c) where
-            wrote-more : (tail : List ℕ) → out ≡ sets out₀ (h₀ .to) tail → h .to ≡ h₀ .to + length tail → out″ ≡ sets out₀ (h₀ .to) (tail ++ (code (b .tree) ++ (number (sign z .which) ∷ [])))
-            wrote-more tail hw ht =
-                put ∙ rw (sets-append out₀ (h₀ .to) tail (code (b .tree) ++ (number (sign z .which) ∷ [])), ← hw, ← ht, sets-append out (h .to) (code (b .tree)) (number (sign z .which) ∷ []), ← b .wrote, ← b .count, ← sign z .code)
+          -- an operator: another operand follows
+          module _ (z : e ≡ 0 → ⊥) where
+            sign : Operator operator number (here .kind) e
+            sign = operator-some operator number (here .kind) e (f (here .kind) (here .numbered)) z
 
-            spelt-more : (a₀ tree : A) (tail : List ℕ) → code tree ≡ code a₀ ++ tail → code (join (sign z .which) tree (b .tree)) ≡ code a₀ ++ (tail ++ (code (b .tree) ++ (number (sign z .which) ∷ [])))
-            spelt-more a₀ tree tail i = rw (ops .joined (sign z .which) tree (b .tree), i) (append-assoc (code a₀) tail (code (b .tree) ++ (number (sign z .which) ∷ [])))
+            no-end : here .kind ≡ ending → ⊥
+            no-end i =
+                let h : operator ending ≡ some (sign .which) = ap operator (sym i) ∙ sign .is in
+                let y : _≡_ {A = ℕ} 0 1 = cc (ops .none-ends) in
+                omega arith
 
-            chained-more : (a₀ : A) (f : ℕ) (tree : A) (tail : List ℕ) → rest join operator operand text (suc (length text)) a₀ (h₀ .at) ≡ rest join operator operand text f tree (h .at) → code tree ≡ code a₀ ++ tail → out ≡ sets out₀ (h₀ .to) tail → h .to ≡ h₀ .to + length tail → length text < f + h .at → Chained code join operator operand text a₀ (h₀ .at) (h₀ .to) out₀ (g .at) (g .to + 1) out″
-            chained-more a₀ zero tree tail hs hb hw ht hf = absurd (omega (arith, w .room .within))
-            chained-more a₀ (suc f) tree tail hs hb hw ht hf = record {
-              fuel = f;
-              tree = join (sign z .which) tree (b .tree);
-              tail = tail ++ (code (b .tree) ++ (number (sign z .which) ∷ []));
-              same = hs ∙ (rest-some f tree here (sign z .which) (sign z .is) ∙ rw (b .is));
-              spelt = spelt-more a₀ tree tail hb;
-              wrote = wrote-more tail hw ht;
-              count = simp length-append (omega (arith, b .count));
-              fuels = omega (arith, turn-room .1);
+            moved : (g .at < g .end) × (g .end ≤ length text)
+            moved =
+                let mv = token-at-moved text (g .at) (here .kind) (g .start) (g .end) (room .within) (here .read) in
+                let i = mv .3 no-end in
+                (omega arith, mv .2)
+
+            pub turn-less : length text - g .end < length text - a
+            turn-less = omega (arith, moved .0, moved .1, grown .0)
+
+            bytes : operatorBytes e ≡ number (sign .which) ∷ []
+            bytes = operator-bytes z ∙ ap (λ (x : ℕ). x ∷ []) (sign .code)
+
+            pending-more : (n : ℕ) → n ≡ p .fuel → Pending code join operator operand text at to out₀ (g .end) v e out″
+            pending-more zero i = absurd (omega (arith, p .fuels, p .room .within))
+            pending-more (suc n) i = record {
+              made = λ x. join (sign .which) tree x;
+              written = code tree;
+              fuel = n;
+              same = come ∙ (ap (λ (m : ℕ). rest join operator operand text m tree (g .at)) (sym i) ∙ rest-some n tree here (sign .which) (sign .is));
+              spelt = λ x. rw bytes (ops .joined (sign .which) tree x);
+              wrote = wrote;
+              count = counted;
+              fuels = omega (arith, p .fuels, moved .0, grown .0);
+              room = record { short = room .short; within = moved .1; room = rw bytes (omega (arith, room .room, moved .0)) };
             }
 
-            pub turn-more : {v : ℕ} → v ≡ g .to + 1 → Turn code join operator operand text out₀ h₀ out″ (upTo g v)
-            turn-more {v} j =
-                subst (λ (x : ℕ). Turn code join operator operand text out₀ h₀ out″ (upTo g x)) (sym j) (record {
-                  room = turn-room .0;
-                  stands = stands-up-to (g .to + 1) (b .stands);
-                  size = rw (put, b .wrote) (simp (length-set, length-sets) (w .size));
-                  grows = w .grows;
-                  chained = λ a₀. let d = w .chained a₀ in chained-more a₀ (d .fuel) (d .tree) (d .tail) (d .same) (d .spelt) (d .wrote) (d .count) (d .fuels);
-                })
+            pub turn-more : Turn code join operator operand text at to out₀ (g .end) v e out″
+            turn-more = record {
+              pending = pending-more (p .fuel) refl;
+              size = rw wrote (simp length-sets refl);
+              grows = w .grows;
+            }

@@ -1,7 +1,7 @@
 -- Laws of steps: what an answer says of the part read, and what answers make a contract. Assumes nothing.
 use mathlib.Core.Path.{_≡_, refl, ap, ap₂, sym, _∙_, subst}
 use mathlib.Core.List.{List, [], _∷_, _++_}
-use mathlib.Core.Bool.{true, false}
+use mathlib.Core.Bool.{Bool, true, false}
 use Prim.Native.Nat.{ℕ, _+_, _^_, _<_}
 use native.Mathlib.Omega.{arith}
 use lib.IntN.{pos}
@@ -10,7 +10,7 @@ use lib.Seq.{sets}
 use lib.Dec.{eqb}
 use borrow.Author.Tests.{eq-eqb, ne-eqb, eqb-true, eqb-false}
 use Rattle.limits.specs.Limits.{noToken, notAllowed}
-use Rattle.lexer.specs.Token.{Kind, kindNumber, ending, is, TokenRead, token, fault}
+use Rattle.lexer.specs.Token.{Kind, kindNumber, ending, minus, is, TokenRead, token, fault}
 use Rattle.lexer.specs.Lexer.{tokenAt}
 use Rattle.lexer.specs.Results.{kindOf, tokenStep}
 use Rattle.lexer.specs.declared.Place.{Place}
@@ -24,14 +24,14 @@ use Rattle.grammar.proofs.Combine.{apart, same-value, same-end}
 use Rattle.phrases.proofs.Writing.{same-refusal, Got, got, refused-part}
 use Rattle.phrases.proofs.Writing as W
 use Rattle.expressions.specs.Inner.Steps.{stepAt, Followed, lookedAhead, Parses, Room}
-use Rattle.expressions.specs.Inner.Readers.{StandsAt, closedStep}
+use Rattle.expressions.specs.Inner.Readers.{StandsAt, closedStep, behindMinus}
 
 -- ---- the constructors of a step are apart, and keep what they hold
 
-done-refused : {A : Type 0} {h : Place} {k q : ℕ} → Done h ≡ Refused k q → A
+pub done-refused : {A : Type 0} {h : Place} {k q : ℕ} → Done h ≡ Refused k q → A
 done-refused e = let z : _≡_ {A = ℕ} 0 1 = cc in absurd (omega arith)
 
-done-place : {h g : Place} → Done h ≡ Done g → h ≡ g
+pub done-place : {h g : Place} → Done h ≡ Done g → h ≡ g
 done-place e = cc
 
 same-numbers : {A : Type 0} {k q l r : ℕ} → Refused k q ≡ Refused l r → _≡_ {A = Parsed A} (refused l r) (refused k q)
@@ -324,3 +324,34 @@ module _ (text : List ℕ) (at to : ℕ) {r : Step} {h : Place} {u : ℕ} (d : r
 
   pub room-behind : Room text (h .end) u
   room-behind = room-next room-at (ahead-stands text at to d e)
+
+-- ---- the token behind a `-`, or the one at hand
+
+module _ (text : List ℕ) (to : ℕ) (h : Place) where
+  pub behind-sign : {r : Step} → h .kind ≡ kindNumber minus → r ≡ stepAt (tokenAt text (h .end)) (h .end) to → r ≡ behindMinus text to h
+  behind-sign k i = rw (eq-eqb _ _ k) i
+
+  pub behind-none : (h .kind ≡ kindNumber minus → ⊥) → Done h ≡ behindMinus text to h
+  behind-none k = rw (ne-eqb _ _ k)
+
+  -- the two ways
+  pub by-minus : {P : Type 0} {s : Step} → s ≡ behindMinus text to h → (h .kind ≡ kindNumber minus → s ≡ stepAt (tokenAt text (h .end)) (h .end) to → P) → ((h .kind ≡ kindNumber minus → ⊥) → s ≡ Done h → P) → P
+  by-minus {P} {s} f m n = go (eqb (h .kind) (kindNumber minus)) refl
+    where
+      go : (b : Bool) → eqb (h .kind) (kindNumber minus) ≡ b → P
+      go true i = let k = eqb-true _ _ i in m k (f ∙ sym (behind-sign k refl))
+      go false i = let k = eqb-false _ _ i in n k (f ∙ sym (behind-none k))
+
+-- `ahead` read h, and g is the token behind a `-` there, or h
+module _ (text : List ℕ) (at to : ℕ) {r : Step} {h : Place} (d : r ≡ Done h) (e : r ≡ stepAt (tokenAt text at) at to) {s : Step} (f : s ≡ behindMinus text to h) {g : Place} (j : s ≡ Done g) where
+  pub operand-stands : StandsAt text g
+  operand-stands =
+      by-minus text to h f
+      (λ m i. ahead-stands text (h .end) to j i)
+      (λ n i. subst (StandsAt text) (done-place (sym i ∙ j)) (ahead-stands text at to d e))
+
+  pub operand-room : {u : ℕ} → Room text at u → Room text (g .at) u
+  operand-room {u} w =
+      by-minus text to h f
+      (λ m i. room-at text (h .end) to j i (room-behind text at to d e w))
+      (λ n i. subst (λ (x : Place). Room text (x .at) u) (done-place (sym i ∙ j)) (room-at text at to d e w))

@@ -1,5 +1,5 @@
 -- The ways through the parts of an expression: what each part comes to, by the token at hand. Assumes nothing.
-use mathlib.Core.Path.{_≡_, refl, ap, sym, _∙_}
+use mathlib.Core.Path.{_≡_, refl, ap, sym, _∙_, subst}
 use mathlib.Core.List.{List, [], _∷_}
 use mathlib.Core.Bool.{true, false}
 use mathlib.Core.Option.{none, some}
@@ -8,7 +8,7 @@ use native.Mathlib.Omega.{arith}
 use lib.ListN.{length, set, getD}
 use lib.Seq.{sets}
 use lib.IntN.{pos}
-use borrow.Author.Tests.{lt-ltb, le-ltb}
+use borrow.Author.Tests.{lt-ltb, le-ltb, eq-eqb, ne-eqb}
 use Rattle.limits.specs.Limits.{noToken, notAllowed, outOfLimit, wrongName, tooEarly, tooMany, numberLimit}
 use Rattle.leb128.specs.Numbers.{number, zigzag}
 use Rattle.lexer.specs.Bytes.{part}
@@ -29,8 +29,8 @@ use Rattle.lexer.specs.declared.Step.the-variants.{Done, Refused}
 use Rattle.expressions.specs.declared.scope.Names.{Names}
 use Rattle.expressions.specs.Inner.Scopes.{scopeOf, Declared}
 use Rattle.expressions.specs.Inner.Steps.{stepAt, lookedAhead, Parses, Room}
-use Rattle.expressions.specs.Inner.Readers.{textOnly, StandsAt, closedStep, primaryIn, factorIn, termIn, expressionIn}
-use Rattle.expressions.proofs.Steps.{Refuses, told, untold, upTo, Accepted, accepted-by, accepts-up-to, answers, same-part, passed, then-refused, ahead-at, ahead-stands, closing, closed-parses, ended, one-more, room-fits, room-after}
+use Rattle.expressions.specs.Inner.Readers.{textOnly, StandsAt, closedStep, operatorBytes, minusCode, behindMinus, primaryIn, factorIn, termIn, expressionIn}
+use Rattle.expressions.proofs.Steps.{Refuses, done-refused, done-place, told, untold, upTo, Accepted, accepted-by, accepts-up-to, answers, same-part, passed, then-refused, ahead-at, ahead-stands, ahead-fault, by-minus, closing, closed-parses, ended, one-more, room-fits, room-after}
 use Rattle.expressions.proofs.Scopes.{few-names}
 use Rattle.expressions.proofs.Chain.{Operators}
 
@@ -197,35 +197,59 @@ module _ (text starts ends : List ℕ) (names : Names) (left at : ℕ) where
   unfolding factor
   factor-fault q e = rw e
 
-  -- `ahead` read the token h there
-  module _ (to : ℕ) {r : Step} {h : Place} (d : r ≡ Done h) (e : r ≡ stepAt (tokenAt text at) at to) where
+  -- `ahead` read the token h there, and s is the token behind a `-`, or h
+  module _ (to : ℕ) {r : Step} {h : Place} (d : r ≡ Done h) (e : r ≡ stepAt (tokenAt text at) at to) {s : Step} (f : s ≡ behindMinus text to h) where
     here : StandsAt text h
     here = ahead-stands text at to d e
 
-    pub factor-plain : (h .kind ≡ kindNumber minus → ⊥) → factorIn left sc at ≡ primaryIn left sc (h .at)
+    factor-plain : (h .kind ≡ kindNumber minus → ⊥) → factorIn left sc at ≡ primaryIn left sc (h .at)
     unfolding factor
     factor-plain n = rw (← ahead-at text at to d e, here .read, untold here minus n)
 
-    module _ (m : h .kind ≡ kindNumber minus) where
-      factor-minus : factorIn left sc at ≡ negative (primaryIn left sc (h .end))
-      unfolding factor
-      factor-minus = rw (← ahead-at text at to d e, here .read, told here minus m)
+    factor-minus : h .kind ≡ kindNumber minus → factorIn left sc at ≡ negative (primaryIn left sc (h .end))
+    unfolding factor
+    factor-minus m = rw (← ahead-at text at to d e, here .read, told here minus m)
 
-      pub minus-fault : (q : ℕ) → tokenAt text (h .end) ≡ fault q → factorIn left sc at ≡ refused noToken q
-      unfolding negative primary
-      minus-fault q i = factor-minus ∙ rw i
+    minus-fault : h .kind ≡ kindNumber minus → (q : ℕ) → tokenAt text (h .end) ≡ fault q → factorIn left sc at ≡ refused noToken q
+    unfolding negative primary
+    minus-fault m q i = factor-minus m ∙ rw i
 
-      -- and the token g behind a `-`, with which the operand begins
-      module _ (u : ℕ) {s : Step} {g : Place} (d′ : s ≡ Done g) (e′ : s ≡ stepAt (tokenAt text (h .end)) (h .end) u) where
-        minus-operand : factorIn left sc at ≡ negative (primaryIn left sc (g .at))
-        minus-operand = rw (ahead-at text (h .end) u d′ e′) factor-minus
+    pub operand-fault : {u : ℕ} {before after : List ℕ} {k q : ℕ} → s ≡ Refused k q → Parses text bytesE (factorIn left sc at) u before after s
+    operand-fault j =
+        by-minus text to h f
+        (λ m i. ahead-fault text (h .end) to j i (minus-fault m))
+        (λ n i. done-refused (sym i ∙ j))
 
-        module _ {v : ℕ} {before after : List ℕ} {p : Step} (c : Parses text bytesE (primaryIn left sc (g .at)) v before after p) where
-          pub minus-refuses : {k q l : ℕ} {first last : List ℕ} → p ≡ Refused k q → Parses text bytesE (factorIn left sc at) l first last p
-          minus-refuses i = same-part minus-operand (passed c i negative-refuses)
+    -- with the token g the primary begins
+    module _ {g : Place} (j : s ≡ Done g) {v : ℕ} {before after : List ℕ} {p : Step} (c : Parses text bytesE (primaryIn left sc (g .at)) v before after p) where
+      plain-operand : (h .kind ≡ kindNumber minus → ⊥) → s ≡ Done h → factorIn left sc at ≡ primaryIn left sc (g .at)
+      plain-operand n i = factor-plain n ∙ ap (λ (x : Place). primaryIn left sc (x .at)) (done-place (sym i ∙ j))
 
-          pub minus-accepts : {l : Place} {x : ℕ} {last : List ℕ} → p ≡ Done l → (x ≡ l .to + 1) × (last ≡ set after (l .to) 9) → Parses text bytesE (factorIn left sc at) v before last (Done (upTo l x))
-          minus-accepts i f = same-part minus-operand (accepts-up-to refl (negative-accepts (accepted-by c i) (f .0) (f .1)))
+      minus-operand : h .kind ≡ kindNumber minus → s ≡ stepAt (tokenAt text (h .end)) (h .end) to → factorIn left sc at ≡ negative (primaryIn left sc (g .at))
+      minus-operand m i = rw (ahead-at text (h .end) to j i) (factor-minus m)
+
+      pub factor-refuses : {k q l : ℕ} {first last : List ℕ} → p ≡ Refused k q → Parses text bytesE (factorIn left sc at) l first last p
+      factor-refuses x =
+          by-minus text to h f
+          (λ m i. same-part (minus-operand m i) (passed c x negative-refuses))
+          (λ n i. same-part (plain-operand n i) (passed c x (λ y. y)))
+
+      module _ {l : Place} {z x : ℕ} {last : List ℕ} (y : p ≡ Done l) (code : z ≡ minusCode (h .kind)) (put : (x ≡ l .to + length (operatorBytes z)) × (last ≡ sets after (l .to) (operatorBytes z))) where
+        written-with : (w : ℕ) → z ≡ w → (x ≡ l .to + length (operatorBytes w)) × (last ≡ sets after (l .to) (operatorBytes w))
+        written-with w i = subst (λ (o : ℕ). (x ≡ l .to + length (operatorBytes o)) × (last ≡ sets after (l .to) (operatorBytes o))) i put
+
+        plain-accepts : Accepted text bytesE (primaryIn left sc (g .at)) v before after l (l .to) → z ≡ 0 → Accepted text bytesE (primaryIn left sc (g .at)) v before last l x
+        plain-accepts a i =
+            let w = written-with 0 i in
+            record { tree = a .tree; is = a .is; stands = a .stands; count = omega (arith, w .0, a .count); wrote = w .1 ∙ a .wrote }
+
+        pub factor-accepts : Parses text bytesE (factorIn left sc at) v before last (Done (upTo l x))
+        factor-accepts =
+            by-minus text to h f
+            (λ m i.
+            let w = written-with 9 (code ∙ rw (eq-eqb _ _ m)) in
+            same-part (minus-operand m i) (accepts-up-to refl (negative-accepts (accepted-by c y) (w .0) (w .1))))
+            (λ n i. same-part (plain-operand n i) (accepts-up-to refl (plain-accepts (accepted-by c y) (code ∙ rw (ne-eqb _ _ n)))))
 
 -- ---- growth
 

@@ -8,6 +8,8 @@ use scope::Names;
 ghost use mathlib.Core.Path.{_≡_};
 ghost use mathlib.Core.List.{_∷_};
 ghost use Prim.Native.Nat.{ℕ, _+_, _^_, _<_};
+ghost use lib.ListN.{length};
+ghost use lib.Seq.{sets};
 ghost use Rattle.leb128.specs.Numbers.{number as numberBytes};
 ghost use Rattle.lexer.specs.Lexer.{tokenAt};
 ghost use Rattle.bytecode.specs.Instructions.{operationCode};
@@ -16,7 +18,7 @@ ghost use Rattle.grammar.specs.Expressions.{constantAt, currentAt, previousValu
 ghost use Rattle.grammar.specs.Inner.Bytes.{bytesE};
 ghost use Rattle.expressions.specs.Inner.Scopes.{scopeOf, Declared};
 ghost use Rattle.expressions.specs.Inner.Steps.{stepAt, Parses, Room};
-ghost use Rattle.expressions.specs.Inner.Readers.{textOnly, primaryIn, factorIn, termIn, expressionIn, Codes, StandsAt, closedStep};
+ghost use Rattle.expressions.specs.Inner.Readers.{textOnly, primaryIn, factorIn, termIn, expressionIn, Codes, StandsAt, closedStep, operatorBytes, minusCode, behindMinus};
 
 pub mod scope;
 
@@ -72,6 +74,37 @@ fn product_code(kind: u8) -> u8
         return opcode::MODULO;
     }
     0
+}
+
+// The code of a `-` before a primary; 0 for any other token.
+fn minus_code(kind: u8) -> u8
+    ensures { λ r. ⌜ r ≡ minusCode kind ⌝ }
+{
+    if kind == lexer::MINUS {
+        return opcode::NEGATE;
+    }
+    0
+}
+
+// The token behind that `-`; where there is none, the one at hand.
+fn behind_minus(text: &[u8], here: Place, to: usize) -> Step
+    ensures { λ r. ⌜ r ≡ behindMinus (now (text .entry)) to here ⌝ }
+{
+    if here.kind == lexer::MINUS {
+        return ahead(text, here.end, to);
+    }
+    Step::Done(here)
+}
+
+// The byte of an operator, and nothing for code 0; the place behind it.
+pub fn put_operator(out: &mut [u8], to: usize, code: u8) -> usize
+    requires { ⌜ to < 2 ^ 32 ⌝ }
+    ensures { λ r. ⌜ (r ≡ to + length (operatorBytes code)) × (now (out .exit) ≡ sets (now (out .entry)) to (operatorBytes code)) ⌝ }
+{
+    if code == 0 {
+        return to;
+    }
+    leb128::put_byte(out, to, code)
 }
 
 // An instruction with its operand, and the token at `end` behind them.
@@ -156,7 +189,8 @@ fn previous(
     instruction(text, end, opcode::PREVIOUS, id as u64, out, to)
 }
 
-// Terms with `+` and `-` between them.
+// Terms with `+` and `-` between them. One call in the loop reads each of them, so that it is compiled in place; `term` and `factor`
+// likewise.
 pub fn expression(
     text: &[u8],
     starts: &[usize],
@@ -171,21 +205,22 @@ pub fn expression(
     requires { ⌜ Room (now text) at to ⌝ }
     ensures { λ r. ⌜ Parses (now (text .entry)) bytesE (expressionIn left (scopeOf (now (text .entry)) (now (starts .entry)) (now (ends .entry)) names) at) to (now (out .entry)) (now (out .exit)) r ⌝ }
 {
-    let first = term(text, starts, ends, names, at, left, out, to);
-    let Step::Done(mut behind) = first else {
-        return first;
-    };
+    // with code 0 nothing is read yet, else the parts so far and the operator of that code
+    let mut a = at;
+    let mut t = to;
+    let mut code: u8 = 0;
     loop {
-        let code = sum_code(behind.kind);
+        let part = term(text, starts, ends, names, a, left, out, t);
+        let Step::Done(mut behind) = part else {
+            return part;
+        };
+        behind.to = put_operator(out, behind.to, code);
+        code = sum_code(behind.kind);
         if code == 0 {
             return Step::Done(behind);
         }
-        let more = term(text, starts, ends, names, behind.end, left, out, behind.to);
-        let Step::Done(mut next) = more else {
-            return more;
-        };
-        next.to = leb128::put_byte(out, next.to, code);
-        behind = next;
+        a = behind.end;
+        t = behind.to;
     }
 }
 
@@ -204,21 +239,22 @@ fn term(
     requires { ⌜ Room (now text) at to ⌝ }
     ensures { λ r. ⌜ Parses (now (text .entry)) bytesE (termIn left (scopeOf (now (text .entry)) (now (starts .entry)) (now (ends .entry)) names) at) to (now (out .entry)) (now (out .exit)) r ⌝ }
 {
-    let first = factor(text, starts, ends, names, at, left, out, to);
-    let Step::Done(mut behind) = first else {
-        return first;
-    };
+    // with code 0 nothing is read yet, else the parts so far and the operator of that code
+    let mut a = at;
+    let mut t = to;
+    let mut code: u8 = 0;
     loop {
-        let code = product_code(behind.kind);
+        let part = factor(text, starts, ends, names, a, left, out, t);
+        let Step::Done(mut behind) = part else {
+            return part;
+        };
+        behind.to = put_operator(out, behind.to, code);
+        code = product_code(behind.kind);
         if code == 0 {
             return Step::Done(behind);
         }
-        let more = factor(text, starts, ends, names, behind.end, left, out, behind.to);
-        let Step::Done(mut next) = more else {
-            return more;
-        };
-        next.to = leb128::put_byte(out, next.to, code);
-        behind = next;
+        a = behind.end;
+        t = behind.to;
     }
 }
 
@@ -238,22 +274,19 @@ fn factor(
     ensures { λ r. ⌜ Parses (now (text .entry)) bytesE (factorIn left (scopeOf (now (text .entry)) (now (starts .entry)) (now (ends .entry)) names) at) to (now (out .entry)) (now (out .exit)) r ⌝ }
 {
     let read = ahead(text, at, to);
-    let Step::Done(here) = read else {
+    let Step::Done(first) = read else {
         return read;
     };
-    if here.kind == lexer::MINUS {
-        let second = ahead(text, here.end, to);
-        let Step::Done(operand) = second else {
-            return second;
-        };
-        let inner = primary(text, starts, ends, names, operand, left, out, to);
-        let Step::Done(mut behind) = inner else {
-            return inner;
-        };
-        behind.to = leb128::put_byte(out, behind.to, opcode::NEGATE);
-        return Step::Done(behind);
-    }
-    primary(text, starts, ends, names, here, left, out, to)
+    let second = behind_minus(text, first, to);
+    let Step::Done(here) = second else {
+        return second;
+    };
+    let inner = primary(text, starts, ends, names, here, left, out, to);
+    let Step::Done(mut behind) = inner else {
+        return inner;
+    };
+    behind.to = put_operator(out, behind.to, minus_code(first.kind));
+    Step::Done(behind)
 }
 
 // A number, a name, a previous value, or an expression in brackets.

@@ -3,11 +3,11 @@
 use mathlib.Core.Bool.{cond}
 use Prim.Native.Nat.{ℕ}
 use mathlib.Core.Path.{_≡_}
-use mathlib.Core.List.{List, []}
+use mathlib.Core.List.{List, [], _∷_}
 use mathlib.Core.Option.{Option, none, some}
 use lib.Dec.{eqb}
 use Rattle.limits.specs.Limits.{notAllowed}
-use Rattle.lexer.specs.Token.{Kind, kindNumber, token}
+use Rattle.lexer.specs.Token.{Kind, kindNumber, minus, token}
 use Rattle.lexer.specs.Lexer.{tokenAt}
 use Rattle.semantics.specs.Program.{Expression}
 use Rattle.grammar.specs.Parsed.{Parsed}
@@ -42,6 +42,14 @@ codeOrNone code (some o) = code o
 abbrev pub Codes : {O : Type 0} → (O → ℕ) → (Kind → Option O) → ℕ → ℕ → Type 0
 Codes code operator n c = (k : Kind) → n ≡ kindNumber k → c ≡ codeOrNone code (operator k)
 
+-- the bytes of an operator whose code is c; none where c is 0
+abbrev pub operatorBytes : ℕ → List ℕ
+operatorBytes c = cond (eqb c 0) [] (c ∷ [])
+
+-- the code of a `-` before a primary, by the number of the kind of the token at hand; 0 where there is none
+abbrev pub minusCode : ℕ → ℕ
+minusCode n = cond (eqb n (kindNumber minus)) 9 0
+
 -- the token h is the one read from its place
 pub record StandsAt (text : List ℕ) (h : Place) : Type 0 where
   pub kind : Kind
@@ -54,3 +62,9 @@ closedStep text w (Done h) =
     let next = stepAt (tokenAt text (h .end)) (h .end) (h .to) in
     cond (eqb (h .kind) w) next (Refused notAllowed (h .start))
 closedStep text w (Refused k q) = Refused k q
+
+-- the token behind a `-`; where h is none, h
+abbrev pub behindMinus : List ℕ → ℕ → Place → Step
+behindMinus text to h =
+    let next = stepAt (tokenAt text (h .end)) (h .end) to in
+    cond (eqb (h .kind) (kindNumber minus)) next (Done h)

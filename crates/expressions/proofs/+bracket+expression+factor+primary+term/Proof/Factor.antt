@@ -2,15 +2,17 @@
 use Prim.Native.Nat.{ℕ}
 use native.Mathlib.Omega.{arith}
 use borrow.Author.Needs.{needs}
-use borrow.Fn.Kinds.{In, Out}
+use borrow.Fn.Kinds.{In}
 use Rattle.lexer.specs.Token.{kindNumber}
-use Rattle.expressions.proofs.Steps.{same-part, ahead-stands, ahead-fault, room-at, room-behind}
+use Rattle.expressions.proofs.Steps.{ahead-fault, operand-stands, operand-room}
 use Rattle.expressions.proofs.Cycle.{just, below}
-use Rattle.expressions.proofs.Ways.{factor-fault, factor-plain, minus-fault, minus-refuses, minus-accepts, primary-fits}
+use Rattle.expressions.proofs.Ways.{factor-fault, operand-fault, factor-refuses, factor-accepts, primary-fits}
 use Rattle.expressions.proofs.ahead.Reads as ahead
+use Rattle.expressions.proofs.behind_minus.Reads as behind-minus
 use Rattle.expressions.proofs.primary.Reads as primary
 use Rattle.expressions.proofs.primary.Kinds as primary-kinds
-use Rattle.leb128.proofs.put_byte.Reads as put-byte
+use Rattle.expressions.proofs.minus_code.Reads as minus-code
+use Rattle.expressions.proofs.put_operator.Reads as put-operator
 use Rattle.expressions.proofs.factor.Reads as factor
 use Rattle.expressions.proofs.factor.Kinds as factor-kinds
 use Rattle.expressions.proofs.+bracket+expression+factor+primary+term.Lts-factor as lts
@@ -18,36 +20,36 @@ use Rattle.expressions.proofs.+bracket+expression+factor+primary+term.P
 
 module _ (t : ℕ) where
   abbrev claims : lts.Claims
-  claims = (ahead.Asked, ahead.Learnt, below primary-kinds.ps μ-primary primary.Pre t, primary.Post, put-byte.Asked, put-byte.Learnt)
+  claims = (ahead.Asked, ahead.Learnt, behind-minus.Asked, behind-minus.Learnt, below primary-kinds.ps μ-primary primary.Pre t, primary.Post, minus-code.Asked, minus-code.Learnt, put-operator.Asked, put-operator.Learnt)
 
   abbrev asked : In 4 factor-kinds.ps
   asked = just factor-kinds.ps μ-factor factor.Pre t
 
-  abbrev At : (lts.Claims → In 4 factor-kinds.ps → Out 4 factor-kinds.ps factor-kinds.r → Type 0) → Type 0
-  At place = place claims asked factor.Post
-
-  -- from the token behind a `-` back to the start: `search` looks at 128 records, so the needs name what lies further back
-  abbrev start : At lts.After-second → At lts.Start
-  start s = s .before .before .before .before .before .before .before .before .before .before .before .before .before
-
   pub met : {M : Type 1} → lts.Closed claims asked factor.Post M
-  unfolding kindNumber
   met =
       lts.spec claims asked factor.Post
       (λ c κs. search needs) (λ c. search needs) (λ c. search needs)
-      (λ c. search (ahead-fault, factor-fault))
+      (λ c. ahead-fault _ _ _ (c .enum-told .given .1) (c .before .before .ahead .ensures) (factor-fault _ _ _ _ _ _))
       (λ c κs. search needs) (λ c. search needs) (λ c. search needs)
-      (λ c. search (ahead-fault, minus-fault))
-      (λ c κs. let asks = start (c .before .before) .pre in (omega (arith, asks .0), (asks .1 .0, (search (room-at, room-behind), search ahead-stands))))
-      (λ c. search needs) (λ c. search needs) (λ c. search needs)
-      (λ c. let s = c .before .before .before .before .before .before .before in search minus-refuses)
+      (λ c. operand-fault _ _ _ _ _ _ _ (c .before .before .before .before .read .given .1) (c .before .before .before .before .before .before .ahead .ensures) (c .before .before .behind-minus .ensures) (c .enum-told2 .given .1))
       (λ c κs.
-      let s = c .before .before .before .before .before .before .before .before .before in
-      let asks = start s .pre in
-      primary-fits _ _ _ _ _ (c .before .before .inner .given .1) (c .before .before .before .before .before .before .primary .ensures) (asks .1 .0)
-      (room-at _ _ _ (s .second .given .1) (s .before .before .ahead2 .ensures) (room-behind _ _ _ (s .before .before .before .before .before .before .read .given .1) (s .before .before .before .before .before .before .before .before .ahead .ensures) (asks .1 .1))))
+      let asks = c .before .before .before .before .before .before .before .before .before .before .before .before .before .pre in (
+        omega (arith, asks .0),
+        (
+          asks .1 .0,
+          (
+            operand-room _ _ _ (c .before .before .before .before .before .before .read .given .1) (c .before .before .before .before .before .before .before .before .ahead .ensures) (c .before .before .before .before .behind-minus .ensures) (c .before .before .second .given .1) (asks .1 .1),
+            operand-stands _ _ _ (c .before .before .before .before .before .before .read .given .1) (c .before .before .before .before .before .before .before .before .ahead .ensures) (c .before .before .before .before .behind-minus .ensures) (c .before .before .second .given .1),
+          ),
+        ),
+      ))
+      (λ c. search needs) (λ c. search needs) (λ c. search needs)
+      (λ c. factor-refuses _ _ _ _ _ _ _ (c .before .before .before .before .before .before .before .before .before .before .before .read .given .1) (c .before .before .before .before .before .before .before .before .before .before .before .before .before .ahead .ensures) (c .before .before .before .before .before .before .before .before .before .behind-minus .ensures) (c .before .before .before .before .before .before .before .second .given .1) (c .before .before .before .before .primary .ensures) (c .enum-told3 .given .1))
+      (λ c κs. search needs)
+      (λ c κs.
+      let asks = c .before .before .before .before .before .before .before .before .before .before .before .before .before .before .before .before .before .before .before .before .before .pre in
+      primary-fits _ _ _ _ _ (c .before .before .before .inner .given .1) (c .before .before .before .before .before .before .before .primary .ensures) (asks .1 .0)
+      (operand-room _ _ _ (c .before .before .before .before .before .before .before .before .before .before .before .before .before .before .read .given .1) (c .before .before .before .before .before .before .before .before .before .before .before .before .before .before .before .before .ahead .ensures) (c .before .before .before .before .before .before .before .before .before .before .before .before .behind-minus .ensures) (c .before .before .before .before .before .before .before .before .before .before .second .given .1) (asks .1 .1)))
       (λ c. search needs)
-      (λ c. let s = c .before .before .before .before .before .before .before .before .before .before .before .before in search minus-accepts)
-      (λ c κs. search (arith, ahead-stands, room-at))
-      (λ c. search needs)
-      (λ c. search (same-part, factor-plain))
+      (λ c.
+      factor-accepts _ _ _ _ _ _ _ (c .before .before .before .before .before .before .before .before .before .before .before .before .before .before .before .before .before .read .given .1) (c .before .before .before .before .before .before .before .before .before .before .before .before .before .before .before .before .before .before .before .ahead .ensures) (c .before .before .before .before .before .before .before .before .before .before .before .before .before .before .before .behind-minus .ensures) (c .before .before .before .before .before .before .before .before .before .before .before .before .before .second .given .1) (c .before .before .before .before .before .before .before .before .before .before .primary .ensures) (c .before .before .before .before .before .before .inner .given .1) (c .before .before .before .minus-code .ensures) (c .before .before .put-operator .ensures))
