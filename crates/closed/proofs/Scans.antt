@@ -1,0 +1,111 @@
+-- The scans of a sound image within its ranges are the runs of its code. Assumes nothing.
+use mathlib.Core.Path.{_≡_, refl, sym, ap, _∙_}
+use mathlib.Core.Bool.{Bool, true, false, cond}
+use mathlib.Core.List.{List, [], _∷_}
+use Prim.Native.Nat.{ℕ, zero, suc, _+_, _*_, _≤_}
+use native.Mathlib.Omega.{arith}
+use borrow.Author.Tests.{eq-eqb}
+use lib.Dec.{T, leb}
+use lib.IntN.{ℤ}
+use lib.ListN.{length, take, drop}
+use lib.Seq.{length-take-le}
+use lib.Signed.{leZ}
+use Rattle.limits.specs.Answer.{Answer, accepted, refused}
+use Rattle.arith.specs.Values.{isInt32}
+use Rattle.arith.proofs.Basics.{T-true, and-left, and-right, and-T}
+use Rattle.semantics.specs.Program.{Range, within}
+use Rattle.semantics.specs.Formula.{State}
+use Rattle.semantics.specs.ReferenceScan.{allWithin}
+use Rattle.bytecode.specs.Check.{checkOf}
+use Rattle.bytecode.specs.Counting.{headerOf, codeOf, rangesFrom, rangesEnd}
+use Rattle.bytecode.specs.Translation.{RangesFit}
+use Rattle.bytecode.proofs.Walk.{check-sound}
+use Rattle.bytecode.proofs.SoundHeader.{header-is, SoundCounts}
+use Rattle.machine.proofs.Ranges.{Within}
+use Rattle.scan.specs.Services.{scanCode, scanOf}
+use Rattle.scan.specs.Internal.{scannedCode}
+use Rattle.closed.specs.Closed.{productOf, inputRanges, isSmall, combinations, Combination, combinationsOf, walked, scanning, leaves, closedBy, closedAs, closedIn, AfterClosed}
+use Rattle.closed.specs.Results.{afterClosing}
+use Rattle.closed.specs.Internal.{working, closedWorking, Declared}
+use Rattle.closed.specs.declared.Closing.the-variants as C
+use Rattle.closed.proofs.Combining.{All, all-weaker, Upright, combinations-within, paired-all}
+
+-- ---- the ranges of a sound image
+
+fit-upright : (ns : List Range) → RangesFit ns → Upright ns
+fit-upright [] f = tt
+fit-upright (n ∷ ns) f = (T-true _ (and-right (isInt32 (n .high)) (leZ (n .low) (n .high)) (f .0 .1)), fit-upright ns (f .1))
+
+upright-take : (k : ℕ) (ns : List Range) → Upright ns → Upright (take k ns)
+upright-take zero ns u = tt
+upright-take (suc k) [] u = tt
+upright-take (suc k) (n ∷ ns) u = (u .0, upright-take k ns (u .1))
+
+-- values within the first ranges are within all
+all-within-take : (k : ℕ) (ns : List Range) (zs : List ℤ) → T (allWithin (take k ns) zs) → length zs ≡ length (take k ns) → T (allWithin ns zs)
+all-within-take k [] zs t e = tt
+all-within-take k (n ∷ ns) [] t e = tt
+all-within-take zero (n ∷ ns) (z ∷ zs) t e = let b : ⊥ = omega arith in absurd b
+all-within-take (suc k) (n ∷ ns) (z ∷ zs) t e =
+    and-T (within n z) (allWithin ns zs) (and-left (within n z) (allWithin (take k ns) zs) t) (all-within-take k ns zs (and-right (within n z) (allWithin (take k ns) zs) t) (omega arith))
+
+module _ (image : List ℕ) (sound : checkOf image ≡ accepted tt) where
+  inputs-among : headerOf image .inputs ≤ length (headerOf image .ranges)
+  inputs-among = let y = check-sound image sound in rw (header-is image y) (omega (arith, y .fits .size))
+
+  pub header-fits : RangesFit (headerOf image .ranges)
+  header-fits = let y = check-sound image sound in rw (header-is image y) (y .fits .fit)
+
+  pub combinations-in : All (λ c. Within (headerOf image .ranges) (c .state) × Within (inputRanges (headerOf image)) (c .row)) (combinationsOf (headerOf image))
+  unfolding combinationsOf
+  combinations-in =
+      let ns = headerOf image .ranges in
+      let u = fit-upright ns header-fits in
+      paired-all (Within ns) (Within (inputRanges (headerOf image))) (combinations ns) (combinations (inputRanges (headerOf image))) (combinations-within ns u)
+      (combinations-within (inputRanges (headerOf image)) (upright-take (headerOf image .inputs) ns u))
+
+  pub row-length : (row : List ℤ) → Within (inputRanges (headerOf image)) row → length row ≡ headerOf image .inputs
+  row-length row v = v .size ∙ length-take-le (headerOf image .inputs) (headerOf image .ranges) inputs-among
+
+  -- neither 12 nor 18 nor 13 comes before the code
+  pub scanning-is : (s : State) (row : List ℤ) → Within (headerOf image .ranges) s → Within (inputRanges (headerOf image)) row
+      → scanOf image s row .answer ≡ scannedCode (headerOf image .ranges) (codeOf image) s row .answer
+  unfolding scanOf scanCode
+  scanning-is s row w v =
+      let a = eq-eqb (length s) (length (headerOf image .ranges)) (w .size) in
+      let b = eq-eqb (length row) (headerOf image .inputs) (row-length row v) in
+      let d = T-true (allWithin (headerOf image .ranges) s) (w .ranges) in
+      let e = T-true (allWithin (headerOf image .ranges) row) (all-within-take (headerOf image .inputs) (headerOf image .ranges) row (v .ranges) (v .size)) in
+      rw (sound, a, b, d, e)
+
+-- ---- the walk by the code is the walk by the scans
+
+walked-same : (f g : Combination → Answer (Unit {0})) (cs : List Combination) (n : ℕ) → All (λ c. f c ≡ g c) cs → walked f cs n ≡ walked g cs n
+walked-same f g [] n h = refl
+walked-same f g (c ∷ cs) n h = rw (h .0, walked-same f g cs (n + 1) (h .1))
+
+chosen : (b : Bool) (image : List ℕ) (state row : List ℤ) (x : AfterClosed) → x ≡ closedBy (walked (scanning image) (combinationsOf (headerOf image)) 0) state row
+    → cond b x (leaves (refused 26 0) state row) ≡ closedAs (accepted tt) b image state row
+chosen true image state row x e = e
+chosen false image state row x e = refl
+
+pub closed-refused : (image : List ℕ) (state row : List ℤ) (number place : ℕ) → refused number place ≡ checkOf image → afterClosing (C.Refused number place) state row ≡ closedIn image state row
+unfolding closedIn
+closed-refused image state row number place e = rw (← e)
+
+module _ (image : List ℕ) (sound : checkOf image ≡ accepted tt) where
+  walk-is : walked (scanning image) (combinationsOf (headerOf image)) 0 ≡ walked (working (headerOf image .ranges) (codeOf image)) (combinationsOf (headerOf image)) 0
+  walk-is =
+      walked-same (scanning image) (working (headerOf image .ranges) (codeOf image)) (combinationsOf (headerOf image)) 0
+      (all-weaker (λ c. Within (headerOf image .ranges) (c .state) × Within (inputRanges (headerOf image)) (c .row)) (λ c. scanning image c ≡ working (headerOf image .ranges) (codeOf image) c)
+      (combinationsOf (headerOf image)) (λ c w. scanning-is image sound (c .state) (c .row) (w .0) (w .1)) (combinations-in image sound))
+
+  module _ {inputs names first : ℕ} (k : SoundCounts image inputs names first) where
+    pub declared : Declared image first inputs names
+    declared = record { few = k .few; among = k .among; ranges = rw (k .ranges-are) (k .names-are); inside = k .inside }
+
+    pub closed-from : (state row : List ℤ) → closedWorking (rangesFrom image names first) inputs (drop (rangesEnd image names first) image) state row ≡ closedIn image state row
+    unfolding closedIn isSmall combinationsOf codeOf
+    closed-from state row =
+        rw (k .ranges-are, k .place-is, sound, ← (k .inputs-are))
+        (chosen (leb (productOf (headerOf image .ranges) * productOf (inputRanges (headerOf image))) 65536) image state row _ (ap (λ w. closedBy w state row) (sym walk-is)))

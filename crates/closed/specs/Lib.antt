@@ -1,0 +1,4 @@
+pub mod Closed
+pub mod Results
+pub mod Internal
+pub mod Claims

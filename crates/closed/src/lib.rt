@@ -1,0 +1,400 @@
+// The closed profile: every in-range state scanned with every in-range row.
+use bytecode::Counted;
+use checker::Checked;
+use machine::Registers;
+use machine::Stepped;
+use machine::lists;
+ghost use mathlib.Core.Path.{_≡_};
+ghost use mathlib.Core.List.{List};
+ghost use Prim.Native.Nat.{_+_, _*_, _^_, _≤_, _<_, min};
+ghost use lib.ListN.{length, take, drop};
+ghost use Rattle.limits.specs.Limits.{stackLimit};
+ghost use Rattle.bytecode.specs.Counting.{rangesFrom, rangesEnd};
+ghost use Rattle.semantics.specs.Program.{Range};
+ghost use Rattle.machine.specs.Memory.{RangesIn};
+ghost use Rattle.attempt.specs.Attempts.{Fitting};
+ghost use Rattle.scan.specs.Internal.{scannedCode};
+ghost use Rattle.closed.specs.Closed.{combinationLimit, between, productOf, combinations, paired, walked, closedIn, closedOf, combinationOf};
+ghost use Rattle.closed.specs.Results.{endedAs, EndedWithin, afterClosing, ClosingWithin, profileOf};
+ghost use Rattle.closed.specs.Internal.{nextOf, isRefused, working, Walking, closedWorking, Declared, Room, combinedRanges, Stands};
+
+pub const COMBINATION_LIMIT: usize = 65536;
+
+pub const NOT_SMALL: u8 = 26;
+
+pub const NOT_CLOSED: u8 = 27;
+
+// How many values a range has.
+fn size(low: i32, high: i32) -> usize
+    ensures { λ r. ⌜ (r ≡ between low high) × (r ≤ 2 ^ 32) ⌝ }
+{
+    if high < low {
+        return 1;
+    }
+    (high as i64 - low as i64) as usize + 1
+}
+
+// The product of the sizes; one over the limit stands for every larger one, since no size is 0.
+fn product(low: &[i32], high: &[i32]) -> usize
+    requires { ⌜ length (now high) ≡ length (now low) ⌝ }
+    ensures { λ r. ⌜ ((ns : List Range) → RangesIn ns (now (low .entry)) (now (high .entry)) → r ≡ min (productOf ns) (combinationLimit + 1)) ⌝ }
+    ensures { λ r. ⌜ (1 ≤ r) × (r ≤ combinationLimit + 1) ⌝ }
+{
+    let mut p: usize = 1;
+    let mut i = 0;
+    while i < low.len() {
+        p *= size(low[i], high[i]);
+        if COMBINATION_LIMIT < p {
+            return COMBINATION_LIMIT + 1;
+        }
+        i += 1;
+    }
+    p
+}
+
+// The combination after this one; after the last, the first.
+fn next(low: &[i32], high: &[i32], values: &mut [i32])
+    requires { ⌜ (length (now high) ≡ length (now low)) × (length (now values) ≡ length (now low)) ⌝ }
+    ensures { λ _. ⌜ ((ns : List Range) → RangesIn ns (now (low .entry)) (now (high .entry)) → now (values .exit) ≡ nextOf ns (now (values .entry))) ⌝ }
+{
+    let mut k = values.len();
+    while 0 < k {
+        k -= 1;
+        if values[k] < high[k] {
+            values[k] += 1;
+            return;
+        }
+        values[k] = low[k];
+    }
+}
+
+// Whether the code refuses a state and a row within their ranges. It works on a copy.
+fn is_refused(
+    code: &[u8],
+    low: &[i32],
+    high: &[i32],
+    state: &[i32],
+    row: &[i32],
+    work: &mut [i32],
+    vals: &mut [i32],
+) -> bool
+    requires { ⌜ Fitting (now state) (now row) (now low) (now high) (now work) ⌝ }
+    requires { ⌜ stackLimit ≤ length (now vals) ⌝ }
+    ensures { λ r. ⌜ ((ns : List Range) → RangesIn ns (now (low .entry)) (now (high .entry))
+        → r ≡ isRefused (scannedCode ns (now (code .entry)) (now (state .entry)) (now (row .entry)) .answer)) ⌝ }
+{
+    lists::take_row(work, state, row);
+    let m = Registers {
+        held: 0,
+        picked: false,
+        passing: false,
+    };
+    let ran = machine::run(code, low, high, state, work, vals, 0, m, code.len());
+    let last = ran.last;
+    match last {
+        Stepped::Next(_) => false,
+        Stepped::Refused(_) => true,
+    }
+}
+
+// No scan was refused; or the scans done before the refused one.
+pub enum Ended {
+    Through,
+    Stopped(usize),
+}
+
+// Every combination, rows inside states. It ends at the first scan that is refused, and leaves its state and row.
+fn walk(
+    code: &[u8],
+    low: &[i32],
+    high: &[i32],
+    row_low: &[i32],
+    row_high: &[i32],
+    states: usize,
+    rows: usize,
+    state: &mut [i32],
+    row: &mut [i32],
+    work: &mut [i32],
+    vals: &mut [i32],
+) -> Ended
+    requires { ⌜ Walking (now low) (now high) (now «row_low») (now «row_high») (now state) (now row) (now work) (now vals) ⌝ }
+    requires { ⌜ states * rows ≤ combinationLimit ⌝ }
+    ensures { λ r. ⌜ ((ns is : List Range) → RangesIn ns (now (low .entry)) (now (high .entry)) → RangesIn is (now («row_low» .entry)) (now («row_high» .entry))
+        → states ≡ productOf ns → rows ≡ productOf is
+        → endedAs r (now (state .exit)) (now (row .exit)) ≡ walked (working ns (now (code .entry))) (paired (combinations ns) (combinations is)) 0) ⌝ }
+    ensures { λ r. ⌜ EndedWithin r ⌝ }
+{
+    lists::fill(state, low);
+    let mut i = 0;
+    let mut done: usize = 0;
+    'states: while i < states {
+        lists::fill(row, row_low);
+        let mut j = 0;
+        while j < rows {
+            if is_refused(code, low, high, state, row, work, vals) {
+                break 'states;
+            }
+            next(row_low, row_high, row);
+            done += 1;
+            j += 1;
+        }
+        next(low, high, state);
+        i += 1;
+    }
+    if i < states {
+        return Ended::Stopped(done);
+    }
+    Ended::Through
+}
+
+// Closed; or the number of a refusal and its place, for 27 the scans done before.
+pub enum Closing {
+    Closed,
+    Refused(u8, usize),
+}
+
+// The product, then the walk. `state` and `row` are written only where a scan is refused.
+fn closed_ranges(
+    code: &[u8],
+    inputs: usize,
+    low: &[i32],
+    high: &[i32],
+    at_state: &mut [i32],
+    at_row: &mut [i32],
+    work: &mut [i32],
+    vals: &mut [i32],
+    state: &mut [i32],
+    row: &mut [i32],
+) -> Closing
+    requires { ⌜ inputs ≤ length (now low) ⌝ }
+    requires { ⌜ Walking (now low) (now high) (take inputs (now low)) (take inputs (now high)) (now «at_state») (now «at_row») (now work) (now vals) ⌝ }
+    requires { ⌜ (length (now low) ≤ length (now state)) × (inputs ≤ length (now row)) ⌝ }
+    ensures { λ r. ⌜ ((ns : List Range) → RangesIn ns (now (low .entry)) (now (high .entry))
+        → afterClosing r (now (state .exit)) (now (row .exit)) ≡ closedWorking ns inputs (now (code .entry)) (now (state .entry)) (now (row .entry))) ⌝ }
+    ensures { λ r. ⌜ ClosingWithin r ⌝ }
+{
+    let states = product(low, high);
+    let rows = product(&low[..inputs], &high[..inputs]);
+    if COMBINATION_LIMIT < states * rows {
+        return Closing::Refused(NOT_SMALL, 0);
+    }
+    let ended = walk(
+        code,
+        low,
+        high,
+        &low[..inputs],
+        &high[..inputs],
+        states,
+        rows,
+        at_state,
+        at_row,
+        work,
+        vals,
+    );
+    let Ended::Stopped(done) = ended else {
+        return Closing::Closed;
+    };
+    lists::fill(state, at_state);
+    lists::fill(row, at_row);
+    Closing::Refused(NOT_CLOSED, done)
+}
+
+// The ranges of the names from a place of the image on; then the code behind them.
+fn closed_names(
+    image: &[u8],
+    first: usize,
+    inputs: usize,
+    names: usize,
+    low: &mut [i32],
+    high: &mut [i32],
+    at_state: &mut [i32],
+    at_row: &mut [i32],
+    work: &mut [i32],
+    vals: &mut [i32],
+    state: &mut [i32],
+    row: &mut [i32],
+) -> Closing
+    requires { ⌜ Declared (now image) first inputs names ⌝ }
+    requires { ⌜ Room (now low) (now high) (now «at_state») (now «at_row») (now work) (now vals) (now state) (now row) ⌝ }
+    ensures { λ r. ⌜ afterClosing r (now (state .exit)) (now (row .exit))
+        ≡ closedWorking (rangesFrom (now (image .entry)) names first) inputs (drop (rangesEnd (now (image .entry)) names first) (now (image .entry))) (now (state .entry)) (now (row .entry)) ⌝ }
+    ensures { λ r. ⌜ ClosingWithin r ⌝ }
+{
+    let place = bytecode::ranges(image, first, names, low, high, work);
+    closed_ranges(
+        &image[place..],
+        inputs,
+        &low[..names],
+        &high[..names],
+        &mut at_state[..names],
+        &mut at_row[..inputs],
+        &mut work[..names],
+        vals,
+        state,
+        row,
+    )
+}
+
+// 9, 11, 26, 27, in lent memory. A sound image always has its counts.
+fn closed_in(
+    image: &[u8],
+    low: &mut [i32],
+    high: &mut [i32],
+    at_state: &mut [i32],
+    at_row: &mut [i32],
+    work: &mut [i32],
+    vals: &mut [i32],
+    state: &mut [i32],
+    row: &mut [i32],
+) -> Closing
+    requires { ⌜ Room (now low) (now high) (now «at_state») (now «at_row») (now work) (now vals) (now state) (now row) ⌝ }
+    ensures { λ r. ⌜ afterClosing r (now (state .exit)) (now (row .exit)) ≡ closedIn (now (image .entry)) (now (state .entry)) (now (row .entry)) ⌝ }
+    ensures { λ r. ⌜ ClosingWithin r ⌝ }
+{
+    let checked = checker::check(image);
+    match checked {
+        Checked::Refused(number, place) => Closing::Refused(number, place),
+        Checked::Sound => {
+            let counted = bytecode::counts(image);
+            let Counted::Counts(inputs, names, first) = counted else {
+                return Closing::Refused(limits::BROKEN_IMAGE, 0);
+            };
+            closed_names(
+                image,
+                first,
+                inputs,
+                names,
+                low,
+                high,
+                at_state,
+                at_row,
+                work,
+                vals,
+                state,
+                row,
+            )
+        }
+    }
+}
+
+// The answer; for 27, the state and the row of the refused scan stand at the front of the two.
+pub struct Profile {
+    pub answer: Closing,
+    pub state: [i32; limits::NAME_LIMIT],
+    pub row: [i32; limits::NAME_LIMIT],
+}
+
+// Whether no in-range row is ever refused in an in-range state.
+pub fn closed_profile(image: &[u8]) -> Profile
+    ensures { λ r. ⌜ profileOf r ≡ closedOf (now (image .entry)) ⌝ }
+    ensures { λ r. ⌜ ClosingWithin (r .answer) ⌝ }
+{
+    let mut low = [0i32; limits::NAME_LIMIT];
+    let mut high = [0i32; limits::NAME_LIMIT];
+    let mut at_state = [0i32; limits::NAME_LIMIT];
+    let mut at_row = [0i32; limits::NAME_LIMIT];
+    let mut work = [0i32; limits::NAME_LIMIT];
+    let mut vals = [0i32; limits::STACK_LIMIT];
+    let mut state = [0i32; limits::NAME_LIMIT];
+    let mut row = [0i32; limits::NAME_LIMIT];
+    let answer = closed_in(
+        image,
+        &mut low,
+        &mut high,
+        &mut at_state,
+        &mut at_row,
+        &mut work,
+        &mut vals,
+        &mut state,
+        &mut row,
+    );
+    Profile {
+        answer: answer,
+        state: state,
+        row: row,
+    }
+}
+
+// The combination of a number: the odometer turned so many times.
+fn nth(low: &[i32], high: &[i32], times: usize, values: &mut [i32])
+    requires { ⌜ (length (now high) ≡ length (now low)) × (length (now values) ≡ length (now low)) ⌝ }
+    ensures { λ _. ⌜ ((ns : List Range) → RangesIn ns (now (low .entry)) (now (high .entry)) → times < productOf ns → Stands ns times (now (values .exit))) ⌝ }
+{
+    lists::fill(values, low);
+    let mut i = 0;
+    while i < times {
+        next(low, high, values);
+        i += 1;
+    }
+}
+
+// 26, 12, then the state and the row.
+fn combination_ranges(
+    inputs: usize,
+    low: &[i32],
+    high: &[i32],
+    index: usize,
+    state: &mut [i32],
+    row: &mut [i32],
+) -> Closing
+    requires { ⌜ (inputs ≤ length (now low)) × (length (now high) ≡ length (now low)) ⌝ }
+    ensures { λ r. ⌜ ((ns : List Range) → RangesIn ns (now (low .entry)) (now (high .entry))
+        → afterClosing r (now (state .exit)) (now (row .exit)) ≡ combinedRanges ns inputs index (now (state .entry)) (now (row .entry))) ⌝ }
+    ensures { λ r. ⌜ ClosingWithin r ⌝ }
+{
+    let states = product(low, high);
+    let rows = product(&low[..inputs], &high[..inputs]);
+    if COMBINATION_LIMIT < states * rows {
+        return Closing::Refused(NOT_SMALL, 0);
+    }
+    if state.len() != low.len() {
+        return Closing::Refused(limits::WRONG_LENGTH, 0);
+    }
+    if row.len() != inputs {
+        return Closing::Refused(limits::WRONG_LENGTH, 0);
+    }
+    if states * rows <= index {
+        return Closing::Refused(limits::WRONG_LENGTH, 0);
+    }
+    nth(low, high, index / rows, state);
+    nth(&low[..inputs], &high[..inputs], index % rows, row);
+    Closing::Closed
+}
+
+fn combination_in(
+    image: &[u8],
+    index: usize,
+    state: &mut [i32],
+    row: &mut [i32],
+    low: &mut [i32],
+    high: &mut [i32],
+    start: &mut [i32],
+) -> Closing
+    requires { ⌜ (64 ≤ length (now low)) × (64 ≤ length (now high)) ⌝ }
+    ensures { λ r. ⌜ afterClosing r (now (state .exit)) (now (row .exit)) ≡ combinationOf (now (image .entry)) index (now (state .entry)) (now (row .entry)) ⌝ }
+    ensures { λ r. ⌜ ClosingWithin r ⌝ }
+{
+    let checked = checker::check(image);
+    match checked {
+        Checked::Refused(number, place) => Closing::Refused(number, place),
+        Checked::Sound => {
+            let counted = bytecode::counts(image);
+            let Counted::Counts(inputs, names, first) = counted else {
+                return Closing::Refused(limits::BROKEN_IMAGE, 0);
+            };
+            bytecode::ranges(image, first, names, low, high, start);
+            combination_ranges(inputs, &low[..names], &high[..names], index, state, row)
+        }
+    }
+}
+
+// The state and the row of a number that 27 gave: 9, 11, 26, 12.
+pub fn combination(image: &[u8], index: usize, state: &mut [i32], row: &mut [i32]) -> Closing
+    ensures { λ r. ⌜ afterClosing r (now (state .exit)) (now (row .exit)) ≡ combinationOf (now (image .entry)) index (now (state .entry)) (now (row .entry)) ⌝ }
+    ensures { λ r. ⌜ ClosingWithin r ⌝ }
+{
+    let mut low = [0i32; limits::NAME_LIMIT];
+    let mut high = [0i32; limits::NAME_LIMIT];
+    let mut start = [0i32; 1];
+    combination_in(image, index, state, row, &mut low, &mut high, &mut start)
+}
