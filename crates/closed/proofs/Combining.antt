@@ -12,10 +12,10 @@ use Rattle.arith.proofs.Basics.{T-true, and-left, and-right, and-T}
 use Rattle.semantics.specs.Program.{Range, within}
 use Rattle.semantics.specs.Formula.{State}
 use Rattle.semantics.specs.ReferenceScan.{allWithin}
-use Rattle.bytecode.specs.Counting.{lows}
+use Rattle.bytecode.specs.Parts.{lows}
 use Rattle.machine.proofs.Ranges.{Within}
-use Rattle.closed.specs.Closed.{count, between, sizeOf, productOf, upwards, prefixed, combinations, withRows, paired}
-use Rattle.closed.specs.Internal.{Turned, turnedTo, turned, Stands}
+use Rattle.closed.specs.Closed.{aboveZero, sizeBetween, sizeOf, productOfSizes, upwards, prefixed, combinations, withRows, paired}
+use Rattle.closed.specs.Inner.Parts.{Turned, turnedTo, turned, IsNth}
 use Rattle.closed.proofs.Whole.{last-value, value-below, value-closer, le-self, at-least, next-within, same-number}
 
 -- ---- order
@@ -33,7 +33,7 @@ module _ (n : Range) (ns : List Range) (first : List ℤ) where
   block z more [] s h e = h s e
   block z more (t ∷ l) s h e = (rw (e .0), block z more l t h (e .1))
 
-  blocks : (k : ℕ) (z : ℤ) (rest : List (List ℤ)) → count (n .high -ℤ z) ≡ k → Follows (turned ns) first first rest
+  blocks : (k : ℕ) (z : ℤ) (rest : List (List ℤ)) → aboveZero (n .high -ℤ z) ≡ k → Follows (turned ns) first first rest
       → Follows (turned (n ∷ ns)) (n .low ∷ first) (z ∷ first) (map (λ t. z ∷ t) rest ++ prefixed (upwards k (z +ℤ pos 1)) (first ∷ rest))
   blocks zero z rest e f = block z [] rest first (λ t q. rw (q, last-value z (n .high) e)) f
   blocks (suc k) z rest e f =
@@ -47,14 +47,14 @@ record Ordered (ns : List Range) : Type 0 where
   follows : Follows (turned ns) (lows ns) (lows ns) rest
 
 ordered : (ns : List Range) → Ordered ns
-unfolding between
+unfolding sizeBetween
 ordered [] = record { rest = []; starts = refl; follows = refl }
 ordered (n ∷ ns) =
     let o = ordered ns in
     record {
-      rest = map (λ t. n .low ∷ t) (o .rest) ++ prefixed (upwards (count (n .high -ℤ n .low)) (n .low +ℤ pos 1)) (lows ns ∷ o .rest);
+      rest = map (λ t. n .low ∷ t) (o .rest) ++ prefixed (upwards (aboveZero (n .high -ℤ n .low)) (n .low +ℤ pos 1)) (lows ns ∷ o .rest);
       starts = rw (o .starts);
-      follows = blocks n ns (lows ns) (count (n .high -ℤ n .low)) (n .low) (o .rest) refl (o .follows);
+      follows = blocks n ns (lows ns) (aboveZero (n .high -ℤ n .low)) (n .low) (o .rest) refl (o .follows);
     }
 
 follows-at : (f : List ℤ → Turned) (first s t : List ℤ) (l : List (List ℤ)) (i : ℕ) → Follows f first s l → drop i (s ∷ l) ≡ t ∷ drop (suc i) (s ∷ l) → suc i < length (s ∷ l)
@@ -63,11 +63,11 @@ follows-at f first s t [] i g e h = let b : ⊥ = omega arith in absurd b
 follows-at f first s t (u ∷ l) zero g e h = let q : s ≡ t = cc in rw (← q, g .0)
 follows-at f first s t (u ∷ l) (suc i) g e h = follows-at f first u t l i (g .1) e (omega arith)
 
-pub combinations-first : (ns : List Range) → Stands ns 0 (lows ns)
+pub combinations-first : (ns : List Range) → IsNth ns 0 (lows ns)
 combinations-first ns = let o = ordered ns in rw (o .starts)
 
 -- the odometer goes from each to the next
-pub combinations-next : (ns : List Range) (i : ℕ) (s : List ℤ) → Stands ns i s → suc i < length (combinations ns) → Stands ns (suc i) (turned ns s .values)
+pub combinations-next : (ns : List Range) (i : ℕ) (s : List ℤ) → IsNth ns i s → suc i < length (combinations ns) → IsNth ns (suc i) (turned ns s .values)
 combinations-next ns i s e h =
     let o = ordered ns in
     let q = o .starts in
@@ -83,11 +83,11 @@ length-prefixed : (zs : List ℤ) (ls : List (List ℤ)) → length (prefixed zs
 length-prefixed [] ls = omega arith
 length-prefixed (z ∷ zs) ls = simp (length-append, length-map) (omega (arith, length-prefixed zs ls))
 
-pub combinations-count : (ns : List Range) → length (combinations ns) ≡ productOf ns
+pub combinations-count : (ns : List Range) → length (combinations ns) ≡ productOfSizes ns
 combinations-count [] = refl
 combinations-count (n ∷ ns) = length-prefixed (upwards (sizeOf n) (n .low)) (combinations ns) ∙ ap₂ (λ (a b : ℕ). a * b) (length-upwards (sizeOf n) (n .low)) (combinations-count ns)
 
-pub product-one : (ns : List Range) → 1 ≤ productOf ns
+pub product-one : (ns : List Range) → 1 ≤ productOfSizes ns
 product-one ns = let o = ordered ns in rw (← (combinations-count ns), o .starts) (omega arith)
 
 pub paired-count : (ss : List State) (rs : List (List ℤ)) → length (paired ss rs) ≡ length ss * length rs
@@ -118,7 +118,7 @@ abbrev pub Upright : List Range → Type 0
 Upright [] = Unit {0}
 Upright (n ∷ ns) = (leZ (n .low) (n .high) ≡ true) × Upright ns
 
-upwards-within : (low high : ℤ) (k : ℕ) (z : ℤ) → leZ low z ≡ true → leZ z high ≡ true → count (high -ℤ z) ≡ k
+upwards-within : (low high : ℤ) (k : ℕ) (z : ℤ) → leZ low z ≡ true → leZ z high ≡ true → aboveZero (high -ℤ z) ≡ k
     → All (λ y. (leZ low y ≡ true) × (leZ y high ≡ true)) (upwards (suc k) z)
 upwards-within low high zero z a b e = ((a, b), tt)
 upwards-within low high (suc k) z a b e =
@@ -138,11 +138,11 @@ prefixed-within n ns (z ∷ zs) ls h k =
     (prefixed-within n ns zs ls (h .1) k)
 
 pub combinations-within : (ns : List Range) → Upright ns → All (Within ns) (combinations ns)
-unfolding between
+unfolding sizeBetween
 combinations-within [] u = (record { size = refl; ranges = tt }, tt)
 combinations-within (n ∷ ns) u =
     prefixed-within n ns (upwards (sizeOf n) (n .low)) (combinations ns)
-    (upwards-within (n .low) (n .high) (count (n .high -ℤ n .low)) (n .low) (le-self (n .low)) (u .0) refl) (combinations-within ns (u .1))
+    (upwards-within (n .low) (n .high) (aboveZero (n .high -ℤ n .low)) (n .low) (le-self (n .low)) (u .0) refl) (combinations-within ns (u .1))
 
 -- each of the one with every one of the other
 pub paired-all : (P Q : List ℤ → Type 0) (ss : List State) (rs : List (List ℤ)) → All P ss → All Q rs → All (λ c. P (c .state) × Q (c .row)) (paired ss rs)
@@ -179,7 +179,7 @@ in-prefixed : (z : ℤ) (zs s : List ℤ) (ls : List (List ℤ)) → z ∈ zs �
 in-prefixed z (y ∷ zs) s ls here j = in-first (z ∷ s) (map (λ l. z ∷ l) ls) (prefixed zs ls) (in-map (λ l. z ∷ l) s ls j)
 in-prefixed z (y ∷ zs) s ls (there i) j = in-second (z ∷ s) (map (λ l. y ∷ l) ls) (prefixed zs ls) (in-prefixed z zs s ls i j)
 
-in-upwards : (z high : ℤ) (k : ℕ) (a : ℤ) → leZ a z ≡ true → leZ z high ≡ true → count (high -ℤ a) ≡ k → z ∈ upwards (suc k) a
+in-upwards : (z high : ℤ) (k : ℕ) (a : ℤ) → leZ a z ≡ true → leZ z high ≡ true → aboveZero (high -ℤ a) ≡ k → z ∈ upwards (suc k) a
 in-upwards z high zero a p q e = let s : a ≡ z = same-number a z high p q (last-value a high e) in rw s here
 in-upwards z high (suc k) a p q e = by (at-least a z p) (λ h. in-upwards z high k (a +ℤ pos 1) h q (value-closer a high k e))
   where
@@ -188,7 +188,7 @@ in-upwards z high (suc k) a p q e = by (at-least a z p) (λ h. in-upwards z high
     by (inr h) g = there (g h)
 
 pub combinations-complete : (ns : List Range) (s : State) → Within ns s → s ∈ combinations ns
-unfolding between within
+unfolding sizeBetween within
 combinations-complete [] [] w = here
 combinations-complete [] (z ∷ s) w = let q = w .size in let b : ⊥ = omega arith in absurd b
 combinations-complete (n ∷ ns) [] w = let q = w .size in let b : ⊥ = omega arith in absurd b
@@ -197,7 +197,7 @@ combinations-complete (n ∷ ns) (z ∷ s) w =
     let a = T-true _ (and-left (leZ (n .low) z) (leZ z (n .high)) t) in
     let b = T-true _ (and-right (leZ (n .low) z) (leZ z (n .high)) t) in
     let q : length s ≡ length ns = let e = w .size in omega arith in
-    in-prefixed z (upwards (sizeOf n) (n .low)) s (combinations ns) (in-upwards z (n .high) (count (n .high -ℤ n .low)) (n .low) a b refl)
+    in-prefixed z (upwards (sizeOf n) (n .low)) s (combinations ns) (in-upwards z (n .high) (aboveZero (n .high -ℤ n .low)) (n .low) a b refl)
     (combinations-complete ns s (record { size = q; ranges = and-right (within n z) (allWithin ns s) (w .ranges) }))
 
 pub in-paired : (s : State) (r : List ℤ) (ss : List State) (rs : List (List ℤ)) → s ∈ ss → r ∈ rs → record { state = s; row = r } ∈ paired ss rs

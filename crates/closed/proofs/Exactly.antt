@@ -1,6 +1,7 @@
 -- The closed profile accepts exactly the closed images; a closed image never refuses a row; 27 names the first refused scan. Assumes nothing.
 use mathlib.Core.Path.{_≡_, refl, sym, ap, subst, _∙_}
 use mathlib.Core.Bool.{Bool, true, false, _&&_}
+use mathlib.Core.Logic.{_↔_}
 use mathlib.Core.List.{List, [], _∷_, map}
 use mathlib.Core.Option.{some}
 use Prim.Native.Nat.{ℕ, zero, suc, _+_, _*_, _≤_, _<_}
@@ -16,33 +17,34 @@ use Rattle.arith.proofs.Basics.{and-left, and-right, and-T}
 use Rattle.semantics.specs.Program.{Range, within}
 use Rattle.semantics.specs.Formula.{State}
 use Rattle.semantics.specs.ReferenceScan.{allWithin, withInputs}
-use Rattle.bytecode.specs.Check.{checkOf}
-use Rattle.bytecode.specs.Counting.{headerOf, codeOf}
+use Rattle.bytecode.specs.Check.{Header, checkOf}
+use Rattle.bytecode.specs.Parts.{headerOf, codeOf}
 use Rattle.bytecode.specs.Translation.{RangesFit}
 use Rattle.bytecode.proofs.CheckNumbers.{CheckRefusal, too-long, broken, check-numbers}
+use Rattle.machine.specs.States.{stateLength}
 use Rattle.machine.specs.Step.{Machine, machine}
-use Rattle.machine.proofs.Refusals.{RefusedByRules}
+use Rattle.machine.proofs.Refusals.{ByRules, RefusedByRules}
 use Rattle.machine.proofs.Ranges.{Within}
 use Rattle.machine.proofs.SoundRuns.{sound-by-rules}
-use Rattle.scan.specs.Services.{finished, runOf, startOf, scanOf}
+use Rattle.scan.specs.Services.{finished, runOf, startOf, scanOf, scansOf}
 use Rattle.scan.proofs.SoundScans.{scan-within}
-use Rattle.closed.specs.Closed.{productOf, inputRanges, isSmall, hasNoTimer, Combination, combinations, combinationsOf, Walked, through, stopped, goOn, walked, scanning, closedBy, closedAs, closedIn, closedOf}
-use Rattle.closed.specs.Claims.{_exactlyIf_, InRange, Closed, scansOf, RowsInRange, AllAccepted, First}
+use Rattle.closed.specs.Closed.{productOfSizes, inputRanges, isSmall, Combination, combinations, combinationsOf, Walked, everyAccepted, refusedAt, goOn, walked, scanning, closedBy, closedAs, closedIn, closedOf}
+use Rattle.closed.specs.Claims.{InRangeState, InRangeRow, Closed, InRangeRows, AllAccepted, FirstRefused}
 use Rattle.closed.proofs.Combining.{All, all-weaker, all-in, combinations-complete, in-paired}
-use Rattle.closed.proofs.Scans.{header-fits, combinations-in, scanning-is}
+use Rattle.closed.proofs.Scans.{header-fits, inputs-among, combinations-in, row-within, row-in-range, scanning-is}
 
 -- ---- what the end of a walk says
 
-walked-through : (f : Combination → Answer (Unit {0})) (cs : List Combination) (n : ℕ) → walked f cs n ≡ through → All (λ c. f c ≡ accepted tt) cs
+walked-through : (f : Combination → Answer (Unit {0})) (cs : List Combination) (n : ℕ) → walked f cs n ≡ everyAccepted → All (λ c. f c ≡ accepted tt) cs
 walked-through f [] n e = tt
 walked-through f (c ∷ cs) n e = go (f c) refl e (λ q. walked-through f cs (n + 1) q)
   where
-    go : (a : Answer (Unit {0})) → f c ≡ a → goOn a (walked f cs (n + 1)) (stopped n c) ≡ through → (walked f cs (n + 1) ≡ through → All (λ d. f d ≡ accepted tt) cs)
+    go : (a : Answer (Unit {0})) → f c ≡ a → goOn a (walked f cs (n + 1)) (refusedAt n c) ≡ everyAccepted → (walked f cs (n + 1) ≡ everyAccepted → All (λ d. f d ≡ accepted tt) cs)
         → (f c ≡ accepted tt) × All (λ d. f d ≡ accepted tt) cs
     go (accepted u) q p ih = (q, ih p)
     go (refused number place) q p ih = let z : _≡_ {A = ℕ} 0 1 = cc in let b : ⊥ = omega arith in absurd b
 
-walked-all : (f : Combination → Answer (Unit {0})) (cs : List Combination) (n : ℕ) → All (λ c. f c ≡ accepted tt) cs → walked f cs n ≡ through
+walked-all : (f : Combination → Answer (Unit {0})) (cs : List Combination) (n : ℕ) → All (λ c. f c ≡ accepted tt) cs → walked f cs n ≡ everyAccepted
 walked-all f [] n h = refl
 walked-all f (c ∷ cs) n h = rw (h .0) (walked-all f cs (n + 1) (h .1))
 
@@ -55,11 +57,11 @@ record Stopping (f : Combination → Answer (Unit {0})) (cs : List Combination) 
   refuses : f c ≡ refused number place
   before : (m : ℕ) (d : Combination) → m < at → getElem? cs m ≡ some d → f d ≡ accepted tt
 
-walked-first : (f : Combination → Answer (Unit {0})) (cs : List Combination) (k n : ℕ) (c : Combination) → walked f cs k ≡ stopped n c → Stopping f cs k n c
+walked-first : (f : Combination → Answer (Unit {0})) (cs : List Combination) (k n : ℕ) (c : Combination) → walked f cs k ≡ refusedAt n c → Stopping f cs k n c
 walked-first f [] k n c e = let z : _≡_ {A = ℕ} 0 1 = cc in let b : ⊥ = omega arith in absurd b
 walked-first f (d ∷ cs) k n c e = go (f d) refl e (λ q. walked-first f cs (k + 1) n c q)
   where
-    go : (a : Answer (Unit {0})) → f d ≡ a → goOn a (walked f cs (k + 1)) (stopped k d) ≡ stopped n c → (walked f cs (k + 1) ≡ stopped n c → Stopping f cs (k + 1) n c) → Stopping f (d ∷ cs) k n c
+    go : (a : Answer (Unit {0})) → f d ≡ a → goOn a (walked f cs (k + 1)) (refusedAt k d) ≡ refusedAt n c → (walked f cs (k + 1) ≡ refusedAt n c → Stopping f cs (k + 1) n c) → Stopping f (d ∷ cs) k n c
     go (accepted u) q p ih =
         let s = ih p in
         record {
@@ -90,58 +92,60 @@ walked-first f (d ∷ cs) k n c e = go (f d) refl e (λ q. walked-first f cs (k 
 
 -- ---- the ways of the service
 
-accepted-by : (w : Walked) (state row : List ℤ) → closedBy w state row .answer ≡ accepted tt → w ≡ through
-accepted-by through state row e = refl
-accepted-by (stopped n c) state row e = let z : _≡_ {A = ℕ} 0 1 = cc in let b : ⊥ = omega arith in absurd b
+accepted-by : (w : Walked) (state row : List ℤ) → closedBy w state row .answer ≡ accepted tt → w ≡ everyAccepted
+accepted-by everyAccepted state row e = refl
+accepted-by (refusedAt n c) state row e = let z : _≡_ {A = ℕ} 0 1 = cc in let b : ⊥ = omega arith in absurd b
 
 closed-accepted : (a : Answer (Unit {0})) (small : Bool) (image : List ℕ) (state row : List ℤ) → closedAs a small image state row .answer ≡ accepted tt
-    → (a ≡ accepted tt) × (small ≡ true) × (walked (scanning image) (combinationsOf (headerOf image)) 0 ≡ through)
+    → (a ≡ accepted tt) × (small ≡ true) × (walked (scanning image) (combinationsOf (headerOf image)) 0 ≡ everyAccepted)
 closed-accepted (refused number place) small image state row e = let z : _≡_ {A = ℕ} 0 1 = cc in let b : ⊥ = omega arith in absurd b
 closed-accepted (accepted u) false image state row e = let z : _≡_ {A = ℕ} 0 1 = cc in let b : ⊥ = omega arith in absurd b
 closed-accepted (accepted u) true image state row e = (refl, refl, accepted-by (walked (scanning image) (combinationsOf (headerOf image)) 0) state row e)
 
-refused-by : (w : Walked) (state row : List ℤ) (n : ℕ) → closedBy w state row .answer ≡ refused 27 n → (c : Combination) × (w ≡ stopped n c)
-refused-by through state row n e = let z : _≡_ {A = ℕ} 0 1 = cc in let b : ⊥ = omega arith in absurd b
-refused-by (stopped m c) state row n e = let q : m ≡ n = cc in (c, ap (λ (k : ℕ). stopped k c) q)
+refused-by : (w : Walked) (state row : List ℤ) (n : ℕ) → closedBy w state row .answer ≡ refused 27 n → (c : Combination) × (w ≡ refusedAt n c)
+refused-by everyAccepted state row n e = let z : _≡_ {A = ℕ} 0 1 = cc in let b : ⊥ = omega arith in absurd b
+refused-by (refusedAt m c) state row n e = let q : m ≡ n = cc in (c, ap (λ (k : ℕ). refusedAt k c) q)
 
 not-check : (number : ℕ) → CheckRefusal number → number ≡ 27 → ⊥
 not-check number too-long e = omega arith
 not-check number broken e = omega arith
 
 closed-stopped : (a : Answer (Unit {0})) (small : Bool) (image : List ℕ) (state row : List ℤ) (n : ℕ) → ((number place : ℕ) → a ≡ refused number place → CheckRefusal number)
-    → closedAs a small image state row .answer ≡ refused 27 n → (a ≡ accepted tt) × (small ≡ true) × ((c : Combination) × (walked (scanning image) (combinationsOf (headerOf image)) 0 ≡ stopped n c))
+    → closedAs a small image state row .answer ≡ refused 27 n → (a ≡ accepted tt) × (small ≡ true) × ((c : Combination) × (walked (scanning image) (combinationsOf (headerOf image)) 0 ≡ refusedAt n c))
 closed-stopped (refused number place) small image state row n h e = let q : number ≡ 27 = cc in absurd (not-check number (h number place refl) q)
 closed-stopped (accepted u) false image state row n h e = let q : _≡_ {A = ℕ} 26 27 = cc in let b : ⊥ = omega arith in absurd b
 closed-stopped (accepted u) true image state row n h e = (refl, refl, refused-by (walked (scanning image) (combinationsOf (headerOf image)) 0) state row n e)
 
 -- ---- exactly
 
-inside : {ns : List Range} {s : List ℤ} → InRange ns s → Within ns s
-inside h = record { size = h .size; ranges = h .ranges }
+state-within : {h : Header} {s : List ℤ} → InRangeState h s → Within (h .ranges) s
+state-within h = record { size = h .size; ranges = h .ranges }
 
-outside : {ns : List Range} {s : List ℤ} → Within ns s → InRange ns s
-outside h = record { size = h .size; ranges = h .ranges }
+state-in-range : {h : Header} {s : List ℤ} → Within (h .ranges) s → InRangeState h s
+state-in-range h = record { size = h .size; ranges = h .ranges }
 
-pub closed-exactly : (image : List ℕ) → (closedOf image .answer ≡ accepted tt) exactlyIf Closed image
+pub closed-exactly : (image : List ℕ) → (closedOf image .answer ≡ accepted tt) ↔ Closed image
 unfolding closedOf closedIn isSmall combinationsOf
-closed-exactly image = record {
-  only-if = λ e.
-      let p = closed-accepted (checkOf image) (hasNoTimer image && isSmall (headerOf image)) image _ _ e in
-      let all = walked-through (scanning image) (combinationsOf (headerOf image)) 0 (p .2) in
-      record {
-        sound = p .0;
-        untimed = tt;
-        small = leb-true _ 65536 (p .1);
-        accepts = λ s row w v. all-in (λ c. scanning image c ≡ accepted tt) (record { state = s; row = row }) (combinationsOf (headerOf image)) all
-            (in-paired s row (combinations (headerOf image .ranges)) (combinations (inputRanges (headerOf image))) (combinations-complete (headerOf image .ranges) s (inside w)) (combinations-complete (inputRanges (headerOf image)) row (inside v)));
-      };
-  whenever = λ k.
-      let small = le-leb (productOf (headerOf image .ranges) * productOf (inputRanges (headerOf image))) 65536 (k .small) in
-      let all =
-      all-weaker (λ c. Within (headerOf image .ranges) (c .state) × Within (inputRanges (headerOf image)) (c .row)) (λ c. scanning image c ≡ accepted tt) (combinationsOf (headerOf image))
-      (λ c w. k .accepts (c .state) (c .row) (outside (w .0)) (outside (w .1))) (combinations-in image (k .sound)) in
-      rw (k .sound, small, walked-all (scanning image) (combinationsOf (headerOf image)) 0 all);
-}
+closed-exactly image = (forth, back)
+  where
+    forth : closedOf image .answer ≡ accepted tt → Closed image
+    forth e =
+        let p = closed-accepted (checkOf image) (isSmall (headerOf image)) image _ _ e in
+        let all = walked-through (scanning image) (combinationsOf (headerOf image)) 0 (p .2) in
+        record {
+          sound = p .0;
+          small = leb-true _ 65536 (p .1);
+          accepts = λ s row w v. all-in (λ c. scanning image c ≡ accepted tt) (record { state = s; row = row }) (combinationsOf (headerOf image)) all
+              (in-paired s row (combinations (headerOf image .ranges)) (combinations (inputRanges (headerOf image))) (combinations-complete (headerOf image .ranges) s (state-within w)) (combinations-complete (inputRanges (headerOf image)) row (row-within (headerOf image) (inputs-among image (p .0)) row v)));
+        }
+
+    back : Closed image → closedOf image .answer ≡ accepted tt
+    back k =
+        let small = le-leb (productOfSizes (headerOf image .ranges) * productOfSizes (inputRanges (headerOf image))) 65536 (k .small) in
+        let all =
+        all-weaker (λ c. Within (headerOf image .ranges) (c .state) × Within (inputRanges (headerOf image)) (c .row)) (λ c. scanning image c ≡ accepted tt) (combinationsOf (headerOf image))
+        (λ c w. k .accepts (c .state) (c .row) (state-in-range (w .0)) (row-in-range (headerOf image) (inputs-among image (k .sound)) (c .row) (w .1))) (combinations-in image (k .sound)) in
+        rw (k .sound, small, walked-all (scanning image) (combinationsOf (headerOf image)) 0 all)
 
 -- ---- runs
 
@@ -154,12 +158,12 @@ starts-within (n ∷ ns) f =
     let b = and-right (isInt32 (n .start) && leZ (n .low) (n .start)) (leZ (n .start) (n .high)) t in
     and-T (within n (n .start)) (allWithin ns (map (λ m. m .start) ns)) (and-T (leZ (n .low) (n .start)) (leZ (n .start) (n .high)) (and-right (isInt32 (n .start)) (leZ (n .low) (n .start)) a) b) (starts-within ns (f .1))
 
-scans-accepted : (image : List ℕ) → Closed image → (rows : List (List ℤ)) (s : State) → Within (headerOf image .ranges) s → RowsInRange image rows → AllAccepted (scansOf image s rows)
+scans-accepted : (image : List ℕ) → Closed image → (rows : List (List ℤ)) (s : State) → Within (headerOf image .ranges) s → InRangeRows (headerOf image) rows → AllAccepted (scansOf image s rows)
 scans-accepted image k [] s w h = tt
-scans-accepted image k (r ∷ rs) s w h = (k .accepts s r (outside w) (h .0), scans-accepted image k rs (scanOf image s r .state) (scan-within image (k .sound) s r w) (h .1))
+scans-accepted image k (r ∷ rs) s w h = (k .accepts s r (state-in-range w) (h .0), scans-accepted image k rs (scanOf image s r .state) (scan-within image (k .sound) s r w) (h .1))
 
 -- No list of in-range rows from the fresh start ever meets a refusal.
-pub closed-runs : (image : List ℕ) → Closed image → (lent : State) → length lent ≡ length (headerOf image .ranges) → (rows : List (List ℤ)) → RowsInRange image rows
+pub closed-runs : (image : List ℕ) → Closed image → (lent : State) → length lent ≡ stateLength (headerOf image) → (rows : List (List ℤ)) → InRangeRows (headerOf image) rows
     → AllAccepted (scansOf image (startOf image lent .state) rows)
 unfolding startOf
 closed-runs image k lent e rows h =
@@ -169,40 +173,51 @@ closed-runs image k lent e rows h =
 
 -- ---- the first refused scan
 
-finished-rules : (s : State) (n : ℕ) (o : Outcome Machine) (number place : ℕ) → RefusedByRules o → finished s n o .answer ≡ refused number place → (14 ≤ number) × (number ≤ 17) × (place ≡ 0)
+finished-rules : (s : State) (n : ℕ) (o : Outcome Machine) (number place : ℕ) → RefusedByRules o → finished s n o .answer ≡ refused number place → ByRules number × (place ≡ 0)
 finished-rules s n (ok (machine b c vs t)) number place h e = let z : _≡_ {A = ℕ} 0 1 = cc in let b : ⊥ = omega arith in absurd b
 finished-rules s n (refusal k) number place h e =
     let q : k ≡ number = cc in
     let p : 0 ≡ place = cc in
-    (omega (arith, h .least), omega (arith, h .most), sym p)
+    (subst ByRules q h, sym p)
 
 all-at : {A : Type 0} (P : A → Type 0) (l : List A) (n : ℕ) (a : A) → All P l → getElem? l n ≡ some a → P a
 all-at P [] n a h e = let z : _≡_ {A = ℕ} 0 1 = cc in let b : ⊥ = omega arith in absurd b
 all-at P (x ∷ l) zero a h e = let q : x ≡ a = cc in subst P q (h .0)
 all-at P (x ∷ l) (suc n) a h e = all-at P l n a (h .1) e
 
-first-from : (image : List ℕ) (n : ℕ) (c : Combination) → checkOf image ≡ accepted tt → (hasNoTimer image && isSmall (headerOf image)) ≡ true
-    → walked (scanning image) (combinationsOf (headerOf image)) 0 ≡ stopped n c → First image n
+-- a combination that is refused is refused by a rule at work
+combination-rules : (image : List ℕ) → checkOf image ≡ accepted tt → (n : ℕ) (c : Combination) (number place : ℕ) → getElem? (combinationsOf (headerOf image)) n ≡ some c
+    → scanning image c ≡ refused number place → ByRules number × (place ≡ 0)
+combination-rules image sound n c number place e q =
+    let w = all-at (λ c. Within (headerOf image .ranges) (c .state) × Within (inputRanges (headerOf image)) (c .row)) (combinationsOf (headerOf image)) n c (combinations-in image sound) e in
+    finished-rules (c .state) _ (runOf image (c .state) (c .row) .last) number place (sound-by-rules image sound (c .state) (withInputs (c .state) (c .row)) (length (codeOf image)))
+    (sym (scanning-is image sound (c .state) (c .row) (w .0) (w .1)) ∙ q)
+
+first-from : (image : List ℕ) (n : ℕ) (c : Combination) → checkOf image ≡ accepted tt → isSmall (headerOf image) ≡ true
+    → walked (scanning image) (combinationsOf (headerOf image)) 0 ≡ refusedAt n c → FirstRefused image n
 unfolding closedOf closedIn
 first-from image n c sound small e =
     let s = walked-first (scanning image) (combinationsOf (headerOf image)) 0 n c e in
     let at : s .at ≡ n = let q = s .count in omega arith in
-    let w = all-at (λ c. Within (headerOf image .ranges) (c .state) × Within (inputRanges (headerOf image)) (c .row)) (combinationsOf (headerOf image)) (s .at) c (combinations-in image sound) (s .stands) in
-    let r = finished-rules (c .state) _ (runOf image (c .state) (c .row) .last) (s .number) (s .place) (sound-by-rules image sound (c .state) (withInputs (c .state) (c .row)) (length (codeOf image)))
-    (sym (scanning-is image sound (c .state) (c .row) (w .0) (w .1)) ∙ s .refuses) in
+    let r = combination-rules image sound (s .at) c (s .number) (s .place) (s .stands) (s .refuses) in
     record {
       combination = c;
       stands = subst (λ (k : ℕ). getElem? (combinationsOf (headerOf image)) k ≡ some c) at (s .stands);
       number = s .number;
-      refuses = s .refuses ∙ ap (refused (s .number)) (r .2);
-      by-rules = (r .0, r .1);
+      refuses = s .refuses ∙ ap (refused (s .number)) (r .1);
       before = λ m d h g. s .before m d (omega arith) g;
       left = rw (sound, small, e);
     }
 
--- 27 names the first scan that is refused, by its place, its state and its row.
-pub closed-first : (image : List ℕ) (n : ℕ) → closedOf image .answer ≡ refused 27 n → First image n
-unfolding closedOf closedIn
-closed-first image n e =
-    let p = closed-stopped (checkOf image) (hasNoTimer image && isSmall (headerOf image)) image _ _ n (check-numbers image) e in
-    first-from image n (p .2 .0) (p .0) (p .1) (p .2 .1)
+module _ (image : List ℕ) (n : ℕ) (e : closedOf image .answer ≡ refused 27 n) where
+  parts : (checkOf image ≡ accepted tt) × (isSmall (headerOf image) ≡ true) × ((c : Combination) × (walked (scanning image) (combinationsOf (headerOf image)) 0 ≡ refusedAt n c))
+  unfolding closedOf closedIn
+  parts = closed-stopped (checkOf image) (isSmall (headerOf image)) image _ _ n (check-numbers image) e
+
+  -- 27 names the first scan that is refused, by its place, its state and its row;
+  pub closed-first : FirstRefused image n
+  closed-first = first-from image n (parts .2 .0) (parts .0) (parts .1) (parts .2 .1)
+
+  -- a rule at work refuses it.
+  pub first-by-rules : (f : FirstRefused image n) → ByRules (f .number)
+  first-by-rules f = combination-rules image (parts .0) n (f .combination) (f .number) 0 (f .stands) (f .refuses) .0

@@ -10,9 +10,9 @@ use Rattle.semantics.specs.Program.{within}
 use Rattle.leb128.specs.Numbers.{unzigzag, numberAt, signedAt, groups, grouped, numberIn, below32}
 use Rattle.bytecode.specs.Instructions.{instructionOf, hasOperand, fetch}
 use Rattle.bytecode.specs.Check.{checkCounts, checkRange, checkHeader, checkBody, checkOf}
-use Rattle.bytecode.specs.Counting.{headerOf, codeOf}
+use Rattle.bytecode.specs.Parts.{headerOf, codeOf}
 use Rattle.scan.specs.Services.{scanCode, scanOf}
-use Rattle.closed.specs.Closed.{between, isSmall, combinationsOf, AfterClosed, closedIn, closedOf}
+use Rattle.closed.specs.Closed.{sizeBetween, isSmall, combinationsOf, AfterClosed, closedIn, closedOf}
 
 -- an image, its answer, the state and the row at the front of the two that are left
 pub record Example : Type 0 where
@@ -43,5 +43,5 @@ examples =
 
 -- the definition gives what the table says
 pub profiles-hold : map (λ (e : Example). closedOf (e .image)) examples ≡ map expected examples
-unfolding examples unzigzag groups grouped numberIn below32 numberAt signedAt instructionOf hasOperand fetch checkCounts checkRange checkHeader checkBody checkOf headerOf codeOf scanCode scanOf between isSmall combinationsOf closedIn closedOf arithmetic within
+unfolding examples unzigzag groups grouped numberIn below32 numberAt signedAt instructionOf hasOperand fetch checkCounts checkRange checkHeader checkBody checkOf headerOf codeOf scanCode scanOf sizeBetween isSmall combinationsOf closedIn closedOf arithmetic within
 profiles-hold = refl

@@ -14,11 +14,11 @@ use Rattle.limits.specs.Answer.{accepted, refused}
 use Rattle.semantics.specs.Program.{Range}
 use Rattle.semantics.specs.Formula.{State}
 use Rattle.bytecode.specs.Check.{checkOf}
-use Rattle.bytecode.specs.Counting.{headerOf, rangesFrom}
+use Rattle.bytecode.specs.Parts.{headerOf, rangesFrom}
 use Rattle.bytecode.proofs.SoundHeader.{SoundCounts}
-use Rattle.closed.specs.Closed.{productOf, inputRanges, isSmall, combinations, Combination, withRows, paired, combinationsOf, leaves, combined, combinedAs, combinationOf}
+use Rattle.closed.specs.Closed.{productOfSizes, inputRanges, isSmall, combinations, Combination, withRows, paired, combinationsOf, leaves, combined, combinedAs, combinationOf}
 use Rattle.closed.specs.Results.{afterClosing}
-use Rattle.closed.specs.Internal.{Stands, combinedRanges}
+use Rattle.closed.specs.Inner.Parts.{IsNth, combinedRanges}
 use Rattle.closed.specs.declared.Closing.the-variants as C
 use Rattle.closed.proofs.Combining.{combinations-count, paired-count}
 
@@ -65,21 +65,21 @@ quotient-below index states rows h = by (ltb (index / rows) states) (ltb-true (i
 
 -- ---- the ways of combination
 
-module _ (ns : List Range) (inputs index : ℕ) (state row : List ℤ) (small : leb (productOf ns * productOf (take inputs ns)) 65536 ≡ true) where
+module _ (ns : List Range) (inputs index : ℕ) (state row : List ℤ) (small : leb (productOfSizes ns * productOfSizes (take inputs ns)) 65536 ≡ true) where
   pub combined-state : (length state ≡ length ns → ⊥) → afterClosing (C.Refused 12 0) state row ≡ combinedRanges ns inputs index state row
   combined-state h = rw (small, ne-eqb (length state) (length ns) h)
 
   pub combined-row : length state ≡ length ns → (length row ≡ inputs → ⊥) → afterClosing (C.Refused 12 0) state row ≡ combinedRanges ns inputs index state row
   combined-row e h = rw (small, eq-eqb (length state) (length ns) e, ne-eqb (length row) inputs h)
 
-  module _ (e : length state ≡ length ns) (f : length row ≡ inputs) (states rows : ℕ) (p : states ≡ productOf ns) (q : rows ≡ productOf (take inputs ns)) where
+  module _ (e : length state ≡ length ns) (f : length row ≡ inputs) (states rows : ℕ) (p : states ≡ productOfSizes ns) (q : rows ≡ productOfSizes (take inputs ns)) where
     pub combined-none : states * rows ≤ index → afterClosing (C.Refused 12 0) state row ≡ combinedRanges ns inputs index state row
     combined-none h =
         let n : length (paired (combinations ns) (combinations (take inputs ns))) ≡ states * rows = paired-count (combinations ns) (combinations (take inputs ns)) ∙ rw (combinations-count ns, combinations-count (take inputs ns), p, q) in
         let k : getElem? (paired (combinations ns) (combinations (take inputs ns))) index ≡ none = none-at (paired (combinations ns) (combinations (take inputs ns))) index (omega arith) in
         rw (small, eq-eqb (length state) (length ns) e, eq-eqb (length row) inputs f, k)
 
-    pub combined-found : (s r : List ℤ) → Stands ns (index / rows) s → Stands (take inputs ns) (index % rows) r → afterClosing C.Closed s r ≡ combinedRanges ns inputs index state row
+    pub combined-found : (s r : List ℤ) → IsNth ns (index / rows) s → IsNth (take inputs ns) (index % rows) r → afterClosing C.Closed s r ≡ combinedRanges ns inputs index state row
     combined-found s r a b =
         let n : index / rows * length (combinations (take inputs ns)) + index % rows ≡ index = rw (combinations-count (take inputs ns), ← q) (div-add-mod' index rows) in
         let k : getElem? (paired (combinations ns) (combinations (take inputs ns))) index ≡ some (record { state = s; row = r }) = rw n at (pair-at s r (combinations ns) (combinations (take inputs ns)) (index / rows) (index % rows) a b) in
@@ -93,7 +93,7 @@ combination-refused image index state row number place e = rw (← e)
 pub combination-from : (image : List ℕ) → checkOf image ≡ accepted tt → {inputs names first : ℕ} → SoundCounts image inputs names first → (index : ℕ) (state row : List ℤ)
     → combinedRanges (rangesFrom image names first) inputs index state row ≡ combinationOf image index state row
 unfolding combinationOf isSmall combinationsOf
-combination-from image sound k index state row = rw (k .ranges-are, sound, ← (k .inputs-are)) (by (leb (productOf (headerOf image .ranges) * productOf (inputRanges (headerOf image))) 65536))
+combination-from image sound k index state row = rw (k .ranges-are, sound, ← (k .inputs-are)) (by (leb (productOfSizes (headerOf image .ranges) * productOfSizes (inputRanges (headerOf image))) 65536))
   where
     by : (b : Bool) → cond b (cond (eqb (length state) (length (headerOf image .ranges)) && eqb (length row) (headerOf image .inputs)) (combined (getElem? (paired (combinations (headerOf image .ranges)) (combinations (inputRanges (headerOf image)))) index) state row) (leaves (refused 12 0) state row)) (leaves (refused 26 0) state row)
         ≡ combinedAs (accepted tt) b (headerOf image) index state row

@@ -12,12 +12,12 @@ use lib.ListN.{length, take}
 use lib.Seq.{length-take-le}
 use Rattle.semantics.specs.Program.{Range}
 use Rattle.semantics.specs.ReferenceScan.{withInputs}
-use Rattle.machine.specs.Memory.{RangesIn}
-use Rattle.closed.specs.Closed.{productOf, combinations, paired, through, stopped, walked}
-use Rattle.closed.specs.Results.{endedAs, afterClosing}
-use Rattle.closed.specs.Internal.{working, Walking, closedWorking}
-use Rattle.closed.specs.declared.Ended.{Ended}
-use Rattle.closed.specs.declared.Ended.the-variants as W
+use Rattle.machine.specs.Inner.Memory.{RangesIn}
+use Rattle.closed.specs.Closed.{productOfSizes, combinations, paired, everyAccepted, refusedAt, walked}
+use Rattle.closed.specs.Results.{afterClosing}
+use Rattle.closed.specs.Inner.Parts.{working, Walking, visitedAs, closedWorking}
+use Rattle.closed.specs.declared.Visited.{Visited}
+use Rattle.closed.specs.declared.Visited.the-variants as W
 use Rattle.closed.specs.declared.Closing.the-variants as C
 
 -- ---- the ranges of the inputs
@@ -61,31 +61,31 @@ sized P Q p q e f a b h =
 
 -- ---- the walk
 
-module _ (ns : List Range) (inputs : ℕ) (code : List ℕ) (state row : List ℤ) (small : leb (productOf ns * productOf (take inputs ns)) 65536 ≡ true) where
-  pub closed-through : (r : Ended) (s t : List ℤ) → endedAs r s t ≡ walked (working ns code) (paired (combinations ns) (combinations (take inputs ns))) 0 → r ≡ W.Through
+module _ (ns : List Range) (inputs : ℕ) (code : List ℕ) (state row : List ℤ) (small : leb (productOfSizes ns * productOfSizes (take inputs ns)) 65536 ≡ true) where
+  pub closed-through : (r : Visited) (s t : List ℤ) → visitedAs r s t ≡ walked (working ns code) (paired (combinations ns) (combinations (take inputs ns))) 0 → r ≡ W.Every
       → afterClosing C.Closed state row ≡ closedWorking ns inputs code state row
-  closed-through r s t e q = let k : walked (working ns code) (paired (combinations ns) (combinations (take inputs ns))) 0 ≡ through = sym e ∙ ap (λ (x : Ended). endedAs x s t) q in rw (small, k)
+  closed-through r s t e q = let k : walked (working ns code) (paired (combinations ns) (combinations (take inputs ns))) 0 ≡ everyAccepted = sym e ∙ ap (λ (x : Visited). visitedAs x s t) q in rw (small, k)
 
-  pub closed-stopped : (r : Ended) (s t left right : List ℤ) (n : ℕ) → endedAs r s t ≡ walked (working ns code) (paired (combinations ns) (combinations (take inputs ns))) 0 → r ≡ W.Stopped n
+  pub closed-stopped : (r : Visited) (s t left right : List ℤ) (n : ℕ) → visitedAs r s t ≡ walked (working ns code) (paired (combinations ns) (combinations (take inputs ns))) 0 → r ≡ W.Until n
       → left ≡ withInputs state s → right ≡ withInputs row t → afterClosing (C.Refused 27 n) left right ≡ closedWorking ns inputs code state row
   closed-stopped r s t left right n e q a b =
-      let k : walked (working ns code) (paired (combinations ns) (combinations (take inputs ns))) 0 ≡ stopped n (record { state = s; row = t }) = sym e ∙ ap (λ (x : Ended). endedAs x s t) q in
+      let k : walked (working ns code) (paired (combinations ns) (combinations (take inputs ns))) 0 ≡ refusedAt n (record { state = s; row = t }) = sym e ∙ ap (λ (x : Visited). visitedAs x s t) q in
       rw (small, k, a, b)
 
 -- ---- the lent memory, cut to the names and the inputs
 
-pub parts-walking : (names inputs : ℕ) (low high s r w v : List ℤ) → names ≤ length low → names ≤ length high → names ≤ length s → inputs ≤ length r → names ≤ length w → inputs ≤ names → 40 ≤ length v
-    → Walking (take names low) (take names high) (take inputs (take names low)) (take inputs (take names high)) (take names s) (take inputs r) (take names w) v
-parts-walking names inputs low high s r w v a b c d e f g =
-    let l = length-take-le names low a in
-    let h = length-take-le names high b in
-    let i : length (take inputs (take names low)) ≡ inputs = length-take-le inputs (take names low) (omega arith) in
+pub parts-walking : (low high s r p w : List ℤ) → length s ≤ length low → length s ≤ length high → length s ≤ length p → length s ≤ length w → length r ≤ length s
+    → Walking (take (length s) low) (take (length s) high) (take (length r) (take (length s) low)) (take (length r) (take (length s) high)) s r (take (length s) p) (take (length s) w)
+parts-walking low high s r p w a b c d e =
+    let l = length-take-le (length s) low a in
+    let h = length-take-le (length s) high b in
+    let i : length (take (length r) (take (length s) low)) ≡ length r = length-take-le (length r) (take (length s) low) (omega arith) in
     record {
       highs = h ∙ sym l;
-      states = length-take-le names s c ∙ sym l;
-      copies = length-take-le names w e ∙ sym l;
-      row-highs = length-take-le inputs (take names high) (omega arith) ∙ sym i;
-      rows = length-take-le inputs r d ∙ sym i;
+      states = sym l;
+      copies = length-take-le (length s) p c ∙ sym l;
+      works = length-take-le (length s) w d ∙ sym l;
+      row-highs = length-take-le (length r) (take (length s) high) (omega arith) ∙ sym i;
+      rows = sym i;
       among = omega arith;
-      room = g;
     }

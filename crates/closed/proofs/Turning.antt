@@ -10,9 +10,9 @@ use lib.Seq.{take-length, drop-length, drop-cons, take-suc, set-at, getD-at, len
 use lib.Signed.{ltZ}
 use Rattle.semantics.specs.Program.{Range}
 use Rattle.semantics.specs.ReferenceScan.{noRange}
-use Rattle.machine.specs.Memory.{RangesIn}
+use Rattle.machine.specs.Inner.Memory.{RangesIn}
 use Rattle.machine.proofs.Changes.{names-length}
-use Rattle.closed.specs.Internal.{Turned, turnedTo, turn, turned, nextOf}
+use Rattle.closed.specs.Inner.Parts.{Turned, turnedTo, turn, turned, nextOf}
 
 -- the first k values are as found, and the others turned over
 pub record Turning (ns : List Range) (found values : List ℤ) (k : ℕ) : Type 0 where

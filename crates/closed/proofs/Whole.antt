@@ -10,7 +10,7 @@ use lib.IntN.{ℤ, pos, negsuc, sucℤ, subℕ, _+ℤ_, _-ℤ_, +ℤ-one}
 use lib.Signed.{mag, leZ, ltZ}
 use mir.Syntax.{w32}
 use mir.Val.{SFits}
-use Rattle.closed.specs.Closed.{count, between}
+use Rattle.closed.specs.Closed.{aboveZero, sizeBetween}
 
 -- the difference by the signs
 abbrev above : ℤ → ℤ → ℕ
@@ -19,20 +19,20 @@ above (pos a) (negsuc b) = 0
 above (negsuc a) (pos b) = b + suc a
 above (negsuc a) (negsuc b) = a - b
 
-count-sub : (a b : ℕ) → count (subℕ a b) ≡ a - b
-count-sub a b = by (ltb a b) (λ e. let h = ltb-true a b e in omega arith)
+above-sub : (a b : ℕ) → aboveZero (subℕ a b) ≡ a - b
+above-sub a b = by (ltb a b) (λ e. let h = ltb-true a b e in omega arith)
   where
-    by : (t : Bool) → (t ≡ true → a - b ≡ 0) → count (mathlib.Core.Bool.cond t (negsuc (b - suc a)) (pos (a - b))) ≡ a - b
+    by : (t : Bool) → (t ≡ true → a - b ≡ 0) → aboveZero (mathlib.Core.Bool.cond t (negsuc (b - suc a)) (pos (a - b))) ≡ a - b
     by true y = sym (y refl)
     by false y = refl
 
-above-is : (a b : ℤ) → count (b -ℤ a) ≡ above a b
+above-is : (a b : ℤ) → aboveZero (b -ℤ a) ≡ above a b
 above-is (pos zero) (pos b) = omega arith
-above-is (pos (suc a)) (pos b) = count-sub b (suc a)
-above-is (pos zero) (negsuc b) = count-sub 0 (suc b) ∙ omega arith
+above-is (pos (suc a)) (pos b) = above-sub b (suc a)
+above-is (pos zero) (negsuc b) = above-sub 0 (suc b) ∙ omega arith
 above-is (pos (suc a)) (negsuc b) = refl
 above-is (negsuc a) (pos b) = refl
-above-is (negsuc a) (negsuc b) = count-sub (suc a) (suc b) ∙ omega arith
+above-is (negsuc a) (negsuc b) = above-sub (suc a) (suc b) ∙ omega arith
 
 -- nothing above: not below
 level : (a b : ℤ) → above a b ≡ 0 → ltZ a b ≡ false
@@ -57,13 +57,13 @@ closer (negsuc zero) (negsuc b) k e = let f : ⊥ = omega arith in absurd f
 closer (negsuc (suc a)) (negsuc b) k e = omega arith
 
 -- the same of the code's numbers
-pub last-value : (z high : ℤ) → count (high -ℤ z) ≡ 0 → ltZ z high ≡ false
+pub last-value : (z high : ℤ) → aboveZero (high -ℤ z) ≡ 0 → ltZ z high ≡ false
 last-value z high e = level z high (sym (above-is z high) ∙ e)
 
-pub value-below : (z high : ℤ) (k : ℕ) → count (high -ℤ z) ≡ suc k → ltZ z high ≡ true
+pub value-below : (z high : ℤ) (k : ℕ) → aboveZero (high -ℤ z) ≡ suc k → ltZ z high ≡ true
 value-below z high k e = below z high k (sym (above-is z high) ∙ e)
 
-pub value-closer : (z high : ℤ) (k : ℕ) → count (high -ℤ z) ≡ suc k → count (high -ℤ (z +ℤ pos 1)) ≡ k
+pub value-closer : (z high : ℤ) (k : ℕ) → aboveZero (high -ℤ z) ≡ suc k → aboveZero (high -ℤ (z +ℤ pos 1)) ≡ k
 value-closer z high k e = above-is (z +ℤ pos 1) high ∙ rw (+ℤ-one z) (closer z high k (sym (above-is z high) ∙ e))
 
 -- ---- the order
@@ -157,7 +157,7 @@ same-number a z high e h n = by (at-least a z e)
 
 -- ---- the size of a range
 
-pub span : (low high : ℤ) → ltZ high low ≡ false → high -ℤ low ≡ pos (count (high -ℤ low))
+pub span : (low high : ℤ) → ltZ high low ≡ false → high -ℤ low ≡ pos (aboveZero (high -ℤ low))
 span (pos zero) (pos b) e = refl
 span (pos (suc a)) (pos b) e = rw (le-ltb b (suc a) (ltb-false b (suc a) e))
 span (pos a) (negsuc b) e = let z : _≡_ {A = ℕ} 0 1 = cc in let f : ⊥ = omega arith in absurd f
@@ -170,9 +170,9 @@ no-span (pos a) (negsuc b) e = refl
 no-span (negsuc a) (pos b) e = let z : _≡_ {A = ℕ} 0 1 = cc in let f : ⊥ = omega arith in absurd f
 no-span (negsuc a) (negsuc b) e = let h = ltb-true a b e in omega arith
 
-pub between-empty : (low high : ℤ) → ltZ high low ≡ true → between low high ≡ 1
-unfolding between
-between-empty low high e = ap suc (above-is low high ∙ no-span low high e)
+pub size-empty : (low high : ℤ) → ltZ high low ≡ true → sizeBetween low high ≡ 1
+unfolding sizeBetween
+size-empty low high e = ap suc (above-is low high ∙ no-span low high e)
 
 above-most : (low high : ℤ) → mag low < 2147483648 → mag high < 2147483648 → above low high < 4294967296
 above-most (pos a) (pos b) h k = omega arith
@@ -180,8 +180,8 @@ above-most (pos a) (negsuc b) h k = omega arith
 above-most (negsuc a) (pos b) h k = omega arith
 above-most (negsuc a) (negsuc b) h k = omega arith
 
-pub count-most : (low high : ℤ) → mag low < 2147483648 → mag high < 2147483648 → count (high -ℤ low) < 4294967296
-count-most low high h k = omega (arith, above-is low high, above-most low high h k)
+pub above-limit : (low high : ℤ) → mag low < 2147483648 → mag high < 2147483648 → aboveZero (high -ℤ low) < 4294967296
+above-limit low high h k = omega (arith, above-is low high, above-most low high h k)
 
 -- a number below another is not the last of 32 bits
 after-fits : (z high : ℤ) → ltZ z high ≡ true → mag z < 2147483648 → mag high < 2147483648 → mag (sucℤ z) < 2147483648

@@ -6,57 +6,39 @@ use mathlib.Core.Option.{Option, none, some}
 use lib.Dec.{eqb, leb}
 use lib.IntN.{ℤ, pos, negsuc, _+ℤ_, _-ℤ_}
 use lib.ListN.{length, take, replicate, getElem?}
-use Rattle.limits.specs.Limits.{nameLimit, wrongLength}
+use Rattle.limits.specs.Limits.{nameLimit, combinationLimit, wrongLength, notSmall, notClosed}
 use Rattle.limits.specs.Answer.{Answer, accepted, refused}
 use Rattle.semantics.specs.Program.{Range}
 use Rattle.semantics.specs.Formula.{State}
 use Rattle.semantics.specs.ReferenceScan.{withInputs}
 use Rattle.bytecode.specs.Check.{Header, checkOf}
-use Rattle.bytecode.specs.Counting.{headerOf}
-use Rattle.machine.specs.Names.{stateLength, rowLength}
+use Rattle.bytecode.specs.Parts.{headerOf}
+use Rattle.machine.specs.States.{stateLength, rowLength}
 use Rattle.scan.specs.Services.{scanOf}
-
--- ---- limits and refusal numbers (they belong to limits/Limits)
-
--- At most 65,536 combinations.
-abbrev pub combinationLimit : ℕ
-combinationLimit = 65536
-
--- 26 a timer or too large a product
-abbrev pub notSmall : ℕ
-notSmall = 26
-
--- 27 with the state and row of the refused scan
-abbrev pub notClosed : ℕ
-notClosed = 27
 
 -- ---- sizes
 
-abbrev pub count : ℤ → ℕ
-count (pos n) = n
-count (negsuc n) = 0
+abbrev pub aboveZero : ℤ → ℕ
+aboveZero (pos n) = n
+aboveZero (negsuc n) = 0
 
 -- how many values a range has: a sound image has low ≤ high
-unfoldable pub between : ℤ → ℤ → ℕ
-between low high = suc (count (high -ℤ low))
+unfoldable pub sizeBetween : ℤ → ℤ → ℕ
+sizeBetween low high = suc (aboveZero (high -ℤ low))
 
 abbrev pub sizeOf : Range → ℕ
-sizeOf n = between (n .low) (n .high)
+sizeOf n = sizeBetween (n .low) (n .high)
 
-abbrev pub productOf : List Range → ℕ
-productOf [] = 1
-productOf (n ∷ ns) = sizeOf n * productOf ns
+abbrev pub productOfSizes : List Range → ℕ
+productOfSizes [] = 1
+productOfSizes (n ∷ ns) = sizeOf n * productOfSizes ns
 
 abbrev pub inputRanges : Header → List Range
 inputRanges h = take (h .inputs) (h .ranges)
 
 -- The product of all range sizes times the product of the input range sizes must be at most 65,536.
 unfoldable pub isSmall : Header → Bool
-isSmall h = leb (productOf (h .ranges) * productOf (inputRanges h)) combinationLimit
-
--- an image without a timer: there is none before A.7
-abbrev pub hasNoTimer : List ℕ → Bool
-hasNoTimer image = true
+isSmall h = leb (productOfSizes (h .ranges) * productOfSizes (inputRanges h)) combinationLimit
 
 -- ---- combinations
 
@@ -95,8 +77,8 @@ combinationsOf h = paired (combinations (h .ranges)) (combinations (inputRanges 
 
 -- no scan was refused; or the scans before the refused one, and its combination
 pub data Walked : Type 0 where
-  through : Walked
-  stopped : ℕ → Combination → Walked
+  everyAccepted : Walked
+  refusedAt : ℕ → Combination → Walked
 
 abbrev pub goOn : Answer (Unit {0}) → Walked → Walked → Walked
 goOn (accepted u) more end = more
@@ -104,8 +86,8 @@ goOn (refused number place) more end = end
 
 -- The walk ends at the first scan that is refused; n were done before.
 abbrev pub walked : (Combination → Answer (Unit {0})) → List Combination → ℕ → Walked
-walked scans [] n = through
-walked scans (c ∷ cs) n = goOn (scans c) (walked scans cs (n + 1)) (stopped n c)
+walked scans [] n = everyAccepted
+walked scans (c ∷ cs) n = goOn (scans c) (walked scans cs (n + 1)) (refusedAt n c)
 
 -- what a scan of the combination answers
 abbrev pub scanning : List ℕ → Combination → Answer (Unit {0})
@@ -124,8 +106,8 @@ leaves a state row = record { answer = a; state = state; row = row }
 
 -- 27 has the number of scans before the refused one as its place; its state and row stand at the front of the two.
 abbrev pub closedBy : Walked → List ℤ → List ℤ → AfterClosed
-closedBy through state row = leaves (accepted tt) state row
-closedBy (stopped n c) state row = leaves (refused notClosed n) (withInputs state (c .state)) (withInputs row (c .row))
+closedBy everyAccepted state row = leaves (accepted tt) state row
+closedBy (refusedAt n c) state row = leaves (refused notClosed n) (withInputs state (c .state)) (withInputs row (c .row))
 
 -- Errors: 9, 11, then 26, then 27. Every answer but 27 leaves state and row as found.
 abbrev pub closedAs : Answer (Unit {0}) → Bool → List ℕ → List ℤ → List ℤ → AfterClosed
@@ -134,7 +116,7 @@ closedAs (accepted u) false image state row = leaves (refused notSmall 0) state 
 closedAs (accepted u) true image state row = closedBy (walked (scanning image) (combinationsOf (headerOf image)) 0) state row
 
 unfoldable pub closedIn : List ℕ → List ℤ → List ℤ → AfterClosed
-closedIn image state row = closedAs (checkOf image) (hasNoTimer image && isSmall (headerOf image)) image state row
+closedIn image state row = closedAs (checkOf image) (isSmall (headerOf image)) image state row
 
 -- the profile: of 64 numbers, those behind the state and the row are 0
 unfoldable pub closedOf : List ℕ → AfterClosed
@@ -157,4 +139,4 @@ combinedAs (accepted u) true h index state row =
     (leaves (refused wrongLength 0) state row)
 
 unfoldable pub combinationOf : List ℕ → ℕ → List ℤ → List ℤ → AfterClosed
-combinationOf image index state row = combinedAs (checkOf image) (hasNoTimer image && isSmall (headerOf image)) (headerOf image) index state row
+combinationOf image index state row = combinedAs (checkOf image) (isSmall (headerOf image)) (headerOf image) index state row

@@ -1,4 +1,4 @@
 pub mod Closed
 pub mod Results
-pub mod Internal
 pub mod Claims
+pub mod Inner

@@ -1,32 +1,25 @@
 // The closed profile: every in-range state scanned with every in-range row.
 use bytecode::Counted;
 use checker::Checked;
-use machine::Registers;
-use machine::Stepped;
 use machine::lists;
+use scan::Scanned;
 ghost use mathlib.Core.Path.{_≡_};
 ghost use mathlib.Core.List.{List};
 ghost use Prim.Native.Nat.{_+_, _*_, _^_, _≤_, _<_, min};
 ghost use lib.ListN.{length, take, drop};
-ghost use Rattle.limits.specs.Limits.{stackLimit};
-ghost use Rattle.bytecode.specs.Counting.{rangesFrom, rangesEnd};
+ghost use Rattle.limits.specs.Limits.{nameLimit, combinationLimit};
 ghost use Rattle.semantics.specs.Program.{Range};
-ghost use Rattle.machine.specs.Memory.{RangesIn};
-ghost use Rattle.attempt.specs.Attempts.{Fitting};
-ghost use Rattle.scan.specs.Internal.{scannedCode};
-ghost use Rattle.closed.specs.Closed.{combinationLimit, between, productOf, combinations, paired, walked, closedIn, closedOf, combinationOf};
-ghost use Rattle.closed.specs.Results.{endedAs, EndedWithin, afterClosing, ClosingWithin, profileOf};
-ghost use Rattle.closed.specs.Internal.{nextOf, isRefused, working, Walking, closedWorking, Declared, Room, combinedRanges, Stands};
-
-pub const COMBINATION_LIMIT: usize = 65536;
-
-pub const NOT_SMALL: u8 = 26;
-
-pub const NOT_CLOSED: u8 = 27;
+ghost use Rattle.bytecode.specs.Parts.{headerOf, codeOf};
+ghost use Rattle.machine.specs.Inner.Memory.{RangesIn};
+ghost use Rattle.scan.specs.Inner.Parts.{FittingMemory, scannedCode};
+ghost use Rattle.before.specs.Inner.Known.{Announced};
+ghost use Rattle.closed.specs.Closed.{sizeBetween, productOfSizes, combinations, paired, walked, closedIn, closedOf, combinationOf};
+ghost use Rattle.closed.specs.Results.{afterClosing, ClosingWithin, profileOf};
+ghost use Rattle.closed.specs.Inner.Parts.{nextOf, isRefused, working, Walking, visitedAs, VisitedWithin, closedWorking, ClosedRoom, combinedRanges, IsNth};
 
 // How many values a range has.
 fn size(low: i32, high: i32) -> usize
-    ensures { λ r. ⌜ (r ≡ between low high) × (r ≤ 2 ^ 32) ⌝ }
+    ensures { λ r. ⌜ (r ≡ sizeBetween low high) × (r ≤ 2 ^ 32) ⌝ }
 {
     if high < low {
         return 1;
@@ -35,17 +28,17 @@ fn size(low: i32, high: i32) -> usize
 }
 
 // The product of the sizes; one over the limit stands for every larger one, since no size is 0.
-fn product(low: &[i32], high: &[i32]) -> usize
+fn product_of_sizes(low: &[i32], high: &[i32]) -> usize
     requires { ⌜ length (now high) ≡ length (now low) ⌝ }
-    ensures { λ r. ⌜ ((ns : List Range) → RangesIn ns (now (low .entry)) (now (high .entry)) → r ≡ min (productOf ns) (combinationLimit + 1)) ⌝ }
+    ensures { λ r. ⌜ ((ns : List Range) → RangesIn ns (now (low .entry)) (now (high .entry)) → r ≡ min (productOfSizes ns) (combinationLimit + 1)) ⌝ }
     ensures { λ r. ⌜ (1 ≤ r) × (r ≤ combinationLimit + 1) ⌝ }
 {
     let mut p: usize = 1;
     let mut i = 0;
     while i < low.len() {
         p *= size(low[i], high[i]);
-        if COMBINATION_LIMIT < p {
-            return COMBINATION_LIMIT + 1;
+        if limits::COMBINATION_LIMIT < p {
+            return limits::COMBINATION_LIMIT + 1;
         }
         i += 1;
     }
@@ -75,32 +68,25 @@ fn is_refused(
     high: &[i32],
     state: &[i32],
     row: &[i32],
+    copy: &mut [i32],
     work: &mut [i32],
-    vals: &mut [i32],
 ) -> bool
-    requires { ⌜ Fitting (now state) (now row) (now low) (now high) (now work) ⌝ }
-    requires { ⌜ stackLimit ≤ length (now vals) ⌝ }
+    requires { ⌜ FittingMemory (now state) (now row) (now low) (now high) (now work) ⌝ }
+    requires { ⌜ length (now copy) ≡ length (now state) ⌝ }
     ensures { λ r. ⌜ ((ns : List Range) → RangesIn ns (now (low .entry)) (now (high .entry))
         → r ≡ isRefused (scannedCode ns (now (code .entry)) (now (state .entry)) (now (row .entry)) .answer)) ⌝ }
 {
-    lists::take_row(work, state, row);
-    let m = Registers {
-        held: 0,
-        picked: false,
-        passing: false,
-    };
-    let ran = machine::run(code, low, high, state, work, vals, 0, m, code.len());
-    let last = ran.last;
-    match last {
-        Stepped::Next(_) => false,
-        Stepped::Refused(_) => true,
+    lists::fill(copy, state);
+    match scan::scan_sound(code, copy, row, low, high, work) {
+        Scanned::Done(_) => false,
+        Scanned::Refused(_, _, _) => true,
     }
 }
 
 // No scan was refused; or the scans done before the refused one.
-pub enum Ended {
-    Through,
-    Stopped(usize),
+pub enum Visited {
+    Every,
+    Until(usize),
 }
 
 // Every combination, rows inside states. It ends at the first scan that is refused, and leaves its state and row.
@@ -114,15 +100,15 @@ fn walk(
     rows: usize,
     state: &mut [i32],
     row: &mut [i32],
+    copy: &mut [i32],
     work: &mut [i32],
-    vals: &mut [i32],
-) -> Ended
-    requires { ⌜ Walking (now low) (now high) (now «row_low») (now «row_high») (now state) (now row) (now work) (now vals) ⌝ }
+) -> Visited
+    requires { ⌜ Walking (now low) (now high) (now «row_low») (now «row_high») (now state) (now row) (now copy) (now work) ⌝ }
     requires { ⌜ states * rows ≤ combinationLimit ⌝ }
     ensures { λ r. ⌜ ((ns is : List Range) → RangesIn ns (now (low .entry)) (now (high .entry)) → RangesIn is (now («row_low» .entry)) (now («row_high» .entry))
-        → states ≡ productOf ns → rows ≡ productOf is
-        → endedAs r (now (state .exit)) (now (row .exit)) ≡ walked (working ns (now (code .entry))) (paired (combinations ns) (combinations is)) 0) ⌝ }
-    ensures { λ r. ⌜ EndedWithin r ⌝ }
+        → states ≡ productOfSizes ns → rows ≡ productOfSizes is
+        → visitedAs r (now (state .exit)) (now (row .exit)) ≡ walked (working ns (now (code .entry))) (paired (combinations ns) (combinations is)) 0) ⌝ }
+    ensures { λ r. ⌜ VisitedWithin r ⌝ }
 {
     lists::fill(state, low);
     let mut i = 0;
@@ -131,7 +117,7 @@ fn walk(
         lists::fill(row, row_low);
         let mut j = 0;
         while j < rows {
-            if is_refused(code, low, high, state, row, work, vals) {
+            if is_refused(code, low, high, state, row, copy, work) {
                 break 'states;
             }
             next(row_low, row_high, row);
@@ -142,9 +128,9 @@ fn walk(
         i += 1;
     }
     if i < states {
-        return Ended::Stopped(done);
+        return Visited::Until(done);
     }
-    Ended::Through
+    Visited::Every
 }
 
 // Closed; or the number of a refusal and its place, for 27 the scans done before.
@@ -161,22 +147,22 @@ fn closed_ranges(
     high: &[i32],
     at_state: &mut [i32],
     at_row: &mut [i32],
+    copy: &mut [i32],
     work: &mut [i32],
-    vals: &mut [i32],
     state: &mut [i32],
     row: &mut [i32],
 ) -> Closing
     requires { ⌜ inputs ≤ length (now low) ⌝ }
-    requires { ⌜ Walking (now low) (now high) (take inputs (now low)) (take inputs (now high)) (now «at_state») (now «at_row») (now work) (now vals) ⌝ }
+    requires { ⌜ Walking (now low) (now high) (take inputs (now low)) (take inputs (now high)) (now «at_state») (now «at_row») (now copy) (now work) ⌝ }
     requires { ⌜ (length (now low) ≤ length (now state)) × (inputs ≤ length (now row)) ⌝ }
     ensures { λ r. ⌜ ((ns : List Range) → RangesIn ns (now (low .entry)) (now (high .entry))
         → afterClosing r (now (state .exit)) (now (row .exit)) ≡ closedWorking ns inputs (now (code .entry)) (now (state .entry)) (now (row .entry))) ⌝ }
     ensures { λ r. ⌜ ClosingWithin r ⌝ }
 {
-    let states = product(low, high);
-    let rows = product(&low[..inputs], &high[..inputs]);
-    if COMBINATION_LIMIT < states * rows {
-        return Closing::Refused(NOT_SMALL, 0);
+    let states = product_of_sizes(low, high);
+    let rows = product_of_sizes(&low[..inputs], &high[..inputs]);
+    if limits::COMBINATION_LIMIT < states * rows {
+        return Closing::Refused(limits::NOT_SMALL, 0);
     }
     let ended = walk(
         code,
@@ -188,48 +174,47 @@ fn closed_ranges(
         rows,
         at_state,
         at_row,
+        copy,
         work,
-        vals,
     );
-    let Ended::Stopped(done) = ended else {
+    let Visited::Until(done) = ended else {
         return Closing::Closed;
     };
     lists::fill(state, at_state);
     lists::fill(row, at_row);
-    Closing::Refused(NOT_CLOSED, done)
+    Closing::Refused(limits::NOT_CLOSED, done)
 }
 
-// The ranges of the names from a place of the image on; then the code behind them.
+// The ranges of as many names as the state has values, from a place of the image on; then the code behind them.
 fn closed_names(
     image: &[u8],
     first: usize,
-    inputs: usize,
-    names: usize,
     low: &mut [i32],
     high: &mut [i32],
     at_state: &mut [i32],
     at_row: &mut [i32],
+    copy: &mut [i32],
     work: &mut [i32],
-    vals: &mut [i32],
     state: &mut [i32],
     row: &mut [i32],
 ) -> Closing
-    requires { ⌜ Declared (now image) first inputs names ⌝ }
-    requires { ⌜ Room (now low) (now high) (now «at_state») (now «at_row») (now work) (now vals) (now state) (now row) ⌝ }
+    requires { ⌜ Announced (now image) first (now «at_state») (now «at_row») ⌝ }
+    requires { ⌜ ClosedRoom (now low) (now high) (now copy) (now work) (now state) (now row) ⌝ }
     ensures { λ r. ⌜ afterClosing r (now (state .exit)) (now (row .exit))
-        ≡ closedWorking (rangesFrom (now (image .entry)) names first) inputs (drop (rangesEnd (now (image .entry)) names first) (now (image .entry))) (now (state .entry)) (now (row .entry)) ⌝ }
+        ≡ closedWorking (headerOf (now (image .entry)) .ranges) (length (now («at_row» .entry))) (codeOf (now (image .entry))) (now (state .entry)) (now (row .entry)) ⌝ }
     ensures { λ r. ⌜ ClosingWithin r ⌝ }
 {
+    let names = at_state.len();
     let place = bytecode::ranges(image, first, names, low, high, work);
     closed_ranges(
         &image[place..],
-        inputs,
+        at_row.len(),
         &low[..names],
         &high[..names],
-        &mut at_state[..names],
-        &mut at_row[..inputs],
+        at_state,
+        at_row,
+        &mut copy[..names],
         &mut work[..names],
-        vals,
         state,
         row,
     )
@@ -242,12 +227,13 @@ fn closed_in(
     high: &mut [i32],
     at_state: &mut [i32],
     at_row: &mut [i32],
+    copy: &mut [i32],
     work: &mut [i32],
-    vals: &mut [i32],
     state: &mut [i32],
     row: &mut [i32],
 ) -> Closing
-    requires { ⌜ Room (now low) (now high) (now «at_state») (now «at_row») (now work) (now vals) (now state) (now row) ⌝ }
+    requires { ⌜ (nameLimit ≤ length (now «at_state»)) × (nameLimit ≤ length (now «at_row»)) ⌝ }
+    requires { ⌜ ClosedRoom (now low) (now high) (now copy) (now work) (now state) (now row) ⌝ }
     ensures { λ r. ⌜ afterClosing r (now (state .exit)) (now (row .exit)) ≡ closedIn (now (image .entry)) (now (state .entry)) (now (row .entry)) ⌝ }
     ensures { λ r. ⌜ ClosingWithin r ⌝ }
 {
@@ -262,14 +248,12 @@ fn closed_in(
             closed_names(
                 image,
                 first,
-                inputs,
-                names,
                 low,
                 high,
-                at_state,
-                at_row,
+                &mut at_state[..names],
+                &mut at_row[..inputs],
+                copy,
                 work,
-                vals,
                 state,
                 row,
             )
@@ -293,8 +277,8 @@ pub fn closed_profile(image: &[u8]) -> Profile
     let mut high = [0i32; limits::NAME_LIMIT];
     let mut at_state = [0i32; limits::NAME_LIMIT];
     let mut at_row = [0i32; limits::NAME_LIMIT];
+    let mut copy = [0i32; limits::NAME_LIMIT];
     let mut work = [0i32; limits::NAME_LIMIT];
-    let mut vals = [0i32; limits::STACK_LIMIT];
     let mut state = [0i32; limits::NAME_LIMIT];
     let mut row = [0i32; limits::NAME_LIMIT];
     let answer = closed_in(
@@ -303,8 +287,8 @@ pub fn closed_profile(image: &[u8]) -> Profile
         &mut high,
         &mut at_state,
         &mut at_row,
+        &mut copy,
         &mut work,
-        &mut vals,
         &mut state,
         &mut row,
     );
@@ -318,7 +302,7 @@ pub fn closed_profile(image: &[u8]) -> Profile
 // The combination of a number: the odometer turned so many times.
 fn nth(low: &[i32], high: &[i32], times: usize, values: &mut [i32])
     requires { ⌜ (length (now high) ≡ length (now low)) × (length (now values) ≡ length (now low)) ⌝ }
-    ensures { λ _. ⌜ ((ns : List Range) → RangesIn ns (now (low .entry)) (now (high .entry)) → times < productOf ns → Stands ns times (now (values .exit))) ⌝ }
+    ensures { λ _. ⌜ ((ns : List Range) → RangesIn ns (now (low .entry)) (now (high .entry)) → times < productOfSizes ns → IsNth ns times (now (values .exit))) ⌝ }
 {
     lists::fill(values, low);
     let mut i = 0;
@@ -342,10 +326,10 @@ fn combination_ranges(
         → afterClosing r (now (state .exit)) (now (row .exit)) ≡ combinedRanges ns inputs index (now (state .entry)) (now (row .entry))) ⌝ }
     ensures { λ r. ⌜ ClosingWithin r ⌝ }
 {
-    let states = product(low, high);
-    let rows = product(&low[..inputs], &high[..inputs]);
-    if COMBINATION_LIMIT < states * rows {
-        return Closing::Refused(NOT_SMALL, 0);
+    let states = product_of_sizes(low, high);
+    let rows = product_of_sizes(&low[..inputs], &high[..inputs]);
+    if limits::COMBINATION_LIMIT < states * rows {
+        return Closing::Refused(limits::NOT_SMALL, 0);
     }
     if state.len() != low.len() {
         return Closing::Refused(limits::WRONG_LENGTH, 0);
@@ -370,7 +354,7 @@ fn combination_in(
     high: &mut [i32],
     start: &mut [i32],
 ) -> Closing
-    requires { ⌜ (64 ≤ length (now low)) × (64 ≤ length (now high)) ⌝ }
+    requires { ⌜ (nameLimit ≤ length (now low)) × (nameLimit ≤ length (now high)) ⌝ }
     ensures { λ r. ⌜ afterClosing r (now (state .exit)) (now (row .exit)) ≡ combinationOf (now (image .entry)) index (now (state .entry)) (now (row .entry)) ⌝ }
     ensures { λ r. ⌜ ClosingWithin r ⌝ }
 {

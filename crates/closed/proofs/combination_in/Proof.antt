@@ -6,7 +6,7 @@ use lib.ListN.{length}
 use lib.Seq.{length-take-le}
 use Rattle.limits.specs.Answer.{accepted}
 use Rattle.bytecode.specs.Check.{checkOf}
-use Rattle.bytecode.specs.Counting.{rangesFrom}
+use Rattle.bytecode.specs.Parts.{rangesFrom}
 use Rattle.bytecode.specs.Results.{countedAnswer, CountedWithin}
 use Rattle.bytecode.proofs.SoundHeader.{counts-not-broken, SoundCounts, sound-counts}
 use Rattle.checker.specs.Results.{CheckedWithin, checkedAnswer}

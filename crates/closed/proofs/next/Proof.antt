@@ -12,7 +12,7 @@ use mir.Val.{SFits, toZ, ofZ}
 use mir.Syntax.{w32}
 use Rattle.arith.proofs.Laws.{same32}
 use Rattle.semantics.specs.Program.{Range}
-use Rattle.machine.specs.Memory.{RangesIn}
+use Rattle.machine.specs.Inner.Memory.{RangesIn}
 use Rattle.closed.proofs.Whole.{next-fits}
 use Rattle.closed.proofs.Turning.{Turning, turning-begins, turning-ends, turning-stops, turning-goes}
 use Rattle.closed.proofs.next.Statement.{statement}

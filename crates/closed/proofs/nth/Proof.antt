@@ -6,10 +6,10 @@ use native.Mathlib.Omega.{arith}
 use native.Mathlib.Numerals.{add-one}
 use lib.ListN.{length}
 use Rattle.semantics.specs.Program.{Range}
-use Rattle.machine.specs.Memory.{RangesIn}
+use Rattle.machine.specs.Inner.Memory.{RangesIn}
 use Rattle.machine.proofs.Copies.{over-all}
-use Rattle.closed.specs.Closed.{productOf}
-use Rattle.closed.specs.Internal.{Stands}
+use Rattle.closed.specs.Closed.{productOfSizes}
+use Rattle.closed.specs.Inner.Parts.{IsNth}
 use Rattle.closed.proofs.Combining.{combinations-first}
 use Rattle.closed.proofs.Walks.{stands-next}
 use Rattle.closed.proofs.nth.Statement.{statement}
@@ -17,7 +17,7 @@ use Rattle.closed.proofs.nth.Tie as tie
 
 abbrev Inv-loop : tie.InvT-loop
 Inv-loop low high times values₀ i₀ values i =
-    (i ≤ times) × (length values ≡ length low) × ((ns : List Range) → RangesIn ns low high → i < productOf ns → Stands ns i values)
+    (i ≤ times) × (length values ≡ length low) × ((ns : List Range) → RangesIn ns low high → i < productOfSizes ns → IsNth ns i values)
 
 abbrev μ-loop : tie.MeasureT-loop
 μ-loop low high times values₀ i₀ values i = times - i
@@ -64,7 +64,7 @@ returns c =
     let start = c .before .before .before .before .before in
     λ ns r h.
     let e : c .before .loop .i ≡ start .args .times = omega (arith, c .before .loop .inv .0, c .loop-test .left) in
-    subst (λ (n : ℕ). Stands ns n (c .before .loop .values)) e (c .before .loop .inv .2 ns r (omega (arith, e, h)))
+    subst (λ (n : ℕ). IsNth ns n (c .before .loop .values)) e (c .before .loop .inv .2 ns r (omega (arith, e, h)))
 
 pub nth-spec : {M : Type 1} → statement M
 nth-spec =

@@ -1,4 +1,4 @@
--- `closed::product` meets its contract. What is left to multiply makes the whole. Assumes nothing.
+-- `closed::product_of_sizes` meets its contract. What is left to multiply makes the whole. Assumes nothing.
 use mathlib.Core.Path.{_≡_, _∙_}
 use mathlib.Core.List.{List}
 use Prim.Native.Nat.{_+_, _*_, _-_, _≤_}
@@ -10,15 +10,15 @@ use mir.Val.{SFits}
 use mir.Syntax.{w32}
 use Rattle.arith.proofs.Laws.{same32}
 use Rattle.semantics.specs.Program.{Range}
-use Rattle.machine.specs.Memory.{RangesIn}
-use Rattle.closed.specs.Closed.{between, productOf}
+use Rattle.machine.specs.Inner.Memory.{RangesIn}
+use Rattle.closed.specs.Closed.{sizeBetween, productOfSizes}
 use Rattle.closed.proofs.Products.{product-goes, product-ends, capped-over, product-fits, product-least, size-least}
-use Rattle.closed.proofs.product.Statement.{statement}
-use Rattle.closed.proofs.product.Tie as tie
+use Rattle.closed.proofs.product_of_sizes.Statement.{statement}
+use Rattle.closed.proofs.product_of_sizes.Tie as tie
 
 abbrev Inv-loop : tie.InvT-loop
 Inv-loop low high p₀ i₀ p i =
-    (i ≤ length low) × (1 ≤ p) × (p ≤ 65536) × ((ns : List Range) → RangesIn ns low high → productOf ns ≡ p * productOf (drop i ns))
+    (i ≤ length low) × (1 ≤ p) × (p ≤ 65536) × ((ns : List Range) → RangesIn ns low high → productOfSizes ns ≡ p * productOfSizes (drop i ns))
 
 abbrev μ-loop : tie.MeasureT-loop
 μ-loop low high p₀ i₀ p i = length low - i
@@ -27,7 +27,7 @@ loop-holds : tie.Need-loop-holds Inv-loop μ-loop
 loop-holds c = (omega arith, omega arith, omega arith, λ ns r. omega arith)
 
 -- the size that was read
-size-is : (c : tie.After-size Inv-loop μ-loop) → c .size .result ≡ between (getD (c .before .before .before .before .before .args .low .now) (c .before .before .before .before .loop .i) (pos 0)) (getD (c .before .before .before .before .before .args .high .now) (c .before .before .before .before .loop .i) (pos 0))
+size-is : (c : tie.After-size Inv-loop μ-loop) → c .size .result ≡ sizeBetween (getD (c .before .before .before .before .before .args .low .now) (c .before .before .before .before .loop .i) (pos 0)) (getD (c .before .before .before .before .before .args .high .now) (c .before .before .before .before .loop .i) (pos 0))
 size-is c =
     let at-loop = c .before .before .before .before in
     let start = at-loop .before in
@@ -55,8 +55,8 @@ loop-again c =
 returns-2 : tie.Need-returns-2 Inv-loop μ-loop
 returns-2 c = (λ ns r. let e = product-ends ns _ _ r (c .before .loop .p) (c .before .loop .i) (c .before .loop .inv .3 ns r) (c .loop-test .left) (c .before .loop .inv .0) in omega arith, (c .before .loop .inv .1, omega (arith, c .before .loop .inv .2)))
 
-pub product-spec : {M : Type 1} → statement M
-product-spec =
+pub product-of-sizes-spec : {M : Type 1} → statement M
+product-of-sizes-spec =
     tie.close
     (tie.spec
     Inv-loop

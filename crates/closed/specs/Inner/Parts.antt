@@ -1,5 +1,5 @@
 -- The parts of the closed profile as the running code works them: auxiliary definitions for proofs. Assumes nothing.
-use Prim.Native.Nat.{ℕ, suc, _*_, _≤_}
+use Prim.Native.Nat.{ℕ, suc, _*_, _≤_, _<_}
 use mathlib.Core.Path.{_≡_}
 use mathlib.Core.Bool.{Bool, true, false, _&&_, cond}
 use mathlib.Core.List.{List, [], _∷_}
@@ -7,12 +7,13 @@ use lib.IntN.{ℤ, pos, _+ℤ_}
 use lib.Dec.{eqb, leb}
 use lib.ListN.{length, take, drop, getElem?}
 use lib.Signed.{ltZ}
-use Rattle.limits.specs.Limits.{stackLimit, nameLimit, wrongLength}
+use Rattle.limits.specs.Limits.{nameLimit, combinationLimit, wrongLength, notSmall}
 use Rattle.limits.specs.Answer.{Answer, accepted, refused}
 use Rattle.semantics.specs.Program.{Range}
-use Rattle.scan.specs.Internal.{scannedCode}
-use Rattle.bytecode.specs.Counting.{rangesFrom, rangesEnd}
-use Rattle.closed.specs.Closed.{combinationLimit, notSmall, productOf, combinations, Combination, paired, walked, AfterClosed, leaves, closedBy, combined}
+use Rattle.scan.specs.Inner.Parts.{scannedCode}
+use Rattle.closed.specs.Closed.{productOfSizes, combinations, Combination, paired, Walked, everyAccepted, refusedAt, walked, AfterClosed, leaves, closedBy, combined}
+use Rattle.closed.specs.declared.Visited.{Visited}
+use Rattle.closed.specs.declared.Visited.the-variants as W
 
 -- ---- the combination after one: the last value moves, a value at its high goes back to its low and the one before moves
 
@@ -45,52 +46,53 @@ isRefused (refused number place) = true
 abbrev pub working : List Range → List ℕ → Combination → Answer (Unit {0})
 working ns code c = scannedCode ns code (c .state) (c .row) .answer
 
--- ---- the walk's memory
+-- ---- the walk
 
--- a low, a high, a value and a copy for each name; a low, a high and a value for each input; room for the values held
-pub record Walking (low high rowLow rowHigh state row work vals : List ℤ) : Type 0 where
+-- a low, a high, a value and two copies for each name; a low, a high and a value for each input
+pub record Walking (low high rowLow rowHigh state row copy work : List ℤ) : Type 0 where
   pub highs : length high ≡ length low
   pub states : length state ≡ length low
-  pub copies : length work ≡ length low
+  pub copies : length copy ≡ length low
+  pub works : length work ≡ length low
   pub row-highs : length rowHigh ≡ length rowLow
   pub rows : length row ≡ length rowLow
   pub among : length rowLow ≤ length low
-  pub room : stackLimit ≤ length vals
+
+-- `Until` holds the scans done before; the refused combination is what the walk leaves
+abbrev pub visitedAs : Visited → List ℤ → List ℤ → Walked
+visitedAs W.Every state row = everyAccepted
+visitedAs (W.Until n) state row = refusedAt n (record { state = state; row = row })
+
+abbrev pub VisitedWithin : Visited → Type 0
+VisitedWithin W.Every = Unit {0}
+VisitedWithin (W.Until n) = n < combinationLimit
 
 -- ---- the parts of the services
 
 -- 26, then 27, by the code alone
 abbrev pub closedWorking : List Range → ℕ → List ℕ → List ℤ → List ℤ → AfterClosed
 closedWorking ns inputs code state row =
-    cond (leb (productOf ns * productOf (take inputs ns)) combinationLimit)
+    cond (leb (productOfSizes ns * productOfSizes (take inputs ns)) combinationLimit)
     (closedBy (walked (working ns code) (paired (combinations ns) (combinations (take inputs ns))) 0) state row)
     (leaves (refused notSmall 0) state row)
 
--- behind its counts an image has as many ranges, at most 64, and no fewer names than inputs
-pub record Declared (image : List ℕ) (first inputs names : ℕ) : Type 0 where
-  pub few : names ≤ nameLimit
-  pub among : inputs ≤ names
-  pub ranges : length (rangesFrom image names first) ≡ names
-  pub inside : rangesEnd image names first ≤ length image
-
-pub record Room (low high atState atRow work vals state row : List ℤ) : Type 0 where
+-- what is lent has room for 64 names
+pub record ClosedRoom (low high copy work state row : List ℤ) : Type 0 where
   pub lows : nameLimit ≤ length low
   pub highs : nameLimit ≤ length high
-  pub states : nameLimit ≤ length atState
-  pub rows : nameLimit ≤ length atRow
-  pub copies : nameLimit ≤ length work
-  pub held : stackLimit ≤ length vals
+  pub copies : nameLimit ≤ length copy
+  pub works : nameLimit ≤ length work
   pub state-room : nameLimit ≤ length state
   pub row-room : nameLimit ≤ length row
 
 -- the i-th combination
-abbrev pub Stands : List Range → ℕ → List ℤ → Type 0
-Stands ns i s = drop i (combinations ns) ≡ s ∷ drop (suc i) (combinations ns)
+abbrev pub IsNth : List Range → ℕ → List ℤ → Type 0
+IsNth ns i s = drop i (combinations ns) ≡ s ∷ drop (suc i) (combinations ns)
 
 -- 26, then 12
 abbrev pub combinedRanges : List Range → ℕ → ℕ → List ℤ → List ℤ → AfterClosed
 combinedRanges ns inputs index state row =
-    cond (leb (productOf ns * productOf (take inputs ns)) combinationLimit)
+    cond (leb (productOfSizes ns * productOfSizes (take inputs ns)) combinationLimit)
     (cond (eqb (length state) (length ns) && eqb (length row) inputs)
     (combined (getElem? (paired (combinations ns) (combinations (take inputs ns))) index) state row)
     (leaves (refused wrongLength 0) state row))
