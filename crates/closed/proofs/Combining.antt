@@ -3,11 +3,11 @@ use mathlib.Core.Path.{_≡_, refl, ap, ap₂, _∙_}
 use mathlib.Core.Bool.{true, false}
 use mathlib.Core.Logic.{_⊎_, inl, inr}
 use mathlib.Core.List.{List, [], _∷_, _++_, map}
-use Prim.Native.Nat.{ℕ, zero, suc, _+_, _*_, _≤_, _<_}
+use Prim.Native.Nat.{ℕ, zero, suc, _*_, _≤_, _<_}
 use native.Mathlib.Omega.{arith}
 use lib.IntN.{ℤ, pos, _+ℤ_, _-ℤ_}
 use lib.ListN.{length, drop, length-append, length-map}
-use lib.Signed.{leZ}
+use lib.Signed.{leZ, ≤ℤ-refl}
 use Rattle.arith.proofs.Basics.{T-true, and-left, and-right, and-T}
 use Rattle.semantics.specs.Program.{Range, within}
 use Rattle.semantics.specs.Formula.{State}
@@ -16,7 +16,7 @@ use Rattle.bytecode.specs.Parts.{lows}
 use Rattle.machine.proofs.Ranges.{Within}
 use Rattle.closed.specs.Closed.{aboveZero, sizeBetween, sizeOf, productOfSizes, upwards, prefixed, combinations, withRows, paired}
 use Rattle.closed.specs.Inner.Parts.{Turned, turnedTo, turned, IsNth}
-use Rattle.closed.proofs.Whole.{last-value, value-below, value-closer, le-self, at-least, next-within, same-number}
+use Rattle.closed.proofs.Whole.{last-value, value-below, value-closer, at-least, next-within, same-number}
 
 -- ---- order
 
@@ -100,11 +100,11 @@ abbrev pub All : {A : Type 0} → (A → Type 0) → List A → Type 0
 All P [] = Unit {0}
 All P (a ∷ l) = P a × All P l
 
-all-append : {A : Type 0} (P : A → Type 0) (l m : List A) → All P l → All P m → All P (l ++ m)
+pub all-append : {A : Type 0} (P : A → Type 0) (l m : List A) → All P l → All P m → All P (l ++ m)
 all-append P [] m h k = k
 all-append P (a ∷ l) m h k = (h .0, all-append P l m (h .1) k)
 
-all-map : {A B : Type 0} (P : A → Type 0) (Q : B → Type 0) (f : A → B) (l : List A) → ((a : A) → P a → Q (f a)) → All P l → All Q (map f l)
+pub all-map : {A B : Type 0} (P : A → Type 0) (Q : B → Type 0) (f : A → B) (l : List A) → ((a : A) → P a → Q (f a)) → All P l → All Q (map f l)
 all-map P Q f [] g h = tt
 all-map P Q f (a ∷ l) g h = (g a (h .0), all-map P Q f l g (h .1))
 
@@ -142,7 +142,7 @@ unfolding sizeBetween
 combinations-within [] u = (record { size = refl; ranges = tt }, tt)
 combinations-within (n ∷ ns) u =
     prefixed-within n ns (upwards (sizeOf n) (n .low)) (combinations ns)
-    (upwards-within (n .low) (n .high) (aboveZero (n .high -ℤ n .low)) (n .low) (le-self (n .low)) (u .0) refl) (combinations-within ns (u .1))
+    (upwards-within (n .low) (n .high) (aboveZero (n .high -ℤ n .low)) (n .low) (T-true _ (≤ℤ-refl (n .low) .le)) (u .0) refl) (combinations-within ns (u .1))
 
 -- each of the one with every one of the other
 pub paired-all : (P Q : List ℤ → Type 0) (ss : List State) (rs : List (List ℤ)) → All P ss → All Q rs → All (λ c. P (c .state) × Q (c .row)) (paired ss rs)

@@ -4,7 +4,7 @@ use mathlib.Core.Bool.{Bool, true, false, _&&_}
 use mathlib.Core.Logic.{_↔_}
 use mathlib.Core.List.{List, [], _∷_, map}
 use mathlib.Core.Option.{some}
-use Prim.Native.Nat.{ℕ, zero, suc, _+_, _*_, _≤_, _<_}
+use Prim.Native.Nat.{ℕ, zero, suc, _+_, _*_}
 use native.Mathlib.Omega.{arith}
 use borrow.Author.Tests.{eq-eqb, leb-true, le-leb}
 use lib.Dec.{T}
@@ -30,7 +30,8 @@ use Rattle.scan.specs.Services.{finished, runOf, startOf, scanOf, scansOf}
 use Rattle.scan.proofs.SoundScans.{scan-within}
 use Rattle.closed.specs.Closed.{productOfSizes, inputRanges, isSmall, Combination, combinations, combinationsOf, Walked, everyAccepted, refusedAt, goOn, walked, scanning, closedBy, closedAs, closedIn, closedOf}
 use Rattle.closed.specs.Claims.{InRangeState, InRangeRow, Closed, InRangeRows, AllAccepted, FirstRefused}
-use Rattle.closed.proofs.Combining.{All, all-weaker, all-in, combinations-complete, in-paired}
+use Rattle.closed.proofs.Combining.{All, all-weaker, _∈_, all-in, combinations-complete, in-paired}
+use Rattle.closed.proofs.Order.{Rising, valuesIn, combinations-rise, paired-rise, earlier-accepted}
 use Rattle.closed.proofs.Scans.{header-fits, inputs-among, combinations-in, row-within, row-in-range, scanning-is}
 
 -- ---- what the end of a walk says
@@ -55,7 +56,6 @@ record Stopping (f : Combination → Answer (Unit {0})) (cs : List Combination) 
   number : ℕ
   place : ℕ
   refuses : f c ≡ refused number place
-  before : (m : ℕ) (d : Combination) → m < at → getElem? cs m ≡ some d → f d ≡ accepted tt
 
 walked-first : (f : Combination → Answer (Unit {0})) (cs : List Combination) (k n : ℕ) (c : Combination) → walked f cs k ≡ refusedAt n c → Stopping f cs k n c
 walked-first f [] k n c e = let z : _≡_ {A = ℕ} 0 1 = cc in let b : ⊥ = omega arith in absurd b
@@ -64,31 +64,11 @@ walked-first f (d ∷ cs) k n c e = go (f d) refl e (λ q. walked-first f cs (k 
     go : (a : Answer (Unit {0})) → f d ≡ a → goOn a (walked f cs (k + 1)) (refusedAt k d) ≡ refusedAt n c → (walked f cs (k + 1) ≡ refusedAt n c → Stopping f cs (k + 1) n c) → Stopping f (d ∷ cs) k n c
     go (accepted u) q p ih =
         let s = ih p in
-        record {
-          at = suc (s .at);
-          count = let h = s .count in omega arith;
-          stands = s .stands;
-          number = s .number;
-          place = s .place;
-          refuses = s .refuses;
-          before = earlier s;
-        }
-      where
-        earlier : (s : Stopping f cs (k + 1) n c) (m : ℕ) (b : Combination) → m < suc (s .at) → getElem? (d ∷ cs) m ≡ some b → f b ≡ accepted tt
-        earlier s zero b h g = let e : d ≡ b = cc in rw (← e) q
-        earlier s (suc m) b h g = s .before m b (omega arith) g
+        record { at = suc (s .at); count = let h = s .count in omega arith; stands = s .stands; number = s .number; place = s .place; refuses = s .refuses }
     go (refused number place) q p ih =
         let e : d ≡ c = cc in
         let i : k ≡ n = cc in
-        record {
-          at = 0;
-          count = omega arith;
-          stands = ap some e;
-          number = number;
-          place = place;
-          refuses = rw (← e) q;
-          before = λ m b h g. let z : ⊥ = omega arith in absurd z;
-        }
+        record { at = 0; count = omega arith; stands = ap some e; number = number; place = place; refuses = rw (← e) q }
 
 -- ---- the ways of the service
 
@@ -124,8 +104,16 @@ state-within h = record { size = h .size; ranges = h .ranges }
 state-in-range : {h : Header} {s : List ℤ} → Within (h .ranges) s → InRangeState h s
 state-in-range h = record { size = h .size; ranges = h .ranges }
 
+-- every in-range state with every in-range row is a combination
+combination-of : (image : List ℕ) → checkOf image ≡ accepted tt → (s : State) (row : List ℤ) → InRangeState (headerOf image) s → InRangeRow (headerOf image) row
+    → record { state = s; row = row } ∈ combinationsOf (headerOf image)
+unfolding combinationsOf
+combination-of image sound s row w v =
+    in-paired s row (combinations (headerOf image .ranges)) (combinations (inputRanges (headerOf image))) (combinations-complete (headerOf image .ranges) s (state-within w))
+    (combinations-complete (inputRanges (headerOf image)) row (row-within (headerOf image) (inputs-among image sound) row v))
+
 pub closed-exactly : (image : List ℕ) → (closedOf image .answer ≡ accepted tt) ↔ Closed image
-unfolding closedOf closedIn isSmall combinationsOf
+unfolding closedOf closedIn isSmall
 closed-exactly image = (forth, back)
   where
     forth : closedOf image .answer ≡ accepted tt → Closed image
@@ -135,8 +123,7 @@ closed-exactly image = (forth, back)
         record {
           sound = p .0;
           small = leb-true _ 65536 (p .1);
-          accepts = λ s row w v. all-in (λ c. scanning image c ≡ accepted tt) (record { state = s; row = row }) (combinationsOf (headerOf image)) all
-              (in-paired s row (combinations (headerOf image .ranges)) (combinations (inputRanges (headerOf image))) (combinations-complete (headerOf image .ranges) s (state-within w)) (combinations-complete (inputRanges (headerOf image)) row (row-within (headerOf image) (inputs-among image (p .0)) row v)));
+          accepts = λ s row w v. all-in (λ c. scanning image c ≡ accepted tt) (record { state = s; row = row }) (combinationsOf (headerOf image)) all (combination-of image (p .0) s row w v);
         }
 
     back : Closed image → closedOf image .answer ≡ accepted tt
@@ -185,29 +172,41 @@ all-at P [] n a h e = let z : _≡_ {A = ℕ} 0 1 = cc in let b : ⊥ = omega ar
 all-at P (x ∷ l) zero a h e = let q : x ≡ a = cc in subst P q (h .0)
 all-at P (x ∷ l) (suc n) a h e = all-at P l n a (h .1) e
 
--- a combination that is refused is refused by a rule at work
-combination-rules : (image : List ℕ) → checkOf image ≡ accepted tt → (n : ℕ) (c : Combination) (number place : ℕ) → getElem? (combinationsOf (headerOf image)) n ≡ some c
-    → scanning image c ≡ refused number place → ByRules number × (place ≡ 0)
-combination-rules image sound n c number place e q =
-    let w = all-at (λ c. Within (headerOf image .ranges) (c .state) × Within (inputRanges (headerOf image)) (c .row)) (combinationsOf (headerOf image)) n c (combinations-in image sound) e in
-    finished-rules (c .state) _ (runOf image (c .state) (c .row) .last) number place (sound-by-rules image sound (c .state) (withInputs (c .state) (c .row)) (length (codeOf image)))
-    (sym (scanning-is image sound (c .state) (c .row) (w .0) (w .1)) ∙ q)
+module _ (image : List ℕ) (sound : checkOf image ≡ accepted tt) where
+  abbrev all : List Combination
+  all = combinationsOf (headerOf image)
 
-first-from : (image : List ℕ) (n : ℕ) (c : Combination) → checkOf image ≡ accepted tt → isSmall (headerOf image) ≡ true
-    → walked (scanning image) (combinationsOf (headerOf image)) 0 ≡ refusedAt n c → FirstRefused image n
-unfolding closedOf closedIn
-first-from image n c sound small e =
-    let s = walked-first (scanning image) (combinationsOf (headerOf image)) 0 n c e in
-    let at : s .at ≡ n = let q = s .count in omega arith in
-    let r = combination-rules image sound (s .at) c (s .number) (s .place) (s .stands) (s .refuses) in
-    record {
-      combination = c;
-      stands = subst (λ (k : ℕ). getElem? (combinationsOf (headerOf image)) k ≡ some c) at (s .stands);
-      number = s .number;
-      refuses = s .refuses ∙ ap (refused (s .number)) (r .1);
-      before = λ m d h g. s .before m d (omega arith) g;
-      left = rw (sound, small, e);
-    }
+  within-at : (n : ℕ) (c : Combination) → getElem? all n ≡ some c → Within (headerOf image .ranges) (c .state) × Within (inputRanges (headerOf image)) (c .row)
+  within-at n c e = all-at (λ c. Within (headerOf image .ranges) (c .state) × Within (inputRanges (headerOf image)) (c .row)) all n c (combinations-in image sound) e
+
+  -- a combination that is refused is refused by a rule at work
+  combination-rules : (n : ℕ) (c : Combination) (number place : ℕ) → getElem? all n ≡ some c → scanning image c ≡ refused number place → ByRules number × (place ≡ 0)
+  combination-rules n c number place e q =
+      let w = within-at n c e in
+      finished-rules (c .state) _ (runOf image (c .state) (c .row) .last) number place (sound-by-rules image sound (c .state) (withInputs (c .state) (c .row)) (length (codeOf image)))
+      (sym (scanning-is image sound (c .state) (c .row) (w .0) (w .1)) ∙ q)
+
+  all-rise : Rising valuesIn all
+  unfolding combinationsOf
+  all-rise = paired-rise (combinations (headerOf image .ranges)) (combinations (inputRanges (headerOf image))) (combinations-rise (headerOf image .ranges)) (combinations-rise (inputRanges (headerOf image)))
+
+  first-from : (n : ℕ) (c : Combination) → isSmall (headerOf image) ≡ true → walked (scanning image) all 0 ≡ refusedAt n c → FirstRefused image n
+  unfolding closedOf closedIn
+  first-from n c small e =
+      let s = walked-first (scanning image) all 0 n c e in
+      let at : s .at ≡ n = let q = s .count in omega arith in
+      let r = combination-rules (s .at) c (s .number) (s .place) (s .stands) (s .refuses) in
+      let w = within-at (s .at) c (s .stands) in
+      record {
+        combination = c;
+        state-in = state-in-range (w .0);
+        row-in = row-in-range (headerOf image) (inputs-among image sound) (c .row) (w .1);
+        number = s .number;
+        refuses = s .refuses ∙ ap (refused (s .number)) (r .1);
+        before = λ t row u v l. earlier-accepted (scanning image) all 0 n c (record { state = t; row = row }) all-rise e (combination-of image sound t row u v) l;
+        stands = subst (λ (k : ℕ). getElem? all k ≡ some c) at (s .stands);
+        left = rw (sound, small, e);
+      }
 
 module _ (image : List ℕ) (n : ℕ) (e : closedOf image .answer ≡ refused 27 n) where
   parts : (checkOf image ≡ accepted tt) × (isSmall (headerOf image) ≡ true) × ((c : Combination) × (walked (scanning image) (combinationsOf (headerOf image)) 0 ≡ refusedAt n c))
@@ -216,7 +215,7 @@ module _ (image : List ℕ) (n : ℕ) (e : closedOf image .answer ≡ refused 27
 
   -- 27 names the first scan that is refused, by its place, its state and its row;
   pub closed-first : FirstRefused image n
-  closed-first = first-from image n (parts .2 .0) (parts .0) (parts .1) (parts .2 .1)
+  closed-first = first-from image (parts .0) n (parts .2 .0) (parts .1) (parts .2 .1)
 
   -- a rule at work refuses it.
   pub first-by-rules : (f : FirstRefused image n) → ByRules (f .number)

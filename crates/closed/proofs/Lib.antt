@@ -1,5 +1,6 @@
 pub mod Whole
 pub mod Combining
+pub mod Order
 pub mod Turning
 pub mod Products
 pub mod Walks

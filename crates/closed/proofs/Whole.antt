@@ -68,10 +68,6 @@ value-closer z high k e = above-is (z +ℤ pos 1) high ∙ rw (+ℤ-one z) (clos
 
 -- ---- the order
 
-pub le-self : (a : ℤ) → leZ a a ≡ true
-le-self (pos a) = le-leb a a (omega arith)
-le-self (negsuc a) = le-leb a a (omega arith)
-
 -- at least a: a itself, or at least the next number
 data Least (a z : ℤ) : Type 0 where
   this : a ≡ z → Least a z

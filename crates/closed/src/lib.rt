@@ -6,7 +6,7 @@ use scan::Scanned;
 ghost use mathlib.Core.Path.{_≡_};
 ghost use mathlib.Core.List.{List};
 ghost use Prim.Native.Nat.{_+_, _*_, _^_, _≤_, _<_, min};
-ghost use lib.ListN.{length, take, drop};
+ghost use lib.ListN.{length, take};
 ghost use Rattle.limits.specs.Limits.{nameLimit, combinationLimit};
 ghost use Rattle.semantics.specs.Program.{Range};
 ghost use Rattle.bytecode.specs.Parts.{headerOf, codeOf};

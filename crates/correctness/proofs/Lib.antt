@@ -2,3 +2,4 @@ pub mod Demand2
 pub mod Correct
 pub mod Table
 pub mod Caught
+pub mod ClosedText

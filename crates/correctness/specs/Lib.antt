@@ -1,3 +1,4 @@
 pub mod TraceCorrect
 pub mod Demand2
 pub mod Examples
+pub mod ClosedText

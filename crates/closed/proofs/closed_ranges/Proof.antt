@@ -1,7 +1,6 @@
 -- `closed::closed_ranges` meets its contract. The ways are the laws of Profiles. Assumes nothing.
-use mathlib.Core.Path.{_≡_, sym, subst}
+use mathlib.Core.Path.{sym, subst}
 use mathlib.Core.List.{List}
-use Prim.Native.Nat.{min}
 use Rattle.semantics.specs.Program.{Range}
 use Rattle.machine.specs.Inner.Memory.{RangesIn}
 use native.Mathlib.Omega.{arith}

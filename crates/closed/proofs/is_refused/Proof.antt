@@ -1,5 +1,5 @@
 -- `closed::is_refused` meets its contract. The scan works on a copy of the state. Assumes nothing.
-use mathlib.Core.Path.{_≡_, sym, ap, _∙_}
+use mathlib.Core.Path.{_≡_, sym, _∙_}
 use native.Mathlib.Omega.{arith}
 use Rattle.machine.proofs.Copies.{over-all}
 use Rattle.closed.proofs.Scans.{scan-passes, scan-stops}
