@@ -96,7 +96,7 @@ pub extern "C" fn rolvenko_closed(image: &[u8]) -> u64
     let answer = profile.answer;
     match answer {
         closed::Closing::Closed => 0,
-        closed::Closing::Refused(number, place) => pack(number, place, 0),
+        closed::Closing::Refused(number, at) => pack(number, at, 0),
     }
 }
 
