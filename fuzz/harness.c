@@ -83,6 +83,23 @@ static struct parts scan_twice(size_t length, int32_t *state, size_t cells, cons
     return first;
 }
 
+/* The closed profile of an image, but for a walk that would take long, and combinations of any numbers; a closed image refuses no
+ * combination. */
+static void profiled(size_t length) {
+    int32_t state[CELLS_MOST] = {3}, row[CELLS_MOST] = {4};
+    struct parts c = check(image, length);
+    uint32_t scans = c.number == 0 ? scans_in(image) : 0;
+    size_t cells = c.number == 0 ? (size_t)image[0] + image[1] : 3, inputs = c.number == 0 ? image[0] : 1;
+    uint32_t numbers[] = {scans, scans - 1, (uint32_t)length * 2654435761u % (scans + 1)};
+    if (scans <= ROLVENKO_COMBINATIONS && (uint64_t)scans * length > 1 << 18)
+        return;
+    int is_closed = closed(image, length).number == 0;
+    for (int i = 0; i < 3; i++)
+        if (combination(image, length, numbers[i], state, cells, row, inputs).number == 0 && is_closed)
+            promise(scan(image, length, state, cells, row, inputs).number == 0);
+    combination(image, length, 0, state, cells, row, inputs + 1);
+}
+
 /* Rows from the starting state of a sound image: never 18, and every accepted scan has the same steps. */
 static void scan_rows(size_t length, const uint8_t *at, const uint8_t *end) {
     int32_t state[CELLS_MOST] = {7, -7}, row[CELLS_MOST] = {0};
@@ -122,6 +139,7 @@ static size_t translated(const uint8_t *text, size_t length) {
 static void changed_image(size_t length, const uint8_t *at, const uint8_t *end) {
     for (; end - at >= 3; at += 3)
         image[((size_t)at[0] << 8 | at[1]) % length] = at[2];
+    profiled(length);
     struct parts c = check(image, length);
     int32_t state[CELLS_MOST] = {0}, row[CELLS_MOST] = {0};
     if (c.number == 0) {
@@ -146,6 +164,7 @@ static void any_image(const uint8_t *data, size_t size) {
     memcpy(row, state, k * sizeof *row);
     size_t length = size - 1 - k;
     memcpy(image, data + 1 + k, length);
+    profiled(length);
     struct parts c = check(image, length);
     size_t cells = c.number == 0 ? (size_t)image[0] + image[1] : k;
     size_t inputs = c.number == 0 ? image[0] : k / 2;
@@ -200,6 +219,8 @@ int LLVMFuzzerTestOneInput(const uint8_t *data, size_t size) {
     case 'T':
     case 'M':
         length = translated(data + 1, before_mark(data + 1, size - 1, &after));
+        if (length > 0)
+            profiled(length);
         if (length > 0 && toupper(data[0]) == 'T')
             scan_rows(length, data + 1 + after, data + size);
         else if (length > 0)

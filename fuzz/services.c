@@ -11,7 +11,7 @@
             abort();       \
     } while (0)
 
-static struct region text_pages, image_pages, room_pages, state_pages, row_pages, table_pages, trace_pages;
+static struct region text_pages, image_pages, room_pages, state_pages, row_pages, table_pages, trace_pages, pair_pages;
 static enum side side;
 
 enum { FEATURES = 65536 };
@@ -25,6 +25,7 @@ void services_begin(void) {
     row_pages = region(CELLS_MOST * sizeof(int32_t), READ_ONLY);
     table_pages = region(CELLS_MOST * sizeof(int64_t), READ_ONLY);
     trace_pages = region(CELLS_MOST * sizeof(int32_t), READ_ONLY);
+    pair_pages = region(CELLS_MOST * sizeof(int32_t), WRITABLE);
 }
 
 void services_side(int at_end) { side = at_end ? AT_END : AT_START; }
@@ -267,4 +268,80 @@ uint64_t charge(const uint8_t *image, size_t length, struct bill b) {
         PROMISE(answer == charge_wanted(image, b));
     feature(5, parts(answer), image, length);
     return answer;
+}
+
+/* The header's next signed number: groups of seven bits, lowest first; even ones are 0 and above. */
+static int64_t header_number(const uint8_t *image, size_t *at) {
+    uint64_t value = 0;
+    for (int shift = 0;; shift += 7) {
+        uint8_t group = image[(*at)++];
+        value |= (uint64_t)(group % 128) << shift;
+        if (group < 128)
+            return value % 2 ? -(int64_t)(value / 2) - 1 : (int64_t)(value / 2);
+    }
+}
+
+uint32_t scans_in(const uint8_t *image) {
+    uint64_t scans = 1;
+    size_t at = 2;
+    for (size_t id = 0; id < (size_t)image[0] + image[1]; id++) {
+        int64_t low = header_number(image, &at), high = header_number(image, &at);
+        header_number(image, &at);
+        for (int times = id < image[0] ? 2 : 1; times > 0 && scans <= ROLVENKO_COMBINATIONS; times--)
+            scans *= (uint64_t)(high - low + 1);
+    }
+    return scans <= ROLVENKO_COMBINATIONS ? (uint32_t)scans : ROLVENKO_COMBINATIONS + 1;
+}
+
+struct parts combination(const uint8_t *image, size_t length, uint32_t index, int32_t *state, size_t cells, int32_t *row, size_t inputs) {
+    struct parts c = check(image, length);
+    struct part lent = lend(image_pages, image, length);
+    struct part values = lend(state_pages, state, cells * sizeof *state);
+    struct part line = lend(pair_pages, row, inputs * sizeof *row);
+    struct parts p =
+        parts(rolvenko_combination(lent.lent, length, index, (int32_t *)values.lent, cells, (int32_t *)line.lent, inputs));
+    part_intact(lent);
+    part_intact(values);
+    part_intact(line);
+    PROMISE(equal(lent.own, image, length));
+    check_comes_first(c, p);
+    PROMISE(p.count == 0);
+    if (c.number == 0) {
+        int lengths = (size_t)image[0] + image[1] == cells && image[0] == inputs;
+        PROMISE(p.number == (scans_in(image) > ROLVENKO_COMBINATIONS ? 26 : lengths && index < scans_in(image) ? 0 : 12));
+    }
+    if (p.number != 0)
+        PROMISE(equal(values.own, state, cells * sizeof *state) && equal(line.own, row, inputs * sizeof *row));
+    if (cells > 0)
+        memcpy(state, values.own, cells * sizeof *state);
+    if (inputs > 0)
+        memcpy(row, line.own, inputs * sizeof *row);
+    feature(7, p, image, length);
+    return p;
+}
+
+struct parts closed(const uint8_t *image, size_t length) {
+    struct parts c = check(image, length);
+    struct part lent = lend(image_pages, image, length);
+    struct parts p = parts(rolvenko_closed(lent.lent, length));
+    part_intact(lent);
+    PROMISE(equal(lent.own, image, length));
+    PROMISE(p.count == 0);
+    feature(6, p, image, length);
+    if (p.number != 27) {
+        check_comes_first(c, p);
+        PROMISE(c.number != 0 || p.number == (scans_in(image) > ROLVENKO_COMBINATIONS ? 26 : 0));
+        return p;
+    }
+    PROMISE(c.number == 0 && p.place < scans_in(image) && scans_in(image) <= ROLVENKO_COMBINATIONS);
+    int32_t state[CELLS_MOST], row[CELLS_MOST];
+    size_t cells = (size_t)image[0] + image[1], inputs = image[0];
+    PROMISE(combination(image, length, p.place, state, cells, row, inputs).number == 0);
+    struct parts refused = scan(image, length, state, cells, row, inputs);
+    PROMISE(refused.number >= 14 && refused.number <= 17);
+    if (p.place > 0) { /* the scan before it was accepted */
+        PROMISE(combination(image, length, p.place - 1, state, cells, row, inputs).number == 0);
+        PROMISE(scan(image, length, state, cells, row, inputs).number == 0);
+    }
+    return p;
 }

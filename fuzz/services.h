@@ -39,6 +39,13 @@ struct bill {
 /* The licence charge; its answer as a whole. */
 uint64_t charge(const uint8_t *image, size_t length, struct bill bill);
 
+/* The closed profile of an image; the pair of a 27 is scanned and refused. */
+struct parts closed(const uint8_t *image, size_t length);
+/* The state and row of a number. */
+struct parts combination(const uint8_t *image, size_t length, uint32_t index, int32_t *state, size_t cells, int32_t *row, size_t inputs);
+/* How many scans the closed profile of a sound image has, 65,537 for all above 65,536. */
+uint32_t scans_in(const uint8_t *image);
+
 /* Tells libFuzzer which answer was met: number, the byte at its place, and the size of its count. */
 void feature(unsigned service, struct parts answer, const uint8_t *bytes, size_t length);
 

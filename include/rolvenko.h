@@ -1,5 +1,5 @@
-/* Rolvenko: launch rules translated, checked, started and scanned, rows filled with the local time, and the licence charge of a trace, as
- * six C functions.
+/* Rolvenko: launch rules translated, checked, started and scanned, rows filled with the local time, the licence charge of a trace, and
+ * whether rules can ever stop in service, as eight C functions.
  *
  * Link target/staticlib/librolvenko.a, which `rt staticlib rolvenko` writes, or what ./install puts down of it (-lrolvenko; pkg-config
  * rolvenko). It is for x86-64 Linux, needs memcpy and memset, allocates nothing and keeps nothing between calls, so calls from several
@@ -7,8 +7,9 @@
  *
  * The answer. Each function answers one 64-bit number, number * 2^56 + place * 2^24 + count:
  *
- *     number   0 for a success, else the refusal, 1 to 20, 28 or 29
- *     place    the byte place of a refusal in the text or image; 0 for a success and for the refusals 9, 12 to 20, 28 and 29
+ *     number   0 for a success, else the refusal, 1 to 20 or 26 to 29
+ *     place    the byte place of a refusal in the text or image; of 27 the scans before the refused one; 0 for a success and for the
+ *              refusals 9, 12 to 20, 26, 28 and 29
  *     count    of a success of rolvenko_translate the image's length, of rolvenko_scan (refused or not) the steps; else 0
  *
  * But a success of rolvenko_charge is its sum; see there.
@@ -34,6 +35,7 @@ extern "C" {
 #define ROLVENKO_IMAGE_ROOM 49154  /* bytes that the image of any accepted text fits in (law buffer-bound) */
 #define ROLVENKO_NAMES 64          /* inputs and variables together */
 #define ROLVENKO_ENTRIES 32        /* entries of a farm table */
+#define ROLVENKO_COMBINATIONS 65536 /* scans of a closed profile */
 
 /* The parts of an answer. */
 static inline unsigned rolvenko_number(uint64_t answer) { return (unsigned)(answer >> 56); }
@@ -105,6 +107,24 @@ uint64_t rolvenko_charge(const uint8_t *image, size_t image_len, size_t id, cons
 static inline int rolvenko_is_charge(uint64_t answer) { return answer < (uint64_t)9 << 56; }
 static inline uint64_t rolvenko_cents(uint64_t answer) { return answer / 60; }
 static inline unsigned rolvenko_sixtieths(uint64_t answer) { return (unsigned)(answer % 60); }
+
+/* Whether the rules of an image can never stop in service: every in-range state is scanned with every in-range row, and 0 as a whole says
+ * that no such scan is refused. Then no list of in-range rows from rolvenko_start ever meets 14 to 17. Rows are tried inside states; the
+ * last declared name moves fastest in both, from low to high. Nothing is written.
+ *   9, 11     as rolvenko_check
+ *   26        the product of all range sizes times the product of the input range sizes is over 65,536
+ *   27        a scan is refused; place counts the scans before it, 0 to 65,535, and rolvenko_combination gives its state and row
+ * It takes as long as up to 65,536 scans.
+ */
+uint64_t rolvenko_closed(const uint8_t *image, size_t image_len);
+
+/* The state and the row of the scan before which `index` scans of rolvenko_closed stand, as place of a 27 counts them. state_len is the
+ * count of names, row_len that of inputs; both are written whole. 0 as a whole, or
+ *   9, 11, 26 as rolvenko_closed
+ *   12        state_len is not the count of names, row_len not that of inputs, or there are no more than `index` scans
+ */
+uint64_t rolvenko_combination(const uint8_t *image, size_t image_len, uint32_t index, int32_t *state, size_t state_len, int32_t *row,
+                              size_t row_len);
 
 #ifdef __cplusplus
 }

@@ -4,7 +4,9 @@
 //!
 //!     bench [--rounds N]                            the tables
 //!     bench --once WHO SERVICE INPUT CALLS          just so many calls, for bench/instructions
+//!     bench --closed [NAME CALLS]                   the table of closed profiles alone, or so many calls of one
 
+mod closed;
 mod input;
 mod native;
 mod once;
@@ -34,9 +36,11 @@ fn main() {
     match words[..] {
         [] => tables(30),
         ["--rounds", rounds] => tables(rounds.parse().expect("a number of rounds")),
+        ["--closed"] => closed::table(30),
+        ["--closed", name, calls] => closed::run(name, calls.parse().expect("a number of calls")),
         ["--once", who, service, input, calls] => once::run(who, service, input, calls.parse().expect("a number of calls")),
         _ => {
-            eprintln!("usage: bench [--rounds N] | --once WHO SERVICE INPUT CALLS");
+            eprintln!("usage: bench [--rounds N] | --once WHO SERVICE INPUT CALLS | --closed [NAME CALLS]");
             std::process::exit(2);
         }
     }
@@ -61,6 +65,7 @@ fn tables(rounds: u32) {
     lines.iter().for_each(Line::print);
     growth(&lines);
     refused::table(inputs.iter().find(|input| input.name == "lock").expect("the lock"), rounds);
+    closed::table(rounds);
 }
 
 impl<'i> Line<'i> {

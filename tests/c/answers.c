@@ -189,6 +189,50 @@ static void refused_charges(void) {
     }
 }
 
+/* input i 0..1; var v 0..3; v = _v + i, or (_v + i) mod 4 */
+static const uint8_t ADDS[] = {1, 1, 0, 2, 0, 0, 6, 0, 3, 1, 2, 0, 4, 21, 1};
+static const uint8_t TURNS[] = {1, 1, 0, 2, 0, 0, 6, 0, 3, 1, 2, 0, 4, 1, 8, 8, 21, 1};
+
+/* Closed, and every refusal of a closed profile; the place of 27 counts scans. */
+static void profiles(void) {
+    static uint8_t zeros[ROLVENKO_IMAGE_LIMIT + 1];
+    static const uint8_t first[] = {0, 1, 0, 2, 0, 1, 2, 1, 0, 7, 21, 0};   /* var v 0..1; v = 1 / 0 */
+    uint8_t widest[13] = {1, 1, 0, 254, 3, 0, 0, 0, 0, 1, 0, 21, 1}; /* input i 0..255; var v 0..0; v = 0 */
+    expect("closed", rolvenko_closed(TURNS, sizeof TURNS), 0, 0, 0);
+    expect("closed latch", rolvenko_closed(L2_IMAGE, 17), 0, 0, 0);
+    expect("65,536 scans", rolvenko_closed(widest, sizeof widest), 0, 0, 0);
+    widest[7] = 2;
+    expect("over 65,536 scans", rolvenko_closed(widest, sizeof widest), 26, 0, 0);
+    expect("profile over the limit", rolvenko_closed(zeros, sizeof zeros), 9, 0, 0);
+    expect("profile of an unsound image", rolvenko_closed(ADDS, sizeof ADDS - 1), 11, 13, 0);
+    expect("a refused scan", rolvenko_closed(ADDS, sizeof ADDS), 27, 7, 0);
+    expect("the first scan refused", rolvenko_closed(first, sizeof first), 27, 0, 0);
+}
+
+/* The pair of a 27, the last pair, and every refusal; numbers behind the lengths stay. */
+static void combinations(void) {
+    static uint8_t zeros[ROLVENKO_IMAGE_LIMIT + 1];
+    static const uint8_t large[] = {1, 1, 0, 254, 3, 0, 0, 2, 0, 1, 0, 21, 1}; /* input i 0..255; var v 0..1; v = 0 */
+    int32_t state[3] = {7, 7, 7}, row[2] = {8, 8};
+    const int32_t found[3] = {7, 7, 7}, given[2] = {8, 8}, at[3] = {0, 3, 7}, in[2] = {1, 8}, last[3] = {1, 3, 7};
+    expect("combination over the limit", rolvenko_combination(zeros, sizeof zeros, 99, state, 3, row, 2), 9, 0, 0);
+    expect("combination of an unsound image", rolvenko_combination(ADDS, sizeof ADDS - 1, 99, state, 3, row, 2), 11, 13, 0);
+    expect("combination of too many", rolvenko_combination(large, sizeof large, 0, state, 3, row, 2), 26, 0, 0);
+    expect("combination state too long", rolvenko_combination(ADDS, sizeof ADDS, 7, state, 3, row, 1), 12, 0, 0);
+    expect("combination row too long", rolvenko_combination(ADDS, sizeof ADDS, 7, state, 2, row, 2), 12, 0, 0);
+    expect("past the last", rolvenko_combination(ADDS, sizeof ADDS, 16, state, 2, row, 1), 12, 0, 0);
+    expect("far past the last", rolvenko_combination(ADDS, sizeof ADDS, UINT32_MAX, state, 2, row, 1), 12, 0, 0);
+    same("a refused combination's state", state, found, sizeof state);
+    same("a refused combination's row", row, given, sizeof row);
+    expect("combination", rolvenko_combination(ADDS, sizeof ADDS, 7, state, 2, row, 1), 0, 0, 0);
+    same("its state", state, at, sizeof state);
+    same("its row", row, in, sizeof row);
+    expect("the pair scanned", rolvenko_scan(ADDS, sizeof ADDS, state, 2, row, 1), 17, 0, 4);
+    expect("the last combination", rolvenko_combination(ADDS, sizeof ADDS, 15, state, 2, row, 1), 0, 0, 0);
+    same("its state, the last", state, last, sizeof state);
+    same("its row, the last", row, in, sizeof row);
+}
+
 /* Lengths of 0, with a pointer to nothing and with none. */
 static void empty(void) {
     static const uint8_t none[] = {0, 0};
@@ -210,6 +254,11 @@ static void empty(void) {
     expect("charge without names", rolvenko_charge(none, 2, 0, &number, 0, &number, 0, 0, 0, 0), 28, 0, 0);
     expect("charge without names, NULL", rolvenko_charge(none, 2, 0, NULL, 0, NULL, 0, 0, 0, 0), 28, 0, 0);
     expect("a trace without names", rolvenko_charge(none, 2, 0, &number, 1, &number, 0, 0, 0, 0), 12, 0, 0);
+    expect("closed without names", rolvenko_closed(none, 2), 0, 0, 0);
+    expect("closed, NULL image", rolvenko_closed(NULL, 0), 11, 0, 0);
+    expect("combination without names", rolvenko_combination(none, 2, 0, &number, 0, &number, 0), 0, 0, 0);
+    expect("combination without names, NULL", rolvenko_combination(none, 2, 0, NULL, 0, NULL, 0), 0, 0, 0);
+    expect("a second one without names", rolvenko_combination(none, 2, 1, NULL, 0, NULL, 0), 12, 0, 0);
     if (byte != 9 || number != 9) {
         puts("an empty slice was written");
         failures++;
@@ -223,6 +272,8 @@ int main(void) {
     clocks();
     charges();
     refused_charges();
+    profiles();
+    combinations();
     empty();
     printf("%d failures\n", failures);
     return failures != 0;

@@ -48,6 +48,32 @@ static void *charge(void *p) {
     return p;
 }
 
+/* A closed image of as many names; the rules of `nested` have too many rows or a refused scan. */
+static uint8_t held[6 * 64 + 4];
+static size_t held_len;
+
+static void *profile(void *p) {
+    answer = rolvenko_closed(held, held_len);
+    return p;
+}
+
+static void *combination(void *p) {
+    answer = rolvenko_combination(held, held_len, 0, state, names, row, names - 1);
+    return p;
+}
+
+/* Inputs 0..0 and a variable 0..1 that keeps its value. */
+static void hold(void) {
+    memset(held, 0, sizeof held);
+    held[0] = (uint8_t)(names - 1);
+    held[1] = 1;
+    held_len = 2 + 3 * names;
+    held[held_len - 2] = 2;
+    const uint8_t code[4] = {3, (uint8_t)(names - 1), 21, (uint8_t)(names - 1)};
+    memcpy(held + held_len, code, sizeof code);
+    held_len += sizeof code;
+}
+
 /* Bytes of the thread's stack that were written. */
 static size_t used(void *(*call)(void *)) {
     uint8_t *stack = aligned_alloc(4096, STACK);
@@ -103,7 +129,7 @@ static void measure(const char *name, void *(*call)(void *), size_t idle, size_t
 }
 
 int main(void) {
-    size_t idle = used(nothing), most[6] = {0};
+    size_t idle = used(nothing), most[8] = {0};
     for (int i = 0; i < 32; i++) {
         table[2 * i] = 1000 * i;
         table[2 * i + 1] = i % 2 ? 60 : 120;
@@ -124,10 +150,13 @@ int main(void) {
             measure("start", start, idle, &most[2]);
             measure("scan", scan, idle, &most[3]);
             measure("charge", charge, idle, &most[5]);
+            hold();
+            measure("closed", profile, idle, &most[6]);
+            measure("combination", combination, idle, &most[7]);
         }
-    printf("stack, bytes at most: translate %zu, check %zu, start %zu, scan %zu, clock %zu, charge %zu\n", most[0], most[1], most[2],
-           most[3], most[4], most[5]);
-    for (int i = 0; i < 6; i++)
+    printf("stack, bytes at most: translate %zu, check %zu, start %zu, scan %zu, clock %zu, charge %zu, closed %zu, combination %zu\n", most[0],
+           most[1], most[2], most[3], most[4], most[5], most[6], most[7]);
+    for (int i = 0; i < 8; i++)
         if (most[i] > BOUND)
             return 1;
     return 0;

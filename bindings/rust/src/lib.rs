@@ -12,8 +12,11 @@ pub const IMAGE_LIMIT: usize = 65_536;
 pub const IMAGE_ROOM: usize = 49_154;
 /// Inputs and variables together.
 pub const NAMES: usize = 64;
+/// Scans of a closed profile.
+pub const COMBINATIONS: usize = 65_536;
 
-/// A refusal: its number in documents 01 and 02 and its byte place (0 for 9, 12, 19, 20, 28 and 29).
+/// A refusal: its number in documents 01 and 02 and its byte place (0 for 9, 12, 19, 20, 26, 28 and 29; for 27 the scans
+/// before the refused one).
 #[derive(Clone, Copy, Debug, PartialEq, Eq)]
 pub struct Refusal {
     pub number: u8,
@@ -77,6 +80,8 @@ pub fn meaning(number: u8) -> &'static str {
         18 => "a value of the state is outside its range",
         19 => "the farm table breaks its limits",
         20 => "the UTC minute is below 0 or over 2,147,483,647",
+        26 => "the states and rows to scan are more than 65,536",
+        27 => "an in-range state and row whose scan is refused",
         28 => "no variable whose low and traced values are 0 or above, or a threshold, rate or minutes out of limit or not one a row",
         29 => "the charge is over 9,007,199,254,740,991 cents",
         _ => "no refusal of these services",
@@ -121,6 +126,16 @@ mod archive {
             threshold: i32,
             rate: i32,
             rate_above: i32,
+        ) -> u64;
+        pub fn rolvenko_closed(image: *const u8, image_len: usize) -> u64;
+        pub fn rolvenko_combination(
+            image: *const u8,
+            image_len: usize,
+            index: u32,
+            state: *mut i32,
+            state_len: usize,
+            row: *mut i32,
+            row_len: usize,
         ) -> u64;
     }
 }
@@ -271,4 +286,40 @@ pub fn charge(
         }),
         Parts { number, place, .. } => Err(Refusal { number, place }),
     }
+}
+
+/// Whether the rules of an image can never stop in service: no scan of an in-range state with an in-range row is refused. Then no list
+/// of in-range rows from [`start`] ever is. Refusals: 9, 11, 26 where there are over 65,536 such scans, and 27, whose place counts the
+/// scans before the refused one; [`combination`] gives its state and row.
+///
+/// A counter that does not stop at its high:
+///
+/// ```
+/// let text = b"input i 0..1; var v 0..3; v: GX(v = (_v + i));";
+/// let mut image = [0; 64];
+/// let length = rolvenko::translate(text, &mut image)?;
+/// let image = &image[..length];
+/// let refusal = rolvenko::closed(image).unwrap_err();
+/// assert_eq!((refusal.number, refusal.place), (27, 7));
+/// let (mut state, mut row) = ([0; 2], [0; 1]);
+/// rolvenko::combination(image, refusal.place as u32, &mut state, &mut row)?;
+/// assert_eq!((state, row), ([0, 3], [1]));
+/// assert_eq!(rolvenko::scan(image, &mut state, &row).unwrap_err().number, 17);
+/// assert_eq!(rolvenko::combination(image, 16, &mut state, &mut row).unwrap_err().number, 12);
+/// # Ok::<(), rolvenko::Refusal>(())
+/// ```
+pub fn closed(image: &[u8]) -> Result<(), Refusal> {
+    // The function reads `image_len` bytes at `image` and writes nothing.
+    counted(unsafe { archive::rolvenko_closed(image.as_ptr(), image.len()) }).map(|_| ())
+}
+
+/// Writes the state and the row of the scan before which `index` scans of [`closed`] stand. A refusal (9, 11, 26, 12; 12 also where
+/// there are no more than `index` scans) leaves both as they were.
+pub fn combination(image: &[u8], index: u32, state: &mut [i32], row: &mut [i32]) -> Result<(), Refusal> {
+    // The function reads `image_len` bytes at `image`, and reads and writes `state_len` numbers at `state` and `row_len` at `row`.
+    let answer = unsafe {
+        let (state_at, row_at) = (state.as_mut_ptr(), row.as_mut_ptr());
+        archive::rolvenko_combination(image.as_ptr(), image.len(), index, state_at, state.len(), row_at, row.len())
+    };
+    counted(answer).map(|_| ())
 }

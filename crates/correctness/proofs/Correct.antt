@@ -29,9 +29,9 @@ use Rattle.machine.proofs.Translated.{exec-rules, run-exec}
 use Rattle.grammar.proofs.Accepted.{program-translatable}
 use Rattle.grammar.proofs.ConverseText.{accepted-exactly}
 use Rattle.translate.specs.Services.{translationOf}
-use Rattle.scan.specs.Services.{AfterStart, startOf, started, AfterScan, finished, runOf, scanCode, testedScan, scanned, scanOf}
+use Rattle.scan.specs.Services.{AfterStart, startOf, started, AfterScan, finished, runOf, scanCode, testedScan, scanned, scanOf, scansOf}
 use Rattle.translate.proofs.Kept.{image-stored, stored-image}
-use Rattle.correctness.specs.TraceCorrect.{scansOf, replyOf, repliesOf, StepsIf, StepsAre, begun, TraceCorrect, Demand3}
+use Rattle.correctness.specs.TraceCorrect.{replyOf, repliesOf, StepsIf, StepsAre, begun, TraceCorrect, Demand3}
 
 -- ---- one scan
 

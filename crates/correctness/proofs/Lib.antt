@@ -3,3 +3,4 @@ pub mod Correct
 pub mod Table
 pub mod Caught
 pub mod Buffers
+pub mod ClosedText

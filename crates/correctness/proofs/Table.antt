@@ -16,8 +16,7 @@ use Rattle.bytecode.specs.Translation.{imageOf}
 use Rattle.bytecode.specs.Check.{checkCounts, checkRange, checkHeader, checkBody, checkOf}
 use Rattle.bytecode.specs.Parts.{headerOf, codeOf}
 use Rattle.machine.specs.Step.{bit, yes}
-use Rattle.scan.specs.Services.{AfterStart, AfterScan, startOf, scanCode, scanOf}
-use Rattle.correctness.specs.TraceCorrect.{scansOf}
+use Rattle.scan.specs.Services.{AfterStart, AfterScan, startOf, scanCode, scanOf, scansOf}
 use Rattle.translate.specs.Services.{translationOf}
 use Rattle.grammar.specs.Parse.{program, parse, programOf}
 use Rattle.grammar.specs.Rules.{caseAt, casesFrom, listFrom, plainList, partFrom, kindAt, partsFrom, firstFound, agreeingList, functionAt, changeAt, formulas, ruleAt, rulesFrom}

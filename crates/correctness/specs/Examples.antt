@@ -9,8 +9,7 @@ use Rattle.semantics.specs.Formula.{State}
 use Rattle.lexer.specs.Bytes.{bytes}
 use Rattle.bytecode.specs.Check.{checkOf}
 use Rattle.translate.specs.Services.{AfterTranslation, translationOf}
-use Rattle.scan.specs.Services.{AfterScan, startOf}
-use Rattle.correctness.specs.TraceCorrect.{scansOf}
+use Rattle.scan.specs.Services.{AfterScan, startOf, scansOf}
 
 -- an example gives a text, or the bytes of an image
 pub data Given : Type 0 where

@@ -2,3 +2,4 @@ pub mod TraceCorrect
 pub mod Demand2
 pub mod Buffers
 pub mod Examples
+pub mod ClosedText

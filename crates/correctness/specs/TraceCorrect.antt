@@ -13,12 +13,7 @@ use Rattle.bytecode.specs.Parts.{instructionsIn}
 use Rattle.grammar.specs.Parse.{programOf}
 use Rattle.grammar.specs.Spelled.{Spelled}
 use Rattle.translate.specs.Services.{translationOf}
-use Rattle.scan.specs.Services.{startOf, AfterScan, scanOf}
-
--- Scan is called once for each row, with the image written and the state as start or the scan before left it.
-abbrev pub scansOf : List ℕ → State → List (List ℤ) → List AfterScan
-scansOf image s [] = []
-scansOf image s (r ∷ rs) = let a = scanOf image s r in a ∷ scansOf image (a .state) rs
+use Rattle.scan.specs.Services.{startOf, AfterScan, scansOf}
 
 -- acceptance or a refusal's number
 abbrev pub verdictOf : Answer (Unit {0}) → Outcome (Unit {0})

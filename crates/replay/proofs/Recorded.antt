@@ -17,9 +17,9 @@ use Rattle.bytecode.specs.Parts.{headerOf}
 use Rattle.machine.specs.States.{stateLength, startingState}
 use Rattle.leb128.proofs.RoundTrip.{sets-join}
 use Rattle.scan.specs.declared.Started.the-variants as S
-use Rattle.scan.specs.Services.{AfterStart, started, startOf, scanOf}
+use Rattle.scan.specs.Services.{AfterStart, started, startOf, scanOf, scansOf}
 use Rattle.scan.specs.Results.{afterStart}
-use Rattle.correctness.specs.TraceCorrect.{scansOf, verdictOf, replyOf}
+use Rattle.correctness.specs.TraceCorrect.{verdictOf, replyOf}
 use Rattle.leb128.proofs.Stores.{sets-clip}
 use Rattle.replay.specs.declared.Replayed.the-variants as R
 use Rattle.replay.specs.Replay.{answerNumber, stepsOf, valuesOf, replayRows}

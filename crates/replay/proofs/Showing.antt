@@ -17,8 +17,8 @@ use Rattle.bytecode.specs.Parts.{headerOf}
 use Rattle.machine.specs.States.{stateLength, startingState}
 use Rattle.grammar.specs.Parse.{programOf}
 use Rattle.translate.specs.Services.{AfterTranslation, translationOf}
-use Rattle.scan.specs.Services.{AfterStart, started, startOf}
-use Rattle.correctness.specs.TraceCorrect.{scansOf, TraceCorrect}
+use Rattle.scan.specs.Services.{AfterStart, started, startOf, scansOf}
+use Rattle.correctness.specs.TraceCorrect.{TraceCorrect}
 use Rattle.correctness.proofs.Correct.{trace-correct}
 use Rattle.replay.specs.declared.Replayed.{Replayed}
 use Rattle.replay.specs.declared.Replayed.the-variants as R

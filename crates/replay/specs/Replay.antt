@@ -13,8 +13,8 @@ use Rattle.semantics.specs.Rows.{traceOf, finalState}
 use Rattle.grammar.specs.Parse.{programOf}
 use Rattle.grammar.specs.Spelled.{Spelled}
 use Rattle.translate.specs.Services.{translationOf}
-use Rattle.scan.specs.Services.{AfterStart, startOf, AfterScan}
-use Rattle.correctness.specs.TraceCorrect.{scansOf, replyOf, begun, found, TraceCorrect}
+use Rattle.scan.specs.Services.{AfterStart, startOf, AfterScan, scansOf}
+use Rattle.correctness.specs.TraceCorrect.{replyOf, begun, found, TraceCorrect}
 
 -- the rows that cells and lengths spell, rows of any length: each takes as many cells as its length says, as far as there are cells
 abbrev pub rowsOf : List ℤ → List ℕ → List (List ℤ)

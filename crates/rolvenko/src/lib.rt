@@ -5,6 +5,7 @@ ghost use Rattle.bytecode.specs.Check.{checkOf};
 ghost use Rattle.scan.specs.Services.{startOf, scanOf};
 ghost use Rattle.clock.specs.Services.{fillOf};
 ghost use Rattle.charge.specs.Charge.{chargeOf};
+ghost use Rattle.closed.specs.Closed.{closedOf, combinationOf};
 ghost use Rattle.rolvenko.specs.Packed.{packed, packedTranslation, packedCheck, packedScan, packedCharge};
 ghost use Rattle.translate.specs.Services.{translationOf};
 
@@ -84,5 +85,34 @@ pub extern "C" fn rolvenko_charge(
     match charge::charge(image, id, trace, minutes, threshold, rate, rate_above) {
         charge::Charged::Sum(cents, sixtieths) => 60 * cents + sixtieths,
         charge::Charged::Refused(number, place) => pack(number, place, 0),
+    }
+}
+
+#[no_mangle]
+pub extern "C" fn rolvenko_closed(image: &[u8]) -> u64
+    ensures { λ r. ⌜ r ≡ packedCheck (closedOf (now (image .entry)) .answer) ⌝ }
+{
+    let profile = closed::closed_profile(image);
+    let answer = profile.answer;
+    match answer {
+        closed::Closing::Closed => 0,
+        closed::Closing::Refused(number, at) => pack(number, at, 0),
+    }
+}
+
+#[no_mangle]
+pub extern "C" fn rolvenko_combination(
+    image: &[u8],
+    index: u32,
+    state: &mut [i32],
+    row: &mut [i32],
+) -> u64
+    ensures { λ r. ⌜ r ≡ packedCheck (combinationOf (now (image .entry)) index (now (state .entry)) (now (row .entry)) .answer) ⌝ }
+    ensures { λ r. ⌜ now (state .exit) ≡ combinationOf (now (image .entry)) index (now (state .entry)) (now (row .entry)) .state ⌝ }
+    ensures { λ r. ⌜ now (row .exit) ≡ combinationOf (now (image .entry)) index (now (state .entry)) (now (row .entry)) .row ⌝ }
+{
+    match closed::combination(image, index as usize, state, row) {
+        closed::Closing::Closed => 0,
+        closed::Closing::Refused(number, place) => pack(number, place, 0),
     }
 }

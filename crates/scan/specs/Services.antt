@@ -1,7 +1,7 @@
 -- Start and scan on bytes: what they answer and leave in the memory lent to them, for every input. Document 01, "Who can cause
 -- which refusal". Assumes nothing.
 use mathlib.Core.Bool.{Bool, true, false, _&&_, cond}
-use mathlib.Core.List.{List, []}
+use mathlib.Core.List.{List, [], _∷_}
 use Prim.Native.Nat.{ℕ}
 use lib.Dec.{eqb}
 use lib.IntN.{ℤ}
@@ -75,3 +75,8 @@ scanned (accepted u) h image found row =
 
 unfoldable pub scanOf : List ℕ → State → List ℤ → AfterScan
 scanOf image found row = scanned (checkOf image) (headerOf image) image found row
+
+-- Scan is called once for each row, with the image written and the state as start or the scan before left it.
+abbrev pub scansOf : List ℕ → State → List (List ℤ) → List AfterScan
+scansOf image s [] = []
+scansOf image s (r ∷ rs) = let a = scanOf image s r in a ∷ scansOf image (a .state) rs

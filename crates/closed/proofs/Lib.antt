@@ -1,0 +1,11 @@
+pub mod Whole
+pub mod Combining
+pub mod Order
+pub mod Turning
+pub mod Products
+pub mod Walks
+pub mod Profiles
+pub mod Scans
+pub mod Numbering
+pub mod Exactly
+pub mod Examples

@@ -1,0 +1,137 @@
+-- The scans of a sound image within its ranges are the runs of its code. Assumes nothing.
+use mathlib.Core.Path.{_≡_, refl, sym, ap, _∙_}
+use mathlib.Core.Bool.{Bool, true, false, cond}
+use mathlib.Core.List.{List, [], _∷_}
+use Prim.Native.Nat.{ℕ, zero, suc, _+_, _*_, _≤_}
+use native.Mathlib.Omega.{arith}
+use borrow.Author.Tests.{eq-eqb}
+use lib.Dec.{T, leb}
+use lib.IntN.{ℤ}
+use lib.ListN.{length, take}
+use lib.Seq.{length-take-le}
+use lib.Signed.{leZ}
+use Rattle.limits.specs.Answer.{Answer, accepted, refused}
+use Rattle.arith.specs.Values.{isInt32}
+use Rattle.arith.proofs.Basics.{T-true, and-left, and-right, and-T}
+use Rattle.semantics.specs.Program.{Range, within}
+use Rattle.semantics.specs.Formula.{State}
+use Rattle.semantics.specs.ReferenceScan.{allWithin}
+use Rattle.bytecode.specs.Check.{Header, checkOf}
+use Rattle.bytecode.specs.Parts.{headerOf, codeOf}
+use Rattle.bytecode.specs.Translation.{RangesFit}
+use Rattle.bytecode.proofs.Walk.{check-sound}
+use Rattle.bytecode.proofs.SoundHeader.{header-is}
+use Rattle.machine.proofs.Ranges.{Within}
+use Rattle.scan.specs.Services.{AfterScan, scanCode, scanOf}
+use Rattle.scan.specs.Results.{scanAnswer, afterScan}
+use Rattle.scan.specs.declared.Scanned.{Scanned}
+use Rattle.scan.specs.declared.Scanned.the-variants as R
+use Rattle.scan.specs.Inner.Parts.{scannedCode}
+use Rattle.closed.specs.Closed.{productOfSizes, inputRanges, isSmall, combinations, Combination, combinationsOf, walked, scanning, leaves, closedBy, closedAs, closedIn, AfterClosed}
+use Rattle.closed.specs.Results.{afterClosing}
+use Rattle.closed.specs.Claims.{InRangeRow}
+use Rattle.closed.specs.Inner.Parts.{isRefused, working, closedWorking}
+use Rattle.closed.specs.declared.Closing.the-variants as C
+use Rattle.closed.proofs.Combining.{All, all-weaker, Upright, combinations-within, paired-all}
+
+-- ---- the ranges of a sound image
+
+fit-upright : (ns : List Range) → RangesFit ns → Upright ns
+fit-upright [] f = tt
+fit-upright (n ∷ ns) f = (T-true _ (and-right (isInt32 (n .high)) (leZ (n .low) (n .high)) (f .0 .1)), fit-upright ns (f .1))
+
+upright-take : (k : ℕ) (ns : List Range) → Upright ns → Upright (take k ns)
+upright-take zero ns u = tt
+upright-take (suc k) [] u = tt
+upright-take (suc k) (n ∷ ns) u = (u .0, upright-take k ns (u .1))
+
+-- values within the first ranges are within all
+all-within-take : (k : ℕ) (ns : List Range) (zs : List ℤ) → T (allWithin (take k ns) zs) → length zs ≡ length (take k ns) → T (allWithin ns zs)
+all-within-take k [] zs t e = tt
+all-within-take k (n ∷ ns) [] t e = tt
+all-within-take zero (n ∷ ns) (z ∷ zs) t e = let b : ⊥ = omega arith in absurd b
+all-within-take (suc k) (n ∷ ns) (z ∷ zs) t e =
+    and-T (within n z) (allWithin ns zs) (and-left (within n z) (allWithin (take k ns) zs) t) (all-within-take k ns zs (and-right (within n z) (allWithin (take k ns) zs) t) (omega arith))
+
+-- and back
+all-within-taken : (k : ℕ) (ns : List Range) (zs : List ℤ) → T (allWithin ns zs) → T (allWithin (take k ns) zs)
+all-within-taken zero ns zs t = tt
+all-within-taken (suc k) [] zs t = tt
+all-within-taken (suc k) (n ∷ ns) [] t = tt
+all-within-taken (suc k) (n ∷ ns) (z ∷ zs) t =
+    and-T (within n z) (allWithin (take k ns) zs) (and-left (within n z) (allWithin ns zs) t) (all-within-taken k ns zs (and-right (within n z) (allWithin ns zs) t))
+
+-- an in-range row is within the ranges of the inputs
+module _ (h : Header) (among : h .inputs ≤ length (h .ranges)) (row : List ℤ) where
+  pub row-within : InRangeRow h row → Within (inputRanges h) row
+  row-within r = record { size = r .size ∙ sym (length-take-le (h .inputs) (h .ranges) among); ranges = all-within-taken (h .inputs) (h .ranges) row (r .ranges) }
+
+  pub row-in-range : Within (inputRanges h) row → InRangeRow h row
+  row-in-range w = record { size = w .size ∙ length-take-le (h .inputs) (h .ranges) among; ranges = all-within-take (h .inputs) (h .ranges) row (w .ranges) (w .size) }
+
+module _ (image : List ℕ) (sound : checkOf image ≡ accepted tt) where
+  pub inputs-among : headerOf image .inputs ≤ length (headerOf image .ranges)
+  inputs-among = let y = check-sound image sound in rw (header-is image y) (omega (arith, y .fits .size))
+
+  pub header-fits : RangesFit (headerOf image .ranges)
+  header-fits = let y = check-sound image sound in rw (header-is image y) (y .fits .fit)
+
+  pub combinations-in : All (λ c. Within (headerOf image .ranges) (c .state) × Within (inputRanges (headerOf image)) (c .row)) (combinationsOf (headerOf image))
+  unfolding combinationsOf
+  combinations-in =
+      let ns = headerOf image .ranges in
+      let u = fit-upright ns header-fits in
+      paired-all (Within ns) (Within (inputRanges (headerOf image))) (combinations ns) (combinations (inputRanges (headerOf image))) (combinations-within ns u)
+      (combinations-within (inputRanges (headerOf image)) (upright-take (headerOf image .inputs) ns u))
+
+  -- neither 12 nor 18 nor 13 comes before the code
+  pub scanning-is : (s : State) (row : List ℤ) → Within (headerOf image .ranges) s → Within (inputRanges (headerOf image)) row
+      → scanOf image s row .answer ≡ scannedCode (headerOf image .ranges) (codeOf image) s row .answer
+  unfolding scanOf scanCode
+  scanning-is s row w v =
+      let r = row-in-range (headerOf image) inputs-among row v in
+      let a = eq-eqb (length s) (length (headerOf image .ranges)) (w .size) in
+      let b = eq-eqb (length row) (headerOf image .inputs) (r .size) in
+      let d = T-true (allWithin (headerOf image .ranges) s) (w .ranges) in
+      let e = T-true (allWithin (headerOf image .ranges) row) (r .ranges) in
+      rw (sound, a, b, d, e)
+
+-- ---- one scan, on a copy of the state
+
+module _ (ns : List Range) (code : List ℕ) (state copy : State) (row : List ℤ) (left : State) (r : Scanned) (same : copy ≡ state) (e : afterScan r left ≡ scannedCode ns code copy row) where
+  of-state : (x : Scanned) → r ≡ x → isRefused (scanAnswer x) ≡ isRefused (scannedCode ns code state row .answer)
+  of-state x q = ap (λ (s : AfterScan). isRefused (s .answer)) (ap (λ y. afterScan y left) (sym q) ∙ e ∙ ap (λ s. scannedCode ns code s row) same)
+
+  pub scan-passes : (n : ℕ) → r ≡ R.Done n → false ≡ isRefused (scannedCode ns code state row .answer)
+  scan-passes n q = of-state (R.Done n) q
+
+  pub scan-stops : (number place n : ℕ) → r ≡ R.Refused number place n → true ≡ isRefused (scannedCode ns code state row .answer)
+  scan-stops number place n q = of-state (R.Refused number place n) q
+
+-- ---- the walk by the code is the walk by the scans
+
+walked-same : (f g : Combination → Answer (Unit {0})) (cs : List Combination) (n : ℕ) → All (λ c. f c ≡ g c) cs → walked f cs n ≡ walked g cs n
+walked-same f g [] n h = refl
+walked-same f g (c ∷ cs) n h = rw (h .0, walked-same f g cs (n + 1) (h .1))
+
+chosen : (b : Bool) (image : List ℕ) (state row : List ℤ) (x : AfterClosed) → x ≡ closedBy (walked (scanning image) (combinationsOf (headerOf image)) 0) state row
+    → cond b x (leaves (refused 26 0) state row) ≡ closedAs (accepted tt) b image state row
+chosen true image state row x e = e
+chosen false image state row x e = refl
+
+pub closed-refused : (image : List ℕ) (state row : List ℤ) (number place : ℕ) → refused number place ≡ checkOf image → afterClosing (C.Refused number place) state row ≡ closedIn image state row
+unfolding closedIn
+closed-refused image state row number place e = rw (← e)
+
+module _ (image : List ℕ) (sound : checkOf image ≡ accepted tt) where
+  walk-is : walked (scanning image) (combinationsOf (headerOf image)) 0 ≡ walked (working (headerOf image .ranges) (codeOf image)) (combinationsOf (headerOf image)) 0
+  walk-is =
+      walked-same (scanning image) (working (headerOf image .ranges) (codeOf image)) (combinationsOf (headerOf image)) 0
+      (all-weaker (λ c. Within (headerOf image .ranges) (c .state) × Within (inputRanges (headerOf image)) (c .row)) (λ c. scanning image c ≡ working (headerOf image .ranges) (codeOf image) c)
+      (combinationsOf (headerOf image)) (λ c w. scanning-is image sound (c .state) (c .row) (w .0) (w .1)) (combinations-in image sound))
+
+  pub closed-from : (inputs : ℕ) (state row : List ℤ) → headerOf image .inputs ≡ inputs → closedWorking (headerOf image .ranges) inputs (codeOf image) state row ≡ closedIn image state row
+  unfolding closedIn isSmall combinationsOf
+  closed-from inputs state row e =
+      rw (sound, ← e)
+      (chosen (leb (productOfSizes (headerOf image .ranges) * productOfSizes (inputRanges (headerOf image))) 65536) image state row _ (ap (λ w. closedBy w state row) (sym walk-is)))

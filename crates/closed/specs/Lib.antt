@@ -1,0 +1,4 @@
+pub mod Closed
+pub mod Results
+pub mod Claims
+pub mod Inner
