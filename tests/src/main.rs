@@ -2,7 +2,7 @@
 //!
 //!     rolvenko-tests [--seed N] [--seconds S] [--least N] [--program PATH] [SERVICE ..]
 //!
-//! Services: translate, check, scan (and start), trace (lists of rows), clock, charge, and program, a trace program at PATH; all by
+//! Services: translate, check, scan (and start), trace (lists of rows), clock, charge, instalments, and program, a trace program at PATH; all by
 //! default, S seconds and at least N calls each. Prints how often each answer was met. A difference is shrunk to a small input and
 //! printed, and the exit status is 1.
 
@@ -10,6 +10,7 @@ mod charge;
 mod check;
 mod clock;
 mod compare;
+mod instalments;
 mod program;
 mod scan;
 mod shrink;
@@ -30,7 +31,16 @@ fn main() -> ExitCode {
             return ExitCode::from(2);
         }
     };
-    let runs: [Run; 7] = [translate::run, check::run, scan::run, trace::run, clock::run, charge::run, program::run];
+    let runs: [Run; 8] = [
+        translate::run,
+        check::run,
+        scan::run,
+        trace::run,
+        clock::run,
+        charge::run,
+        instalments::run,
+        program::run,
+    ];
     for (name, run) in SERVICES.into_iter().zip(runs) {
         if !options.wants(name) || name == "program" && options.program.is_none() {
             continue;
