@@ -1,4 +1,4 @@
--- The memory agrees with what is expectedSaid: the scan in it is the run of the undivided scan, as far as its steps were done. Assumes nothing.
+-- The memory agrees with what is expected: the scan in it is the run of the undivided scan, as far as its steps were done. Assumes nothing.
 use Prim.Native.Nat.{ℕ, zero, suc, _+_, _-_, _≤_, _<_, min}
 use native.Mathlib.Omega.{arith}
 use mathlib.Core.Path.{_≡_, refl, sym, ap, subst, _∙_}

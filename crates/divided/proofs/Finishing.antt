@@ -1,4 +1,4 @@
--- A finish agrees with what is expectedSaid. Assumes nothing.
+-- A finish agrees with what is expected. Assumes nothing.
 use Prim.Native.Nat.{ℕ, _+_, _≤_, _<_}
 use native.Mathlib.Omega.{arith}
 use mathlib.Core.Path.{_≡_, refl, sym, ap, _∙_}

@@ -1,4 +1,4 @@
--- An instalment agrees with what is expectedSaid. Assumes nothing.
+-- An instalment agrees with what is expected. Assumes nothing.
 use Prim.Native.Nat.{ℕ, zero, suc, _+_, _-_, _≤_, _<_, min}
 use native.Mathlib.Omega.{arith}
 use mathlib.Core.Path.{_≡_, refl, sym, ap, subst, _∙_}
@@ -7,7 +7,7 @@ use mathlib.Core.List.{List, []}
 use mathlib.Core.Option.{Option, none, some}
 use lib.Dec.{eqb, leb}
 use lib.IntN.{ℤ}
-use lib.ListN.{length, drop}
+use lib.ListN.{length, drop, length-drop}
 use borrow.Author.Tests.{le-leb, lt-leb, leb-true, leb-false, eqb-true, eqb-false}
 use Rattle.limits.specs.Limits.{imageLimit, pausedLength}
 use Rattle.arith.specs.Values.{Outcome, ok, refusal}
@@ -111,12 +111,17 @@ module _ {image : List ℕ} {cells : List ℤ} {w : Option (List ℤ)} (o : Scan
       moved : advanceOf image n cells ≡ afterCall (R.Done (d .steps)) (leftByRun (o .done) (codeLength o) d cells) → Matches (plays (advance n) image cells) (expects (advance n) w (some o))
       moved q = rw (q, ← steps-are) (record { said = refl; agrees = further })
 
+    code-length : (o : Scan) → codeLength o ≡ length (o .image) - headerOf (o .image) .place
+    unfolding codeOf
+    code-length o = length-drop (headerOf (o .image) .place) (o .image)
+
     under-way : x .scan .reached .place < codeLength o → (n ≡ 0 → ⊥) → Matches (plays (advance n) image cells) (expects (advance n) w (some o))
     under-way h given =
         let p : checkpointOf cells .phase ≡ 1 = ap (λ (p : Checkpoint). p .phase) (s .progress) ∙ rw (lt-leb (codeLength o) (x .scan .reached .place) h) in
         let l : length image ≡ shapeOf cells .image = rw (x .scan .shape, x .scan .same) in
+        let within : checkpointOf cells .place < length image - shapeOf cells .base = rw (ap (λ (p : Checkpoint). p .place) (s .progress), x .scan .shape, x .scan .same) (omega (arith, h, code-length o)) in
         moved _ refl
-        (sym (advance-goes image n cells (x .long) (checkpointOf cells) refl (λ z. omega (arith, p, z)) p given (shapeOf cells) refl l) ∙ now-is (min n imageLimit))
+        (sym (advance-goes image n cells (x .long) (checkpointOf cells) refl (λ z. omega (arith, p, z)) p given (shapeOf cells) refl l within) ∙ now-is (min n imageLimit))
 
     ended : codeLength o ≤ x .scan .reached .place → Matches (plays (advance n) image cells) (expects (advance n) w (some o))
     ended h =

@@ -1,4 +1,4 @@
--- What is read back from the memory afterCall an instalment. Assumes nothing.
+-- What is read back from the memory after an instalment. Assumes nothing.
 use Prim.Native.Nat.{ℕ, zero, suc, _+_, _≤_, _<_}
 use native.Mathlib.Omega.{arith}
 use mathlib.Core.Path.{_≡_, refl, sym, ap, _∙_}

@@ -7,3 +7,5 @@ pub mod Starting
 pub mod Instalments
 pub mod Finishing
 pub mod Undivided
+pub mod Yardstick
+pub mod Example

@@ -15,13 +15,14 @@ use Rattle.semantics.specs.Program.{Range}
 use Rattle.semantics.specs.Formula.{State}
 use Rattle.bytecode.specs.Check.{Header, checkOf}
 use Rattle.bytecode.specs.Parts.{headerOf}
-use Rattle.bytecode.specs.Internal.{RangesAt}
-use Rattle.bytecode.proofs.Walk.{check-sound}
+use Rattle.bytecode.specs.Sound.{RangesAt}
+use Rattle.bytecode.proofs.Walk.{refused≢accepted, check-sound}
 use Rattle.bytecode.proofs.Heading.{signed-within}
 use Rattle.bytecode.proofs.Fetching.{number-within}
 use Rattle.bytecode.proofs.SoundHeader.{header-is}
 use Rattle.machine.specs.States.{stateLength, rowLength, stateInRange, rowInRange}
-use Rattle.scan.specs.Services.{AfterScan, refusedScan, testedScan, scanCode, scanned, scanOf}
+use Rattle.scan.specs.Services.{refusedScan, scanCode, scanOf}
+use Rattle.before.proofs.Scans.{scan-is}
 
 ranges-inside : (bytes : List ℕ) (ns : List Range) (at end : ℕ) → RangesAt bytes at ns end → at ≤ length bytes → end ≤ length bytes
 ranges-inside bytes [] at end r h = omega arith
@@ -52,12 +53,12 @@ pub record May (image : List ℕ) (s : State) (row : List ℤ) : Type 0 where
   pub rows : length row ≡ headerOf image .inputs
   pub whole : scanOf image s row ≡ scanCode image s row
 
-refused≢accepted : {X : Type 0} (n p : ℕ) → _≡_ {A = Answer (Unit {0})} (refused n p) (accepted tt) → X
-refused≢accepted n p e = let z : _≡_ {A = ℕ} 0 1 = cc in absurd (omega arith)
-
 module _ (image : List ℕ) (s : State) (row : List ℤ) where
+  whole-scan : beforeCode image s row ≡ accepted tt → scanOf image s row ≡ scanCode image s row
+  whole-scan e = scan-is image s row ∙ rw e
+
   pub may : beforeCode image s row ≡ accepted tt → May image s row
-  unfolding beforeCode scanOf
+  unfolding beforeCode
   may e = checked (checkOf image) refl e
     where
       h : Header
@@ -76,34 +77,20 @@ module _ (image : List ℕ) (s : State) (row : List ℤ) where
             sound = k;
             names = eqb-true (length s) (stateLength h) (l .0);
             rows = eqb-true (length row) (rowLength h) (l .1);
-            whole = rw (k, t, x, y);
+            whole = whole-scan e;
           }
-      ranged k t true false x y q = refused≢accepted 13 0 q
-      ranged k t false b x y q = refused≢accepted 18 0 q
+      ranged k t true false x y q = refused≢accepted tt 13 0 q
+      ranged k t false b x y q = refused≢accepted tt 18 0 q
 
       long : checkOf image ≡ accepted tt → (t : Bool) → (eqb (length s) (stateLength h) && eqb (length row) (rowLength h)) ≡ t
           → testedBefore t 12 (testedBefore (stateInRange h s) 18 (testedBefore (rowInRange h row) 13 (accepted tt))) ≡ accepted tt → May image s row
       long k true t q = ranged k t (stateInRange h s) (rowInRange h row) refl refl q
-      long k false t q = refused≢accepted 12 0 q
+      long k false t q = refused≢accepted tt 12 0 q
 
       checked : (a : Answer (Unit {0})) → checkOf image ≡ a → mayScan a (headerOf image) s row ≡ accepted tt → May image s row
       checked (accepted tt) k q = long k (eqb (length s) (stateLength h) && eqb (length row) (rowLength h)) refl q
-      checked (refused n p) k q = refused≢accepted n p q
+      checked (refused n p) k q = refused≢accepted tt n p q
 
   -- refused before the code
   pub may-not : (n p : ℕ) → beforeCode image s row ≡ refused n p → scanOf image s row ≡ refusedScan n p 0 s
-  unfolding beforeCode scanOf
-  may-not n p e = checked (checkOf image) e
-    where
-      one : (t : Bool) (k : ℕ) (a : Answer (Unit {0})) (r : AfterScan) → (a ≡ refused n p → r ≡ refusedScan n p 0 s) → testedBefore t k a ≡ refused n p → testedScan t k s r ≡ refusedScan n p 0 s
-      one true k a r f q = f q
-      one false k a r f q = let x : k ≡ n = cc in let y : 0 ≡ p = cc in rw (x, ← y)
-
-      never : (r : AfterScan) → _≡_ {A = Answer (Unit {0})} (accepted tt) (refused n p) → r ≡ refusedScan n p 0 s
-      never r q = refused≢accepted n p (sym q)
-
-      checked : (a : Answer (Unit {0})) → mayScan a (headerOf image) s row ≡ refused n p → scanned a (headerOf image) image s row ≡ refusedScan n p 0 s
-      checked (accepted u) q =
-          one (eqb (length s) (stateLength (headerOf image)) && eqb (length row) (rowLength (headerOf image))) 12 _ _
-          (one (stateInRange (headerOf image) s) 18 _ _ (one (rowInRange (headerOf image) row) 13 (accepted tt) (scanCode image s row) (never (scanCode image s row)))) q
-      checked (refused m o) q = let x : m ≡ n = cc in let y : o ≡ p = cc in rw (x, y)
+  may-not n p e = scan-is image s row ∙ rw e

@@ -1,4 +1,4 @@
--- A post agrees with what is expectedSaid. Assumes nothing.
+-- A post agrees with what is expected. Assumes nothing.
 use Prim.Native.Nat.{ℕ, _≤_}
 use native.Mathlib.Omega.{arith}
 use mathlib.Core.Path.{_≡_, refl, sym, ap, _∙_}
@@ -15,6 +15,7 @@ use Rattle.limits.specs.Answer.{Answer, accepted, refused}
 use Rattle.arith.specs.Values.{Outcome, ok, refusal}
 use Rattle.bytecode.specs.Check.{checkOf}
 use Rattle.bytecode.specs.Parts.{headerOf}
+use Rattle.bytecode.proofs.Walk.{refused≢accepted}
 use Rattle.machine.specs.Step.{Machine, machine}
 use Rattle.machine.specs.States.{rowLength}
 use Rattle.paused.specs.declared.Response.the-variants as R
@@ -56,20 +57,17 @@ pub scan-apart : (image : List ℕ) {cells left : List ℤ} (o : Option Scan) �
 scan-apart image none a s = ap (λ p. p .phase) (a .progress) ∙ s
 scan-apart image (some o) a s = standing-apart o a s
 
-refused≢accepted : {X : Type 0} (n p : ℕ) → _≡_ {A = Answer (Unit {0})} (refused n p) (accepted tt) → X
-refused≢accepted n p e = let z : _≡_ {A = ℕ} 0 1 = cc in absurd (omega arith)
-
 -- a row that is posted is short
 row-short : (image : List ℕ) (row : List ℤ) → mayPost (checkOf image) (headerOf image) row ≡ accepted tt → length row ≤ nameLimit
 row-short image row e = checked (checkOf image) refl e
   where
     long : checkOf image ≡ accepted tt → (t : Bool) → eqb (length row) (rowLength (headerOf image)) ≡ t → testedBefore t 12 (accepted tt) ≡ accepted tt → length row ≤ nameLimit
     long k true t q = omega (arith, placed image k .few, placed image k .inputs, eqb-true (length row) (rowLength (headerOf image)) t)
-    long k false t q = refused≢accepted 12 0 q
+    long k false t q = refused≢accepted tt 12 0 q
 
     checked : (a : Answer (Unit {0})) → checkOf image ≡ a → mayPost a (headerOf image) row ≡ accepted tt → length row ≤ nameLimit
     checked (accepted tt) k q = long k (eqb (length row) (rowLength (headerOf image))) refl q
-    checked (refused n p) k q = refused≢accepted n p q
+    checked (refused n p) k q = refused≢accepted tt n p q
 
 module _ {image : List ℕ} {cells : List ℤ} {w : Option (List ℤ)} {o : Option Scan} (x : Agrees image cells w o) where
   pub post-agrees : (i : List ℕ) (row : List ℤ) → Matches (plays (post i row) image cells) (expects (post i row) w o)

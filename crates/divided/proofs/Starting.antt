@@ -1,4 +1,4 @@
--- A start agrees with what is expectedSaid. Assumes nothing.
+-- A start agrees with what is expected. Assumes nothing.
 use Prim.Native.Nat.{ℕ, zero, suc, _+_, _≤_, _<_}
 use native.Mathlib.Omega.{arith}
 use mathlib.Core.Path.{_≡_, refl, sym, ap, _∙_}

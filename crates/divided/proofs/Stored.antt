@@ -1,4 +1,4 @@
--- What is read back from the memory afterCall a post, a start and a finish. Assumes nothing.
+-- What is read back from the memory after a post, a start and a finish. Assumes nothing.
 use Prim.Native.Nat.{ℕ, zero, suc, _+_, _≤_, _<_}
 use native.Mathlib.Omega.{arith}
 use mathlib.Core.Path.{_≡_, refl, sym, ap, _∙_}

@@ -13,6 +13,7 @@ use Rattle.bytecode.specs.Parts.{headerOf}
 use Rattle.scan.specs.Services.{AfterScan, scanOf}
 use Rattle.paused.specs.declared.Response.{Response}
 use Rattle.paused.specs.declared.Response.the-variants as R
+use Rattle.paused.specs.Responses.{stepsIn}
 use Rattle.resumable.specs.Instalment.{AfterCall, advanceOf}
 use Rattle.lifecycle.specs.Calls.{sameValues, mayPost, postOf, beginOf, AfterFinish, finishOf}
 
@@ -61,7 +62,7 @@ abbrev pub play : List Call → List ℕ → List ℤ → List Said
 play [] image cells = []
 play (c ∷ cs) image cells = plays c image cells .said ∷ play cs (plays c image cells .image) (plays c image cells .cells)
 
--- ---- what is expectedSaid
+-- ---- what is expected
 
 -- a scan that is not over: what it was started on, and the steps done
 pub record Scan : Type 0 where
@@ -118,3 +119,39 @@ expects (finish s) w (some o) = cond (ltb (o .done) (whole o .steps)) (expect (l
 abbrev pub expectedSaid : List Call → Option (List ℤ) → Option Scan → List Said
 expectedSaid [] w o = []
 expectedSaid (c ∷ cs) w o = expects c w o .said ∷ expectedSaid cs (expects c w o .waiting) (expects c w o .scan)
+
+-- ---- any division into instalments gives the result, total steps and state of the undivided scan
+
+-- between a start and its finish: instalments, and posts at any time
+abbrev pub Between : Call → Type 0
+Between (post image row) = Unit {0}
+Between (begin image s) = ⊥
+Between (advance n) = Unit {0}
+Between (finish s) = ⊥
+
+abbrev pub AllBetween : List Call → Type 0
+AllBetween [] = Unit {0}
+AllBetween (c ∷ cs) = Between c × AllBetween cs
+
+-- the steps that instalments are given, and those that they report
+abbrev pub givenBy : Call → ℕ
+givenBy (post image row) = 0
+givenBy (begin image s) = 0
+givenBy (advance n) = n
+givenBy (finish s) = 0
+
+abbrev pub givenIn : List Call → ℕ
+givenIn [] = 0
+givenIn (c ∷ cs) = givenBy c + givenIn cs
+
+abbrev pub doneIn : List Said → ℕ
+doneIn [] = 0
+doneIn (a ∷ more) = stepsIn (a .reply) + doneIn more
+
+-- the undivided scan as a finish answers it
+abbrev pub responseOf : Answer (Unit {0}) → ℕ → Response
+responseOf (refused number place) n = R.Refused number place n
+responseOf (accepted u) n = R.Done n
+
+abbrev pub endOf : AfterScan → Said
+endOf a = leaves (responseOf (a .answer) (a .steps)) (a .state)

@@ -1,4 +1,4 @@
--- What is read back from the memory afterCall a store, over any place and length. Assumes nothing.
+-- What is read back from the memory after a store, over any place and length. Assumes nothing.
 use Prim.Native.Nat.{ℕ, zero, suc, _+_, _-_, _≤_, _<_, min}
 use native.Mathlib.Omega.{arith}
 use mathlib.Core.Path.{_≡_, refl, sym, ap, _∙_}

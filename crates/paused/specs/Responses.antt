@@ -14,6 +14,13 @@ packedResponse (R.Refused number place n) = packed number place n
 packedResponse (R.Unfinished n) = packed unfinishedNumber 0 n
 packedResponse R.Idle = packed idleNumber 0 0
 
+-- the steps that an answer tells
+abbrev pub stepsIn : Response → ℕ
+stepsIn (R.Done n) = n
+stepsIn (R.Refused number place n) = n
+stepsIn (R.Unfinished n) = n
+stepsIn R.Idle = 0
+
 -- how large the numbers of an answer are
 abbrev pub ResponseWithin : ℕ → Response → Type 0
 ResponseWithin most (R.Done n) = n ≤ most

@@ -44,10 +44,34 @@ module _ (image : List ℕ) (n : ℕ) (cells : List ℤ) where
         advance-other h =
             rw (eq-eqb (length cells) pausedLength l, ← e, ← g, ne-eqb (p .phase) 0 y, eq-eqb (p .phase) 1 z, lt-ltb 0 n (some-steps n some), ne-eqb (length image) (f .image) h)
 
-        pub advance-goes : length image ≡ f .image → instalment (drop (f .base) image) (min n imageLimit) cells p (f .size) ≡ advanceOf image n cells
-        unfolding advanceOf
-        advance-goes h =
-            rw (eq-eqb (length cells) pausedLength l, ← e, ← g, ne-eqb (p .phase) 0 y, eq-eqb (p .phase) 1 z, lt-ltb 0 n (some-steps n some), eq-eqb (length image) (f .image) h)
+        module _ (h : length image ≡ f .image) where
+          pub advance-past : length image - f .base ≤ p .place → afterCall (R.Done 0) cells ≡ advanceOf image n cells
+          unfolding advanceOf
+          advance-past q =
+              rw (
+                eq-eqb (length cells) pausedLength l,
+                ← e,
+                ← g,
+                ne-eqb (p .phase) 0 y,
+                eq-eqb (p .phase) 1 z,
+                lt-ltb 0 n (some-steps n some),
+                eq-eqb (length image) (f .image) h,
+                le-ltb (p .place) (length image - f .base) q,
+              )
+
+          pub advance-goes : p .place < length image - f .base → instalment (drop (f .base) image) (min n imageLimit) cells p (f .size) ≡ advanceOf image n cells
+          unfolding advanceOf
+          advance-goes q =
+              rw (
+                eq-eqb (length cells) pausedLength l,
+                ← e,
+                ← g,
+                ne-eqb (p .phase) 0 y,
+                eq-eqb (p .phase) 1 z,
+                lt-ltb 0 n (some-steps n some),
+                eq-eqb (length image) (f .image) h,
+                lt-ltb (p .place) (length image - f .base) q,
+              )
 
 -- the rest of a list behind a place
 pub rest-is : (base : ℕ) (l : List ℕ) → take (length l - base) (drop base l) ≡ drop base l

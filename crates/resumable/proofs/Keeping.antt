@@ -30,7 +30,7 @@ phase-small len place {n} e = rw e (by (leb len place))
     by true = omega arith
     by false = omega arith
 
--- the current values and the values held stored, one afterCall the other
+-- the current values and the values held stored, one after the other
 module _ (l₀ l₁ l₂ cur vals : List ℤ) (held : ℕ) (e₁ : l₁ ≡ sets l₀ currentPlace cur) (e₂ : l₂ ≡ sets l₁ heldPlace (take held vals)) where
   pub stored-length : length l₂ ≡ length l₀
   stored-length = ap length e₂ ∙ simp length-sets (ap length e₁ ∙ simp length-sets)

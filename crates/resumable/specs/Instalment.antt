@@ -1,5 +1,5 @@
 -- An instalment of a paused scan: what it answers and leaves, for any memory. Document 02, A.8. Assumes nothing.
-use Prim.Native.Nat.{ℕ, _+_, _≤_, min}
+use Prim.Native.Nat.{ℕ, _+_, _-_, min}
 use mathlib.Core.Bool.{Bool, true, false, _&&_, cond}
 use mathlib.Core.List.{List, [], _∷_}
 use lib.Dec.{eqb, ltb, leb}
@@ -18,6 +18,8 @@ use Rattle.paused.specs.declared.Response.{Response}
 use Rattle.paused.specs.declared.Response.the-variants as R
 use Rattle.paused.specs.Memory.{heldPlace, startPlace, currentPlace, lowPlace, highPlace, slice, checkpointOf, shapeOf, checkpointCells, stacked}
 
+-- ---- what every call answers and leaves
+
 -- what a call answers, and the memory left
 pub record AfterCall : Type 0 where
   pub reply : Response
@@ -29,6 +31,8 @@ afterCall r cells = record { reply = r; cells = cells }
 -- Memory of another length holds neither scan nor row.
 abbrev pub sized : List ℤ → AfterCall → AfterCall
 sized cells a = cond (eqb (length cells) pausedLength) a (afterCall R.Idle cells)
+
+-- ---- an instalment
 
 -- ranges by their lows and highs: a run asks no starts
 abbrev pub rangesBetween : List ℤ → List ℤ → List Range
@@ -68,14 +72,15 @@ leftByRun before len d cells = leftAfter before len (d .steps) (d .place) (d .la
 abbrev pub instalment : List ℕ → ℕ → List ℤ → Checkpoint → ℕ → AfterCall
 instalment code n cells p size = afterCall (R.Done (ranFrom code n p size cells .steps)) (leftByRun (p .steps) (length code) (ranFrom code n p size cells) cells)
 
+-- A caller gives a number of steps; the scan does that many, or fewer if it finishes or is refused, and reports how many.
 abbrev pub advanced : List ℕ → ℕ → List ℤ → Checkpoint → Shape → AfterCall
 advanced image n cells p f =
     cond (eqb (p .phase) 0) (afterCall R.Idle cells)
-    (cond (eqb (p .phase) 1 && (ltb 0 n && eqb (length image) (f .image)))
+    (cond (eqb (p .phase) 1 && (ltb 0 n && (eqb (length image) (f .image) && ltb (p .place) (length image - f .base))))
     (instalment (drop (f .base) image) (min n imageLimit) cells p (f .size))
     (afterCall (R.Done 0) cells))
 
--- An instalment without a scan is idle. At the end of the code, afterCall a refusal, with 0 steps, or lent an image of another length, it does
--- 0 steps; and then nothing moves.
+-- An instalment without a scan answers idle; then nothing moves. At the end of the code, after a refusal, with 0 steps, or lent an image of
+-- another length, it does 0 steps; with 0 steps nothing moves.
 unfoldable pub advanceOf : List ℕ → ℕ → List ℤ → AfterCall
 advanceOf image n cells = sized cells (advanced image n cells (checkpointOf cells) (shapeOf cells))

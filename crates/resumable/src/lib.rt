@@ -171,6 +171,7 @@ fn advance_in(
     }
     let p = paused::checkpoint_in(paused);
     let phase = p.phase;
+    let place = p.place;
     if phase == 0 {
         return Response::Idle;
     }
@@ -184,6 +185,9 @@ fn advance_in(
     let base = shape.base;
     let size = shape.size;
     if image.len() != shape.image {
+        return Response::Done(0);
+    }
+    if image.len() - base <= place {
         return Response::Done(0);
     }
     let n = paused::least(steps, limits::IMAGE_LIMIT);

@@ -13,6 +13,7 @@ use Rattle.semantics.specs.Formula.{State}
 use Rattle.semantics.specs.ReferenceScan.{withInputs}
 use Rattle.bytecode.specs.Check.{checkOf}
 use Rattle.bytecode.specs.Parts.{headerOf, codeOf, instructionsIn}
+use Rattle.bytecode.proofs.Walk.{refused≢accepted}
 use Rattle.machine.specs.Step.{Machine, machine}
 use Rattle.machine.specs.States.{stateLength, rowLength, stateInRange, rowInRange}
 use Rattle.machine.proofs.Laws.{run-steps}
@@ -21,21 +22,18 @@ use Rattle.scan.specs.Services.{AfterScan, finished, runOf, scanCode, te
 abbrev StepsIf : ℕ → AfterScan → Type 0
 StepsIf n a = a .answer ≡ accepted tt → a .steps ≡ n
 
-refused≢accepted : {X : Type 0} (n p : ℕ) → _≡_ {A = Answer (Unit {0})} (refused n p) (accepted tt) → X
-refused≢accepted n p e = let z : _≡_ {A = ℕ} 0 1 = cc in absurd (omega arith)
-
 steps-tested : (n : ℕ) (b : Bool) (k : ℕ) (s : State) (r : AfterScan) → StepsIf n r → StepsIf n (testedScan b k s r)
 steps-tested n true k s r h = h
-steps-tested n false k s r h = refused≢accepted k 0
+steps-tested n false k s r h = refused≢accepted tt k 0
 
 steps-finished : (n : ℕ) (s : State) (k : ℕ) (o : Outcome Machine) → ((m : Machine) → o ≡ ok m → k ≡ n) → StepsIf n (finished s k o)
 steps-finished n s k (ok (machine b c vs t)) h e = h (machine b c vs t) refl
-steps-finished n s k (refusal j) h e = refused≢accepted j 0 e
+steps-finished n s k (refusal j) h e = refused≢accepted tt j 0 e
 
 code-steps : (image : List ℕ) (s : State) (row : List ℤ) → StepsIf (instructionsIn image) (scanCode image s row)
 unfolding instructionsIn scanCode
 code-steps image s row = steps-finished _ s _ (runOf image s row .last) λ m e.
-    run-steps (headerOf image .ranges) s (codeOf image) (length (codeOf image)) 0 0 (machine false false [] (withInputs s row)) m (omega arith) e
+    run-steps (headerOf image .ranges) s (codeOf image) (length (codeOf image)) 0 0 (machine false false [] (withInputs s row)) m e
     ∙ omega arith
 
 pub scan-steps : (image : List ℕ) (s : State) (row : List ℤ) → scanOf image s row .answer ≡ accepted tt → scanOf image s row .steps ≡ instructionsIn image
@@ -43,7 +41,7 @@ unfolding scanOf
 scan-steps image s row = go (checkOf image)
   where
     go : (a : Answer (Unit {0})) → StepsIf (instructionsIn image) (scanned a (headerOf image) image s row)
-    go (refused number place) = refused≢accepted number place
+    go (refused number place) = refused≢accepted tt number place
     go (accepted u) =
         steps-tested _ (eqb (length s) (stateLength (headerOf image)) && eqb (length row) (rowLength (headerOf image))) 12 s _
         (steps-tested _ (stateInRange (headerOf image) s) 18 s _
