@@ -3,9 +3,12 @@
  *   M  the same, but what follows `#` are changes of the image: triples of bytes, a place (two) and a value
  *   C  a text, a line `#`, a line of a farm table's numbers, one of a UTC minute, one of a row
  *   L  a text, a line `#`, a line of a variable's id, the threshold and the two rates, one of minutes, one of a trace's numbers
+ *   S  a text, a line `#`, then calls of a scan in instalments (instalments.c)
+ *   P  a text, a line `#`, then a length, calls, and the memory of a paused scan
  *   I  a count k, k bytes that stand for numbers of states and rows, then an image
  * A byte of lower case does the same with lent memory at the start of its pages and not at their end. */
 #include "blocks.h"
+#include "instalments.h"
 #include "rolvenko.h"
 #include "services.h"
 
@@ -29,6 +32,7 @@ int LLVMFuzzerInitialize(int *argc, char ***argv) {
     char file[4096];
     snprintf(file, sizeof file, "%s.blocks", (*argv)[0]);
     services_begin();
+    instalments_begin();
     blocks_watch(file);
     return 0;
 }
@@ -214,6 +218,7 @@ int LLVMFuzzerTestOneInput(const uint8_t *data, size_t size) {
     if (size == 0 || size > TEXT_MOST)
         return 0;
     services_side(isupper(data[0]) != 0);
+    instalments_side(isupper(data[0]) != 0);
     size_t after, length;
     switch (toupper(data[0])) {
     case 'T':
@@ -233,6 +238,14 @@ int LLVMFuzzerTestOneInput(const uint8_t *data, size_t size) {
     case 'L':
         length = before_mark(data + 1, size - 1, &after);
         charged(data + 1, length, data + 1 + after, data + size);
+        return 0;
+    case 'S':
+    case 'P':
+        length = translated(data + 1, before_mark(data + 1, size - 1, &after));
+        if (length > 0 && toupper(data[0]) == 'S')
+            call_list(image, length, data + 1 + after, data + size);
+        else if (length > 0)
+            any_memory(image, length, data + 1 + after, data + size);
         return 0;
     case 'I':
         any_image(data + 1, size - 1);

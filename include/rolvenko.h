@@ -1,5 +1,5 @@
-/* Rolvenko: launch rules translated, checked, started and scanned, rows filled with the local time, the licence charge of a trace, and
- * whether rules can ever stop in service, as eight C functions.
+/* Rolvenko: launch rules translated, checked, started and scanned, also in instalments, rows filled with the local time, the licence
+ * charge of a trace, and whether rules can ever stop in service, as C functions.
  *
  * Link target/staticlib/librolvenko.a, which `rt staticlib rolvenko` writes, or what ./install puts down of it (-lrolvenko; pkg-config
  * rolvenko). It is for x86-64 Linux, needs memcpy and memset, allocates nothing and keeps nothing between calls, so calls from several
@@ -7,10 +7,11 @@
  *
  * The answer. Each function answers one 64-bit number, number * 2^56 + place * 2^24 + count:
  *
- *     number   0 for a success, else the refusal, 1 to 20 or 26 to 29
+ *     number   0 for a success, else the refusal, 1 to 20, 24 or 26 to 29; of the calls of a scan in instalments also 254 and 255
  *     place    the byte place of a refusal in the text or image; of 27 the scans before the refused one; 0 for a success and for the
- *              refusals 9, 12 to 20, 26, 28 and 29
- *     count    of a success of rolvenko_translate the image's length, of rolvenko_scan (refused or not) the steps; else 0
+ *              refusals 9, 12 to 20, 24, 26, 28 and 29
+ *     count    of a success of rolvenko_translate the image's length, of rolvenko_scan, rolvenko_advance and rolvenko_finish (refused or
+ *              not) the steps; else 0
  *
  * But a success of rolvenko_charge is its sum; see there.
  *
@@ -125,6 +126,45 @@ uint64_t rolvenko_closed(const uint8_t *image, size_t image_len);
  */
 uint64_t rolvenko_combination(const uint8_t *image, size_t image_len, uint32_t index, int32_t *state, size_t state_len, int32_t *row,
                               size_t row_len);
+
+/* A scan in instalments: post a row, begin a scan, advance it by so many steps at a time, finish it. What lies between the calls stands in
+ * `paused`, ROLVENKO_PAUSED numbers of the caller, all 0 at first: the row that waits and the scan that is not over. Any content is safe;
+ * with another length every call is idle and nothing moves. Instalments of any sizes give the result, total steps and state of
+ * rolvenko_scan, if they are lent the image that the scan began with and the finish is lent the state of the start.
+ */
+#define ROLVENKO_PAUSED 640     /* numbers of a paused scan and its waiting row */
+#define ROLVENKO_UNFINISHED 254 /* the scan is not finished; nothing moved */
+#define ROLVENKO_IDLE 255       /* there is no scan, or no row waits; nothing moved */
+
+static inline int rolvenko_is_unfinished(uint64_t answer) { return rolvenko_number(answer) == ROLVENKO_UNFINISHED; }
+static inline int rolvenko_is_idle(uint64_t answer) { return rolvenko_number(answer) == ROLVENKO_IDLE; }
+
+/* At any time: the row waits for the next scan, in place of one that waits already. It has no effect on the scan in progress. 0 as a
+ * whole, or a refusal, which replaces nothing:
+ *   9, 11     as rolvenko_check
+ *   12        row_len is not the count of inputs
+ */
+uint64_t rolvenko_post(int32_t *paused, size_t paused_len, const uint8_t *image, size_t image_len, const int32_t *row, size_t row_len);
+
+/* Starts a scan of the waiting row: unfinished before the last scan is over, idle without a row. Else the row is taken and the tests
+ * before the code are made; a refused scan is over. `state` is only read: it is written by rolvenko_finish. 0 as a whole, or
+ *   9, 11     as rolvenko_check
+ *   12        state_len is not the count of names, or the row's length not that of inputs
+ *   18, 13    a number of the state, of the row, is outside its declared range
+ */
+uint64_t rolvenko_begin(int32_t *paused, size_t paused_len, const uint8_t *image, size_t image_len, const int32_t *state, size_t state_len);
+
+/* Does `steps` steps of the scan, or fewer if it comes to its end or is refused; count is how many, and there is no refusal. Idle without
+ * a scan. With 0 steps done nothing moves. `image` is the one that the scan began with and is not checked again.
+ */
+uint64_t rolvenko_advance(int32_t *paused, size_t paused_len, const uint8_t *image, size_t image_len, size_t steps);
+
+/* Asks for the end of the scan: idle without one, unfinished too early. A refused scan answers its refusal and is over; else `state`,
+ * which must be as at the start, becomes the next state and the scan is over. Count is the total steps.
+ *   14 to 17  as rolvenko_scan
+ *   24        the state differs, in length too, from the one at the start; count 0, and the scan still awaits its finish
+ */
+uint64_t rolvenko_finish(int32_t *paused, size_t paused_len, int32_t *state, size_t state_len);
 
 #ifdef __cplusplus
 }

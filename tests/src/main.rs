@@ -2,8 +2,8 @@
 //!
 //!     rolvenko-tests [--seed N] [--seconds S] [--least N] [--program PATH] [SERVICE ..]
 //!
-//! Services: translate, check, scan (and start), trace (lists of rows), clock, charge, closed (and combination), and program, a trace program
-//! at PATH; all by default, S seconds and at least N calls each. Prints how often each answer was met. A difference is shrunk to a small input and
+//! Services: translate, check, scan (and start), trace (lists of rows), clock, charge, closed (and combination), instalments, and program, a
+//! trace program at PATH; all by default, S seconds and at least N calls each. Prints how often each answer was met. A difference is shrunk to a small input and
 //! printed, and the exit status is 1.
 
 mod charge;
@@ -11,6 +11,7 @@ mod check;
 mod clock;
 mod closed;
 mod compare;
+mod instalments;
 mod program;
 mod scan;
 mod shrink;
@@ -31,8 +32,17 @@ fn main() -> ExitCode {
             return ExitCode::from(2);
         }
     };
-    let runs: [Run; 8] =
-        [translate::run, check::run, scan::run, trace::run, clock::run, charge::run, closed::run, program::run];
+    let runs: [Run; 9] = [
+        translate::run,
+        check::run,
+        scan::run,
+        trace::run,
+        clock::run,
+        charge::run,
+        closed::run,
+        instalments::run,
+        program::run,
+    ];
     for (name, run) in SERVICES.into_iter().zip(runs) {
         if !options.wants(name) || name == "program" && options.program.is_none() {
             continue;

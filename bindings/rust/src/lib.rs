@@ -1,6 +1,10 @@
 //! Rolvenko's services for Rust: slices in, results out. Each call is one call of the archive's C function
 //! (include/rolvenko.h), whose contract is proved for every input, so nothing is asked of the caller.
 
+pub mod instalments;
+
+pub use instalments::{Paused, Response};
+
 use std::error::Error;
 use std::fmt::{self, Display, Formatter};
 
@@ -80,6 +84,7 @@ pub fn meaning(number: u8) -> &'static str {
         18 => "a value of the state is outside its range",
         19 => "the farm table breaks its limits",
         20 => "the UTC minute is below 0 or over 2,147,483,647",
+        24 => "the state at the finish is not the one at the start",
         26 => "the states and rows to scan are more than 65,536",
         27 => "an in-range state and row whose scan is refused",
         28 => "no variable whose low and traced values are 0 or above, or a threshold, rate or minutes out of limit or not one a row",

@@ -1,3 +1,4 @@
 pub mod Basics
 pub mod Laws
+pub mod Signs
 pub mod Flags

@@ -1,6 +1,7 @@
 // 32-bit arithmetic of document 01, worked in i64: a result is cast back only after a range test. `bits` has flags kept as bits.
 ghost use mathlib.Core.Path.{_≡_};
-ghost use Rattle.arith.specs.Values.{int32, arithmetic, add, subtract, multiply, divide, modulo, negation, compares, equal, notEqual, less, lessEqual, greater, greaterEqual};
+ghost use Prim.Native.Nat.{_<_, _^_};
+ghost use Rattle.arith.specs.Values.{count as countOf, int32, arithmetic, add, subtract, multiply, divide, modulo, negation, compares, equal, notEqual, less, lessEqual, greater, greaterEqual};
 ghost use Rattle.arith.specs.Results.{outcomeOf};
 
 pub mod bits;
@@ -9,6 +10,16 @@ pub mod bits;
 pub enum Value {
     Is(i32),
     Refused,
+}
+
+// A number as a count; of a negative one, 0.
+pub fn count(z: i32) -> u64
+    ensures { λ r. ⌜ (r ≡ countOf z) × (r < 2 ^ 31) ⌝ }
+{
+    if 0 <= z {
+        return z as u64;
+    }
+    0
 }
 
 // The number where it is in the 32-bit signed range.

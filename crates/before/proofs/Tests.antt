@@ -72,4 +72,4 @@ begun-by image first s row low high work part place a e l h w (T.Code at) c =
       highest = h;
       copied = w ∙ c .1;
     }
-begun-by image first s row low high work part place a e l h w (T.Refused number at) c = tt
+begun-by image first s row low high work part place a e l h w (T.Refused number at) c = omega (arith, c)

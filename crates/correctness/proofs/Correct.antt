@@ -23,13 +23,13 @@ use Rattle.bytecode.specs.Parts.{headerOf, codeOf, instructionsIn}
 use Rattle.bytecode.proofs.Soundness.{header-of, code-of, translated-small, check-translated}
 use Rattle.machine.specs.Step.{Machine, machine}
 use Rattle.machine.specs.States.{stateLength, rowLength, stateInRange, rowInRange}
-use Rattle.machine.proofs.Laws.{run-steps}
 use Rattle.machine.proofs.Ranges.{currentOf}
 use Rattle.machine.proofs.Translated.{exec-rules, run-exec}
 use Rattle.grammar.proofs.Accepted.{program-translatable}
 use Rattle.grammar.proofs.ConverseText.{accepted-exactly}
 use Rattle.translate.specs.Services.{translationOf}
 use Rattle.scan.specs.Services.{AfterStart, startOf, started, AfterScan, finished, runOf, scanCode, testedScan, scanned, scanOf, scansOf}
+use Rattle.scan.proofs.Steps.{scan-steps}
 use Rattle.translate.proofs.Kept.{image-stored, stored-image}
 use Rattle.correctness.specs.TraceCorrect.{replyOf, repliesOf, StepsIf, StepsAre, begun, TraceCorrect, Demand3}
 
@@ -88,35 +88,13 @@ module _ (p : Program) (t : Translatable p) where
 
 -- ---- steps, of any image
 
-steps-tested : (n : ℕ) (b : Bool) (k : ℕ) (s : State) (r : AfterScan) → StepsIf n (r .steps) (r .answer) → StepsIf n (testedScan b k s r .steps) (testedScan b k s r .answer)
-steps-tested n true k s r h = h
-steps-tested n false k s r h = tt
-
-steps-finished : (n : ℕ) (s : State) (k : ℕ) (o : Outcome Machine) → ((m : Machine) → o ≡ ok m → k ≡ n) → StepsIf n (finished s k o .steps) (finished s k o .answer)
-steps-finished n s k (ok (machine b c vs t)) h = h (machine b c vs t) refl
-steps-finished n s k (refusal j) h = tt
-
-code-steps : (image : List ℕ) (s : State) (row : List ℤ) → StepsIf (instructionsIn image) (scanCode image s row .steps) (scanCode image s row .answer)
-unfolding instructionsIn scanCode
-code-steps image s row = steps-finished _ s _ (runOf image s row .last) λ m e.
-    run-steps (headerOf image .ranges) s (codeOf image) (length (codeOf image)) 0 0 (machine false false [] (withInputs s row)) m (omega arith) e
-    ∙ omega arith
-
--- the steps of an accepted scan are as many as the instructions in the code
-pub scan-steps : (image : List ℕ) (s : State) (row : List ℤ) → StepsIf (instructionsIn image) (scanOf image s row .steps) (scanOf image s row .answer)
-unfolding scanOf
-scan-steps image s row = go (checkOf image)
-  where
-    go : (a : Answer (Unit {0})) → StepsIf (instructionsIn image) (scanned a (headerOf image) image s row .steps) (scanned a (headerOf image) image s row .answer)
-    go (refused number place) = tt
-    go (accepted u) =
-        steps-tested _ (eqb (length s) (stateLength (headerOf image)) && eqb (length row) (rowLength (headerOf image))) 12 s _
-        (steps-tested _ (stateInRange (headerOf image) s) 18 s _
-        (steps-tested _ (rowInRange (headerOf image) row) 13 s _ (code-steps image s row)))
+steps-if : (n k : ℕ) (a : Answer (Unit {0})) → (a ≡ accepted tt → k ≡ n) → StepsIf n k a
+steps-if n k (accepted tt) h = h refl
+steps-if n k (refused number place) h = tt
 
 pub all-steps : (image : List ℕ) (rows : List (List ℤ)) (s : State) → StepsAre (instructionsIn image) (scansOf image s rows)
 all-steps image [] s = tt
-all-steps image (r ∷ rs) s = (scan-steps image s r, all-steps image rs (scanOf image s r .state))
+all-steps image (r ∷ rs) s = (steps-if (instructionsIn image) (scanOf image s r .steps) (scanOf image s r .answer) (scan-steps image s r), all-steps image rs (scanOf image s r .state))
 
 -- ---- the claim
 

@@ -1,27 +1,14 @@
 -- A whole number by its sign, so that what is left is about ℕ. Assumes nothing.
-use mathlib.Core.Path.{_≡_, refl, sym, ap, subst, _∙_}
+use mathlib.Core.Path.{_≡_, refl, ap}
 use mathlib.Core.Bool.{Bool, true, false, cond}
 use Prim.Native.Nat.{ℕ, zero, suc, _+_, _*_, _/_, _%_, _^_, _<_}
 use native.Mathlib.Omega.{arith}
-use lib.Dec.{T, eqb, leb·zero}
+use lib.Dec.{eqb}
 use lib.IntN.{ℤ, pos, negsuc, _-ℤ_}
-use lib.Signed.{mag, leZ}
 use borrow.Author.Tests.{le-ltb, eqb-true, eqb-false}
 use mir.Syntax.{w32}
 use mir.Val.{SFits}
 use Rattle.leb128.specs.Numbers.{zigzag, unzigzag}
-
-false-true : false ≡ true → ⊥
-false-true e = subst T (sym e) tt
-
--- what the test `0 <= z` tells
-pub not-below : (z : ℤ) → leZ (pos 0) z ≡ true → z ≡ pos (mag z)
-not-below (pos n) e = refl
-not-below (negsuc n) e = absurd (false-true e)
-
-pub is-below : (z : ℤ) → leZ (pos 0) z ≡ false → z ≡ negsuc (mag z)
-is-below (pos n) e = absurd (false-true (sym e ∙ leb·zero n))
-is-below (negsuc n) e = refl
 
 -- -1 - z
 pub mirror-negsuc : (n : ℕ) → negsuc 0 -ℤ negsuc n ≡ pos n

@@ -56,11 +56,11 @@ module _ (ns : List Range) (s : State) (code : List ℕ) where
       inside true e ih = rw e (fetched (fetch code at) ih)
       inside false e ih = rw e (sym (run-end b at n m (ltb-false at (length code) e)))
 
-  -- the steps of a run to the end of the code are as many as its instructions
-  pub run-steps : (budget at n : ℕ) (m m₁ : Machine) → length code ≤ at + budget → run ns s code budget at n m .last ≡ ok m₁
+  -- the steps of a run that is not refused are as many as the instructions of the code, at most the budget
+  pub run-steps : (budget at n : ℕ) (m m₁ : Machine) → run ns s code budget at n m .last ≡ ok m₁
       → run ns s code budget at n m .steps ≡ n + countFrom code budget at
-  run-steps zero at n m m₁ l e = omega arith
-  run-steps (suc budget) at n m m₁ l e = inside (ltb at (length code)) refl e (λ next k m₂ q₁. run-steps budget next (n + 1) m₂ m₁ (omega arith) q₁)
+  run-steps zero at n m m₁ e = omega arith
+  run-steps (suc budget) at n m m₁ e = inside (ltb at (length code)) refl e (λ next m₂ q₁. run-steps budget next (n + 1) m₂ m₁ q₁)
     where
       stepped : (o : Outcome Machine) (next : ℕ)
           → ((m₂ : Machine) → run ns s code budget next (n + 1) m₂ .last ≡ ok m₁ → run ns s code budget next (n + 1) m₂ .steps ≡ n + 1 + countFrom code budget next)
@@ -70,11 +70,11 @@ module _ (ns : List Range) (s : State) (code : List ℕ) where
       stepped (refusal k) next ih q = let z : _≡_ {A = ℕ} 0 1 = cc in omega arith
 
       fetched : (f : Read Instruction) → fetch code at ≡ f
-          → ((next : ℕ) → at < next → (m₂ : Machine) → run ns s code budget next (n + 1) m₂ .last ≡ ok m₁ → run ns s code budget next (n + 1) m₂ .steps ≡ n + 1 + countFrom code budget next)
+          → ((next : ℕ) (m₂ : Machine) → run ns s code budget next (n + 1) m₂ .last ≡ ok m₁ → run ns s code budget next (n + 1) m₂ .steps ≡ n + 1 + countFrom code budget next)
           → afterFetch f (n + 1) at (λ i next. afterStep (step ns s i m) (n + 1) at λ m₂. run ns s code budget next (n + 1) m₂) .last ≡ ok m₁
           → afterFetch f (n + 1) at (λ i next. afterStep (step ns s i m) (n + 1) at λ m₂. run ns s code budget next (n + 1) m₂) .steps ≡ n + counted f (λ next. countFrom code budget next)
       fetched nothing h ih q = let z : _≡_ {A = ℕ} 0 1 = cc in omega arith
-      fetched (got i next) h ih q = stepped (step ns s i m) next (ih next (fetch-next code at i next h .1)) q
+      fetched (got i next) h ih q = stepped (step ns s i m) next (ih next) q
 
       none : (f : Read Instruction) → fetch code at ≡ f → length code ≤ at → counted f (λ next. countFrom code budget next) ≡ 0
       none nothing h k = refl
@@ -82,7 +82,7 @@ module _ (ns : List Range) (s : State) (code : List ℕ) where
 
       inside : (t : Bool) → ltb at (length code) ≡ t
           → cond t (afterFetch (fetch code at) (n + 1) at λ i next. afterStep (step ns s i m) (n + 1) at λ m₂. run ns s code budget next (n + 1) m₂) (ran n at (ok m)) .last ≡ ok m₁
-          → ((next : ℕ) → at < next → (m₂ : Machine) → run ns s code budget next (n + 1) m₂ .last ≡ ok m₁ → run ns s code budget next (n + 1) m₂ .steps ≡ n + 1 + countFrom code budget next)
+          → ((next : ℕ) (m₂ : Machine) → run ns s code budget next (n + 1) m₂ .last ≡ ok m₁ → run ns s code budget next (n + 1) m₂ .steps ≡ n + 1 + countFrom code budget next)
           → cond t (afterFetch (fetch code at) (n + 1) at λ i next. afterStep (step ns s i m) (n + 1) at λ m₂. run ns s code budget next (n + 1) m₂) (ran n at (ok m)) .steps ≡ n + countFrom code (suc budget) at
       inside true h q ih = fetched (fetch code at) refl ih q
       inside false h q ih = rw (none (fetch code at) refl (ltb-false at (length code) h)) (omega arith)

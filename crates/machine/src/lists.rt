@@ -2,8 +2,9 @@
 use crate::values;
 ghost use mathlib.Core.Path.{_≡_};
 ghost use mathlib.Core.List.{List, _++_};
-ghost use Prim.Native.Nat.{_≤_};
+ghost use Prim.Native.Nat.{_+_, _≤_, min};
 ghost use lib.ListN.{length, drop};
+ghost use lib.Seq.{sets};
 ghost use Rattle.semantics.specs.Program.{Range};
 ghost use Rattle.semantics.specs.ReferenceScan.{allWithin, withInputs};
 ghost use Rattle.machine.specs.Inner.Memory.{RangesIn};
@@ -18,6 +19,32 @@ pub fn fill(to: &mut [i32], from: &[i32])
         to[i] = from[i];
         i += 1;
     }
+}
+
+// The place n behind `at`, no further than `most`.
+pub fn behind(at: usize, n: usize, most: usize) -> usize
+    requires { ⌜ at ≤ most ⌝ }
+    ensures { λ r. ⌜ r ≡ min (at + n) most ⌝ }
+{
+    if n < most - at {
+        return at + n;
+    }
+    most
+}
+
+// `from`, written into `to` from a place on, as far as there is room; the place behind it.
+pub fn store(to: &mut [i32], at: usize, from: &[i32]) -> usize
+    requires { ⌜ at ≤ length (now to) ⌝ }
+    ensures { λ r. ⌜ r ≡ min (at + length (now (from .entry))) (length (now (to .entry))) ⌝ }
+    ensures { λ _. ⌜ now (to .exit) ≡ sets (now (to .entry)) at (now (from .entry)) ⌝ }
+{
+    let end = behind(at, from.len(), to.len());
+    let mut i = at;
+    while i < end {
+        to[i] = from[i - at];
+        i += 1;
+    }
+    end
 }
 
 // A copy of the state, with the row over its front.

@@ -1,4 +1,3 @@
-pub mod Stores
 pub mod Scans
 pub mod Recorded
 pub mod Showing

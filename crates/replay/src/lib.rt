@@ -1,4 +1,5 @@
 // Translation, start and a list of rows in one call, with records of each scan.
+use machine::lists;
 use scan::Scanned;
 use scan::Started;
 use translate::Translated;
@@ -25,17 +26,6 @@ struct Cursor {
     place: usize,
 }
 
-// The place n behind `at`, no further than `most`.
-fn behind(at: usize, n: usize, most: usize) -> usize
-    requires { ⌜ at ≤ most ⌝ }
-    ensures { λ r. ⌜ r ≡ min (at + n) most ⌝ }
-{
-    if n < most - at {
-        return at + n;
-    }
-    most
-}
-
 // A refusal's number at a row's place, where there is room for it.
 fn store_number(numbers: &mut [u8], i: usize, number: u8)
     ensures { λ _. ⌜ now (numbers .exit) ≡ set (now (numbers .entry)) i number ⌝ }
@@ -52,21 +42,6 @@ fn store_steps(steps: &mut [usize], i: usize, n: usize)
     if i < steps.len() {
         steps[i] = n;
     }
-}
-
-// A state from a place of the trace on, as far as there is room; the place behind it.
-fn store_state(trace: &mut [i32], at: usize, state: &[i32]) -> usize
-    requires { ⌜ at ≤ length (now trace) ⌝ }
-    ensures { λ r. ⌜ r ≡ min (at + length (now (state .entry))) (length (now (trace .entry))) ⌝ }
-    ensures { λ _. ⌜ now (trace .exit) ≡ sets (now (trace .entry)) at (now (state .entry)) ⌝ }
-{
-    let end = behind(at, state.len(), trace.len());
-    let mut i = at;
-    while i < end {
-        trace[i] = state[i - at];
-        i += 1;
-    }
-    end
 }
 
 // The scan of the next row, with its records: number and steps at the row's place, the state of an accepted one behind the trace.
@@ -88,14 +63,14 @@ fn scan_row(
     let row = cursor.row;
     let cell = cursor.cell;
     let place = cursor.place;
-    let end = behind(cell, lengths[row], cells.len());
+    let end = lists::behind(cell, lengths[row], cells.len());
     let next = row + 1;
     let scanned = scan::scan(image, state, &cells[cell..end]);
     match scanned {
         Scanned::Done(n) => {
             store_number(numbers, row, 0);
             store_steps(steps, row, n);
-            let added = store_state(trace, place, state);
+            let added = lists::store(trace, place, state);
             Cursor {
                 row: next,
                 cell: end,
@@ -159,7 +134,7 @@ fn replay_image(
     match started {
         Started::Refused(number, place) => Replayed::Refused(number, place),
         Started::Done => {
-            let at = store_state(trace, 0, state);
+            let at = lists::store(trace, 0, state);
             scan_rows(image, state, cells, lengths, at, numbers, steps, trace);
             Replayed::Done(image.len())
         }

@@ -1,12 +1,10 @@
--- The answer of a service as one 64-bit number: the refusal's number · 2 ^ 56 + its place · 2 ^ 24 + a count. A success has number
--- and place 0, but that of charge is its sum. Assumes nothing.
-use Prim.Native.Nat.{ℕ, _+_, _*_, _^_}
+-- The answer of a service as one 64-bit number (`packed`): the refusal's number · 2 ^ 56 + its place · 2 ^ 24 + a count. A success has
+-- number and place 0, but that of charge is its sum; the calls of a scan in instalments answer `packedResponse`. Assumes nothing.
+use Prim.Native.Nat.{ℕ, _+_, _*_}
 use Rattle.limits.specs.Answer.{Answer, accepted, refused}
 use Rattle.scan.specs.Services.{AfterScan}
 use Rattle.charge.specs.Charge.{Charge}
-
-abbrev pub packed : ℕ → ℕ → ℕ → ℕ
-packed number place count = number * 2 ^ 56 + place * 2 ^ 24 + count
+use Rattle.paused.specs.Responses.{packed}
 
 -- translate: the count is the image's length; a refusal has count 0
 abbrev pub packedTranslation : Answer ℕ → ℕ

@@ -1,20 +1,15 @@
 // The services as C functions. include/rolvenko.h declares them.
 ghost use mathlib.Core.Path.{_≡_};
-ghost use Prim.Native.Nat.{_<_, _^_};
 ghost use Rattle.bytecode.specs.Check.{checkOf};
 ghost use Rattle.scan.specs.Services.{startOf, scanOf};
 ghost use Rattle.clock.specs.Services.{fillOf};
 ghost use Rattle.charge.specs.Charge.{chargeOf};
 ghost use Rattle.closed.specs.Closed.{closedOf, combinationOf};
-ghost use Rattle.rolvenko.specs.Packed.{packed, packedTranslation, packedCheck, packedScan, packedCharge};
+ghost use Rattle.paused.specs.Responses.{packedResponse};
+ghost use Rattle.resumable.specs.Instalment.{advanceOf};
+ghost use Rattle.lifecycle.specs.Calls.{finishOf, beginOf, postOf};
+ghost use Rattle.rolvenko.specs.Packed.{packedTranslation, packedCheck, packedScan, packedCharge};
 ghost use Rattle.translate.specs.Services.{translationOf};
-
-fn pack(number: u8, place: usize, count: u64) -> u64
-    requires { ⌜ (place < 2 ^ 32) × (count < 2 ^ 24) ⌝ }
-    ensures { λ r. ⌜ r ≡ packed number place count ⌝ }
-{
-    number as u64 * 72057594037927936 + place as u64 * 16777216 + count
-}
 
 #[no_mangle]
 pub extern "C" fn rolvenko_translate(text: &[u8], image: &mut [u8]) -> u64
@@ -22,8 +17,8 @@ pub extern "C" fn rolvenko_translate(text: &[u8], image: &mut [u8]) -> u64
     ensures { λ r. ⌜ now (image .exit) ≡ translationOf (now (text .entry)) (now (image .entry)) .buffer ⌝ }
 {
     match translate::translate(text, image) {
-        translate::Translated::Image(length) => pack(0, 0, length as u64),
-        translate::Translated::Refused(number, place) => pack(number, place, 0),
+        translate::Translated::Image(length) => paused::pack(0, 0, length as u64),
+        translate::Translated::Refused(number, place) => paused::pack(number, place, 0),
     }
 }
 
@@ -33,7 +28,7 @@ pub extern "C" fn rolvenko_check(image: &[u8]) -> u64
 {
     match checker::check(image) {
         checker::Checked::Sound => 0,
-        checker::Checked::Refused(number, place) => pack(number, place, 0),
+        checker::Checked::Refused(number, place) => paused::pack(number, place, 0),
     }
 }
 
@@ -44,7 +39,7 @@ pub extern "C" fn rolvenko_start(image: &[u8], state: &mut [i32]) -> u64
 {
     match scan::start(image, state) {
         scan::Started::Done => 0,
-        scan::Started::Refused(number, place) => pack(number, place, 0),
+        scan::Started::Refused(number, place) => paused::pack(number, place, 0),
     }
 }
 
@@ -54,8 +49,8 @@ pub extern "C" fn rolvenko_scan(image: &[u8], state: &mut [i32], row: &[i32]) ->
     ensures { λ r. ⌜ now (state .exit) ≡ scanOf (now (image .entry)) (now (state .entry)) (now (row .entry)) .state ⌝ }
 {
     match scan::scan(image, state, row) {
-        scan::Scanned::Done(steps) => pack(0, 0, steps as u64),
-        scan::Scanned::Refused(number, place, steps) => pack(number, place, steps as u64),
+        scan::Scanned::Done(steps) => paused::pack(0, 0, steps as u64),
+        scan::Scanned::Refused(number, place, steps) => paused::pack(number, place, steps as u64),
     }
 }
 
@@ -66,7 +61,7 @@ pub extern "C" fn rolvenko_clock(text: &[u8], table: &[i64], utc: i64, row: &mut
 {
     match clock::fill(text, table, utc, row) {
         clock::Filled::Done => 0,
-        clock::Filled::Refused(number, place) => pack(number, place, 0),
+        clock::Filled::Refused(number, place) => paused::pack(number, place, 0),
     }
 }
 
@@ -84,7 +79,7 @@ pub extern "C" fn rolvenko_charge(
 {
     match charge::charge(image, id, trace, minutes, threshold, rate, rate_above) {
         charge::Charged::Sum(cents, sixtieths) => 60 * cents + sixtieths,
-        charge::Charged::Refused(number, place) => pack(number, place, 0),
+        charge::Charged::Refused(number, place) => paused::pack(number, place, 0),
     }
 }
 
@@ -96,7 +91,7 @@ pub extern "C" fn rolvenko_closed(image: &[u8]) -> u64
     let answer = profile.answer;
     match answer {
         closed::Closing::Closed => 0,
-        closed::Closing::Refused(number, at) => pack(number, at, 0),
+        closed::Closing::Refused(number, at) => paused::pack(number, at, 0),
     }
 }
 
@@ -113,6 +108,43 @@ pub extern "C" fn rolvenko_combination(
 {
     match closed::combination(image, index as usize, state, row) {
         closed::Closing::Closed => 0,
-        closed::Closing::Refused(number, place) => pack(number, place, 0),
+        closed::Closing::Refused(number, place) => paused::pack(number, place, 0),
     }
+}
+
+#[no_mangle]
+pub extern "C" fn rolvenko_post(paused: &mut [i32], image: &[u8], row: &[i32]) -> u64
+    ensures { λ r. ⌜ r ≡ packedResponse (postOf (now (image .entry)) (now (row .entry)) (now (paused .entry)) .reply) ⌝ }
+    ensures { λ _. ⌜ now (paused .exit) ≡ postOf (now (image .entry)) (now (row .entry)) (now (paused .entry)) .cells ⌝ }
+{
+    let response = lifecycle::post(paused, image, row);
+    paused::pack_response(response)
+}
+
+#[no_mangle]
+pub extern "C" fn rolvenko_begin(paused: &mut [i32], image: &[u8], state: &[i32]) -> u64
+    ensures { λ r. ⌜ r ≡ packedResponse (beginOf (now (image .entry)) (now (state .entry)) (now (paused .entry)) .reply) ⌝ }
+    ensures { λ _. ⌜ now (paused .exit) ≡ beginOf (now (image .entry)) (now (state .entry)) (now (paused .entry)) .cells ⌝ }
+{
+    let response = lifecycle::begin(paused, image, state);
+    paused::pack_response(response)
+}
+
+#[no_mangle]
+pub extern "C" fn rolvenko_advance(paused: &mut [i32], image: &[u8], steps: usize) -> u64
+    ensures { λ r. ⌜ r ≡ packedResponse (advanceOf (now (image .entry)) steps (now (paused .entry)) .reply) ⌝ }
+    ensures { λ _. ⌜ now (paused .exit) ≡ advanceOf (now (image .entry)) steps (now (paused .entry)) .cells ⌝ }
+{
+    let response = resumable::advance(paused, image, steps);
+    paused::pack_response(response)
+}
+
+#[no_mangle]
+pub extern "C" fn rolvenko_finish(paused: &mut [i32], state: &mut [i32]) -> u64
+    ensures { λ r. ⌜ r ≡ packedResponse (finishOf (now (state .entry)) (now (paused .entry)) .reply) ⌝ }
+    ensures { λ _. ⌜ now (paused .exit) ≡ finishOf (now (state .entry)) (now (paused .entry)) .cells ⌝ }
+    ensures { λ _. ⌜ now (state .exit) ≡ finishOf (now (state .entry)) (now (paused .entry)) .state ⌝ }
+{
+    let response = lifecycle::finish(paused, state);
+    paused::pack_response(response)
 }

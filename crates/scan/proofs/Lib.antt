@@ -2,3 +2,4 @@ pub mod Scanning
 pub mod Images
 pub mod Joined
 pub mod SoundScans
+pub mod Steps

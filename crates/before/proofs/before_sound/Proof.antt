@@ -22,10 +22,10 @@ counted c =
     (subst (CountedWithin (length (c .before .before .before .before .before .args .image .now))) (k .1) (c .before .before .before .counts .ensures .1))
 
 returns-2 : tie.Need-returns-2
-returns-2 c = (before-state (c .before .before .before .before .before .before .args .image .now) (c .before .before .before .before .before .before .args .state .now) (c .before .before .before .before .before .before .args .row .now) (c .before .before .before .before .before .before .pre .0) (counted (c .before)) (c .if1 .taken), tt)
+returns-2 c = (before-state (c .before .before .before .before .before .before .args .image .now) (c .before .before .before .before .before .before .args .state .now) (c .before .before .before .before .before .before .args .row .now) (c .before .before .before .before .before .before .pre .0) (counted (c .before)) (c .if1 .taken), omega arith)
 
 returns-3 : tie.Need-returns-3
-returns-3 c = (before-row (c .before .before .before .before .before .before .before .args .image .now) (c .before .before .before .before .before .before .before .args .state .now) (c .before .before .before .before .before .before .before .args .row .now) (c .before .before .before .before .before .before .before .pre .0) (counted (c .before .before)) (c .before .if1 .left) (c .if2 .taken), tt)
+returns-3 c = (before-row (c .before .before .before .before .before .before .before .args .image .now) (c .before .before .before .before .before .before .before .args .state .now) (c .before .before .before .before .before .before .before .args .row .now) (c .before .before .before .before .before .before .before .pre .0) (counted (c .before .before)) (c .before .if1 .left) (c .if2 .taken), omega arith)
 
 before-names-requires : tie.Need-before-names-requires
 before-names-requires c κs = (

@@ -4,7 +4,7 @@ use mathlib.Core.Path.{_≡_}
 use mathlib.Core.List.{List}
 use lib.IntN.{ℤ}
 use lib.ListN.{length, take}
-use Rattle.limits.specs.Limits.{nameLimit, stateOutOfRange, inputOutOfRange}
+use Rattle.limits.specs.Limits.{imageLimit, nameLimit, stateOutOfRange, inputOutOfRange}
 use Rattle.limits.specs.Answer.{Answer, accepted, refused}
 use Rattle.semantics.specs.Program.{Range}
 use Rattle.semantics.specs.Formula.{State}
@@ -36,9 +36,10 @@ pub record Begun (image : List ℕ) (s : State) (row : List ℤ) (low high work 
   pub highest : take (length s) high ≡ highs (headerOf image .ranges)
   pub copied : take (length s) work ≡ withInputs s row
 
+-- of a refused one, how large its place is
 abbrev pub BegunBy : List ℕ → State → List ℤ → List ℤ → List ℤ → List ℤ → Before → Type 0
 BegunBy image s row low high work (T.Code place) = Begun image s row low high work place
-BegunBy image s row low high work (T.Refused number place) = Unit {0}
+BegunBy image s row low high work (T.Refused number place) = place ≤ imageLimit
 
 -- there are as many ranges, at most 64, and no fewer names than inputs
 pub record Announced (image : List ℕ) (first : ℕ) (state row : List ℤ) : Type 0 where

@@ -9,7 +9,8 @@ use mir.Syntax.{w32}
 use mir.Val.{SFits, toZ, ofZ}
 use Rattle.arith.proofs.Laws.{same32}
 use Rattle.leb128.specs.Numbers.{zigzag as zigzagOf}
-use Rattle.leb128.proofs.Signs.{not-below, is-below, mirror-negsuc}
+use Rattle.arith.proofs.Signs.{not-below, is-below}
+use Rattle.leb128.proofs.Signs.{mirror-negsuc}
 use Rattle.leb128.proofs.zigzag.Statement.{statement}
 use Rattle.leb128.proofs.zigzag.Tie as tie
 

@@ -16,11 +16,7 @@ use Rattle.machine.specs.declared.Stepped.the-variants.{Next, Refused}
 use Rattle.machine.specs.declared.Executed.{Executed}
 use Rattle.machine.specs.Step.{Machine, machine, step}
 use Rattle.machine.specs.Runs.{Ran, ran}
-
--- the values held: the first n cells of the memory lent for them, the last first
-unfoldable pub heldOf : List ℤ → ℕ → List ℤ
-heldOf vals zero = []
-heldOf vals (suc n) = getD vals n (pos 0) ∷ heldOf vals n
+unfoldable pub use Rattle.machine.specs.States.{heldOf}
 
 -- the machine that registers, values held and current values stand for
 abbrev pub machineOf : Registers → List ℤ → State → Machine

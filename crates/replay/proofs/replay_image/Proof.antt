@@ -17,7 +17,7 @@ returns-2 : tie.Need-returns-2
 returns-2 c buffer =
     let a = c .before .before .before .before .before .before .before .before .before .before .before .before .before .before .before .before .before .before .before .before .before .before .before .before .args in
     replay-done _ _ (rowsOf (a .cells .now) (a .lengths .now)) _ _ (a .numbers .now) (a .steps .now) _ _ _ _ _ _ _ _ _ (ap (λ (r : Started). afterStart r (c .before .before .before .before .before .before .before .before .before .before .before .before .before .before .before .before .before .before .start .last .1 .0)) (sym (c .before .before .before .before .before .before .before .before .before .before .before .before .before .before .before .enum-told .given .1)) ∙ c .before .before .before .before .before .before .before .before .before .before .before .before .before .before .before .before .before .before .start .ensures .0)
-    (c .before .before .before .before .before .before .before .before .before .before .before .before .store-state .ensures .1) (c .before .before .before .before .before .before .before .before .before .before .before .before .store-state .ensures .0) (c .before .before .before .before .before .before .scan-rows .ensures)
+    (c .before .before .before .before .before .before .before .before .before .before .before .before .store .ensures .1) (c .before .before .before .before .before .before .before .before .before .before .before .before .store .ensures .0) (c .before .before .before .before .before .before .scan-rows .ensures)
 
 pub replay-image-spec : {M : Type 1} → statement M
 replay-image-spec =

@@ -17,7 +17,7 @@ returns c =
     let start = at-behind .before .before .before .before .before .before in
     let a = start .args in
     row-done _ (a .cells .now) (a .lengths .now) (a .cursor) (at-behind .behind .result) _ _ _ _ _ _ _ (at-behind .behind .ensures) _ _ _
-    (ap (λ (r : Scanned). afterScan r (at-scan .scan .last .1 .0)) (sym (at-scanned .scanned .given .1)) ∙ at-scan .scan .ensures .0) (at-store-number .store-number .ensures) (at-store-steps .store-steps .ensures) (c .before .store-state .ensures .1) (c .before .store-state .ensures .0)
+    (ap (λ (r : Scanned). afterScan r (at-scan .scan .last .1 .0)) (sym (at-scanned .scanned .given .1)) ∙ at-scan .scan .ensures .0) (at-store-number .store-number .ensures) (at-store-steps .store-steps .ensures) (c .before .store .ensures .1) (c .before .store .ensures .0)
 
 returns-2 : tie.Need-returns-2
 returns-2 c =

@@ -9,7 +9,8 @@ use lib.Signed.{mag, leZ}
 use borrow.Author.Needs.{needs}
 use mir.Syntax.{w32}
 use mir.Val.{SFits, toZ, ofZ}
-use Rattle.leb128.proofs.Signs.{not-below, is-below, mirror-negsuc}
+use Rattle.arith.proofs.Signs.{not-below, is-below}
+use Rattle.leb128.proofs.Signs.{mirror-negsuc}
 use Rattle.arith.proofs.Laws.{same32}
 use Rattle.trace_text.specs.Output.{unsignedDecimal, decimalOf}
 use Rattle.trace_text.proofs.Puts.{put-then}

@@ -1,0 +1,143 @@
+-- The memory agrees with what is expected: the scan in it is the run of the undivided scan, as far as its steps were done. Assumes nothing.
+use Prim.Native.Nat.{ℕ, zero, suc, _+_, _-_, _≤_, _<_, min}
+use native.Mathlib.Omega.{arith}
+use mathlib.Core.Path.{_≡_, refl, sym, ap, subst, _∙_}
+use mathlib.Core.Bool.{Bool, true, false}
+use mathlib.Core.List.{List, []}
+use mathlib.Core.Option.{Option, none, some}
+use lib.IntN.{ℤ}
+use lib.ListN.{length, drop, length-drop}
+use Rattle.limits.specs.Limits.{imageLimit, nameLimit, pausedLength}
+use Rattle.arith.specs.Values.{Outcome, ok, refusal}
+use Rattle.semantics.specs.Formula.{State}
+use Rattle.semantics.specs.ReferenceScan.{withInputs}
+use Rattle.bytecode.specs.Parts.{headerOf, codeOf, lows, highs}
+use Rattle.machine.specs.Step.{Machine, machine}
+use Rattle.machine.specs.Runs.{Ran, ran, run, resume}
+use Rattle.machine.proofs.Laws.{run-end, run-divided}
+use Rattle.machine.proofs.Copies.{length-over}
+use Rattle.machine.proofs.Refusals.{RefusedByRules}
+use Rattle.machine.proofs.SoundRuns.{runOfImage, sound-by-rules}
+use Rattle.runs.proofs.Divided.{run-place, run-counts, run-exact, run-min, run-goes}
+use Rattle.runs.proofs.Sizes.{Sized, SizedIn, run-sized}
+use Rattle.scan.specs.Services.{AfterScan, finished, scanCode, scanOf}
+use Rattle.paused.specs.Memory.{startPlace, lowPlace, highPlace, slice, checkpointOf, shapeOf, waitingOf}
+use Rattle.lifecycle.specs.Calls.{shapeFor}
+use Rattle.divided.specs.Expected.{Scan, whole, Played, Expected}
+use Rattle.divided.proofs.May.{Placed, placed, May}
+use Rattle.divided.proofs.Left.{Stands, Numbered}
+
+-- the first b instructions of a scan
+abbrev pub goes : Scan → ℕ → Ran
+goes o b = runOfImage (o .image) (o .start) (withInputs (o .start) (o .row)) b
+
+abbrev pub codeLength : Scan → ℕ
+codeLength o = length (codeOf (o .image))
+
+pub record Standing (image : List ℕ) (cells : List ℤ) (o : Scan) : Type 0 where
+  pub same : image ≡ o .image
+  pub may : May (o .image) (o .start) (o .row)
+  pub shape : shapeOf cells ≡ shapeFor (o .image) (o .start)
+  pub start : slice startPlace (length (o .start)) cells ≡ o .start
+  pub low : slice lowPlace (length (o .start)) cells ≡ lows (headerOf (o .image) .ranges)
+  pub high : slice highPlace (length (o .start)) cells ≡ highs (headerOf (o .image) .ranges)
+  pub reached : Ran
+  pub went : goes o (o .done) ≡ reached
+  pub counted : reached .steps ≡ o .done
+  pub stands : Stands cells (length (o .start)) (codeLength o) (o .done) (reached .place) (reached .last)
+
+abbrev pub ScanIn : List ℕ → List ℤ → Option Scan → Type 0
+ScanIn image cells none = checkpointOf cells .phase ≡ 0
+ScanIn image cells (some o) = Standing image cells o
+
+pub record Agrees (image : List ℕ) (cells : List ℤ) (w : Option (List ℤ)) (o : Option Scan) : Type 0 where
+  pub long : length cells ≡ pausedLength
+  pub waits : waitingOf cells ≡ w
+  pub scan : ScanIn image cells o
+
+pub record Matches (a : Played) (e : Expected) : Type 0 where
+  pub said : a .said ≡ e .said
+  pub agrees : Agrees (a .image) (a .cells) (e .waiting) (e .scan)
+
+-- ---- every run of the scan
+
+module _ (o : Scan) (y : May (o .image) (o .start) (o .row)) where
+  pub few-names : length (o .start) ≤ nameLimit
+  few-names = omega (arith, placed (o .image) (y .sound) .few, y .names)
+
+  pub code-short : codeLength o ≤ imageLimit
+  unfolding codeOf
+  code-short = simp length-drop (omega (arith, placed (o .image) (y .sound) .short))
+
+  first : Machine
+  first = machine false false [] (withInputs (o .start) (o .row))
+
+  pub first-sized : Sized (length (o .start)) (machine false false [] (withInputs (o .start) (o .row)))
+  first-sized = (omega arith, length-over (o .row) (o .start) (omega (arith, y .rows, y .names, placed (o .image) (y .sound) .inputs)))
+
+  pub goes-sized : (b : ℕ) → SizedIn (length (o .start)) (goes o b .last)
+  goes-sized b = run-sized (headerOf (o .image) .ranges) (o .start) (length (o .start)) (codeOf (o .image)) b 0 0 (machine false false [] (withInputs (o .start) (o .row))) first-sized
+
+  pub goes-place : (b : ℕ) → goes o b .place ≤ imageLimit
+  goes-place b = run-place (headerOf (o .image) .ranges) (o .start) (codeOf (o .image)) imageLimit b 0 0 (machine false false [] (withInputs (o .start) (o .row))) (omega arith) code-short
+
+  numbered : (r : Outcome Machine) → RefusedByRules r → Numbered r
+  numbered (ok m) h = tt
+  numbered (refusal k) h = omega (arith, h .most)
+
+  pub goes-numbered : (b : ℕ) → Numbered (goes o b .last)
+  goes-numbered b = numbered (goes o b .last) (sound-by-rules (o .image) (y .sound) (o .start) (withInputs (o .start) (o .row)) b)
+
+  -- the steps of the whole scan
+  pub goes-min : (b : ℕ) → goes o b .steps ≡ min b (goes o (codeLength o) .steps)
+  goes-min b = run-min (headerOf (o .image) .ranges) (o .start) (codeOf (o .image)) b (codeLength o) (machine false false [] (withInputs (o .start) (o .row))) (omega arith)
+
+  pub goes-within : goes o (codeLength o) .steps ≤ codeLength o
+  goes-within = omega (arith, run-counts (headerOf (o .image) .ranges) (o .start) (codeOf (o .image)) (codeLength o) 0 0 (machine false false [] (withInputs (o .start) (o .row))) .1)
+
+  pub whole-finished : whole o ≡ finished (o .start) (goes o (codeLength o) .steps) (goes o (codeLength o) .last)
+  unfolding scanCode
+  whole-finished = y .whole
+
+  finished-steps : (s : State) (n : ℕ) (r : Outcome Machine) → finished s n r .steps ≡ n
+  finished-steps s n (ok (machine b c vs t)) = refl
+  finished-steps s n (refusal k) = refl
+
+  pub whole-steps : whole o .steps ≡ goes o (codeLength o) .steps
+  whole-steps = ap (λ (a : AfterScan). a .steps) whole-finished ∙ finished-steps (o .start) (goes o (codeLength o) .steps) (goes o (codeLength o) .last)
+
+-- ---- where it stands
+
+module _ {image : List ℕ} {cells : List ℤ} (o : Scan) (x : Standing image cells o) where
+  pub on-from : (b : ℕ) → goes o (o .done + b) ≡ resume (headerOf (o .image) .ranges) (o .start) (codeOf (o .image)) b (x .reached .last) (x .reached .place) (x .reached .steps)
+  on-from b = rw (← (x .went)) (run-divided (headerOf (o .image) .ranges) (o .start) (codeOf (o .image)) (o .done) b 0 0 (machine false false [] (withInputs (o .start) (o .row))))
+
+  pub done-within : o .done ≤ whole o .steps
+  done-within = omega (arith, goes-min o (x .may) (o .done), ap (λ (r : Ran). r .steps) (x .went), x .counted, whole-steps o (x .may))
+
+  -- nothing is left to do
+  no-more : goes o (o .done + codeLength o) .steps ≡ x .reached .steps → whole o .steps ≡ o .done
+  no-more e = omega (arith, e, goes-min o (x .may) (o .done + codeLength o), goes-within o (x .may), whole-steps o (x .may), x .counted)
+
+  pub over-refused : (k : ℕ) → x .reached .last ≡ refusal k → whole o .steps ≡ o .done
+  over-refused k e = no-more (ap (λ (r : Ran). r .steps) (on-from (codeLength o)) ∙ rw e)
+
+  pub over-ended : (m : Machine) → x .reached .last ≡ ok m → codeLength o ≤ x .reached .place → whole o .steps ≡ o .done
+  over-ended m e h =
+      no-more
+      (ap (λ (r : Ran). r .steps) (on-from (codeLength o))
+      ∙ rw (e, run-end (headerOf (o .image) .ranges) (o .start) (codeOf (o .image)) (codeLength o) (x .reached .place) (x .reached .steps) m h))
+
+  pub not-over : (m : Machine) → x .reached .last ≡ ok m → x .reached .place < codeLength o → o .done < whole o .steps
+  not-over m e h =
+      let r = run-goes (headerOf (o .image) .ranges) (o .start) (codeOf (o .image)) (x .reached .place) (x .reached .steps) 0 m h in
+      let q : goes o (o .done + 1) .steps ≡ run (headerOf (o .image) .ranges) (o .start) (codeOf (o .image)) 1 (x .reached .place) (x .reached .steps) m .steps = ap (λ (r : Ran). r .steps) (on-from 1) ∙ rw e in
+      omega (arith, r, q, goes-min o (x .may) (o .done + 1), whole-steps o (x .may), x .counted)
+
+  -- at the end the run is the whole one
+  pub whole-is : whole o .steps ≡ o .done → whole o ≡ finished (o .start) (o .done) (x .reached .last)
+  whole-is e =
+      let n : goes o (codeLength o) .steps ≡ o .done = sym (whole-steps o (x .may)) ∙ e in
+      let z : goes o (o .done) ≡ goes o (codeLength o) =
+      run-exact (headerOf (o .image) .ranges) (o .start) (codeOf (o .image)) (codeLength o) 0 0 (o .done) (machine false false [] (withInputs (o .start) (o .row))) (omega (arith, n)) in
+      whole-finished o (x .may) ∙ rw (n, ← z, x .went)

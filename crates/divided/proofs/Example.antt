@@ -1,0 +1,50 @@
+-- Worked calls: L2 of document 01 in instalments of 3 and 9, with a finish after each, from a memory of zeros. Assumes nothing.
+use Prim.Native.Nat.{ℕ}
+use mathlib.Core.Path.{_≡_, refl, _∙_}
+use mathlib.Core.List.{List, [], _∷_}
+use mathlib.Core.Option.{none}
+use lib.IntN.{ℤ, pos}
+use lib.ListN.{replicate}
+use Rattle.limits.specs.Limits.{pausedLength}
+use Rattle.arith.specs.Values.{arithmetic, negation, compares}
+use Rattle.semantics.specs.Program.{within}
+use Rattle.semantics.specs.ReferenceScan.{picked}
+use Rattle.leb128.specs.Numbers.{unzigzag, numberAt, signedAt, groups, grouped, numberIn, below32}
+use Rattle.bytecode.specs.Instructions.{instructionOf, hasOperand, fetch}
+use Rattle.bytecode.specs.Check.{checkCounts, checkRange, checkHeader, checkBody, checkOf}
+use Rattle.bytecode.specs.Parts.{headerOf, codeOf}
+use Rattle.machine.specs.Step.{bit, yes}
+use Rattle.scan.specs.Services.{scanCode, scanOf}
+use Rattle.paused.specs.declared.Response.the-variants as R
+use Rattle.paused.specs.Memory.{clipped, checkpointOf, waitingLength, waitingOf}
+use Rattle.divided.specs.Expected.{Call, post, begin, advance, finish, Said, says, leaves, play, expectedSaid}
+use Rattle.divided.proofs.Undivided.{as-undivided}
+
+abbrev latch : List ℕ
+latch = 0 ∷ 1 ∷ 0 ∷ 2 ∷ 0 ∷ 3 ∷ 0 ∷ 1 ∷ 0 ∷ 10 ∷ 19 ∷ 1 ∷ 2 ∷ 20 ∷ 0 ∷ 22 ∷ 0 ∷ []
+
+abbrev zeros : List ℤ
+zeros = replicate pausedLength (pos 0)
+
+abbrev calls : List Call
+calls =
+    post latch [] ∷ begin latch (pos 0 ∷ []) ∷ advance 3 ∷ finish (pos 0 ∷ []) ∷ advance 9 ∷ finish (pos 1 ∷ []) ∷ finish (pos 0 ∷ [])
+    ∷ finish (pos 1 ∷ []) ∷ []
+
+abbrev answers : List Said
+answers =
+    says (R.Done 0) ∷ says (R.Done 0) ∷ says (R.Done 3) ∷ leaves (R.Unfinished 0) (pos 0 ∷ []) ∷ says (R.Done 4) ∷ leaves (R.Refused 24 0 0) (pos 1 ∷ [])
+    ∷ leaves (R.Done 7) (pos 1 ∷ [])
+    ∷ leaves R.Idle (pos 1 ∷ []) ∷ []
+
+-- what is expected, computed
+latch-expected : expectedSaid calls (waitingOf zeros) none ≡ answers
+unfolding unzigzag grouped groups numberIn below32 numberAt signedAt instructionOf hasOperand fetch checkCounts checkRange checkHeader checkBody checkOf headerOf codeOf bit yes within picked arithmetic negation compares scanCode scanOf clipped waitingLength waitingOf
+latch-expected = refl
+
+no-scan : checkpointOf zeros .phase ≡ 0
+unfolding clipped checkpointOf
+no-scan = refl
+
+pub latch-divided : play calls [] zeros ≡ answers
+latch-divided = as-undivided calls zeros refl no-scan ∙ latch-expected

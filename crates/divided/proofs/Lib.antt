@@ -1,0 +1,11 @@
+pub mod May
+pub mod Left
+pub mod Stored
+pub mod Agrees
+pub mod Posting
+pub mod Starting
+pub mod Instalments
+pub mod Finishing
+pub mod Undivided
+pub mod Yardstick
+pub mod Example

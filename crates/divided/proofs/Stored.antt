@@ -1,0 +1,129 @@
+-- What is read back from the memory after a post, a start and a finish. Assumes nothing.
+use Prim.Native.Nat.{ℕ, zero, suc, _+_, _≤_, _<_}
+use native.Mathlib.Omega.{arith}
+use mathlib.Core.Path.{_≡_, refl, sym, ap, _∙_}
+use mathlib.Core.Bool.{Bool, true, false, cond}
+use mathlib.Core.List.{List, [], _∷_, map}
+use mathlib.Core.Option.{Option, none, some}
+use lib.IntN.{ℤ, pos}
+use lib.ListN.{length, getD, set, length-map, length-set}
+use lib.Seq.{sets, length-sets, getD-set-same, getD-set-other}
+use Rattle.limits.specs.Limits.{imageLimit, nameLimit, pausedLength}
+use Rattle.semantics.specs.Program.{Range}
+use Rattle.semantics.specs.Formula.{State}
+use Rattle.bytecode.specs.Parts.{headerOf, lows, highs}
+use Rattle.paused.specs.Memory.{shapePlace, startPlace, lowPlace, highPlace, rowPlace, waitingPlace, slice, clipped, checkpointOf, shapeOf, shapeCells, waitingLength, waitingIn, waitingOf}
+use Rattle.paused.proofs.ReadBack.{getD-sets-before, getD-sets-behind, getD-sets-same, slice-sets-before, slice-sets-behind, slice-sets-same, clipped-is, clipped-alike, shape-alike, shape-stored, waiting-alike}
+use Rattle.lifecycle.specs.Calls.{shapeFor, formed, taken, withRow, over}
+use Rattle.divided.proofs.May.{Placed}
+
+checkpoint-alike : (l m : List ℤ) → ((j : ℕ) → j < 7 → getD l j (pos 0) ≡ getD m j (pos 0)) → checkpointOf l ≡ checkpointOf m
+unfolding checkpointOf
+checkpoint-alike l m e =
+    rw (
+      clipped-alike l m 0 3 (e 0 (omega arith)),
+      clipped-alike l m 1 30 (e 1 (omega arith)),
+      clipped-alike l m 2 65536 (e 2 (omega arith)),
+      clipped-alike l m 3 65536 (e 3 (omega arith)),
+      clipped-alike l m 4 40 (e 4 (omega arith)),
+      clipped-alike l m 5 1 (e 5 (omega arith)),
+      clipped-alike l m 6 1 (e 6 (omega arith)),
+    )
+
+-- ---- the row that waits
+
+-- stores that leave the scan alone
+pub record Apart (cells left : List ℤ) : Type 0 where
+  pub long : length left ≡ length cells
+  pub progress : checkpointOf left ≡ checkpointOf cells
+  pub shape : shapeOf left ≡ shapeOf cells
+  pub lists : (at n : ℕ) → 80 ≤ at → slice at n left ≡ slice at n cells
+
+apart-sets : (vs cells : List ℤ) (i : ℕ) → 11 ≤ i → i + length vs ≤ 80 → Apart cells (sets cells i vs)
+apart-sets vs cells i a b =
+    record {
+      long = length-sets cells i vs;
+      progress = checkpoint-alike _ _ λ j h. getD-sets-before vs cells i j (omega arith);
+      shape = shape-alike _ _ λ j h k. getD-sets-before vs cells i j (omega arith);
+      lists = λ at n h. slice-sets-behind vs cells i at n (omega arith);
+    }
+
+pub apart-row : (row cells : List ℤ) → length row ≤ nameLimit → Apart cells (withRow row cells)
+apart-row row cells h =
+    let x = apart-sets row cells rowPlace (omega arith) (omega arith) in
+    let y = apart-sets (pos (length row + 1) ∷ []) (sets cells rowPlace row) waitingPlace (omega arith) (omega arith) in
+    record {
+      long = y .long ∙ x .long;
+      progress = y .progress ∙ x .progress;
+      shape = y .shape ∙ x .shape;
+      lists = λ at n k. y .lists at n k ∙ x .lists at n k;
+    }
+
+pub apart-taken : (cells : List ℤ) → Apart cells (taken cells)
+apart-taken cells = apart-sets (pos 0 ∷ []) cells waitingPlace (omega arith) (omega arith)
+
+pub waits-row : (row cells : List ℤ) → length cells ≡ pausedLength → length row ≤ nameLimit → waitingOf (withRow row cells) ≡ some row
+unfolding waitingOf waitingLength
+waits-row row cells l h =
+    let x = sets cells rowPlace row in
+    let n : length row + 1 ≡ suc (length row) = omega arith in
+    let g : getD (set x waitingPlace (pos (length row + 1))) waitingPlace (pos 0) ≡ pos (length row + 1) = getD-set-same x waitingPlace (pos (length row + 1)) (pos 0) (omega (arith, length-sets cells rowPlace row)) in
+    rw (clipped-is (withRow row cells) waitingPlace (length row + 1) (nameLimit + 1) g (omega arith))
+    (rw n
+    (ap some (slice-sets-behind (pos (suc (length row)) ∷ []) x waitingPlace rowPlace (length row) (omega arith) ∙ slice-sets-same row cells rowPlace (omega arith))))
+
+pub waits-none : (cells : List ℤ) → length cells ≡ pausedLength → waitingOf (taken cells) ≡ none
+unfolding waitingOf waitingLength
+waits-none cells l = rw (clipped-is (taken cells) waitingPlace 0 (nameLimit + 1) (getD-set-same cells waitingPlace (pos 0) (pos 0) (omega arith)) (omega arith))
+
+-- ---- a finish
+
+pub phase-over : (cells : List ℤ) → length cells ≡ pausedLength → checkpointOf (over cells) .phase ≡ 0
+unfolding checkpointOf
+phase-over cells l = clipped-is (over cells) 0 0 3 (getD-set-same cells 0 (pos 0) (pos 0) (omega arith)) (omega arith)
+
+pub waits-over : (cells : List ℤ) → waitingOf (over cells) ≡ waitingOf cells
+waits-over cells =
+    waiting-alike _ _ (getD-sets-behind (pos 0 ∷ []) cells 0 waitingPlace (omega arith)) (λ n h. slice-sets-behind (pos 0 ∷ []) cells 0 rowPlace n (omega arith))
+
+-- ---- a start
+
+pub record Formed (image : List ℕ) (s : State) (cells : List ℤ) : Type 0 where
+  pub long : length (formed image s cells) ≡ pausedLength
+  pub shape : shapeOf (formed image s cells) ≡ shapeFor image s
+  pub waits : waitingOf (formed image s cells) ≡ waitingOf cells
+  pub start : slice startPlace (length s) (formed image s cells) ≡ s
+  pub low : slice lowPlace (length s) (formed image s cells) ≡ lows (headerOf image .ranges)
+  pub high : slice highPlace (length s) (formed image s cells) ≡ highs (headerOf image .ranges)
+
+pub forms : (image : List ℕ) (s : State) (cells : List ℤ) → length cells ≡ pausedLength → Placed image → length s ≡ length (headerOf image .ranges) → Formed image s cells
+forms image s cells l y e =
+    let ns = headerOf image .ranges in
+    let ll : length (lows ns) ≡ length s = length-map ns (λ n. n .low) ∙ sym e in
+    let lh : length (highs ns) ≡ length s = length-map ns (λ n. n .high) ∙ sym e in
+    let few : length s ≤ 64 = omega (arith, e, y .few) in
+    let a = sets cells lowPlace (lows ns) in
+    let b = sets a highPlace (highs ns) in
+    let c = sets b startPlace s in
+    let f = shapeCells (shapeFor image s) in
+    let la : length a ≡ 640 = length-sets cells lowPlace (lows ns) ∙ l in
+    let lb : length b ≡ 640 = length-sets a highPlace (highs ns) ∙ la in
+    let lc : length c ≡ 640 = length-sets b startPlace s ∙ lb in
+    record {
+      long = length-sets c shapePlace f ∙ lc;
+      shape = shape-stored c (shapeFor image s) (omega arith) (y .short) (y .inside) few;
+      waits =
+          waiting-alike _ _
+          (getD-sets-behind f c shapePlace waitingPlace (omega arith) ∙ getD-sets-before s b startPlace waitingPlace (omega arith) ∙ getD-sets-before (highs ns) a highPlace waitingPlace (omega arith)
+          ∙ getD-sets-before (lows ns) cells lowPlace waitingPlace (omega arith))
+          (λ n h.
+          slice-sets-behind f c shapePlace rowPlace n (omega arith) ∙ slice-sets-before s b startPlace rowPlace n (omega arith) ∙ slice-sets-before (highs ns) a highPlace rowPlace n (omega arith)
+          ∙ slice-sets-before (lows ns) cells lowPlace rowPlace n (omega arith));
+      start = slice-sets-behind f c shapePlace startPlace (length s) (omega arith) ∙ slice-sets-same s b startPlace (omega arith);
+      low =
+          slice-sets-behind f c shapePlace lowPlace (length s) (omega arith) ∙ slice-sets-behind s b startPlace lowPlace (length s) (omega arith)
+          ∙ slice-sets-before (highs ns) a highPlace lowPlace (length s) (omega arith) ∙ (rw ll at (slice-sets-same (lows ns) cells lowPlace (omega arith)));
+      high =
+          slice-sets-behind f c shapePlace highPlace (length s) (omega arith) ∙ slice-sets-behind s b startPlace highPlace (length s) (omega arith)
+          ∙ (rw lh at (slice-sets-same (highs ns) a highPlace (omega arith)));
+    }

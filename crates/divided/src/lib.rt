@@ -1,0 +1,1 @@
+// Scans in instalments are scans: definitions and laws only.

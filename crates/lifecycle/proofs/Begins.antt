@@ -1,0 +1,87 @@
+-- The tests of a start. Assumes nothing.
+use Prim.Native.Nat.{ℕ, zero, suc, _+_, _-_, _≤_, _<_}
+use native.Mathlib.Omega.{arith}
+use mathlib.Core.Path.{_≡_, refl, sym, ap, _∙_}
+use mathlib.Core.Bool.{false}
+use mathlib.Core.List.{List, []}
+use lib.IntN.{ℤ}
+use lib.ListN.{length, take, drop, length-drop}
+use borrow.Author.Tests.{eq-eqb, ne-eqb}
+use Rattle.before.specs.Before.{beforeCode, mayScan}
+use Rattle.limits.specs.Limits.{imageLimit, pausedLength}
+use Rattle.limits.specs.Answer.{Answer, accepted, refused}
+use Rattle.semantics.specs.Formula.{State}
+use Rattle.semantics.specs.ReferenceScan.{withInputs}
+use Rattle.bytecode.specs.Check.{checkOf}
+use Rattle.bytecode.specs.Parts.{headerOf, codeOf}
+use Rattle.bytecode.proofs.Walk.{check-sound}
+use Rattle.paused.specs.declared.Checkpoint.{Checkpoint}
+use Rattle.paused.specs.declared.Response.the-variants as R
+use Rattle.paused.specs.Memory.{rowPlace, slice, checkpointOf, waitingLength, waitingOf}
+use Rattle.resumable.specs.Instalment.{afterCall}
+use Rattle.lifecycle.specs.Calls.{startedIn, taken, beginOf}
+use Rattle.before.specs.Inner.Known.{Begun}
+use Rattle.paused.proofs.Clipped.{clipped-most}
+use Rattle.lifecycle.specs.Inner.Parts.{keptStart}
+
+-- the row that waits is short
+pub waiting-most : (cells : List ℤ) → waitingLength cells ≤ 65
+unfolding waitingLength
+waiting-most cells = clipped-most cells 13 65
+
+-- an image that passes the tests is no longer than allowed
+pub image-short : (image : List ℕ) (s : State) (row : List ℤ) → accepted tt ≡ beforeCode image s row → length image ≤ imageLimit
+unfolding beforeCode
+image-short image s row e = check-sound image (checked (checkOf image) refl (sym e)) .short
+  where
+    checked : (a : Answer (Unit {0})) → checkOf image ≡ a → mayScan a (headerOf image) s row ≡ accepted tt → checkOf image ≡ accepted tt
+    checked (accepted tt) k q = k
+    checked (refused n p) k q = absurd (let z : _≡_ {A = ℕ} 0 1 = cc in omega arith)
+
+pub some-row : (w : ℕ) → (w ≡ 0 → ⊥) → w ≡ suc (15 + w - 16)
+some-row w h = by w h
+  where
+    by : (w : ℕ) → (w ≡ 0 → ⊥) → w ≡ suc (15 + w - 16)
+    by zero h = absurd (h refl)
+    by (suc w) h = omega arith
+
+module _ (image : List ℕ) (s : State) (cells : List ℤ) where
+  pub begin-elsewhere : (length cells ≡ pausedLength → ⊥) → afterCall R.Idle cells ≡ beginOf image s cells
+  unfolding beginOf
+  begin-elsewhere h = rw (ne-eqb (length cells) pausedLength h)
+
+  module _ (l : length cells ≡ pausedLength) (p : Checkpoint) (e : p ≡ checkpointOf cells) where
+    pub begin-early : (p .phase ≡ 0 → ⊥) → afterCall (R.Unfinished 0) cells ≡ beginOf image s cells
+    unfolding beginOf
+    begin-early z = rw (eq-eqb (length cells) pausedLength l, ← e, ne-eqb (p .phase) 0 z)
+
+    module _ (z : p .phase ≡ 0) (w : ℕ) (n : w ≡ waitingLength cells) where
+      pub begin-idle : w ≡ 0 → afterCall R.Idle cells ≡ beginOf image s cells
+      unfolding beginOf waitingOf
+      begin-idle h = rw (eq-eqb (length cells) pausedLength l, ← e, eq-eqb (p .phase) 0 z, ← n, h)
+
+      module _ (h : w ≡ 0 → ⊥) where
+        pub begin-refused : (k q : ℕ) → refused k q ≡ beforeCode image s (slice rowPlace (15 + w - 16) cells) → afterCall (R.Refused k q 0) (taken cells) ≡ beginOf image s cells
+        unfolding beginOf waitingOf
+        begin-refused k q f = rw (eq-eqb (length cells) pausedLength l, ← e, eq-eqb (p .phase) 0 z, ← n, some-row w h, ← f)
+
+        pub begin-done : (low high work left : List ℤ) (place : ℕ) → accepted tt ≡ beforeCode image s (slice rowPlace (15 + w - 16) cells)
+            → Begun image s (slice rowPlace (15 + w - 16) cells) low high work place
+            → left ≡ keptStart (record { image = length image; base = place; size = length s }) s (take (length s) low) (take (length s) high) (take (length s) work) (taken cells)
+            → afterCall (R.Done 0) left ≡ beginOf image s cells
+        unfolding beginOf waitingOf codeOf
+        begin-done low high work left place f b g =
+            rw (
+              eq-eqb (length cells) pausedLength l,
+              ← e,
+              eq-eqb (p .phase) 0 z,
+              ← n,
+              some-row w h,
+              ← f,
+              g,
+              b .lowest,
+              b .highest,
+              b .copied,
+              b .code,
+              length-drop (headerOf image .place) image,
+            )

@@ -1,0 +1,4 @@
+pub mod Sameness
+pub mod Finishes
+pub mod Posts
+pub mod Begins

@@ -1,0 +1,94 @@
+-- `lifecycle::begin_in` meets its contract. Assumes nothing.
+use mathlib.Core.Path.{_≡_, sym, ap, subst, _∙_}
+use native.Mathlib.Omega.{arith}
+use Rattle.before.specs.Inner.Known.{beforeAnswer, BegunBy}
+use Rattle.lifecycle.proofs.Begins.{waiting-most, image-short, begin-elsewhere, begin-early, begin-idle, begin-refused, begin-done}
+use lib.ListN.{length, length-set}
+use borrow.Author.Needs.{needs}
+use Rattle.lifecycle.proofs.begin_in.Statement.{statement}
+use Rattle.lifecycle.proofs.begin_in.Tie as tie
+
+returns : tie.Need-returns
+returns c = (begin-elsewhere (c .before .before .args .image .now) (c .before .before .args .state .now) (c .before .before .args .paused .now) (c .if1 .taken), tt)
+
+returns-2 : tie.Need-returns-2
+returns-2 c = (begin-early (c .before .before .before .before .before .args .image .now) (c .before .before .before .before .before .args .state .now) (c .before .before .before .before .before .args .paused .now) (c .before .before .before .if1 .left) (c .before .checkpoint-in .result) (c .before .checkpoint-in .ensures) (c .if2 .taken), omega arith)
+
+returns-3 : tie.Need-returns-3
+returns-3 c =
+    (begin-idle (c .before .before .before .before .before .before .before .before .args .image .now) (c .before .before .before .before .before .before .before .before .args .state .now) (c .before .before .before .before .before .before .before .before .args .paused .now) (c .before .before .before .before .before .before .if1 .left) (c .before .before .before .before .checkpoint-in .result) (c .before .before .before .before .checkpoint-in .ensures) (c .before .before .before .if2 .left) (c .before .waiting .result) (c .before .waiting .ensures) (c .if3 .taken), tt)
+
+add-end : tie.Need-add-end
+add-end c = record { fits = omega (arith, c .before .waiting .ensures, waiting-most (c .before .before .before .before .before .before .before .before .args .paused .now)) }
+
+part-before-code-end : tie.Need-part-before-code-end
+part-before-code-end c = omega (arith, c .before .before .waiting .ensures, waiting-most (c .before .before .before .before .before .before .before .before .before .args .paused .now), c .before .before .before .before .before .before .before .if1 .left)
+
+before-code-requires : tie.Need-before-code-requires
+before-code-requires c κs =
+    let y = c .before .before .before .before .before .before .before .before .before .before .before .before .before .pre in
+    record { lows = λ h. omega (arith, h, y .lows); highs = λ h. omega (arith, h, y .highs); copies = λ h. omega (arith, h, y .copies) }
+
+begin-code-requires : tie.Need-begin-code-requires
+begin-code-requires c κs =
+    let k = c .before .before .before .before .before .tried2 .given in
+    let y = subst (BegunBy (c .before .before .before .before .before .before .before .before .before .before .before .before .before .before .before .before .before .before .before .before .before .before .before .before .before .before .before .args .image .now) (c .before .before .before .before .before .before .before .before .before .before .before .before .before .before .before .before .before .before .before .before .before .before .before .before .before .before .before .args .state .now) _ _ _ _) (k .1) (c .before .before .before .before .before .before .before .before .before .before .before .before .before .before-code .ensures .1) in
+    record {
+      cells = ap length (c .before .before .before .before .before .before .before .before .put .ensures) ∙ simp length-set (c .before .before .before .before .before .before .before .before .before .before .before .before .before .before .before .before .before .before .before .before .before .before .before .before .before .if1 .left);
+      images = image-short (c .before .before .before .before .before .before .before .before .before .before .before .before .before .before .before .before .before .before .before .before .before .before .before .before .before .before .before .args .image .now) (c .before .before .before .before .before .before .before .before .before .before .before .before .before .before .before .before .before .before .before .before .before .before .before .before .before .before .before .args .state .now) _ (sym (ap beforeAnswer (k .1)) ∙ c .before .before .before .before .before .before .before .before .before .before .before .before .before .before-code .ensures .0);
+      bases = y .inside;
+      starts = y .few;
+      lows = search needs;
+      highs = search needs;
+      copies = search needs;
+    }
+
+returns-4 : tie.Need-returns-4
+returns-4 c =
+    let k = c .before .tried .given in
+    let place = subst (BegunBy (c .before .before .before .before .before .before .before .before .before .before .before .before .before .before .before .before .before .before .before .before .before .before .before .args .image .now) (c .before .before .before .before .before .before .before .before .before .before .before .before .before .before .before .before .before .before .before .before .before .before .before .args .state .now) _ _ _ _) (k .1) (c .before .before .before .before .before .before .before .before .before .before-code .ensures .1) in (
+      rw (c .before .before .before .before .put .ensures)
+          (begin-refused (c .before .before .before .before .before .before .before .before .before .before .before .before .before .before .before .before .before .before .before .before .before .before .before .args .image .now) (c .before .before .before .before .before .before .before .before .before .before .before .before .before .before .before .before .before .before .before .before .before .before .before .args .state .now) (c .before .before .before .before .before .before .before .before .before .before .before .before .before .before .before .before .before .before .before .before .before .before .before .args .paused .now) (c .before .before .before .before .before .before .before .before .before .before .before .before .before .before .before .before .before .before .before .before .before .if1 .left) (c .before .before .before .before .before .before .before .before .before .before .before .before .before .before .before .before .before .before .before .checkpoint-in .result) (c .before .before .before .before .before .before .before .before .before .before .before .before .before .before .before .before .before .before .before .checkpoint-in .ensures) (c .before .before .before .before .before .before .before .before .before .before .before .before .before .before .before .before .before .before .if2 .left) (c .before .before .before .before .before .before .before .before .before .before .before .before .before .before .before .before .waiting .result) (c .before .before .before .before .before .before .before .before .before .before .before .before .before .before .before .before .waiting .ensures) (c .before .before .before .before .before .before .before .before .before .before .before .before .before .before .before .if3 .left) (k .0 .0) (k .0 .1 .0) (sym (ap beforeAnswer (k .1)) ∙ c .before .before .before .before .before .before .before .before .before .before-code .ensures .0)),
+      (place, omega arith),
+    )
+
+returns-5 : tie.Need-returns-5
+returns-5 c =
+    let k = c .before .before .before .before .before .before .before .tried2 .given in
+    let b = c .before .before .before .before .before .before .before .before .before .before .before .before .before .before .before .before-code in
+    let y = subst (BegunBy (c .before .before .before .before .before .before .before .before .before .before .before .before .before .before .before .before .before .before .before .before .before .before .before .before .before .before .before .before .before .args .image .now) (c .before .before .before .before .before .before .before .before .before .before .before .before .before .before .before .before .before .before .before .before .before .before .before .before .before .before .before .before .before .args .state .now) _ _ _ _) (k .1) (b .ensures .1) in
+    rw (c .before .begin-code .ensures .0) (
+      begin-done (c .before .before .before .before .before .before .before .before .before .before .before .before .before .before .before .before .before .before .before .before .before .before .before .before .before .before .before .before .before .args .image .now) (c .before .before .before .before .before .before .before .before .before .before .before .before .before .before .before .before .before .before .before .before .before .before .before .before .before .before .before .before .before .args .state .now) (c .before .before .before .before .before .before .before .before .before .before .before .before .before .before .before .before .before .before .before .before .before .before .before .before .before .before .before .before .before .args .paused .now) (c .before .before .before .before .before .before .before .before .before .before .before .before .before .before .before .before .before .before .before .before .before .before .before .before .before .before .before .if1 .left) (c .before .before .before .before .before .before .before .before .before .before .before .before .before .before .before .before .before .before .before .before .before .before .before .before .before .checkpoint-in .result) (c .before .before .before .before .before .before .before .before .before .before .before .before .before .before .before .before .before .before .before .before .before .before .before .before .before .checkpoint-in .ensures) (c .before .before .before .before .before .before .before .before .before .before .before .before .before .before .before .before .before .before .before .before .before .before .before .before .if2 .left) (c .before .before .before .before .before .before .before .before .before .before .before .before .before .before .before .before .before .before .before .before .before .before .waiting .result) (c .before .before .before .before .before .before .before .before .before .before .before .before .before .before .before .before .before .before .before .before .before .before .waiting .ensures) (c .before .before .before .before .before .before .before .before .before .before .before .before .before .before .before .before .before .before .before .before .before .if3 .left) _ _ _ (c .before .begin-code .last .0) (k .0 .0) (sym (ap beforeAnswer (k .1)) ∙ b .ensures .0) y (rw (c .before .before .before .before .before .before .before .before .before .before .put .ensures) at (c .before .begin-code .ensures .1)),
+      omega arith,
+    )
+
+pub begin-in-spec : {M : Type 1} → statement M
+begin-in-spec =
+    tie.close
+    (tie.spec
+    returns
+    (λ c κs. search needs)
+    (λ c. search needs)
+    returns-2
+    (λ c κs. search needs)
+    (λ c. search needs)
+    returns-3
+    add-end
+    (λ c. search needs)
+    (λ c. search needs)
+    part-before-code-end
+    before-code-requires
+    (λ c κs. search needs)
+    (λ c. search needs)
+    (λ c. search needs)
+    begin-code-requires
+    (λ c. search needs)
+    (λ c. search needs)
+    (λ c. search needs)
+    (λ c. search needs)
+    returns-4
+    (λ c. search needs)
+    (λ c. search needs)
+    (λ c. search needs)
+    (λ c. search needs)
+    returns-5)

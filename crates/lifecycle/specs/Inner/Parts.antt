@@ -1,0 +1,55 @@
+-- Parts of the calls as the running code works them: auxiliary definitions for proofs. Assumes nothing.
+use Prim.Native.Nat.{ℕ, _-_, _≤_}
+use mathlib.Core.Path.{_≡_}
+use mathlib.Core.Bool.{false, cond}
+use mathlib.Core.List.{List}
+use lib.Dec.{leb}
+use lib.IntN.{ℤ}
+use lib.ListN.{length}
+use lib.Seq.{sets}
+use Rattle.limits.specs.Limits.{imageLimit, nameLimit, pausedLength, stateDiffers}
+use Rattle.semantics.specs.Formula.{State}
+use Rattle.paused.specs.declared.Shape.{Shape}
+use Rattle.paused.specs.declared.Response.the-variants as R
+use Rattle.paused.specs.Memory.{shapePlace, startPlace, currentPlace, lowPlace, highPlace, slice, shapeCells, checkpointCells}
+use Rattle.lifecycle.specs.Calls.{sameValues, AfterFinish, afterFinish, over}
+
+-- a finish at the end of the code
+abbrev pub finishEnded : ℕ → ℕ → State → List ℤ → AfterFinish
+finishEnded steps size s cells =
+    cond (sameValues s (slice startPlace size cells))
+    (afterFinish (R.Done steps) (over cells) (slice currentPlace size cells))
+    (afterFinish (R.Refused stateDiffers 0 0) cells s)
+
+-- a start, stored list by list
+abbrev pub keptStart : Shape → State → List ℤ → List ℤ → List ℤ → List ℤ → List ℤ
+keptStart f s low high cur cells =
+    sets (sets (sets (sets (sets (sets cells lowPlace low) highPlace high) startPlace s) shapePlace (shapeCells f)) currentPlace cur) 0
+    (checkpointCells (record { phase = cond (leb (f .image - f .base) 0) 2 1; number = 0; place = 0; steps = 0; held = 0; picked = false; passing = false }))
+
+-- what a start keeps fits the memory
+pub record StartKeepable (memory : List ℤ) (f : Shape) (s low high cur : List ℤ) : Type 0 where
+  pub cells : length memory ≡ pausedLength
+  pub images : f .image ≤ imageLimit
+  pub bases : f .base ≤ f .image
+  pub sizes : f .size ≤ nameLimit
+  pub starts : length s ≤ nameLimit
+  pub lows : length low ≤ nameLimit
+  pub highs : length high ≤ nameLimit
+  pub current : length cur ≤ nameLimit
+
+-- the memory lent to a start that passed its tests
+pub record Beginning (memory : List ℤ) (len place : ℕ) (s low high work : List ℤ) : Type 0 where
+  pub cells : length memory ≡ pausedLength
+  pub images : len ≤ imageLimit
+  pub bases : place ≤ len
+  pub starts : length s ≤ nameLimit
+  pub lows : length low ≡ nameLimit
+  pub highs : length high ≡ nameLimit
+  pub copies : length work ≡ nameLimit
+
+-- 64 lows, highs and copies
+pub record FullScratch (low high work : List ℤ) : Type 0 where
+  pub lows : length low ≡ nameLimit
+  pub highs : length high ≡ nameLimit
+  pub copies : length work ≡ nameLimit

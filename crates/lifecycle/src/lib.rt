@@ -1,0 +1,230 @@
+// A scan in instalments finished and started, and a row posted for the next one, on the lent memory of `paused`.
+use before::Before;
+use bytecode::Counted;
+use checker::Checked;
+use machine::lists;
+use paused::Checkpoint;
+use paused::Response;
+use paused::Shape;
+ghost use mathlib.Core.Path.{_≡_};
+ghost use Prim.Native.Nat.{_≤_, _<_, _^_};
+ghost use lib.Dec.{eqb};
+ghost use lib.IntN.{pos};
+ghost use lib.ListN.{length, take, set};
+ghost use Rattle.paused.specs.Responses.{ResponseWithin};
+ghost use Rattle.before.specs.Before.{testedBefore};
+ghost use Rattle.limits.specs.Limits.{imageLimit, nameLimit, wrongLength, pausedLength};
+ghost use Rattle.limits.specs.Answer.{accepted};
+ghost use Rattle.bytecode.specs.Check.{checkOf};
+ghost use Rattle.bytecode.specs.Parts.{headerOf};
+ghost use Rattle.machine.specs.States.{rowLength};
+ghost use Rattle.resumable.specs.Instalment.{afterCall};
+ghost use Rattle.lifecycle.specs.Calls.{sameValues, afterFinish, finishOf, orRefused, beginOf, withRow, postOf};
+ghost use Rattle.lifecycle.specs.Inner.Parts.{finishEnded, keptStart, StartKeepable, Beginning, FullScratch};
+
+// A count at a place of the memory.
+fn put(memory: &mut [i32], i: usize, n: usize)
+    requires { ⌜ (i < length (now memory)) × (n < 2 ^ 31) ⌝ }
+    ensures { λ _. ⌜ now (memory .exit) ≡ set (now (memory .entry)) i (pos n) ⌝ }
+{
+    memory[i] = n as i32;
+}
+
+// The same values, as many of them.
+fn same(a: &[i32], b: &[i32]) -> bool
+    ensures { λ r. ⌜ r ≡ sameValues (now (a .entry)) (now (b .entry)) ⌝ }
+{
+    if a.len() != b.len() {
+        return false;
+    }
+    let mut i = 0;
+    while i < a.len() {
+        if !arith::is_equal(a[i], b[i]) {
+            return false;
+        }
+        i += 1;
+    }
+    true
+}
+
+// A scan at the end of its code: 24, or the state is written and the scan is over.
+fn finish_ended(memory: &mut [i32], state: &mut [i32], size: usize, steps: usize) -> Response
+    requires { ⌜ (length (now memory) ≡ pausedLength) × (size ≤ nameLimit) ⌝ }
+    requires { ⌜ steps ≤ imageLimit ⌝ }
+    ensures { λ r. ⌜ afterFinish r (now (memory .exit)) (now (state .exit)) ≡ finishEnded steps size (now (state .entry)) (now (memory .entry)) ⌝ }
+    ensures { λ r. ⌜ ResponseWithin imageLimit r ⌝ }
+{
+    if !same(state, &memory[128..128 + size]) {
+        return Response::Refused(limits::STATE_DIFFERS, 0, 0);
+    }
+    lists::fill(state, &memory[256..256 + size]);
+    put(memory, 0, 0);
+    Response::Done(steps)
+}
+
+// Idle, unfinished, the scan's refusal, 24, success. Only success writes the state.
+pub fn finish(paused: &mut [i32], state: &mut [i32]) -> Response
+    ensures { λ r. ⌜ afterFinish r (now (paused .exit)) (now (state .exit)) ≡ finishOf (now (state .entry)) (now (paused .entry)) ⌝ }
+    ensures { λ r. ⌜ ResponseWithin imageLimit r ⌝ }
+{
+    if paused.len() != limits::PAUSED_LENGTH {
+        return Response::Idle;
+    }
+    let p = paused::checkpoint_in(paused);
+    let phase = p.phase;
+    if phase == 0 {
+        return Response::Idle;
+    }
+    if phase == 1 {
+        return Response::Unfinished(0);
+    }
+    if phase == 2 {
+        let shape = paused::shape_in(paused);
+        return finish_ended(paused, state, shape.size, p.steps);
+    }
+    put(paused, 0, 0);
+    Response::Refused(p.number, 0, p.steps)
+}
+
+// What a start keeps: ranges, the state, the image's shape, the current values, and no step done.
+fn keep_start(
+    memory: &mut [i32],
+    shape: Shape,
+    state: &[i32],
+    low: &[i32],
+    high: &[i32],
+    cur: &[i32],
+)
+    requires { ⌜ StartKeepable (now memory) shape (now state) (now low) (now high) (now cur) ⌝ }
+    ensures { λ _. ⌜ now (memory .exit) ≡ keptStart shape (now (state .entry)) (now (low .entry)) (now (high .entry)) (now (cur .entry)) (now (memory .entry)) ⌝ }
+{
+    let image = shape.image;
+    let base = shape.base;
+    let code = image - base;
+    lists::store(memory, paused::LOW, low);
+    lists::store(memory, paused::HIGH, high);
+    lists::store(memory, paused::START, state);
+    paused::store_shape(memory, shape);
+    lists::store(memory, paused::CURRENT, cur);
+    let p = Checkpoint {
+        phase: resumable::phase_at(code, 0),
+        number: 0,
+        place: 0,
+        steps: 0,
+        held: 0,
+        picked: false,
+        passing: false,
+    };
+    paused::store_checkpoint(memory, p);
+}
+
+// A scan that passes the tests before its code, kept.
+fn begin_code(
+    memory: &mut [i32],
+    len: usize,
+    place: usize,
+    state: &[i32],
+    low: &[i32],
+    high: &[i32],
+    work: &[i32],
+) -> Response
+    requires { ⌜ Beginning (now memory) len place (now state) (now low) (now high) (now work) ⌝ }
+    ensures { λ r. ⌜ (r ≡ Response.Done 0) × (now (memory .exit) ≡ keptStart (record { image = len; base = place; size = length (now (state .entry)) }) (now (state .entry))
+        (take (length (now (state .entry))) (now (low .entry))) (take (length (now (state .entry))) (now (high .entry))) (take (length (now (state .entry))) (now (work .entry))) (now (memory .entry))) ⌝ }
+{
+    let size = state.len();
+    let shape = Shape {
+        image: len,
+        base: place,
+        size,
+    };
+    keep_start(
+        memory,
+        shape,
+        state,
+        &low[..size],
+        &high[..size],
+        &work[..size],
+    );
+    Response::Done(0)
+}
+
+// The waiting row is taken and the tests before the code are made, in lent memory.
+fn begin_in(
+    paused: &mut [i32],
+    image: &[u8],
+    state: &[i32],
+    low: &mut [i32],
+    high: &mut [i32],
+    work: &mut [i32],
+) -> Response
+    requires { ⌜ FullScratch (now low) (now high) (now work) ⌝ }
+    ensures { λ r. ⌜ afterCall r (now (paused .exit)) ≡ beginOf (now (image .entry)) (now (state .entry)) (now (paused .entry)) ⌝ }
+    ensures { λ r. ⌜ ResponseWithin imageLimit r ⌝ }
+{
+    if paused.len() != limits::PAUSED_LENGTH {
+        return Response::Idle;
+    }
+    let p = paused::checkpoint_in(paused);
+    let phase = p.phase;
+    if phase != 0 {
+        return Response::Unfinished(0);
+    }
+    let w = paused::waiting(paused);
+    if w == 0 {
+        return Response::Idle;
+    }
+    let end = 15 + w;
+    let tried = before::before_code(image, state, &paused[16..end], low, high, work);
+    put(paused, paused::WAITING, 0);
+    match tried {
+        Before::Refused(number, place) => Response::Refused(number, place, 0),
+        Before::Code(place) => begin_code(paused, image.len(), place, state, low, high, work),
+    }
+}
+
+// Unfinished before the last scan is over, idle without a waiting row; then 9, 11, 12, 18, 13.
+pub fn begin(paused: &mut [i32], image: &[u8], state: &[i32]) -> Response
+    ensures { λ r. ⌜ afterCall r (now (paused .exit)) ≡ beginOf (now (image .entry)) (now (state .entry)) (now (paused .entry)) ⌝ }
+    ensures { λ r. ⌜ ResponseWithin imageLimit r ⌝ }
+{
+    let mut low = [0i32; limits::NAME_LIMIT];
+    let mut high = [0i32; limits::NAME_LIMIT];
+    let mut work = [0i32; limits::NAME_LIMIT];
+    begin_in(paused, image, state, &mut low, &mut high, &mut work)
+}
+
+// The row of a sound image, or 12.
+fn post_sound(memory: &mut [i32], image: &[u8], row: &[i32]) -> Response
+    requires { ⌜ (length (now memory) ≡ pausedLength) × (checkOf (now image) ≡ accepted tt) ⌝ }
+    ensures { λ r. ⌜ afterCall r (now (memory .exit))
+        ≡ orRefused (testedBefore (eqb (length (now (row .entry))) (rowLength (headerOf (now (image .entry))))) wrongLength (accepted tt)) (now (memory .entry))
+        (afterCall (Response.Done 0) (withRow (now (row .entry)) (now (memory .entry)))) ⌝ }
+    ensures { λ r. ⌜ ResponseWithin imageLimit r ⌝ }
+{
+    let counted = bytecode::counts(image);
+    let Counted::Counts(inputs, _, _) = counted else {
+        return Response::Refused(limits::BROKEN_IMAGE, 0, 0);
+    };
+    if row.len() != inputs {
+        return Response::Refused(limits::WRONG_LENGTH, 0, 0);
+    }
+    lists::store(memory, paused::ROW, row);
+    put(memory, paused::WAITING, row.len() + 1);
+    Response::Done(0)
+}
+
+// The row waits for the next scan. 9, 11, then 12; a refused one replaces nothing.
+pub fn post(paused: &mut [i32], image: &[u8], row: &[i32]) -> Response
+    ensures { λ r. ⌜ afterCall r (now (paused .exit)) ≡ postOf (now (image .entry)) (now (row .entry)) (now (paused .entry)) ⌝ }
+    ensures { λ r. ⌜ ResponseWithin imageLimit r ⌝ }
+{
+    if paused.len() != limits::PAUSED_LENGTH {
+        return Response::Idle;
+    }
+    let checked = checker::check(image);
+    match checked {
+        Checked::Refused(number, place) => Response::Refused(number, place, 0),
+        Checked::Sound => post_sound(paused, image, row),
+    }
+}

@@ -1,0 +1,117 @@
+-- What is read back from the memory after a store, over any place and length. Assumes nothing.
+use Prim.Native.Nat.{ℕ, zero, suc, _+_, _-_, _≤_, _<_, min}
+use native.Mathlib.Omega.{arith}
+use mathlib.Core.Path.{_≡_, refl, sym, ap, _∙_}
+use mathlib.Core.Bool.{Bool, true, false}
+use mathlib.Core.List.{List, [], _∷_, _++_, append-assoc}
+use mathlib.Core.Option.{Option, none, some}
+use lib.Dec.{eqb}
+use lib.IntN.{ℤ, pos}
+use lib.ListN.{length, getD, take, drop, set, length-append, length-set, List·getD-append}
+use lib.Seq.{sets, sets-eq, length-sets, getD-set-other, drop-set-lt, drop-set-add, take-set-le, take-at, drop-at, getD-append-add, length-take-le}
+use Rattle.arith.specs.Values.{count}
+use Rattle.limits.specs.Limits.{imageLimit, nameLimit, stackLimit}
+use Rattle.leb128.proofs.Stores.{sets-front}
+use Rattle.paused.specs.declared.Checkpoint.{Checkpoint}
+use Rattle.paused.specs.declared.Shape.{Shape}
+use Rattle.paused.proofs.Clipped.{clipped-most}
+use Rattle.paused.specs.Memory.{largestNumber, clipped, slice, checkpointOf, shapeOf, waitingLength, waitingIn, waitingOf, flagOf, checkpointCells, shapeCells, rowPlace, waitingPlace}
+
+-- ---- one number
+
+pub getD-sets-before : (vs l : List ℤ) (i j : ℕ) → j < i → getD (sets l i vs) j (pos 0) ≡ getD l j (pos 0)
+getD-sets-before [] l i j h = refl
+getD-sets-before (v ∷ vs) l i j h = getD-sets-before vs (set l i v) (suc i) j (omega arith) ∙ getD-set-other l i j v (pos 0) (λ e. omega arith)
+
+pub getD-sets-behind : (vs l : List ℤ) (i j : ℕ) → i + length vs ≤ j → getD (sets l i vs) j (pos 0) ≡ getD l j (pos 0)
+getD-sets-behind [] l i j h = refl
+getD-sets-behind (v ∷ vs) l i j h = getD-sets-behind vs (set l i v) (suc i) j (omega arith) ∙ getD-set-other l i j v (pos 0) (λ e. omega arith)
+
+pub getD-sets-same : (vs l : List ℤ) (i j : ℕ) → i + length vs ≤ length l → j < length vs → getD (sets l i vs) (i + j) (pos 0) ≡ getD vs j (pos 0)
+getD-sets-same vs l i j h k =
+    let q : length (take i l) ≡ i = length-take-le i l (omega arith) in
+    let e : i + j ≡ length (take i l) + j = omega arith in
+    rw (sets-eq vs l i h, e, append-assoc) (getD-append-add (take i l) (vs ++ drop (i + length vs) l) j (pos 0) ∙ List·getD-append vs (drop (i + length vs) l) (pos 0) j k)
+
+-- ---- a slice
+
+pub slice-sets-behind : (vs l : List ℤ) (i at n : ℕ) → i + length vs ≤ at → slice at n (sets l i vs) ≡ slice at n l
+slice-sets-behind [] l i at n h = refl
+slice-sets-behind (v ∷ vs) l i at n h = slice-sets-behind vs (set l i v) (suc i) at n (omega arith) ∙ ap (take n) (drop-set-lt at l i v (omega arith))
+
+slice-set-before : (l : List ℤ) (i at n : ℕ) (v : ℤ) → at + n ≤ i → slice at n (set l i v) ≡ slice at n l
+slice-set-before l i at n v h =
+    let e : i ≡ at + (i - at) = omega arith in
+    rw e (rw (drop-set-add at l (i - at) v) (take-set-le n (drop at l) (i - at) v (omega arith)))
+
+pub slice-sets-before : (vs l : List ℤ) (i at n : ℕ) → at + n ≤ i → slice at n (sets l i vs) ≡ slice at n l
+slice-sets-before [] l i at n h = refl
+slice-sets-before (v ∷ vs) l i at n h = slice-sets-before vs (set l i v) (suc i) at n (omega arith) ∙ slice-set-before l i at n v h
+
+pub slice-sets-same : (vs l : List ℤ) (i : ℕ) → i + length vs ≤ length l → slice i (length vs) (sets l i vs) ≡ vs
+slice-sets-same vs l i h =
+    let q : length (take i l) ≡ i = length-take-le i l (omega arith) in
+    rw (sets-eq vs l i h, append-assoc, drop-at (take i l) (vs ++ drop (i + length vs) l) i q) (take-at vs (drop (i + length vs) l) (length vs) refl)
+
+-- ---- what stands in the memory depends on its numbers
+
+pub clipped-alike : (l m : List ℤ) (i most : ℕ) → getD l i (pos 0) ≡ getD m i (pos 0) → clipped l i most ≡ clipped m i most
+unfolding clipped
+clipped-alike l m i most e = rw e
+
+pub clipped-is : (l : List ℤ) (i x most : ℕ) → getD l i (pos 0) ≡ pos x → x ≤ most → clipped l i most ≡ x
+unfolding clipped
+clipped-is l i x most e h = rw e (omega arith)
+
+flag-is : (l : List ℤ) (i : ℕ) (b : Bool) → getD l i (pos 0) ≡ pos (flagOf b) → eqb (clipped l i 1) 1 ≡ b
+flag-is l i true e = rw (clipped-is l i 1 1 e (omega arith))
+flag-is l i false e = rw (clipped-is l i 0 1 e (omega arith))
+
+-- numbers that are read back as they are
+pub record Readable (p : Checkpoint) : Type 0 where
+  pub phases : p .phase ≤ 3
+  pub numbers : p .number ≤ largestNumber
+  pub places : p .place ≤ imageLimit
+  pub counts : p .steps ≤ imageLimit
+  pub stack : p .held ≤ stackLimit
+
+pub checkpoint-stored : (l : List ℤ) (p : Checkpoint) → 7 ≤ length l → Readable p → checkpointOf (sets l 0 (checkpointCells p)) ≡ p
+unfolding checkpointOf
+checkpoint-stored l p h r =
+    let e = sets-front l (checkpointCells p) h in
+    rw (
+      e,
+      clipped-is (checkpointCells p ++ drop 7 l) 0 (p .phase) 3 refl (r .phases),
+      clipped-is (checkpointCells p ++ drop 7 l) 1 (p .number) 30 refl (r .numbers),
+      clipped-is (checkpointCells p ++ drop 7 l) 2 (p .place) imageLimit refl (r .places),
+      clipped-is (checkpointCells p ++ drop 7 l) 3 (p .steps) imageLimit refl (r .counts),
+      clipped-is (checkpointCells p ++ drop 7 l) 4 (p .held) stackLimit refl (r .stack),
+      flag-is (checkpointCells p ++ drop 7 l) 5 (p .picked) refl,
+      flag-is (checkpointCells p ++ drop 7 l) 6 (p .passing) refl,
+    )
+
+pub shape-alike : (l m : List ℤ) → ((j : ℕ) → 8 ≤ j → j < 11 → getD l j (pos 0) ≡ getD m j (pos 0)) → shapeOf l ≡ shapeOf m
+unfolding shapeOf
+shape-alike l m e =
+    rw (
+      clipped-alike l m 8 imageLimit (e 8 (omega arith) (omega arith)),
+      clipped-alike l m 9 (clipped m 8 imageLimit) (e 9 (omega arith) (omega arith)),
+      clipped-alike l m 10 nameLimit (e 10 (omega arith) (omega arith)),
+    )
+
+pub shape-stored : (l : List ℤ) (f : Shape) → 11 ≤ length l → f .image ≤ imageLimit → f .base ≤ f .image → f .size ≤ nameLimit → shapeOf (sets l 8 (shapeCells f)) ≡ f
+unfolding shapeOf
+shape-stored l f h a b s =
+    rw (
+      clipped-is (sets l 8 (shapeCells f)) 8 (f .image) imageLimit (getD-sets-same (shapeCells f) l 8 0 h (omega arith)) a,
+      clipped-is (sets l 8 (shapeCells f)) 9 (f .base) (f .image) (getD-sets-same (shapeCells f) l 8 1 h (omega arith)) b,
+      clipped-is (sets l 8 (shapeCells f)) 10 (f .size) nameLimit (getD-sets-same (shapeCells f) l 8 2 h (omega arith)) s,
+    )
+
+pub waiting-alike : (l m : List ℤ) → getD l waitingPlace (pos 0) ≡ getD m waitingPlace (pos 0) → ((n : ℕ) → n ≤ nameLimit → slice rowPlace n l ≡ slice rowPlace n m) → waitingOf l ≡ waitingOf m
+unfolding waitingOf waitingLength
+waiting-alike l m e f = rw (clipped-alike l m waitingPlace (nameLimit + 1) e) (by (clipped m waitingPlace (nameLimit + 1)) (clipped-most m waitingPlace (nameLimit + 1)))
+  where
+    by : (n : ℕ) → n ≤ nameLimit + 1 → waitingIn n l ≡ waitingIn n m
+    by zero h = refl
+    by (suc n) h = ap some (f n (omega arith))

@@ -1,0 +1,3 @@
+pub mod Memory
+pub mod Responses
+pub mod Inner

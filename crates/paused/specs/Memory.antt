@@ -1,0 +1,103 @@
+-- The memory of a paused scan and of the row that waits. Document 02, A.8. Any content has a meaning: each number is clipped.
+-- Assumes nothing.
+use Prim.Native.Nat.{ℕ, zero, suc, _+_, min}
+use mathlib.Core.Bool.{Bool, true, false}
+use mathlib.Core.List.{List, [], _∷_, _++_}
+use mathlib.Core.Option.{Option, none, some}
+use lib.Dec.{eqb}
+use lib.IntN.{ℤ, pos}
+use lib.ListN.{length, getD, take, drop}
+use Rattle.limits.specs.Limits.{imageLimit, nameLimit, stackLimit}
+use Rattle.arith.specs.Values.{count}
+use Rattle.paused.specs.declared.Checkpoint.{Checkpoint}
+use Rattle.paused.specs.declared.Shape.{Shape}
+
+-- ---- the places
+
+abbrev pub checkpointPlace : ℕ
+checkpointPlace = 0
+
+abbrev pub shapePlace : ℕ
+shapePlace = 8
+
+-- 0, or 1 + the length of the row that waits
+abbrev pub waitingPlace : ℕ
+waitingPlace = 13
+
+abbrev pub rowPlace : ℕ
+rowPlace = 16
+
+-- the values held, the first at the front
+abbrev pub heldPlace : ℕ
+heldPlace = 80
+
+-- the state at the start, the current values, lows and highs: room for 127 each
+abbrev pub startPlace : ℕ
+startPlace = 128
+
+abbrev pub currentPlace : ℕ
+currentPlace = 256
+
+abbrev pub lowPlace : ℕ
+lowPlace = 384
+
+abbrev pub highPlace : ℕ
+highPlace = 512
+
+-- ---- what stands there
+
+unfoldable pub clipped : List ℤ → ℕ → ℕ → ℕ
+clipped cells i most = min (count (getD cells i (pos 0))) most
+
+abbrev pub slice : ℕ → ℕ → List ℤ → List ℤ
+slice at n cells = take n (drop at cells)
+
+-- the largest number of a refusal in documents 01 and 02
+abbrev pub largestNumber : ℕ
+largestNumber = 30
+
+-- Phase 0 is no scan, 1 under way, 2 at the end of the code, 3 refused.
+unfoldable pub checkpointOf : List ℤ → Checkpoint
+checkpointOf cells =
+    record {
+      phase = clipped cells 0 3;
+      number = clipped cells 1 largestNumber;
+      place = clipped cells 2 imageLimit;
+      steps = clipped cells 3 imageLimit;
+      held = clipped cells 4 stackLimit;
+      picked = eqb (clipped cells 5 1) 1;
+      passing = eqb (clipped cells 6 1) 1;
+    }
+
+-- the length of the image, the place of its code, the values of a state
+unfoldable pub shapeOf : List ℤ → Shape
+shapeOf cells = record { image = clipped cells 8 imageLimit; base = clipped cells 9 (clipped cells 8 imageLimit); size = clipped cells 10 nameLimit }
+
+unfoldable pub waitingLength : List ℤ → ℕ
+waitingLength cells = clipped cells waitingPlace (nameLimit + 1)
+
+abbrev pub waitingIn : ℕ → List ℤ → Option (List ℤ)
+waitingIn zero cells = none
+waitingIn (suc n) cells = some (slice rowPlace n cells)
+
+-- the row that waits
+unfoldable pub waitingOf : List ℤ → Option (List ℤ)
+waitingOf cells = waitingIn (waitingLength cells) cells
+
+-- ---- what is stored
+
+abbrev pub flagOf : Bool → ℕ
+flagOf true = 1
+flagOf false = 0
+
+abbrev pub checkpointCells : Checkpoint → List ℤ
+checkpointCells p =
+    pos (p .phase) ∷ pos (p .number) ∷ pos (p .place) ∷ pos (p .steps) ∷ pos (p .held) ∷ pos (flagOf (p .picked)) ∷ pos (flagOf (p .passing)) ∷ []
+
+abbrev pub shapeCells : Shape → List ℤ
+shapeCells s = pos (s .image) ∷ pos (s .base) ∷ pos (s .size) ∷ []
+
+-- the values held, the first at the front
+abbrev pub stacked : List ℤ → List ℤ
+stacked [] = []
+stacked (z ∷ vs) = stacked vs ++ (z ∷ [])

@@ -1,0 +1,172 @@
+// The memory of a paused scan and of the row that waits: 640 numbers, lent as one slice. Whatever it holds, each number read from it is clipped.
+use machine::lists;
+ghost use mathlib.Core.Path.{_≡_};
+ghost use Prim.Native.Nat.{_<_, _^_, min};
+ghost use lib.IntN.{pos};
+ghost use lib.ListN.{length};
+ghost use lib.Seq.{sets};
+ghost use Rattle.limits.specs.Limits.{imageLimit, pausedLength};
+ghost use Rattle.paused.specs.Memory.{clipped, waitingLength, checkpointOf, shapeOf, checkpointCells, shapeCells, flagOf};
+ghost use Rattle.paused.specs.Responses.{packed, packedResponse, ResponseWithin};
+ghost use Rattle.paused.specs.Inner.Small.{SmallCheckpoint, SmallShape};
+
+// Places of the memory: what a scan has done, its image and names, the row that waits, and lists.
+pub const CHECKPOINT: usize = 0;
+
+pub const SHAPE: usize = 8;
+
+pub const WAITING: usize = 13;
+
+pub const ROW: usize = 16;
+
+pub const HELD: usize = 80;
+
+pub const START: usize = 128;
+
+pub const CURRENT: usize = 256;
+
+pub const LOW: usize = 384;
+
+pub const HIGH: usize = 512;
+
+// The largest number of a refusal.
+const LARGEST_NUMBER: usize = 30;
+
+// Phase 0 is no scan, 1 under way, 2 at the end of the code, 3 refused with a number; the place in the code, the steps done, and the registers.
+pub struct Checkpoint {
+    pub phase: usize,
+    pub number: u8,
+    pub place: usize,
+    pub steps: usize,
+    pub held: usize,
+    pub picked: bool,
+    pub passing: bool,
+}
+
+// The length of the image, the place of its code, the values of a state.
+pub struct Shape {
+    pub image: usize,
+    pub base: usize,
+    pub size: usize,
+}
+
+// The answer of a call: steps; a refusal's number, place and steps; a scan that is not finished; neither scan nor row.
+pub enum Response {
+    Done(usize),
+    Refused(u8, usize, usize),
+    Unfinished(usize),
+    Idle,
+}
+
+// As one number: the refusal's number · 2^56 + its place · 2^24 + a count.
+pub fn pack(number: u8, place: usize, count: u64) -> u64
+    requires { ⌜ (place < 2 ^ 32) × (count < 2 ^ 24) ⌝ }
+    ensures { λ r. ⌜ r ≡ packed number place count ⌝ }
+{
+    number as u64 * 72057594037927936 + place as u64 * 16777216 + count
+}
+
+pub fn pack_response(r: Response) -> u64
+    requires { ⌜ ResponseWithin imageLimit r ⌝ }
+    ensures { λ a. ⌜ a ≡ packedResponse r ⌝ }
+{
+    match r {
+        Response::Done(steps) => pack(0, 0, steps as u64),
+        Response::Refused(number, place, steps) => pack(number, place, steps as u64),
+        Response::Unfinished(steps) => pack(limits::UNFINISHED_NUMBER, 0, steps as u64),
+        Response::Idle => pack(limits::IDLE_NUMBER, 0, 0),
+    }
+}
+
+pub fn least(a: usize, b: usize) -> usize
+    ensures { λ r. ⌜ r ≡ min a b ⌝ }
+{
+    if a < b {
+        return a;
+    }
+    b
+}
+
+// A number of the memory, at most `most`.
+fn cell(memory: &[i32], i: usize, most: usize) -> usize
+    requires { ⌜ i < length (now memory) ⌝ }
+    ensures { λ r. ⌜ r ≡ clipped (now (memory .entry)) i most ⌝ }
+{
+    let n = arith::count(memory[i]);
+    least(n as usize, most)
+}
+
+pub fn checkpoint_in(memory: &[i32]) -> Checkpoint
+    requires { ⌜ length (now memory) ≡ pausedLength ⌝ }
+    ensures { λ r. ⌜ r ≡ checkpointOf (now (memory .entry)) ⌝ }
+{
+    Checkpoint {
+        phase: cell(memory, 0, 3),
+        number: cell(memory, 1, LARGEST_NUMBER) as u8,
+        place: cell(memory, 2, limits::IMAGE_LIMIT),
+        steps: cell(memory, 3, limits::IMAGE_LIMIT),
+        held: cell(memory, 4, limits::STACK_LIMIT),
+        picked: cell(memory, 5, 1) == 1,
+        passing: cell(memory, 6, 1) == 1,
+    }
+}
+
+pub fn shape_in(memory: &[i32]) -> Shape
+    requires { ⌜ length (now memory) ≡ pausedLength ⌝ }
+    ensures { λ r. ⌜ r ≡ shapeOf (now (memory .entry)) ⌝ }
+{
+    let image = cell(memory, 8, limits::IMAGE_LIMIT);
+    Shape {
+        image,
+        base: cell(memory, 9, image),
+        size: cell(memory, 10, limits::NAME_LIMIT),
+    }
+}
+
+// 0 if no row waits, else one more than its length.
+pub fn waiting(memory: &[i32]) -> usize
+    requires { ⌜ length (now memory) ≡ pausedLength ⌝ }
+    ensures { λ r. ⌜ r ≡ waitingLength (now (memory .entry)) ⌝ }
+{
+    cell(memory, WAITING, limits::NAME_LIMIT + 1)
+}
+
+// A count as a number.
+fn number(x: usize) -> i32
+    requires { ⌜ x < 2 ^ 31 ⌝ }
+    ensures { λ r. ⌜ r ≡ pos x ⌝ }
+{
+    x as i32
+}
+
+fn flag(b: bool) -> i32
+    ensures { λ r. ⌜ r ≡ pos (flagOf b) ⌝ }
+{
+    if b { 1 } else { 0 }
+}
+
+pub fn store_checkpoint(memory: &mut [i32], p: Checkpoint)
+    requires { ⌜ length (now memory) ≡ pausedLength ⌝ }
+    requires { ⌜ SmallCheckpoint p ⌝ }
+    ensures { λ _. ⌜ now (memory .exit) ≡ sets (now (memory .entry)) 0 (checkpointCells p) ⌝ }
+{
+    let cells = [
+        number(p.phase),
+        number(p.number as usize),
+        number(p.place),
+        number(p.steps),
+        number(p.held),
+        flag(p.picked),
+        flag(p.passing),
+    ];
+    lists::store(memory, CHECKPOINT, &cells);
+}
+
+pub fn store_shape(memory: &mut [i32], s: Shape)
+    requires { ⌜ length (now memory) ≡ pausedLength ⌝ }
+    requires { ⌜ SmallShape s ⌝ }
+    ensures { λ _. ⌜ now (memory .exit) ≡ sets (now (memory .entry)) 8 (shapeCells s) ⌝ }
+{
+    let cells = [number(s.image), number(s.base), number(s.size)];
+    lists::store(memory, SHAPE, &cells);
+}

@@ -1,0 +1,28 @@
+-- `resumable::run_from` meets its contract (Running.ran-from). Assumes nothing.
+use mathlib.Core.Path.{_≡_}
+use Prim.Native.Nat.{ℕ, _+_, _-_}
+use native.Mathlib.Omega.{arith}
+use borrow.Author.Needs.{needs}
+use Rattle.resumable.proofs.Running.{ran-from}
+use Rattle.resumable.proofs.run_from.Statement.{statement}
+use Rattle.resumable.proofs.run_from.Tie as tie
+
+back : (a n : ℕ) → a + n - a ≡ n
+back a n = omega arith
+
+returns : tie.Need-returns
+returns c =
+    let a = c .before .before .before .before .before .before .before .before .before .before .before .before .before .before .before .before .before .args in
+    let n = a .size in (
+      ran-from (c .before .before .before .before .before .before .before .before .before .before .before .before .before .before .before .before .before .pre) (a .code .now) (a .n) _ (c .before .before .before .before .before .before .before .before .before .before .before .before .before .fill .last .0) (c .before .before .before .before .before .before .before .before .before .fill2 .last .0) (rw (back 256 n) at (c .before .before .before .before .before .before .before .before .before .before .before .before .before .fill .ensures)) (c .before .before .before .before .before .before .before .before .before .fill2 .ensures) (384 + n - 384)
+          (512 + n - 512) (128 + n - 128) (back 384 n) (back 512 n) (back 128 n) (c .before .before .run .ensures .0),
+      c .before .before .run .ensures .1,
+    )
+
+pub run-from-spec : {M : Type 1} → statement M
+run-from-spec =
+    tie.close
+    (tie.spec (λ c. search needs) (λ c. search needs) (λ c. search needs) (λ c. search needs) (λ c κs. search needs) (λ c. search needs)
+    (λ c. search needs) (λ c. search needs) (λ c κs. search needs) (λ c. search needs) (λ c. search needs) (λ c. search needs) (λ c. search needs)
+    (λ c. search needs) (λ c. search needs) (λ c. search needs) (λ c. search needs) (λ c. search needs) (λ c. search needs) (λ c. search needs)
+    (λ c. search needs) (λ c κs. search needs) (λ c. search needs) (λ c. search needs) returns)

@@ -1,0 +1,2 @@
+pub mod Instalment
+pub mod Inner

@@ -1,0 +1,205 @@
+// A scan in instalments, on the lent memory of `paused`.
+use machine::Executed;
+use machine::Registers;
+use machine::Stepped;
+use machine::lists;
+use paused::Checkpoint;
+use paused::Response;
+ghost use mathlib.Core.Path.{_≡_};
+ghost use mathlib.Core.Bool.{cond};
+ghost use Prim.Native.Nat.{_≤_};
+ghost use lib.Dec.{leb};
+ghost use lib.ListN.{length};
+ghost use Rattle.paused.specs.Responses.{ResponseWithin};
+ghost use Rattle.resumable.specs.Inner.Room.{RoomToRun, Short, Keepable};
+ghost use Rattle.limits.specs.Limits.{imageLimit, nameLimit, stackLimit};
+ghost use Rattle.arith.specs.Values.{ok};
+ghost use Rattle.machine.specs.Inner.Memory.{machineOf, stepOutcome, ranOf, Few};
+ghost use Rattle.resumable.specs.Instalment.{afterCall, ranFrom, leftAfter, instalment, advanceOf};
+
+// At most n instructions from where the scan stopped, on copies of the current values and the values held.
+fn run_from(
+    memory: &[i32],
+    code: &[u8],
+    p: Checkpoint,
+    size: usize,
+    n: usize,
+    cur: &mut [i32],
+    vals: &mut [i32],
+) -> Executed
+    requires { ⌜ RoomToRun (now memory) (now cur) (now vals) p size ⌝ }
+    ensures { λ r. ⌜ ranOf r (now (vals .exit)) (now (cur .exit)) ≡ ranFrom (now (code .entry)) n p size (now (memory .entry)) ⌝ }
+    ensures { λ r. ⌜ r .steps ≤ n ⌝ }
+{
+    lists::fill(cur, &memory[256..256 + size]);
+    lists::fill(vals, &memory[80..120]);
+    let m = Registers {
+        held: p.held,
+        picked: p.picked,
+        passing: p.passing,
+    };
+    machine::run(
+        code,
+        &memory[384..384 + size],
+        &memory[512..512 + size],
+        &memory[128..128 + size],
+        cur,
+        vals,
+        p.place,
+        m,
+        n,
+    )
+}
+
+// At the end of the code or under way.
+pub fn phase_at(len: usize, place: usize) -> usize
+    ensures { λ r. ⌜ r ≡ cond (leb len place) 2 1 ⌝ }
+{
+    if len <= place {
+        return 2;
+    }
+    1
+}
+
+// What a run that was not refused left, written back.
+fn keep_going(
+    memory: &mut [i32],
+    before: usize,
+    len: usize,
+    n: usize,
+    place: usize,
+    m: Registers,
+    cur: &[i32],
+    vals: &[i32],
+)
+    requires { ⌜ Keepable (now memory) (now cur) (now vals) before n place ⌝ }
+    requires { ⌜ m .held ≤ stackLimit ⌝ }
+    ensures { λ _. ⌜ now (memory .exit) ≡ leftAfter before len n place (ok (machineOf m (now (vals .entry)) (now (cur .entry)))) (now (memory .entry)) ⌝ }
+{
+    let held = m.held;
+    lists::store(memory, paused::CURRENT, cur);
+    lists::store(memory, paused::HELD, &vals[..held]);
+    let p = Checkpoint {
+        phase: phase_at(len, place),
+        number: 0,
+        place,
+        steps: before + n,
+        held,
+        picked: m.picked,
+        passing: m.passing,
+    };
+    paused::store_checkpoint(memory, p);
+}
+
+// What a run left, written back; of a refused one only its progress.
+fn keep(
+    memory: &mut [i32],
+    before: usize,
+    len: usize,
+    n: usize,
+    place: usize,
+    last: Stepped,
+    cur: &[i32],
+    vals: &[i32],
+)
+    requires { ⌜ Keepable (now memory) (now cur) (now vals) before n place ⌝ }
+    requires { ⌜ Few last ⌝ }
+    ensures { λ _. ⌜ now (memory .exit) ≡ leftAfter before len n place (stepOutcome last (now (vals .entry)) (now (cur .entry))) (now (memory .entry)) ⌝ }
+{
+    match last {
+        Stepped::Next(m) => keep_going(memory, before, len, n, place, m, cur, vals),
+        Stepped::Refused(number) => {
+            let p = Checkpoint {
+                phase: 3,
+                number,
+                place,
+                steps: before + n,
+                held: 0,
+                picked: false,
+                passing: false,
+            };
+            paused::store_checkpoint(memory, p);
+        }
+    }
+}
+
+// The instalment of a scan under way, on room for its current values and the values held.
+fn advance_by(
+    memory: &mut [i32],
+    code: &[u8],
+    p: Checkpoint,
+    size: usize,
+    n: usize,
+    cur: &mut [i32],
+    vals: &mut [i32],
+) -> usize
+    requires { ⌜ RoomToRun (now memory) (now cur) (now vals) p size ⌝ }
+    requires { ⌜ Short (now code) n p ⌝ }
+    ensures { λ r. ⌜ afterCall (Response.Done r) (now (memory .exit)) ≡ instalment (now (code .entry)) n (now (memory .entry)) p size ⌝ }
+    ensures { λ r. ⌜ r ≤ n ⌝ }
+{
+    let ran = run_from(memory, code, p, size, n, cur, vals);
+    let done = ran.steps;
+    let last = ran.last;
+    keep(
+        memory,
+        p.steps,
+        code.len(),
+        done,
+        ran.place,
+        last,
+        cur,
+        vals,
+    );
+    done
+}
+
+// At most so many steps of the scan under way.
+fn advance_in(
+    paused: &mut [i32],
+    image: &[u8],
+    steps: usize,
+    cur: &mut [i32],
+    vals: &mut [i32],
+) -> Response
+    requires { ⌜ (length (now cur) ≡ nameLimit) × (length (now vals) ≡ stackLimit) ⌝ }
+    ensures { λ r. ⌜ afterCall r (now (paused .exit)) ≡ advanceOf (now (image .entry)) steps (now (paused .entry)) ⌝ }
+    ensures { λ r. ⌜ ResponseWithin imageLimit r ⌝ }
+{
+    if paused.len() != limits::PAUSED_LENGTH {
+        return Response::Idle;
+    }
+    let p = paused::checkpoint_in(paused);
+    let phase = p.phase;
+    let place = p.place;
+    if phase == 0 {
+        return Response::Idle;
+    }
+    if phase != 1 {
+        return Response::Done(0);
+    }
+    if steps == 0 {
+        return Response::Done(0);
+    }
+    let shape = paused::shape_in(paused);
+    let base = shape.base;
+    let size = shape.size;
+    if image.len() != shape.image {
+        return Response::Done(0);
+    }
+    if image.len() - base <= place {
+        return Response::Done(0);
+    }
+    let n = paused::least(steps, limits::IMAGE_LIMIT);
+    let done = advance_by(paused, &image[base..], p, size, n, &mut cur[..size], vals);
+    Response::Done(done)
+}
+
+pub fn advance(paused: &mut [i32], image: &[u8], steps: usize) -> Response
+    ensures { λ r. ⌜ afterCall r (now (paused .exit)) ≡ advanceOf (now (image .entry)) steps (now (paused .entry)) ⌝ }
+    ensures { λ r. ⌜ ResponseWithin imageLimit r ⌝ }
+{
+    let mut cur = [0i32; limits::NAME_LIMIT];
+    let mut vals = [0i32; limits::STACK_LIMIT];
+    advance_in(paused, image, steps, &mut cur, &mut vals)
+}

@@ -1,0 +1,99 @@
+-- A run asks only lows and highs of the ranges, no starts. Assumes nothing.
+use Prim.Native.Nat.{ℕ, zero, suc, _+_, _≤_, _<_}
+use native.Mathlib.Omega.{arith}
+use mathlib.Core.Path.{_≡_, refl, sym, ap, subst, _∙_}
+use mathlib.Core.Bool.{Bool, true, false, not, _&&_, cond}
+use mathlib.Core.List.{List, [], _∷_, map}
+use lib.Dec.{ltb}
+use lib.IntN.{ℤ}
+use lib.Signed.{leZ}
+use lib.ListN.{length, set, getD}
+use Rattle.arith.specs.Values.{Outcome, ok, refusal, _>>=_, require, eqZ}
+use Rattle.semantics.specs.Program.{Range, within}
+use Rattle.semantics.specs.Formula.{State, at}
+use Rattle.semantics.specs.ReferenceScan.{noRange, rangeAt, ranged, picked}
+use Rattle.leb128.specs.Numbers.{Read, got, nothing}
+use Rattle.bytecode.specs.Instructions.{Instruction, constant, current, previous, operation, negate, comparison, negated, both, either, gate, pick, assign, settle, fetch}
+use Rattle.bytecode.specs.Parts.{lows, highs}
+use Rattle.machine.specs.Step.{Machine, machine, pop, declared, perform, step}
+use Rattle.machine.specs.Runs.{ran, afterStep, afterFetch, run}
+
+-- the same lows and highs
+pub record Alike (ns ms : List Range) : Type 0 where
+  pub low : lows ns ≡ lows ms
+  pub high : highs ns ≡ highs ms
+
+low-at : (ns : List Range) (i : ℕ) → rangeAt ns i .low ≡ getD (lows ns) i (noRange .low)
+low-at [] i = refl
+low-at (n ∷ ns) zero = refl
+low-at (n ∷ ns) (suc i) = low-at ns i
+
+high-at : (ns : List Range) (i : ℕ) → rangeAt ns i .high ≡ getD (highs ns) i (noRange .high)
+high-at [] i = refl
+high-at (n ∷ ns) zero = refl
+high-at (n ∷ ns) (suc i) = high-at ns i
+
+length-lows : (ns : List Range) → length (lows ns) ≡ length ns
+length-lows [] = refl
+length-lows (n ∷ ns) = ap suc (length-lows ns)
+
+module _ (ns ms : List Range) (a : Alike ns ms) (s : State) where
+  count-alike : length ns ≡ length ms
+  count-alike = sym (length-lows ns) ∙ ap length (a .low) ∙ length-lows ms
+
+  within-alike : (v : ℕ) (z : ℤ) → within (rangeAt ns v) z ≡ within (rangeAt ms v) z
+  unfolding within
+  within-alike v z = rw (low-at ns v, high-at ns v, low-at ms v, high-at ms v, a .low, a .high)
+
+  ranged-alike : (v : ℕ) (z : ℤ) → ranged ns v z ≡ ranged ms v z
+  ranged-alike v z = rw (within-alike v z)
+
+  picked-alike : (v : ℕ) (z : ℤ) → picked ns s v z ≡ picked ms s v z
+  unfolding picked
+  picked-alike v z = by (not (eqZ z (at s v)))
+    where
+      by : (b : Bool) → (require b 16 z >>= λ y. ranged ns v y) ≡ (require b 16 z >>= λ y. ranged ms v y)
+      by true = ranged-alike v z
+      by false = refl
+
+  perform-alike : (i : Instruction) (c : Bool) (vs : List ℤ) (t : State) → perform ns s i c vs t ≡ perform ms s i c vs t
+  perform-alike (constant z) c vs t = refl
+  perform-alike (current i) c vs t = rw count-alike
+  perform-alike (previous i) c vs t = rw count-alike
+  perform-alike (operation o) c vs t = refl
+  perform-alike negate c vs t = refl
+  perform-alike (comparison o) c vs t = refl
+  perform-alike negated c vs t = refl
+  perform-alike both c vs t = refl
+  perform-alike either c vs t = refl
+  perform-alike gate c vs t = refl
+  perform-alike (pick v) c [] t = refl
+  perform-alike (pick v) c (x ∷ vs) t = rw (count-alike, picked-alike v x)
+  perform-alike (assign v) c [] t = refl
+  perform-alike (assign v) c (x ∷ vs) t = rw (count-alike, ranged-alike v x)
+  perform-alike (settle v) c vs t = rw count-alike
+
+  step-alike : (i : Instruction) (m : Machine) → step ns s i m ≡ step ms s i m
+  step-alike i (machine false c vs t) = perform-alike i c vs t
+  step-alike i (machine true c vs t) = refl
+
+  pub run-ranges : (code : List ℕ) (b at n : ℕ) (m : Machine) → run ns s code b at n m ≡ run ms s code b at n m
+  run-ranges code zero at n m = refl
+  run-ranges code (suc b) at n m = inside (ltb at (length code)) (λ next m₁. run-ranges code b next (n + 1) m₁)
+    where
+      stepped : (o : Outcome Machine) (next : ℕ) → ((m₁ : Machine) → run ns s code b next (n + 1) m₁ ≡ run ms s code b next (n + 1) m₁)
+          → afterStep o (n + 1) at (λ m₁. run ns s code b next (n + 1) m₁) ≡ afterStep o (n + 1) at (λ m₁. run ms s code b next (n + 1) m₁)
+      stepped (ok m₁) next ih = ih m₁
+      stepped (refusal k) next ih = refl
+
+      fetched : (f : Read Instruction) → ((next : ℕ) (m₁ : Machine) → run ns s code b next (n + 1) m₁ ≡ run ms s code b next (n + 1) m₁)
+          → afterFetch f (n + 1) at (λ i next. afterStep (step ns s i m) (n + 1) at λ m₁. run ns s code b next (n + 1) m₁)
+          ≡ afterFetch f (n + 1) at (λ i next. afterStep (step ms s i m) (n + 1) at λ m₁. run ms s code b next (n + 1) m₁)
+      fetched nothing ih = refl
+      fetched (got i next) ih = rw (step-alike i m) (stepped (step ms s i m) next (ih next))
+
+      inside : (t : Bool) → ((next : ℕ) (m₁ : Machine) → run ns s code b next (n + 1) m₁ ≡ run ms s code b next (n + 1) m₁)
+          → cond t (afterFetch (fetch code at) (n + 1) at λ i next. afterStep (step ns s i m) (n + 1) at λ m₁. run ns s code b next (n + 1) m₁) (ran n at (ok m))
+          ≡ cond t (afterFetch (fetch code at) (n + 1) at λ i next. afterStep (step ms s i m) (n + 1) at λ m₁. run ms s code b next (n + 1) m₁) (ran n at (ok m))
+      inside true ih = fetched (fetch code at) ih
+      inside false ih = refl

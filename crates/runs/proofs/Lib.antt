@@ -1,0 +1,4 @@
+pub mod Unrolled
+pub mod Divided
+pub mod Sizes
+pub mod Bounds

@@ -1,0 +1,1 @@
+// Laws of runs that go on where another stopped. Definitions and laws only.
