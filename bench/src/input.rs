@@ -34,15 +34,26 @@ impl Input {
     }
 }
 
-/// The papers' latch, lock and square, and generated texts of about 1 to 32 KiB.
+/// How the n-th input (`i`) or variable (`v`) is named.
+type Naming = fn(char, usize) -> String;
+
+/// The papers' latch, lock and square, and generated texts of about 1 to 32 KiB; the largest once more with 64 names of 16 bytes that differ
+/// at their end only, the slowest to find.
 pub fn inputs() -> Vec<Input> {
     let mut list: Vec<Input> = ["latch", "lock", "plc_square"].map(case).into();
     for kib in [1, 2, 4, 8, 16, 32] {
-        let mut rng = Rng::new(kib as u64);
-        let rows = (0..16).map(|_| [32, 10, 10, 10].map(|count| rng.below(count) as i32).into()).collect();
-        list.push(Input::new(&format!("generated {kib}K"), generated(1024 * kib), rows, true));
+        let text = generated(1024 * kib, |letter, n| format!("{letter}{n}"));
+        list.push(Input::new(&format!("generated {kib}K"), text, rows_of(kib as u64), true));
     }
+    let text = generated(1024 * 32, |letter, n| format!("name{letter}of16bytes{n:02}"));
+    list.push(Input::new("long names", text, rows_of(32), false));
     list
+}
+
+/// Rows of a generated text.
+fn rows_of(seed: u64) -> Vec<Vec<i32>> {
+    let mut rng = Rng::new(seed);
+    (0..16).map(|_| [32, 10, 10, 10].map(|count| rng.below(count) as i32).into()).collect()
 }
 
 /// A rule text of the papers with the rows of its trace.
@@ -55,47 +66,48 @@ fn case(name: &str) -> Input {
 }
 
 /// A text of at most `size` bytes, near it: 4 inputs and up to 60 variables, whose rules have as many cases as fit.
-fn generated(size: usize) -> Vec<u8> {
+fn generated(size: usize, name: Naming) -> Vec<u8> {
     let (mut fits, mut over) = (1, 60 * 32);
     while over - fits > 1 {
         let count = (fits + over) / 2;
-        if rules(count).len() <= size {
+        if rules(count, name).len() <= size {
             fits = count;
         } else {
             over = count;
         }
     }
-    rules(fits)
+    rules(fits, name)
 }
 
 /// `count` cases over as many variables as they need, at most 60 (and 32 cases each).
-fn rules(count: usize) -> Vec<u8> {
+fn rules(count: usize, name: Naming) -> Vec<u8> {
     let mut rng = Rng::new(7);
     let variables = count.clamp(1, 60);
     let mut text = String::new();
-    text += "input i0 0..31;\n";
+    text += &format!("input {} 0..31;\n", name('i', 0));
     for i in 1..4 {
-        text += &format!("input i{i} 0..9;\n");
+        text += &format!("input {} 0..9;\n", name('i', i));
     }
     for v in 0..variables {
-        text += &format!("var v{v} -1000..1000;\n");
+        text += &format!("var {} -1000..1000;\n", name('v', v));
     }
     for v in 0..variables {
+        let own = name('v', v);
         let cases = (count / variables + usize::from(v < count % variables)).clamp(1, 32);
-        let list: Vec<(String, String)> = (0..cases).map(|k| case_of(&mut rng, v, k)).collect();
-        let both: Vec<String> = list.iter().map(|(c, e)| format!("[{c}] & v{v} = ({e})")).collect();
+        let list: Vec<(String, String)> = (0..cases).map(|k| case_of(&mut rng, v, k, name)).collect();
+        let both: Vec<String> = list.iter().map(|(c, e)| format!("[{c}] & {own} = ({e})")).collect();
         let conditions: Vec<String> = list.iter().map(|(c, _)| format!("[{c}]")).collect();
-        text += &format!("v{v}: GX(~(v{v} = _v{v}) -> {});\n", both.join(" | "));
-        text += &format!("v{v}: GX(v{v} = _v{v} -> ~({}));\n", conditions.join(" | "));
+        text += &format!("{own}: GX(~({own} = _{own}) -> {});\n", both.join(" | "));
+        text += &format!("{own}: GX({own} = _{own} -> ~({}));\n", conditions.join(" | "));
     }
     text.into_bytes()
 }
 
 /// The condition and the value of one case. At most one condition of a variable holds: they test one input for different values.
-fn case_of(rng: &mut Rng, v: usize, k: usize) -> (String, String) {
-    let input = rng.below(4);
-    let other = if v == 0 { "i0".to_owned() } else { format!("v{}", rng.below(v)) };
-    let condition = format!("i0 = {k} & ({other} + i{input} * 2) <= 500");
-    let value = format!("(_v{v} + {other} mod 7 + {}) mod 900 + {}", 1 + rng.below(50), 1 + rng.below(9));
+fn case_of(rng: &mut Rng, v: usize, k: usize, name: Naming) -> (String, String) {
+    let (own, first, input) = (name('v', v), name('i', 0), name('i', rng.below(4)));
+    let other = if v == 0 { first.clone() } else { name('v', rng.below(v)) };
+    let condition = format!("{first} = {k} & ({other} + {input} * 2) <= 500");
+    let value = format!("(_{own} + {other} mod 7 + {}) mod 900 + {}", 1 + rng.below(50), 1 + rng.below(9));
     (condition, value)
 }

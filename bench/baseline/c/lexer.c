@@ -16,20 +16,40 @@ static bool is_white(uint8_t byte)
     return byte == ' ' || byte == '\n' || byte == '\t' || byte == '\r';
 }
 
-/* NAME, or a word of the grammar. */
+static uint8_t capital(uint8_t byte)
+{
+    return (uint8_t)(byte - 'a') < 26 ? byte - 32 : byte;
+}
+
+bool same_name(const uint8_t *a, const uint8_t *b, uint32_t length)
+{
+    for (uint32_t i = 0; i < length; i++)
+        if (a[i] != b[i] && capital(a[i]) != capital(b[i]))
+            return false;
+    return true;
+}
+
+/* The kind of a word of the grammar, OTHER_CASE if it is that word in another case, else NAME. */
+static int word_or_name(const uint8_t *word, const char *spelling, uint32_t length, int kind)
+{
+    if (!same_name(word, (const uint8_t *)spelling, length))
+        return NAME;
+    return memcmp(word, spelling, length) == 0 ? kind : OTHER_CASE;
+}
+
 static int word_kind(const uint8_t *word, uint32_t length)
 {
+    int kind;
     switch (length) {
     case 2:
-        return memcmp(word, "GX", 2) == 0 ? GX : NAME;
+        return word_or_name(word, "GX", 2, GX);
     case 3:
-        if (memcmp(word, "var", 3) == 0)
-            return VAR;
-        return memcmp(word, "mod", 3) == 0 ? MOD : NAME;
+        kind = word_or_name(word, "var", 3, VAR);
+        return kind != NAME ? kind : word_or_name(word, "mod", 3, MOD);
     case 4:
-        return memcmp(word, "init", 4) == 0 ? INIT : NAME;
+        return word_or_name(word, "init", 4, INIT);
     case 5:
-        return memcmp(word, "input", 5) == 0 ? INPUT : NAME;
+        return word_or_name(word, "input", 5, INPUT);
     default:
         return NAME;
     }

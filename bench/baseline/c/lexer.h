@@ -22,6 +22,7 @@ enum kind {
     AT_MOST,
     AT_LEAST,
     DIFFERENT,
+    OTHER_CASE, /* a word of the grammar in another case (document 02, A.2) */
 };
 
 enum { NAME_LENGTH = 16 };
@@ -34,6 +35,9 @@ struct token {
 
 /* The token at or behind `at`. */
 struct token token_at(const uint8_t *text, uint32_t length, uint32_t at);
+
+/* Names of one length are the same with a to z read as A to Z. */
+bool same_name(const uint8_t *a, const uint8_t *b, uint32_t length);
 
 /* The value of DIGITS; any value over 2^31 stands for all that are. */
 uint64_t digits_value(const uint8_t *text, struct token token);

@@ -24,7 +24,7 @@ bool expect(struct parser *p, int kind)
 uint32_t find_name(const struct parser *p, const uint8_t *spelling, uint32_t length)
 {
     for (uint32_t id = 0; id < p->names; id++)
-        if (p->name[id].length == length && memcmp(p->name[id].spelling, spelling, length) == 0)
+        if (p->name[id].length == length && same_name(p->name[id].spelling, spelling, length))
             return id;
     return p->names;
 }

@@ -16,7 +16,7 @@ static bool repeated(struct parser *p, int kind, uint32_t id)
     const struct name *name = &p->name[id];
     uint32_t start = p->token.start + (kind == OLD_NAME);
     if (p->token.kind != kind || p->token.end - start != name->length ||
-        memcmp(p->text + start, name->spelling, name->length) != 0)
+        !same_name(p->text + start, name->spelling, name->length))
         return unexpected(p);
     advance(p);
     return true;
@@ -101,7 +101,11 @@ static bool same_condition(struct parser *p, struct part part)
     struct token wanted = token_at(p->text, p->length, part.start);
     while (wanted.start < part.end) {
         length = wanted.end - wanted.start;
-        if (p->token.end - p->token.start != length || memcmp(p->text + p->token.start, p->text + wanted.start, length) != 0)
+        if (p->token.kind != wanted.kind || p->token.end - p->token.start != length)
+            return false;
+        bool named = wanted.kind == NAME || wanted.kind == OLD_NAME;
+        const uint8_t *found = p->text + p->token.start, *other = p->text + wanted.start;
+        if (named ? !same_name(found, other, length) : memcmp(found, other, length) != 0)
             return false;
         advance(p);
         wanted = token_at(p->text, p->length, wanted.end);
