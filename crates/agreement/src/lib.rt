@@ -94,7 +94,7 @@ fn compare_part(text: &[u8], from: usize, to: usize, at: usize) -> Step
 }
 
 // A token of a kind is wanted at `at`.
-fn compare_sign(text: &[u8], kind: u8, at: usize) -> Step
+fn compare_sign(text: &[u8], kind: u32, at: usize) -> Step
     requires { ⌜ kind ≤ lastKind ⌝ }
     ensures { λ r. ⌜ comparedOf r ≡ kindAt (now (text .entry)) (kindOf kind) at ⌝ }
 {
@@ -109,7 +109,7 @@ fn compare_sign(text: &[u8], kind: u8, at: usize) -> Step
 }
 
 // The sign after a condition: `|` before another, `)` after the last.
-fn separator(next: usize, count: usize) -> u8
+fn separator(next: usize, count: usize) -> u32
     ensures { λ r. ⌜ r ≡ kindNumber (cond (ltb next count) bar closeRound) ⌝ }
 {
     if next < count {

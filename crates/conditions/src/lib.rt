@@ -12,7 +12,7 @@ ghost use Rattle.expressions.specs.Inner.Readers.{Codes};
 ghost use Rattle.conditions.specs.Inner.Readers.{comparisonIn, invertedIn, atomIn, conjunctionIn, conditionIn};
 
 // The code of a comparison sign, of `&` and of `|`; 0 for any other token.
-fn comparison_code(kind: u8) -> u8
+fn comparison_code(kind: u32) -> u8
     ensures { λ r. ⌜ Codes comparisonCode comparisonBy kind r ⌝ }
 {
     if kind == lexer::EQUALS {
@@ -36,7 +36,7 @@ fn comparison_code(kind: u8) -> u8
     0
 }
 
-fn and_code(kind: u8) -> u8
+fn and_code(kind: u32) -> u8
     ensures { λ r. ⌜ Codes connectiveCode andOf kind r ⌝ }
 {
     if kind == lexer::AMPERSAND {
@@ -45,7 +45,7 @@ fn and_code(kind: u8) -> u8
     0
 }
 
-fn or_code(kind: u8) -> u8
+fn or_code(kind: u32) -> u8
     ensures { λ r. ⌜ Codes connectiveCode orOf kind r ⌝ }
 {
     if kind == lexer::BAR {

@@ -74,7 +74,7 @@ fn signed(value: u64, negative: bool, low: i32, high: i32) -> Number
 // The token of a kind from `start` to `end`, as the digits of a number between low and high.
 fn digits(
     text: &[u8],
-    kind: u8,
+    kind: u32,
     start: usize,
     end: usize,
     negative: bool,
@@ -234,7 +234,7 @@ fn declaration(
 pub fn declarations(
     text: &[u8],
     at: usize,
-    word: u8,
+    word: u32,
     starts: &mut [usize],
     ends: &mut [usize],
     count: usize,

@@ -36,7 +36,7 @@ pub fn ahead(text: &[u8], at: usize, to: usize) -> Step
 }
 
 // A part with a token of the kind given behind it, and the token behind that one.
-pub fn closed(text: &[u8], part: Step, kind: u8) -> Step
+pub fn closed(text: &[u8], part: Step, kind: u32) -> Step
     ensures { λ r. ⌜ r ≡ closedStep (now (text .entry)) kind part ⌝ }
 {
     let Step::Done(behind) = part else {
@@ -49,7 +49,7 @@ pub fn closed(text: &[u8], part: Step, kind: u8) -> Step
 }
 
 // The code of an operator of a sum, and of a product; 0 for any other token.
-fn sum_code(kind: u8) -> u8
+fn sum_code(kind: u32) -> u8
     ensures { λ r. ⌜ Codes operationCode sumOf kind r ⌝ }
 {
     if kind == lexer::PLUS {
@@ -61,7 +61,7 @@ fn sum_code(kind: u8) -> u8
     0
 }
 
-fn product_code(kind: u8) -> u8
+fn product_code(kind: u32) -> u8
     ensures { λ r. ⌜ Codes operationCode productOf kind r ⌝ }
 {
     if kind == lexer::STAR {
@@ -77,7 +77,7 @@ fn product_code(kind: u8) -> u8
 }
 
 // The code of a `-` before a primary; 0 for any other token.
-fn minus_code(kind: u8) -> u8
+fn minus_code(kind: u32) -> u8
     ensures { λ r. ⌜ r ≡ minusCode kind ⌝ }
 {
     if kind == lexer::MINUS {

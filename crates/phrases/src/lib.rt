@@ -10,7 +10,7 @@ ghost use Rattle.grammar.specs.Forms.{ruleOpening, formulaClosing, functionClos
 ghost use Rattle.phrases.specs.Inner.Steps.{parsedOf, nothing};
 
 // A token of a kind.
-pub fn expect(text: &[u8], at: usize, kind: u8) -> Step
+pub fn expect(text: &[u8], at: usize, kind: u32) -> Step
     requires { ⌜ kind ≤ lastKind ⌝ }
     ensures { λ r. ⌜ parsedOf nothing r ≡ expected (now (text .entry)) (sign (kindOf kind)) at ⌝ }
 {

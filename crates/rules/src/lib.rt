@@ -174,7 +174,7 @@ fn rule(
 }
 
 // No rule follows: at the end of the text every variable has one.
-fn finish(kind: u8, start: usize, end: usize, names: Names, t: usize, done: usize) -> Step
+fn finish(kind: u32, start: usize, end: usize, names: Names, t: usize, done: usize) -> Step
     requires { ⌜ names .count ≤ nameLimit ⌝ }
     ensures { λ r. ⌜ r ≡ endOf kind start end names t done ⌝ }
 {
