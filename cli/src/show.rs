@@ -3,7 +3,7 @@
 use crate::explain;
 use crate::farm::Farm;
 use crate::image::{Image, Instruction};
-use crate::source::{content, Content, Rules};
+use crate::source::{content, Content};
 use crate::stop::Stop;
 use rolvenko::Refusal;
 use std::io::{BufWriter, Write};
@@ -18,8 +18,8 @@ struct Shown {
 fn open(path: &Path) -> Result<Shown, Stop> {
     Ok(match content(path)? {
         Content::Image(bytes) => Shown { bytes, names: Vec::new() },
-        Content::Text => {
-            let farm = Farm::new(&Rules::read(path)?)?;
+        Content::Text(rules) => {
+            let farm = Farm::new(&rules)?;
             Shown { bytes: farm.image, names: farm.names }
         }
     })

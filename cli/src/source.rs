@@ -3,7 +3,7 @@
 use crate::stop::Stop;
 use rolvenko::{IMAGE_LIMIT, TEXT_LIMIT};
 use std::fs::File;
-use std::io::{BufRead, BufReader, Read};
+use std::io::{BufRead, BufReader, Cursor, Read};
 use std::path::{Path, PathBuf};
 
 type Reader = BufReader<Box<dyn Read>>;
@@ -35,7 +35,10 @@ fn open(path: &Path) -> Result<Reader, Stop> {
 impl Rules {
     /// Reads up to the `#` line, and no more than a text over its limit needs.
     pub fn read(path: &Path) -> Result<Rules, Stop> {
-        let mut reader = open(path)?;
+        Rules::from(path, open(path)?)
+    }
+
+    fn from(path: &Path, mut reader: Reader) -> Result<Rules, Stop> {
         let mut text = Vec::new();
         let mut lines = 0;
         loop {
@@ -104,7 +107,7 @@ pub fn row(line: &[u8]) -> Option<Vec<i32>> {
 /// What a file holds. Every sound image has a byte 0, 21 or 22, and no accepted text has a byte below 32 but tab, LF and CR.
 pub enum Content {
     Image(Vec<u8>),
-    Text,
+    Text(Rules),
 }
 
 pub fn content(path: &Path) -> Result<Content, Stop> {
@@ -112,6 +115,6 @@ pub fn content(path: &Path) -> Result<Content, Stop> {
     open(path)?.take(IMAGE_LIMIT as u64 + 1).read_to_end(&mut bytes).map_err(|e| Stop::file(path, e))?;
     Ok(match bytes.iter().any(|b| *b < 32 && !matches!(b, b'\t' | b'\n' | b'\r')) {
         true => Content::Image(bytes),
-        false => Content::Text,
+        false => Content::Text(Rules::from(path, BufReader::new(Box::new(Cursor::new(bytes))))?),
     })
 }

@@ -105,10 +105,12 @@ impl Zone {
         }
         let held = changes.iter().take_while(|c| c.0 <= begin).last().map_or(self.first, |c| c.1);
         let mut entries = vec![entry(begin.max(0), held)?];
+        let mut last = held;
         for (second, offset) in changes.into_iter().filter(|c| begin < c.0 && c.0 < end) {
-            let next = entry(second, offset)?;
-            if entries.last().map_or(true, |e| e.offset != next.offset) {
-                entries.push(next);
+            // a file also tells changes of a zone's abbreviation alone
+            if offset != last {
+                entries.push(entry(second, offset)?);
+                last = offset;
             }
         }
         match entries.len() {
