@@ -1,0 +1,52 @@
+//! A rule text with its image: names, ranges, and scans in turn.
+
+use crate::explain;
+use crate::image::{Image, Range};
+use crate::source::Rules;
+use crate::stop::Stop;
+use crate::text::declared;
+use rolvenko::{check, clock, scan, start, translate, ScanRefusal, IMAGE_ROOM};
+use std::path::PathBuf;
+
+pub struct Farm {
+    pub path: PathBuf,
+    pub text: Vec<u8>,
+    pub image: Vec<u8>,
+    pub read: Image,
+    pub names: Vec<String>,
+    pub state: Vec<i32>,
+}
+
+impl Farm {
+    /// Translates, checks and starts; a refusal is told.
+    pub fn new(rules: &Rules) -> Result<Farm, Stop> {
+        let mut image = vec![0; IMAGE_ROOM];
+        match translate(&rules.text, &mut image) {
+            Ok(length) => image.truncate(length),
+            Err(refusal) => {
+                eprint!("{}", explain::text_refused(&rules.path, &rules.text, refusal));
+                return Err(Stop::Refused);
+            }
+        }
+        let read = Image::read(&image);
+        let mut state = vec![0; read.names()];
+        let names = declared(&rules.text).into_iter().map(|d| d.name).collect();
+        check(&image).and_then(|()| start(&image, &mut state)).map_err(|r| Stop::Failed(format!("an image that translate wrote: {r}")))?;
+        Ok(Farm { path: rules.path.clone(), text: rules.text.clone(), image, read, names, state })
+    }
+
+    pub fn range(&self, id: usize) -> Range {
+        self.read.ranges[id].1
+    }
+
+    /// Scans a row, or a line that is none: that counts as a row of wrong length.
+    pub fn scan(&mut self, row: Option<&[i32]>) -> Result<u32, ScanRefusal> {
+        let none = vec![0; self.read.inputs + 1];
+        scan(&self.image, &mut self.state, row.unwrap_or(&none))
+    }
+
+    /// Fills `day`, `minute` and `again` of a row of the right length.
+    pub fn fill(&self, table: &[i64], utc: i64, row: &mut [i32]) -> Result<(), Stop> {
+        clock(&self.text, table, utc, row).map_err(|r| Stop::Failed(format!("{r}")))
+    }
+}

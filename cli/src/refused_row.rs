@@ -1,0 +1,137 @@
+//! A refused row in words: which name and which values, and for 15 the two cases that held.
+
+use crate::advice::advice;
+use crate::farm::Farm;
+use crate::image::Instruction;
+use crate::text::{cases, line_column};
+use rolvenko::{meaning, scan, ScanRefusal};
+
+const PREVIOUS: u8 = 3;
+const GATE: u8 = 19;
+const PICK: u8 = 20;
+const LET: u8 = 21;
+const SETTLE: u8 = 22;
+
+/// What was wrong with a row, of a farm whose state is as before it.
+pub fn row_refused(farm: &Farm, row: Option<&[i32]>, refusal: ScanRefusal) -> String {
+    let what = match (refusal.number, row) {
+        (12, None) => format!("the line is no row: {}", inputs_wanted(farm)),
+        (12, Some(row)) => format!("the row has {}: {}", numbers(row.len()), inputs_wanted(farm)),
+        (13, Some(row)) => input_outside(farm, row),
+        (18, _) => state_outside(farm),
+        (14..=17, Some(row)) => at_work(farm, row, refusal),
+        _ => meaning(refusal.number).to_owned(),
+    };
+    format!("refused {}: {what}\n  {}\n", refusal.number, advice(refusal.number))
+}
+
+fn numbers(n: usize) -> String {
+    format!("{n} number{}", if n == 1 { "" } else { "s" })
+}
+
+fn inputs_wanted(farm: &Farm) -> String {
+    match farm.read.inputs {
+        0 => "a row of no numbers is wanted".to_owned(),
+        n => format!("{} wanted, {}", numbers(n), farm.names[..n].join(" ")),
+    }
+}
+
+fn outside(farm: &Farm, id: usize, value: i32) -> Option<String> {
+    let range = farm.range(id);
+    let within = (range.low..=range.high).contains(&value);
+    (!within).then(|| format!("{} is {value}, outside {}..{}", farm.names[id], range.low, range.high))
+}
+
+fn input_outside(farm: &Farm, row: &[i32]) -> String {
+    let found: Vec<String> = row.iter().enumerate().filter_map(|(id, value)| outside(farm, id, *value)).collect();
+    found.join("; ")
+}
+
+fn state_outside(farm: &Farm) -> String {
+    let found: Vec<String> = farm.state.iter().enumerate().filter_map(|(id, value)| outside(farm, id, *value)).collect();
+    found.join("; ")
+}
+
+/// The instructions of the rule that the refusing one belongs to.
+fn rule_of(code: &[Instruction], index: usize) -> std::ops::Range<usize> {
+    let ends = |i: &Instruction| matches!(i.code, LET | SETTLE);
+    let first = code[..index].iter().rposition(ends).map_or(0, |i| i + 1);
+    let last = code[index..].iter().position(ends).map_or(code.len(), |i| index + i + 1);
+    first..last
+}
+
+/// 14 to 17: the variable whose rule was worked out, its case, and the values that the rule uses.
+fn at_work(farm: &Farm, row: &[i32], refusal: ScanRefusal) -> String {
+    let code = &farm.read.code;
+    let index = (refusal.steps as usize).saturating_sub(1).min(code.len().saturating_sub(1));
+    let Some(variable) = farm.read.variable_at(index) else {
+        return meaning(refusal.number).to_owned();
+    };
+    let rule = rule_of(code, index);
+    let case = code[rule.start..index].iter().filter(|i| i.code == PICK).count();
+    let name = &farm.names[variable];
+    let places = cases(&farm.text, name);
+    let spelled = |n: usize| {
+        places.get(n).map_or(format!("case {}", n + 1), |t| {
+            let (line, _) = line_column(&farm.text, t.at);
+            format!("case {} (line {line}) {}", n + 1, one_line(t.of(&farm.text)))
+        })
+    };
+    let of_function = !code[rule.clone()].iter().any(|i| i.code == GATE);
+    let what = match refusal.number {
+        15 => {
+            let first = (0..case).find(|n| holds(farm, row, &rule, *n));
+            let both = first.into_iter().chain([case]).map(spelled).collect::<Vec<_>>();
+            format!("two cases of {name} hold: {}", both.join(" and "))
+        }
+        number if of_function => format!("{name}: {}", meaning(number)),
+        number => format!("{name}: {}, in {}", meaning(number), spelled(case)),
+    };
+    let values = values_used(farm, row, &code[rule]);
+    if values.is_empty() { what } else { format!("{what}; {values}") }
+}
+
+/// White space as one space each.
+fn one_line(bytes: &[u8]) -> String {
+    String::from_utf8_lossy(bytes).split_whitespace().collect::<Vec<_>>().join(" ")
+}
+
+/// Previous values, and inputs, that a rule uses. Other current values are worked out in the same scan, so they are not known here.
+fn values_used(farm: &Farm, row: &[i32], rule: &[Instruction]) -> String {
+    let mut found: Vec<String> = Vec::new();
+    for i in rule {
+        let text = match (i.code, i.operand) {
+            (2, Some(id)) if (id as usize) < farm.read.inputs => format!("{} is {}", farm.names[id as usize], row[id as usize]),
+            (3, Some(id)) => format!("_{} is {}", farm.names[id as usize], farm.state[id as usize]),
+            _ => continue,
+        };
+        if !found.contains(&text) {
+            found.push(text);
+        }
+    }
+    found.join(", ")
+}
+
+/// Whether case `n` of a rule holds: asked of the archive, by a scan of an image whose rule has that case alone, and in which the rules
+/// behind it keep their variables.
+fn holds(farm: &Farm, row: &[i32], rule: &std::ops::Range<usize>, n: usize) -> bool {
+    let code = &farm.read.code;
+    let picks: Vec<usize> = rule.clone().filter(|i| code[*i].code == PICK).collect();
+    let first = if n == 0 { rule.start } else { picks[n - 1] + 1 };
+    let settle = &code[rule.end - 1];
+    let mut image = farm.image[..code[rule.start].at].to_vec();
+    image.extend(&farm.image[code[first].at..code[picks[n] + 1].at]);
+    let id = settle.operand.unwrap_or(0) as u8;
+    image.extend([SETTLE, id]);
+    for later in code[rule.end..].iter().filter(|i| matches!(i.code, LET | SETTLE)) {
+        let id = later.operand.unwrap_or(0) as u8;
+        image.extend([PREVIOUS, id, LET, id]);
+    }
+    let before_gate = (first..picks[n]).take_while(|i| code[*i].code != GATE).count();
+    let mut state = farm.state.clone();
+    match scan(&image, &mut state, row) {
+        Ok(_) => state[usize::from(id)] != farm.state[usize::from(id)],
+        // refused behind the gate: the case held
+        Err(refusal) => refusal.steps as usize > rule.start + before_gate + 1,
+    }
+}

@@ -1,0 +1,71 @@
+//! `check` and `show`: an image's header and instructions with their places, so that a place of 11 can be found.
+
+use crate::explain;
+use crate::farm::Farm;
+use crate::image::{Image, Instruction};
+use crate::source::{content, Content};
+use crate::stop::Stop;
+use rolvenko::Refusal;
+use std::io::{BufWriter, Write};
+use std::path::Path;
+
+/// An image and the names that are known of it.
+struct Shown {
+    bytes: Vec<u8>,
+    names: Vec<String>,
+}
+
+fn open(path: &Path) -> Result<Shown, Stop> {
+    Ok(match content(path)? {
+        Content::Image(bytes) => Shown { bytes, names: Vec::new() },
+        Content::Text(rules) => {
+            let farm = Farm::new(&rules)?;
+            Shown { bytes: farm.image, names: farm.names }
+        }
+    })
+}
+
+pub fn check(path: &Path) -> Result<(), Stop> {
+    let shown = open(path)?;
+    refused(path, &shown, rolvenko::check(&shown.bytes))
+}
+
+fn refused(path: &Path, shown: &Shown, answer: Result<(), Refusal>) -> Result<(), Stop> {
+    let Err(refusal) = answer else {
+        return Ok(());
+    };
+    let image = Image::read(&shown.bytes);
+    let there = image.code.iter().find(|i| i.at == refusal.place).map(|i| i.words(&shown.names));
+    let there = there.or_else(|| (refusal.number == 11 && refusal.place == shown.bytes.len()).then(|| "the end".to_owned()));
+    eprint!("{}", explain::image_refused(path, refusal, there.as_deref()));
+    Err(Stop::Refused)
+}
+
+fn hex(bytes: &[u8]) -> String {
+    bytes.iter().map(|b| format!("{b:02x}")).collect::<Vec<_>>().join(" ")
+}
+
+fn end_of(image: &Image, index: usize, bytes: &[u8]) -> usize {
+    image.code.get(index + 1).map_or(image.broken.unwrap_or(bytes.len()), |next: &Instruction| next.at)
+}
+
+pub fn show(path: &Path) -> Result<(), Stop> {
+    let shown = open(path)?;
+    let image = Image::read(&shown.bytes);
+    let mut out = BufWriter::new(std::io::stdout().lock());
+    writeln!(out, "{} bytes, {} inputs, {} variables, {} instructions from place {}", shown.bytes.len(), image.inputs, image.variables, image.code.len(), image.code_at)?;
+    for (id, (at, range)) in image.ranges.iter().enumerate() {
+        let kind = if id < image.inputs { "input" } else { "var" };
+        let name = shown.names.get(id).map_or(String::new(), |n| format!(" {n}"));
+        writeln!(out, "{at:>6}  {kind} {id}{name} {}..{} init {}", range.low, range.high, range.start)?;
+    }
+    for (n, instruction) in image.code.iter().enumerate() {
+        let bytes = &shown.bytes[instruction.at..end_of(&image, n, &shown.bytes)];
+        writeln!(out, "{:>6}  {:<15} {}", instruction.at, hex(bytes), instruction.words(&shown.names))?;
+    }
+    if let Some(at) = image.broken {
+        writeln!(out, "{at:>6}  {}", hex(&shown.bytes[at..shown.bytes.len().min(at + 8)]))?;
+    }
+    out.flush()?;
+    refused(path, &shown, rolvenko::check(&shown.bytes))
+}

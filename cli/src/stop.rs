@@ -1,0 +1,31 @@
+//! Why a run ends early, and the status that it ends with.
+
+use std::fmt::Display;
+use std::io;
+use std::path::Path;
+
+#[derive(Debug)]
+pub enum Stop {
+    /// refused, and told: status 1
+    Refused,
+    /// wrong usage, or a file that cannot be read or written: status 2
+    Failed(String),
+    /// the reader of standard output has gone: nothing more to say
+    Closed,
+}
+
+impl Stop {
+    pub fn file(path: &Path, error: impl Display) -> Stop {
+        Stop::Failed(format!("{}: {error}", path.display()))
+    }
+}
+
+/// Errors of standard output.
+impl From<io::Error> for Stop {
+    fn from(error: io::Error) -> Stop {
+        match error.kind() {
+            io::ErrorKind::BrokenPipe => Stop::Closed,
+            _ => Stop::Failed(format!("standard output: {error}")),
+        }
+    }
+}

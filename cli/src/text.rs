@@ -1,0 +1,114 @@
+//! Tokens of a rule text, for carets and names: where one ends, which names are declared, where a variable's cases stand. What a text means
+//! is asked of the archive; nothing here decides whether it is accepted.
+
+/// The end of the token that begins at `at`; of a byte that begins none, the end of that character.
+pub fn token_end(text: &[u8], at: usize) -> usize {
+    let run = |from: usize| text[from..].iter().take_while(|b| b.is_ascii_alphanumeric()).count();
+    match text[at..] {
+        [] => at,
+        [b'_', b, ..] if b.is_ascii_alphabetic() => at + 1 + run(at + 1),
+        [b, ..] if b.is_ascii_alphabetic() => at + run(at),
+        [b, ..] if b.is_ascii_digit() => at + text[at..].iter().take_while(|b| b.is_ascii_digit()).count(),
+        [b'.', b'.', ..] | [b'-', b'>', ..] | [b'<', b'=', ..] | [b'>', b'=', ..] | [b'<', b'>', ..] => at + 2,
+        [_, ..] => at + 1 + text[at + 1..].iter().take_while(|b| (0x80..0xC0).contains(*b)).count(),
+    }
+}
+
+#[derive(Clone, Copy, Debug, PartialEq, Eq)]
+pub struct Token {
+    pub at: usize,
+    pub end: usize,
+}
+
+impl Token {
+    pub fn of<'t>(&self, text: &'t [u8]) -> &'t [u8] {
+        &text[self.at..self.end]
+    }
+}
+
+/// The tokens in turn.
+pub fn tokens(text: &[u8]) -> Vec<Token> {
+    let mut found = Vec::new();
+    let mut at = 0;
+    while at < text.len() {
+        if matches!(text[at], b' ' | b'\t' | b'\r' | b'\n') {
+            at += 1;
+        } else {
+            let end = token_end(text, at);
+            found.push(Token { at, end });
+            at = end;
+        }
+    }
+    found
+}
+
+#[derive(Clone, Debug, PartialEq, Eq)]
+pub struct Declared {
+    pub name: String,
+    pub at: usize,
+    pub input: bool,
+}
+
+/// The names that an accepted text declares, in order; of another text, those before its fault.
+pub fn declared(text: &[u8]) -> Vec<Declared> {
+    let all = tokens(text);
+    all.windows(2)
+        .filter_map(|pair| {
+            let input = match pair[0].of(text) {
+                b"input" => true,
+                b"var" => false,
+                _ => return None,
+            };
+            let name = String::from_utf8_lossy(pair[1].of(text)).into_owned();
+            Some(Declared { name, at: pair[1].at, input })
+        })
+        .collect()
+}
+
+/// Line and column of a place, from 1; columns count characters.
+pub fn line_column(text: &[u8], place: usize) -> (usize, usize) {
+    let before = &text[..place.min(text.len())];
+    let line = before.iter().filter(|b| **b == b'\n').count() + 1;
+    let start = before.iter().rposition(|b| *b == b'\n').map_or(0, |p| p + 1);
+    (line, String::from_utf8_lossy(&before[start..]).chars().count() + 1)
+}
+
+/// The parts of an accepted text that spell the cases of `variable`, each from its `[` to the `)` that ends it.
+pub fn cases(text: &[u8], variable: &str) -> Vec<Token> {
+    let all = tokens(text);
+    let spelled = |i: usize| all.get(i).map_or(&b""[..], |t| t.of(text));
+    let opening = |i: usize| {
+        spelled(i).eq_ignore_ascii_case(variable.as_bytes()) && spelled(i + 1) == b":" && spelled(i + 4) == b"~" && spelled(i + 5) == b"("
+    };
+    let Some(rule) = (0..all.len()).find(|i| opening(*i)) else {
+        return Vec::new();
+    };
+    let mut found = Vec::new();
+    let mut i = (rule..all.len()).find(|i| spelled(*i) == b"->").map_or(all.len(), |i| i + 1);
+    while spelled(i) == b"[" {
+        let first = all[i].at;
+        let behind = closing(text, &all, i);
+        // `&`, the variable and `=` stand before the bracket of the new value
+        let last = closing(text, &all, behind + 4);
+        found.push(Token { at: first, end: all[last.min(all.len() - 1)].end });
+        i = last + 1;
+        if spelled(i) == b"|" {
+            i += 1;
+        }
+    }
+    found
+}
+
+/// The place, among the tokens, of the bracket that closes the one at `open`.
+fn closing(text: &[u8], all: &[Token], open: usize) -> usize {
+    let mut depth = 0usize;
+    for (i, token) in all.iter().enumerate().skip(open) {
+        match token.of(text) {
+            b"(" | b"[" => depth += 1,
+            b")" | b"]" if depth <= 1 => return i,
+            b")" | b"]" => depth -= 1,
+            _ => (),
+        }
+    }
+    all.len()
+}

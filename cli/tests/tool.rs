@@ -1,0 +1,208 @@
+//! The tool from outside: outputs, refusals in words, exit status, and inputs that are not what they should be.
+
+use std::fs;
+use std::io::Write;
+use std::path::{Path, PathBuf};
+use std::process::{Command, Output, Stdio};
+
+const TOOL: &str = env!("CARGO_BIN_EXE_rolvenko");
+const LATCH: &str = "../examples/launch_latch.txt";
+/// Two cases that can hold at once.
+const TWO_CASES: &str = "input a 0..1;\nvar v 0..3;\nv: GX(~(v = _v) -> [a = 1] & v = (1) | [_v = 0] & v = (2));\nv: GX(v = _v -> ~([a = 1] | [_v = 0]));\n";
+
+fn tool(words: &[&str]) -> Output {
+    Command::new(TOOL).args(words).stdin(Stdio::null()).output().unwrap()
+}
+
+fn fed(words: &[&str], input: &[u8]) -> Output {
+    let mut child = Command::new(TOOL).args(words).stdin(Stdio::piped()).stdout(Stdio::piped()).stderr(Stdio::piped()).spawn().unwrap();
+    child.stdin.take().unwrap().write_all(input).unwrap();
+    child.wait_with_output().unwrap()
+}
+
+fn out(o: &Output) -> String {
+    String::from_utf8_lossy(&o.stdout).into_owned()
+}
+
+fn told(o: &Output) -> String {
+    String::from_utf8_lossy(&o.stderr).into_owned()
+}
+
+fn status(o: &Output) -> i32 {
+    o.status.code().unwrap()
+}
+
+/// A file of its own for each test.
+fn file(name: &str, bytes: &[u8]) -> PathBuf {
+    let path = Path::new(env!("CARGO_TARGET_TMPDIR")).join(name);
+    fs::write(&path, bytes).unwrap();
+    path
+}
+
+fn word(path: &Path) -> &str {
+    path.to_str().unwrap()
+}
+
+#[test]
+fn translates_into_the_image_that_the_service_writes() {
+    let image = file("latch.image", b"");
+    assert_eq!(status(&tool(&["translate", LATCH, "-o", word(&image)])), 0);
+    let text = fs::read(LATCH).unwrap();
+    let text = &text[..text.windows(3).position(|w| w == b"\n#\n").unwrap() + 1];
+    let mut wanted = vec![0; rolvenko::IMAGE_ROOM];
+    let length = rolvenko::translate(text, &mut wanted).unwrap();
+    assert_eq!(fs::read(&image).unwrap(), wanted[..length]);
+    assert_eq!(status(&tool(&["check", word(&image)])), 0);
+    assert_eq!(out(&tool(&["translate", LATCH])), format!("{LATCH}: 71 bytes, 32 instructions\n"));
+}
+
+#[test]
+fn traces_as_document_01_prints() {
+    let mut compared = 0;
+    for entry in ["../cases", "../examples"].iter().flat_map(|folder| fs::read_dir(folder).unwrap()) {
+        let stored = entry.unwrap().path();
+        let given = [stored.with_extension("in"), stored.with_extension("txt")].into_iter().find(|p| p.exists());
+        let (Some("out"), Some(given)) = (stored.extension().and_then(|e| e.to_str()), given) else {
+            continue;
+        };
+        let wanted = fs::read_to_string(&stored).unwrap();
+        let traced = tool(&["trace", word(&given)]);
+        if wanted.starts_with("refused") {
+            assert_eq!((out(&traced).as_str(), status(&traced)), ("", 1), "{}", given.display());
+        } else {
+            assert_eq!(out(&traced), wanted, "{}", given.display());
+        }
+        compared += 1;
+    }
+    assert!(compared > 8, "{compared}");
+}
+
+#[test]
+fn csv_has_the_same_values() {
+    let plain = out(&tool(&["trace", LATCH]));
+    assert_eq!(out(&tool(&["trace", LATCH, "--csv"])), plain.replace(' ', ","));
+}
+
+#[test]
+fn a_refused_text_is_told_with_its_token() {
+    let path = file("plus.txt", b"input a 0..1;\nvar v 0..3;\nv: GX(v + 1);\n");
+    let checked = tool(&["check", word(&path)]);
+    let lines: Vec<String> = told(&checked).lines().map(str::to_owned).collect();
+    assert_eq!(status(&checked), 1);
+    assert_eq!(lines[0], format!("{}:3:9: refused 2: {}", word(&path), rolvenko::meaning(2)));
+    assert!(lines.contains(&"3 | v: GX(v + 1);".to_owned()));
+    assert!(lines.contains(&"  |         ^ wanted: `=`".to_owned()), "{lines:?}");
+}
+
+#[test]
+fn what_was_wanted_is_asked_of_the_archive() {
+    for (text, wanted) in [
+        (&b"input a 0..1;\nvar vv 0..3;\nvv: GX(vv = (_vvv));"[..], "^^^^ not declared; is `vv` meant?"),
+        (b"var v 0..1; var w 0..1; v: GX(v = (1));", "no rule for w"),
+        (b"var v 0..1; var v 0..1;", "^ declared twice"),
+        (b"input i 0..1; i: GX(i = (1));", "^ an input"),
+        (b"var v 0..1; v: GX(v = (1)); v: GX(v = (1));", "^ has a rule already"),
+        (b"var v 0..1; v GX", "^^ wanted: `:`"),
+        (b"var 0..1;", "^ wanted: a new name"),
+    ] {
+        let checked = fed(&["check", "-"], text);
+        let answer = told(&checked);
+        assert!(answer.contains(wanted) && status(&checked) == 1, "{answer}");
+    }
+}
+
+#[test]
+fn a_wrong_list_shows_the_token_wanted() {
+    let text = TWO_CASES.replace("[_v = 0]));", "[_v = 1]));");
+    let path = file("list.txt", text.as_bytes());
+    assert!(told(&tool(&["check", word(&path)])).contains("^ wanted: `0`"));
+}
+
+#[test]
+fn refused_rows_name_values_and_cases() {
+    let path = file("cases.txt", format!("{TWO_CASES}#\n1\n0\n3\n1 1\nx\n").as_bytes());
+    let traced = tool(&["trace", word(&path)]);
+    let answer = told(&traced);
+    assert_eq!(status(&traced), 1);
+    for wanted in [
+        ":6: refused 15: two cases of v hold: case 1 (line 3) [a = 1] & v = (1) and case 2 (line 3) [_v = 0] & v = (2); a is 1, _v is 0",
+        ":8: refused 13: a is 3, outside 0..1",
+        ":9: refused 12: the row has 2 numbers: 1 number wanted, a",
+        ":10: refused 12: the line is no row: 1 number wanted, a",
+    ] {
+        assert!(answer.contains(wanted), "{wanted}\n{answer}");
+    }
+    assert_eq!(out(&traced), "scan a v result\n0 0 0 0\n1 0 0 15\n2 0 2 0\n3 0 2 13\n4 0 2 12\n5 0 2 12\n");
+}
+
+#[test]
+fn values_out_of_range_name_the_variable() {
+    let path = file("over.txt", b"input i 0..9; var v 0..5; v: GX(v = (_v + i));\n#\n3\n3\n");
+    let answer = told(&tool(&["trace", word(&path)]));
+    assert!(answer.contains(":4: refused 17: v: a new value is outside its range; _v is 3, i is 3"), "{answer}");
+}
+
+#[test]
+fn an_image_shows_its_instructions_and_where_it_breaks() {
+    let path = file("small.image", &[0, 1, 0, 2, 0, 1, 0, 21, 0]);
+    let shown = out(&tool(&["show", word(&path)]));
+    assert_eq!(shown, "9 bytes, 0 inputs, 1 variables, 2 instructions from place 5\n     2  var 0 0..1 init 0\n     5  01 00           constant 0\n     7  15 00           let 0\n");
+    let broken = file("broken.image", &[0, 1, 0, 2, 0, 1, 0, 22, 0]);
+    let checked = tool(&["check", word(&broken)]);
+    assert_eq!(status(&checked), 1);
+    assert!(told(&checked).contains("refused 11 at 7 (settle 0)"), "{}", told(&checked));
+}
+
+#[test]
+fn rows_from_another_file_and_without_an_end_of_line() {
+    let rules = file("sum.txt", b"input i 0..9; var v 0..99; v: GX(v = (_v + i));\n");
+    let rows = file("sum.rows", b"1\n2");
+    assert_eq!(out(&tool(&["trace", word(&rules), word(&rows)])), "scan i v result\n0 0 0 0\n1 1 1 0\n2 2 3 0\n");
+    assert_eq!(out(&fed(&["trace", word(&rules), "-"], b"4")), "scan i v result\n0 0 0 0\n1 4 4 0\n");
+    assert_eq!(out(&tool(&["trace", word(&rules)])), "scan i v result\n0 0 0 0\n");
+}
+
+#[test]
+fn files_that_cannot_be_read_end_with_2() {
+    for words in [&["check", "no such file"][..], &["trace", "/"], &["trace", LATCH, "/"], &["show", "/"], &["translate", LATCH, "-o", "/no/folder"], &["table", "No/Zone"]] {
+        let answer = tool(words);
+        assert_eq!((status(&answer), told(&answer).starts_with("rolvenko: ")), (2, true), "{words:?}");
+    }
+    for words in [&[][..], &["fly"], &["trace"], &["trace", LATCH, "--csv", "--vcd", "x"], &["charge", LATCH]] {
+        assert_eq!(status(&tool(words)), 2, "{words:?}");
+    }
+}
+
+#[test]
+fn endless_files_are_over_their_limit() {
+    for words in [["check", "/dev/zero"], ["trace", "/dev/zero"], ["translate", "/dev/zero"]] {
+        let answer = tool(&words);
+        assert!(told(&answer).contains("refused 9") && status(&answer) == 1, "{words:?} {}", told(&answer));
+    }
+}
+
+#[test]
+fn bytes_that_are_no_text_are_told() {
+    let checked = fed(&["check", "-"], b"input a 0..1;\nvar \xff 0..1;");
+    assert!(told(&checked).starts_with("-:2:5: refused 1: "), "{}", told(&checked));
+    assert_eq!(status(&checked), 1);
+}
+
+#[test]
+fn a_closed_pipe_is_no_failure() {
+    let rules = file("pipe.txt", b"input i 0..9; var v 0..9; v: GX(v = (i));\n");
+    let mut child = Command::new(TOOL).args(["trace", word(&rules), "--zeros", "200000"]).stdout(Stdio::piped()).stderr(Stdio::piped()).spawn().unwrap();
+    drop(child.stdout.take());
+    let ended = child.wait_with_output().unwrap();
+    assert_eq!((status(&ended), told(&ended).as_str()), (0, ""));
+}
+
+#[test]
+fn licences_are_billed() {
+    let rules = file("held.txt", b"input want 0..9; var held 0..9; held: GX(held = (want));\n#\n2\n5\n");
+    let bill = tool(&["charge", word(&rules), "--of", "held", "--rate", "100", "--threshold", "3", "--rate-above", "250", "--minutes", "60"]);
+    assert_eq!(out(&bill), "held: 1000 0/60 cents over 2 rows, 0 refused\n");
+    let input = tool(&["charge", word(&rules), "--of", "want", "--rate", "1"]);
+    assert!(told(&input).contains("refused 28") && status(&input) == 1);
+    assert_eq!(status(&tool(&["charge", word(&rules), "--of", "nobody", "--rate", "1"])), 2);
+}
