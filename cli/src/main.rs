@@ -8,6 +8,7 @@ mod explain;
 mod farm;
 mod image;
 mod posix;
+mod profile;
 mod refused_row;
 mod show;
 mod source;
@@ -77,6 +78,8 @@ enum Command {
         #[arg(long, default_value_t = 1)]
         minutes: i32,
     },
+    /// Say whether rules can ever stop in service
+    Closed { rules: PathBuf },
     /// Print a farm table for a zone of the system's zone database
     Table {
         zone: String,
@@ -144,6 +147,7 @@ fn run(command: Command) -> Result<(), Stop> {
             let rates = bill::Rates { threshold, rate, above: rate_above, minutes };
             bill::bill(Rules::read(&run.rules)?, run.rows.as_deref(), run.zeros, run.clock()?, &of, &rates)
         }
+        Command::Closed { rules } => profile::profile(&Rules::read(&rules)?),
         Command::Table { zone, from, to } => table::print(&zone, from, to),
     }
 }

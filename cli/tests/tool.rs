@@ -206,3 +206,15 @@ fn licences_are_billed() {
     assert!(told(&input).contains("refused 28") && status(&input) == 1);
     assert_eq!(status(&tool(&["charge", word(&rules), "--of", "nobody", "--rate", "1"])), 2);
 }
+
+#[test]
+fn a_profile_is_closed_or_shows_what_stops_it() {
+    let rules = file("sum_of.txt", b"input i 0..1; var v 0..3; v: GX(v = (_v + i));\n");
+    let open = tool(&["closed", word(&rules)]);
+    assert_eq!(status(&open), 1);
+    assert!(told(&open).contains(": refused 27 after 7 scans: state i 0, v 3; row i 1\n  refused 17: v: a new value is outside its range; _v is 3, i is 1\n"), "{}", told(&open));
+    let rules = file("sum_mod.txt", b"input i 0..1; var v 0..3; v: GX(v = ((_v + i) mod 4));\n");
+    assert_eq!((status(&tool(&["closed", word(&rules)])), out(&tool(&["closed", word(&rules)]))), (0, format!("{}: closed: no in-range row is ever refused\n", word(&rules))));
+    let rules = file("wide.txt", b"var v 0..65536; v: GX(v = (_v));\n");
+    assert!(told(&tool(&["closed", word(&rules)])).contains("refused 26"));
+}
