@@ -2,16 +2,16 @@
 use Prim.Native.Nat.{ℕ, zero, suc, _+_, _≤_, _<_}
 use native.Mathlib.Omega.{arith}
 use mathlib.Core.Path.{_≡_, refl, sym, ap, subst, _∙_}
-use mathlib.Core.Bool.{Bool, true, false, not, _&&_, cond}
+use mathlib.Core.Bool.{Bool, true, false, _&&_, cond}
 use mathlib.Core.List.{List, [], _∷_, map}
 use lib.Dec.{ltb}
 use lib.IntN.{ℤ}
 use lib.Signed.{leZ}
 use lib.ListN.{length, set, getD}
-use Rattle.arith.specs.Values.{Outcome, ok, refusal, _>>=_, require, eqZ}
-use Rattle.semantics.specs.Program.{Range, within}
+use Rattle.arith.specs.Values.{Outcome, ok, refusal, _>>=_, require}
+use Rattle.semantics.specs.Program.{Side, Range, within}
 use Rattle.semantics.specs.Formula.{State, at}
-use Rattle.semantics.specs.ReferenceScan.{noRange, rangeAt, ranged, picked}
+use Rattle.semantics.specs.ReferenceScan.{noRange, rangeAt, ranged, moves, stays, picked}
 use Rattle.leb128.specs.Numbers.{Read, got, nothing}
 use Rattle.bytecode.specs.Instructions.{Instruction, constant, current, previous, operation, negate, comparison, negated, both, either, gate, pick, assign, settle, fetch}
 use Rattle.bytecode.specs.Parts.{lows, highs}
@@ -48,11 +48,11 @@ module _ (ns ms : List Range) (a : Alike ns ms) (s : State) where
   ranged-alike : (v : ℕ) (z : ℤ) → ranged ns v z ≡ ranged ms v z
   ranged-alike v z = rw (within-alike v z)
 
-  picked-alike : (v : ℕ) (z : ℤ) → picked ns s v z ≡ picked ms s v z
+  picked-alike : (side : Side) (v : ℕ) (z : ℤ) → picked side ns s v z ≡ picked side ms s v z
   unfolding picked
-  picked-alike v z = by (not (eqZ z (at s v)))
+  picked-alike side v z = by (moves side (at s v) z)
     where
-      by : (b : Bool) → (require b 16 z >>= λ y. ranged ns v y) ≡ (require b 16 z >>= λ y. ranged ms v y)
+      by : (b : Bool) → (require b (stays side) z >>= λ y. ranged ns v y) ≡ (require b (stays side) z >>= λ y. ranged ms v y)
       by true = ranged-alike v z
       by false = refl
 
@@ -67,8 +67,8 @@ module _ (ns ms : List Range) (a : Alike ns ms) (s : State) where
   perform-alike both c vs t = refl
   perform-alike either c vs t = refl
   perform-alike gate c vs t = refl
-  perform-alike (pick v) c [] t = refl
-  perform-alike (pick v) c (x ∷ vs) t = rw (count-alike, picked-alike v x)
+  perform-alike (pick side v) c [] t = refl
+  perform-alike (pick side v) c (x ∷ vs) t = rw (count-alike, picked-alike side v x)
   perform-alike (assign v) c [] t = refl
   perform-alike (assign v) c (x ∷ vs) t = rw (count-alike, ranged-alike v x)
   perform-alike (settle v) c vs t = rw count-alike

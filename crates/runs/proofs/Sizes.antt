@@ -69,8 +69,8 @@ module _ (ns : List Range) (s : State) (w : ℕ) where
   perform-sized both c vs t l e = pop-sized vs _ l λ b vs₁ l₁. pop-sized vs₁ _ (omega arith) λ a vs₂ l₂. (omega arith, e)
   perform-sized either c vs t l e = pop-sized vs _ l λ b vs₁ l₁. pop-sized vs₁ _ (omega arith) λ a vs₂ l₂. (omega arith, e)
   perform-sized gate c vs t l e = pop-sized vs _ l λ a vs₁ l₁. gated-sized (yes a) c vs₁ t (omega arith, e)
-  perform-sized (pick v) c vs t l e =
-      pop-sized vs _ l λ x vs₁ l₁. cond-sized (ltb v (length ns)) _ (bind-sized (picked ns s v x) _ λ z. (omega arith, length-set t v z ∙ e))
+  perform-sized (pick side v) c vs t l e =
+      pop-sized vs _ l λ x vs₁ l₁. cond-sized (ltb v (length ns)) _ (bind-sized (picked side ns s v x) _ λ z. (omega arith, length-set t v z ∙ e))
   perform-sized (assign v) c vs t l e =
       pop-sized vs _ l λ x vs₁ l₁. cond-sized (ltb v (length ns)) _ (bind-sized (ranged ns v x) _ λ z. (omega arith, length-set t v z ∙ e))
   perform-sized (settle v) c vs t l e = cond-sized (ltb v (length ns)) _ (settled-sized v (at s v) c vs t (l, e))
