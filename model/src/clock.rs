@@ -1,6 +1,7 @@
 //! Request A.1 of document 02, "Local hour of each farm": the inputs `day`, `minute`
 //! and `again` of a row, filled from a UTC minute.
 
+use crate::token::same_names;
 use crate::{read_text, Refusal};
 use std::ops::RangeInclusive;
 
@@ -29,11 +30,13 @@ pub fn clock(text: &[u8], table: &[i64], utc: i64, row: &mut [i32]) -> Result<()
     // The row has a value for each input, the first of the names: variables are not
     // reached. "All other values of the row stay."
     for (value, name) in row.iter_mut().zip(&program.names) {
-        match name.spelling {
-            b"day" => *value = day as i32,
-            b"minute" => *value = minute as i32,
-            b"again" => *value = i32::from(table.again(utc)),
-            _ => {}
+        let is = |filled: &str| same_names(name.spelling, filled.as_bytes());
+        if is("day") {
+            *value = day as i32;
+        } else if is("minute") {
+            *value = minute as i32;
+        } else if is("again") {
+            *value = i32::from(table.again(utc));
         }
     }
     Ok(())

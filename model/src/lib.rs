@@ -1,5 +1,5 @@
 //! Reference model of document 01, "Launch rules as formulas, images and traces", and of
-//! requests A.1, A.4, A.5, A.8, A.9, A.10 and A.12 of document 02.
+//! requests A.1, A.2, A.4, A.5, A.8, A.9, A.10 and A.12 of document 02.
 //!
 //! Written from the documents and their readings alone, in safe Rust with the
 //! standard library only. Comments in quotation marks are sentences of the documents.
@@ -8,6 +8,7 @@ pub mod charge;
 pub mod check;
 pub mod clock;
 pub mod closed;
+pub mod features;
 pub mod formula;
 pub mod generate;
 pub mod image;
@@ -27,6 +28,7 @@ pub use charge::{charge, Charge};
 pub use check::{check, check_detail, Breach, Fault, Header, Range};
 pub use clock::clock;
 pub use closed::{closed, combination, write_combination, Combination, NotClosed};
+pub use features::Features;
 pub use formula::satisfies;
 pub use image::{instructions, write_image};
 pub use instalments::{Answer, Paused};

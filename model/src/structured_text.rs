@@ -1,8 +1,8 @@
 //! Request A.4 of document 02, "Structured Text for the eastern controllers": the writer.
 //! What is written means what module `st` says.
 //!
-//! Request A.2 is not in this model yet: names that differ in letter case only, and names
-//! that are grammar words in another case, are printed as they are.
+//! Without request A.2 names that differ in letter case only, and names that are grammar
+//! words in another case, are printed as they are.
 
 use crate::program::{
     Atom, Body, Condition, Expression, Factor, Name, Operand, Product, Program, Relation, Rule,

@@ -1,4 +1,6 @@
-//! Tokens of a text, "read by longest match".
+//! Tokens of a text, "read by longest match", and the sameness of names (A.2).
+
+use crate::features;
 
 /// The kind of a token.
 #[derive(Clone, Copy, Debug, PartialEq, Eq)]
@@ -12,6 +14,8 @@ pub enum Kind {
     Init,
     Mod,
     Gx,
+    /// A grammar word in another letter case (A.2): the grammar allows it nowhere.
+    OtherCase,
     DotDot,
     Arrow,
     LessEqual,
@@ -52,6 +56,17 @@ impl<'t> Token<'t> {
         match self.kind {
             Kind::Previous => &self.spelling[1..],
             _ => self.spelling,
+        }
+    }
+
+    /// Whether both lists of conditions may have these tokens at one place: "equal token by
+    /// token in spelling", names by their sameness.
+    pub fn agrees(&self, other: &Token) -> bool {
+        match self.kind {
+            Kind::Name | Kind::Previous => {
+                other.kind == self.kind && same_names(self.name(), other.name())
+            }
+            _ => other.spelling == self.spelling,
         }
     }
 }
@@ -102,18 +117,42 @@ fn run(rest: &[u8], class: fn(&u8) -> bool) -> usize {
 }
 
 /// "A name is a letter, then letters or digits (ASCII)"; "a longer run is a name too".
-/// "Words of the grammar, no names: `input var init mod GX`."
 fn name_or_word(rest: &[u8]) -> (Kind, usize) {
     let length = run(rest, u8::is_ascii_alphanumeric);
-    let kind = match &rest[..length] {
-        b"input" => Kind::Input,
-        b"var" => Kind::Var,
-        b"init" => Kind::Init,
-        b"mod" => Kind::Mod,
-        b"GX" => Kind::Gx,
-        _ => Kind::Name,
+    let spelling = &rest[..length];
+    let kind = match words().iter().find(|word| same_names(word.0, spelling)) {
+        Some((word, kind)) if *word == spelling => *kind,
+        // "a grammar word in another case is 2 wherever it stands, but directly after `_`
+        // the `_` is lone, 1"
+        Some(_) => Kind::OtherCase,
+        None => Kind::Name,
     };
     (kind, length)
+}
+
+/// A word of the grammar and the kind of its token.
+type Word = (&'static [u8], Kind);
+
+/// "Words of the grammar, no names".
+pub fn words() -> &'static [Word] {
+    const WORDS: [Word; 5] = [
+        (b"input", Kind::Input),
+        (b"var", Kind::Var),
+        (b"init", Kind::Init),
+        (b"mod", Kind::Mod),
+        (b"GX", Kind::Gx),
+    ];
+    &WORDS
+}
+
+/// "names are the same when their bytes are the same"; by A.2 "Names are now the same when
+/// they agree with a to z read as A to Z".
+pub fn same_names(left: &[u8], right: &[u8]) -> bool {
+    if features::in_force().names_without_case {
+        left.eq_ignore_ascii_case(right)
+    } else {
+        left == right
+    }
 }
 
 /// "`_` directly before a name makes a previous-value token; before anything else,
@@ -165,6 +204,7 @@ fn single(byte: u8) -> Kind {
 #[cfg(test)]
 mod tests {
     use super::*;
+    use crate::Features;
 
     fn spellings(text: &str) -> Vec<String> {
         tokens(text.as_bytes())
@@ -194,12 +234,31 @@ mod tests {
         assert_eq!(kinds(b"_modx"), [Kind::Previous]);
         assert_eq!(kinds(b"_mod"), [Kind::Bad, Kind::Mod]);
         assert_eq!(kinds(b"_GX"), [Kind::Bad, Kind::Gx]);
-        assert_eq!(kinds(b"_gx"), [Kind::Previous]);
         assert_eq!(kinds(b"_ a"), [Kind::Bad, Kind::Name]);
         assert_eq!(kinds(b"__a"), [Kind::Bad, Kind::Previous]);
         assert_eq!(kinds(b"_1"), [Kind::Bad, Kind::Digits]);
         assert_eq!(kinds(b"_"), [Kind::Bad]);
         assert_eq!(tokens(b"_ab1")[0].name(), b"ab1");
+    }
+
+    #[test]
+    fn words_in_another_case() {
+        let cased = Features {
+            names_without_case: false,
+            ..Features::ALL
+        };
+        features::with(cased, || {
+            assert_eq!(
+                kinds(b"_gx gx Mod"),
+                [Kind::Previous, Kind::Name, Kind::Name]
+            );
+        });
+        features::with(Features::ALL, || {
+            let found = kinds(b"_gx GX Mod _GXx");
+            let wanted = [Kind::Bad, Kind::OtherCase, Kind::Gx, Kind::OtherCase];
+            assert_eq!(found[..4], wanted);
+            assert_eq!(found[4..], [Kind::Previous]);
+        });
     }
 
     #[test]

@@ -1,5 +1,8 @@
 //! Every answer from 0 (no refusal) to 18 is met by the generators.
 
+mod common;
+
+use common::landed_and_all;
 use std::collections::BTreeMap;
 
 use rolvenko_model::generate::{
@@ -89,6 +92,10 @@ fn images(counts: &mut Counts) {
 
 #[test]
 fn every_answer_is_met() {
+    landed_and_all(every_answer_is_met_in_force);
+}
+
+fn every_answer_is_met_in_force() {
     let mut counts = Counts::default();
     texts(&mut counts);
     images(&mut counts);
@@ -120,6 +127,10 @@ fn every_answer_is_met() {
 /// The trace program on random inputs: its lines are those of the scans.
 #[test]
 fn trace_program() {
+    landed_and_all(trace_program_in_force);
+}
+
+fn trace_program_in_force() {
     let mut results = BTreeMap::new();
     for seed in 0..2000 {
         let mut rng = Rng::new(30_000_000 + seed);

@@ -1,9 +1,10 @@
 //! Request A.1: the local hour of each farm.
 
+use rolvenko_model::features::with;
 use rolvenko_model::generate::{
     broken_table, clock_text, farm_table, mutated_clock_text, utc_minute, Rng,
 };
-use rolvenko_model::{clock, read_text, Refusal};
+use rolvenko_model::{clock, read_text, Features, Refusal};
 use std::collections::HashSet;
 
 const TEXT: &[u8] = b"input day 0..1; input minute 0..1; input again 0..1;";
@@ -169,14 +170,17 @@ fn order_of_refusals() {
     assert_eq!(answer(TEXT, &[0, 0], 0, 4), Err((12, 0)));
 }
 
-/// Only inputs of just these names are filled, whatever their ranges.
+/// Only inputs of just these names are filled, whatever their ranges. `Day` is another name
+/// without A.2.
 #[test]
 fn names() {
     let text = b"input a 0..1; input minute 5..6 init 5; input Day 0..1; input day 0..0; \
         input days 0..1; var again 0..1; again: GX(again = (1));";
-    let mut row = [9, 9, 9, 9, 9];
-    assert_eq!(clock(text, &[0, 60], 3000, &mut row), Ok(()));
-    assert_eq!(row, [9, 180, 9, 2, 9]);
+    with(Features::NONE, || {
+        let mut row = [9, 9, 9, 9, 9];
+        assert_eq!(clock(text, &[0, 60], 3000, &mut row), Ok(()));
+        assert_eq!(row, [9, 180, 9, 2, 9]);
+    });
     let text = b"var day 0..1; var minute 0..1; day: GX(day = (0)); minute: GX(minute = (0));";
     assert_eq!(clock(text, &[0, 60], 3000, &mut []), Ok(()));
     assert_eq!(

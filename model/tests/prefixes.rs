@@ -2,7 +2,7 @@
 
 mod common;
 
-use common::answer;
+use common::{answer, landed_and_all};
 use rolvenko_model::generate::{mutated_text, render, token_soup, Rng, Shape};
 use rolvenko_model::token::{next_token, tokens, Kind};
 
@@ -19,6 +19,10 @@ fn some_text(rng: &mut Rng) -> Vec<u8> {
 /// Up to the refused token nothing is at fault; after it nothing counts.
 #[test]
 fn the_first_fault_is_answered() {
+    landed_and_all(the_first_fault_is_answered_in_force);
+}
+
+fn the_first_fault_is_answered_in_force() {
     let mut met = [0; 11];
     for seed in 0..20_000 {
         let mut rng = Rng::new(40_000_000 + seed);
@@ -54,6 +58,10 @@ fn the_first_fault_is_answered() {
 /// White space has no influence on the number, nor on the token that is answered.
 #[test]
 fn white_space_has_no_influence() {
+    landed_and_all(white_space_has_no_influence_in_force);
+}
+
+fn white_space_has_no_influence_in_force() {
     let mut met = [0; 11];
     for seed in 0..10_000 {
         let mut rng = Rng::new(50_000_000 + seed);

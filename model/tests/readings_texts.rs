@@ -3,19 +3,14 @@
 
 mod common;
 
-use common::{answer, image};
-use rolvenko_model::generate::marked;
+use common::{answer, expect, image};
+use rolvenko_model::features::with;
+use rolvenko_model::Features;
 
 const D: &str = "input i 0..1; var v 0..1; var w 0..1; ";
 const C: &str = "v: GX(~(v = _v) -> [_v = 0 & i = 1] & v = (1) | [_v = 1] & v = (0)); ";
 const N: &str = "v: GX(v = _v -> ~(";
 const LONG: &str = "abcdefghijklmnopq";
-
-fn expect(number: u8, text: &str) {
-    let (bytes, place) = marked(text);
-    assert_eq!(place.is_some(), number != 0, "mark in {text}");
-    assert_eq!(answer(&bytes), (number, place.unwrap_or(0)), "{text}");
-}
 
 /// Each line follows D, C and N(.
 fn expect_in_list(number: u8, line: &str) {
@@ -223,9 +218,11 @@ fn texts_7_longest_match() {
         assert_eq!(answer(&text), (1, 12), "byte {byte}");
         assert_eq!(answer(&[byte]), (1, 0), "byte {byte}");
     }
-    // Words have one spelling.
-    expect(4, "@Input a 0..1;");
-    expect(4, "@VAR a 0..1;");
+    // Words have one spelling; without A.2 others are names.
+    with(Features::NONE, || {
+        expect(4, "@Input a 0..1;");
+        expect(4, "@VAR a 0..1;");
+    });
     expect(2, "var v 0..1; v: @gx(");
     expect(2, "var @GX 0..1;");
     expect(2, "var @init 0..1;");

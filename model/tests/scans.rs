@@ -3,6 +3,7 @@
 
 mod common;
 
+use common::landed_and_all;
 use rolvenko_model::generate::{row, state, state_in_range, text, Rng, Shape};
 use rolvenko_model::program::Body;
 use rolvenko_model::{
@@ -71,6 +72,10 @@ fn run_rows(rng: &mut Rng, text: &[u8], rows: usize, met: &mut [usize; 19]) {
 
 #[test]
 fn scan_equals_plain_scan() {
+    landed_and_all(scan_equals_plain_scan_in_force);
+}
+
+fn scan_equals_plain_scan_in_force() {
     let mut met = [0; 19];
     for seed in 0..4000 {
         let mut rng = Rng::new(seed);
@@ -87,6 +92,10 @@ fn scan_equals_plain_scan() {
 
 #[test]
 fn texts_of_many_names() {
+    landed_and_all(texts_of_many_names_in_force);
+}
+
+fn texts_of_many_names_in_force() {
     let mut met = [0; 19];
     let mut most = 0;
     for seed in 0..150 {
@@ -103,6 +112,10 @@ fn texts_of_many_names() {
 /// scan's alone.
 #[test]
 fn scan_from_any_state() {
+    landed_and_all(scan_from_any_state_in_force);
+}
+
+fn scan_from_any_state_in_force() {
     let mut met = [0; 19];
     for seed in 0..3000 {
         let mut rng = Rng::new(1_000_000 + seed);

@@ -1,7 +1,9 @@
 //! The parser against the second reader, on texts of every kind.
 
+mod common;
 mod grammar;
 
+use common::landed_and_all;
 use rolvenko_model::generate::{
     limit_texts, mutate_bytes, mutate_tokens, mutated_text, random_bytes, render, text,
     text_tokens, token_soup, Rng, Shape,
@@ -24,6 +26,10 @@ fn compare(text: &[u8]) -> usize {
 
 #[test]
 fn the_readers_agree() {
+    landed_and_all(the_readers_agree_in_force);
+}
+
+fn the_readers_agree_in_force() {
     let mut met = [0; 9];
     for seed in 0..12_000 {
         let mut rng = Rng::new(60_000_000 + seed);
@@ -43,6 +49,10 @@ fn the_readers_agree() {
 /// Small texts, edited at every token in turn.
 #[test]
 fn the_readers_agree_on_small_texts() {
+    landed_and_all(the_readers_agree_on_small_texts_in_force);
+}
+
+fn the_readers_agree_on_small_texts_in_force() {
     let mut met = [0; 9];
     for seed in 0..4000 {
         let mut rng = Rng::new(70_000_000 + seed);
@@ -60,6 +70,10 @@ fn the_readers_agree_on_small_texts() {
 
 #[test]
 fn the_readers_agree_at_the_limits() {
+    landed_and_all(the_readers_agree_at_the_limits_in_force);
+}
+
+fn the_readers_agree_at_the_limits_in_force() {
     let mut met = [0; 9];
     for limit in limit_texts() {
         // The second reader is slow on very long lists of tokens.

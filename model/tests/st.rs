@@ -1,8 +1,9 @@
 //! Request A.4: the meaning of ST, and that the writer's ST does what the scan does.
 
+use rolvenko_model::features::with;
 use rolvenko_model::generate::{limit_texts, row_in_range, st_source, state_in_range, Names, Rng};
 use rolvenko_model::st::{read, Evaluation, Operation, Sign, Statement, Unit};
-use rolvenko_model::{plain_scan, read_text, write_structured_text, Program};
+use rolvenko_model::{plain_scan, read_text, write_structured_text, Features, Program};
 
 const WAYS: [Evaluation; 2] = [Evaluation::Both, Evaluation::AsNeeded];
 
@@ -317,7 +318,7 @@ fn as_the_scan() {
 }
 
 /// The standard takes names in two letter cases as one, and so the ST of a text that
-/// request A.2 will refuse is no unit.
+/// request A.2 refuses is no unit.
 #[test]
 fn letter_case() {
     for text in [
@@ -325,8 +326,10 @@ fn letter_case() {
         "input Var 0..1;",
         "input MOD 0..1;",
     ] {
-        let program = read_text(text.as_bytes()).expect("accepted without A.2");
-        assert_eq!(read(write_structured_text(&program).as_bytes()), None);
+        with(Features::NONE, || {
+            let program = read_text(text.as_bytes()).expect("accepted without A.2");
+            assert_eq!(read(write_structured_text(&program).as_bytes()), None);
+        });
     }
 }
 

@@ -1,9 +1,11 @@
 //! Inputs of the farm clock: texts with its names, tables and UTC minutes near every
 //! limit.
 
+use super::letter_case::{is_word, vary_names};
 use super::mutate::edited;
 use super::text::{render, text_tokens, Shape};
 use super::Rng;
+use crate::token::same_names;
 use crate::TEXT_LIMIT;
 
 const NAMES: [&str; 3] = ["day", "minute", "again"];
@@ -64,22 +66,28 @@ pub(super) fn rename(rng: &mut Rng, tokens: &mut [Vec<u8>], spelling: &[u8]) {
         .filter(|pair| pair[0] == b"input" || pair[0] == b"var")
         .map(|pair| pair[1].clone())
         .collect();
-    if declared.iter().any(|name| name == spelling) {
+    let taken = declared.iter().any(|name| same_names(name, spelling));
+    if taken || is_word(spelling) {
         return;
     }
-    declared.retain(|name| !NAMES.iter().any(|filled| filled.as_bytes() == name));
+    declared.retain(|name| {
+        !NAMES
+            .iter()
+            .any(|filled| same_names(filled.as_bytes(), name))
+    });
     if declared.is_empty() {
         return;
     }
     let name = rng.choose(&declared);
     let previous = [b"_", &name[..]].concat();
-    for token in tokens {
-        if token == name {
+    for token in tokens.iter_mut() {
+        if same_names(token, name) {
             *token = spelling.to_vec();
-        } else if *token == previous {
+        } else if same_names(token, &previous) {
             *token = [b"_", spelling].concat();
         }
     }
+    vary_names(rng, tokens);
 }
 
 /// A farm table within its limits: the UTC minute and the offset of each entry in turn.

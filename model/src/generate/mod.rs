@@ -8,6 +8,7 @@ mod clock;
 mod closed;
 mod images;
 mod instalments;
+mod letter_case;
 mod limits;
 mod mutate;
 mod rounds;
@@ -25,6 +26,7 @@ pub use images::{damaged_image, random_image, unsound_images, Unsound};
 pub use instalments::{
     alphabet, broken, call_list, closure, small_images, Call, Closure, SmallImage,
 };
+pub use letter_case::vary_names;
 pub use limits::{limit_texts, nested_condition, nested_expression, LimitText};
 pub use mutate::{mutate_bytes, mutate_tokens, mutated_text, random_bytes, token_soup};
 pub use rounds::{event, farm, rule_set, Event, Outcome};

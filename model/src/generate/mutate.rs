@@ -1,5 +1,6 @@
 //! Texts that may have faults: edited texts, token lists and random bytes.
 
+use super::letter_case::{mutate_case, some_word};
 use super::text::{render, text_tokens, Shape};
 use super::Rng;
 
@@ -83,6 +84,9 @@ pub fn mutate_tokens(rng: &mut Rng, tokens: &mut Vec<Vec<u8>>) {
         tokens.push(any_token(rng, &[]));
         return;
     }
+    if mutate_case(rng, tokens) {
+        return;
+    }
     let at = rng.below(tokens.len());
     let other = rng.below(tokens.len());
     match rng.below(12) {
@@ -107,6 +111,9 @@ pub fn mutate_tokens(rng: &mut Rng, tokens: &mut Vec<Vec<u8>>) {
 fn any_token(rng: &mut Rng, tokens: &[Vec<u8>]) -> Vec<u8> {
     if !tokens.is_empty() && rng.chance(40) {
         return rng.choose(tokens).clone();
+    }
+    if let Some(word) = some_word(rng) {
+        return word;
     }
     rng.choose(&TOKENS).as_bytes().to_vec()
 }

@@ -4,6 +4,7 @@ use super::clock::rename;
 use super::mutate::edited;
 use super::text::{render, text_tokens, Shape};
 use super::Rng;
+use crate::token::same_names;
 use crate::TEXT_LIMIT;
 
 /// Names that are 21.
@@ -76,7 +77,7 @@ fn number_names(tokens: &mut [Vec<u8>]) {
         .map(|pair| pair[1].clone())
         .collect();
     let numbered = |name: &[u8]| {
-        let id = declared.iter().position(|other| other == name)?;
+        let id = declared.iter().position(|other| same_names(other, name))?;
         let kept = &name[..name.len().min(12)];
         Some([kept, format!("q{id}").as_bytes()].concat())
     };

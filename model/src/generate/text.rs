@@ -1,6 +1,8 @@
 //! Random texts that the translator accepts.
 
+use super::letter_case::{is_word, vary_names};
 use super::Rng;
+use crate::token::same_names;
 use crate::TEXT_LIMIT;
 
 /// Size and kind of random texts.
@@ -81,7 +83,9 @@ pub fn text_tokens(rng: &mut Rng, shape: Shape) -> Vec<Vec<u8>> {
         open: 0,
     };
     writer.whole_text();
-    writer.tokens
+    let mut tokens = writer.tokens;
+    vary_names(rng, &mut tokens);
+    tokens
 }
 
 /// Joins tokens with random white space, none only where the tokens stay as they are.
@@ -204,8 +208,8 @@ impl Writer<'_> {
                     name.push(*self.rng.choose(b"abcmodxyzABGXZ0189"));
                 }
             }
-            let word = matches!(&name[..], b"input" | b"var" | b"init" | b"mod" | b"GX");
-            if !word && self.names.iter().all(|other| other.spelling != name) {
+            let mut others = self.names.iter();
+            if !is_word(&name) && !others.any(|other| same_names(&other.spelling, &name)) {
                 return name;
             }
         }

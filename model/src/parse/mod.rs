@@ -10,7 +10,7 @@ mod rules;
 mod values;
 
 use crate::program::{Name, Program};
-use crate::token::{next_token, Kind, Token};
+use crate::token::{next_token, same_names, Kind, Token};
 use crate::{Refusal, NAMES, NAME_BYTES};
 
 /// What `take` does with the spelling of a token.
@@ -33,8 +33,8 @@ struct Parser<'t> {
     /// Counted brackets open now.
     open: usize,
     list: List,
-    /// Spellings wanted inside `~( )`, its closing bracket included.
-    wanted: Vec<&'t [u8]>,
+    /// Tokens wanted inside `~( )`, its closing bracket included.
+    wanted: Vec<Token<'t>>,
     /// How many of them have been compared.
     compared: usize,
 }
@@ -171,9 +171,10 @@ impl<'t> Parser<'t> {
     fn take(&mut self) -> Result<(), Refusal> {
         match self.list {
             List::Off => {}
-            List::Keep => self.wanted.push(self.token.spelling),
+            List::Keep => self.wanted.push(self.token),
             List::Compare => {
-                if self.wanted.get(self.compared) != Some(&self.token.spelling) {
+                let wanted = self.wanted.get(self.compared);
+                if !wanted.is_some_and(|wanted| wanted.agrees(&self.token)) {
                     return Err(self.refuse(7));
                 }
                 self.compared += 1;
@@ -184,12 +185,12 @@ impl<'t> Parser<'t> {
         Ok(())
     }
 
-    /// The id of a name: "names are the same when their bytes are the same".
+    /// The id of a name.
     fn find(&self, spelling: &[u8]) -> Option<usize> {
         self.program
             .names
             .iter()
-            .position(|name| name.spelling == spelling)
+            .position(|name| same_names(name.spelling, spelling))
     }
 }
 

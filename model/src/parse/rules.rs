@@ -2,7 +2,7 @@
 
 use super::{List, Parser};
 use crate::program::{Body, Case, Condition, Expression, Rule};
-use crate::token::Kind;
+use crate::token::{same_names, Kind};
 use crate::{Refusal, CASES, NAME_BYTES};
 
 impl<'t> Parser<'t> {
@@ -94,7 +94,8 @@ impl<'t> Parser<'t> {
     /// The name of the rule once more: 2 includes "a wrong repeated name".
     fn repeated(&mut self, kind: Kind, variable: usize) -> Result<(), Refusal> {
         let spelling = self.program.names[variable].spelling;
-        self.allow(self.token.kind == kind && self.token.name() == spelling)?;
+        let same = self.token.kind == kind && same_names(self.token.name(), spelling);
+        self.allow(same)?;
         self.take()
     }
 

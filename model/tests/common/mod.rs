@@ -2,7 +2,9 @@
 
 #![allow(dead_code)]
 
-use rolvenko_model::{read_text, translate, write_image, Refusal};
+use rolvenko_model::features::with;
+use rolvenko_model::generate::marked;
+use rolvenko_model::{read_text, translate, write_image, Features, Refusal};
 
 /// Number and place of the answer to a text; 0 at 0 if it is accepted.
 pub fn answer(text: &[u8]) -> (u8, usize) {
@@ -10,6 +12,20 @@ pub fn answer(text: &[u8]) -> (u8, usize) {
     match translate(text, &mut buffer) {
         Ok(_) => (0, 0),
         Err(Refusal { number, place }) => (number, place),
+    }
+}
+
+/// Expects the refusal `number` at the mark `@` of a text; for 0, that it is accepted.
+pub fn expect(number: u8, text: &str) {
+    let (bytes, place) = marked(text);
+    assert_eq!(place.is_some(), number != 0, "mark in {text}");
+    assert_eq!(answer(&bytes), (number, place.unwrap_or(0)), "{text}");
+}
+
+/// Does the work with the features that have landed, then with all.
+pub fn landed_and_all(work: impl Fn()) {
+    for features in [Features::LANDED, Features::ALL] {
+        with(features, &work);
     }
 }
 

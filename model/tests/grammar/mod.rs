@@ -4,6 +4,7 @@
 use std::collections::HashMap;
 use std::sync::OnceLock;
 
+use rolvenko_model::features::in_force;
 use rolvenko_model::token::{next_token, Kind, Token};
 
 /// The grammar. `'x'` is the token x; `/role` says what else is checked at the token.
@@ -113,6 +114,15 @@ pub fn read(text: &[u8]) -> Option<(u8, usize)> {
     }
 }
 
+/// Whether two spellings are the same: by A.2 in any case. Words and symbols that the
+/// grammar allows are spelled in one way only.
+fn same(left: &[u8], right: &[u8]) -> bool {
+    match in_force().names_without_case {
+        true => left.to_ascii_uppercase() == right.to_ascii_uppercase(),
+        false => left == right,
+    }
+}
+
 /// All stacks left after the token, and its role.
 fn advance(stacks: &[Stack], token: &Token, again: Option<&[u8]>) -> (Vec<Stack>, &'static str) {
     let mut work = stacks.to_vec();
@@ -123,7 +133,7 @@ fn advance(stacks: &[Stack], token: &Token, again: Option<&[u8]>) -> (Vec<Stack>
         let bodies = productions(symbol);
         if bodies.is_empty() {
             let (terminal, role) = split(symbol);
-            let repeated = role != "again" || Some(token.name()) == again;
+            let repeated = role != "again" || again.is_some_and(|again| same(again, token.name()));
             if is(terminal, token) && repeated && !next.contains(&stack) {
                 assert!(next.is_empty() || found == role, "two roles");
                 found = role;
@@ -195,7 +205,7 @@ impl Known {
     }
 
     fn id(&self, name: &[u8]) -> Option<usize> {
-        self.names.iter().position(|known| known.0 == name)
+        self.names.iter().position(|known| same(&known.0, name))
     }
 
     /// Checks 3 to 8 in number order.
@@ -220,8 +230,8 @@ impl Known {
             && known.is_some_and(|(_, input, ruled)| !input && !ruled);
         let no_rule = role == "rule" && known.is_some_and(|(_, input, ruled)| *input || *ruled);
         let missing = role == "end" && self.names.iter().any(|(_, input, ruled)| !input && !ruled);
-        let other =
-            self.comparing && self.list.get(self.next).map(|s| &s[..]) != Some(token.spelling);
+        let wanted = self.list.get(self.next);
+        let other = self.comparing && !wanted.is_some_and(|s| same(s, token.spelling));
         let too_many = match role {
             "declared" => over_long || self.names.len() == 64,
             "rule" | "used" => over_long,

@@ -1,0 +1,77 @@
+//! Which requests of document 02 that change texts or images are on.
+//!
+//! Each is on or off by itself, so that the model can be compared with a product that has
+//! landed some of them and not others. Every function of the model goes by the features in
+//! force on its thread: those landed, or others within `with`.
+
+use std::cell::Cell;
+
+#[derive(Clone, Copy, Debug, PartialEq, Eq)]
+pub struct Features {
+    /// Request A.2, names without letter case.
+    pub names_without_case: bool,
+}
+
+impl Features {
+    /// What has landed: who lands a request changes its line here.
+    pub const LANDED: Features = Features {
+        names_without_case: false,
+    };
+
+    /// Document 01 and the requests that every model has.
+    pub const NONE: Features = Features {
+        names_without_case: false,
+    };
+
+    pub const ALL: Features = Features {
+        names_without_case: true,
+    };
+
+    /// Every set of features.
+    pub fn sets() -> Vec<Features> {
+        let switches = [false, true];
+        let sets = switches.map(|names_without_case| Features { names_without_case });
+        sets.to_vec()
+    }
+}
+
+thread_local! {
+    static IN_FORCE: Cell<Features> = const { Cell::new(Features::LANDED) };
+}
+
+/// The features in force on this thread.
+pub fn in_force() -> Features {
+    IN_FORCE.get()
+}
+
+/// Puts features back, after a panic too.
+struct Back(Features);
+
+impl Drop for Back {
+    fn drop(&mut self) {
+        IN_FORCE.set(self.0);
+    }
+}
+
+/// Does the work with these features in force on this thread.
+pub fn with<T>(features: Features, work: impl FnOnce() -> T) -> T {
+    let _back = Back(IN_FORCE.replace(features));
+    work()
+}
+
+#[cfg(test)]
+mod tests {
+    use super::*;
+
+    #[test]
+    fn features_come_back() {
+        assert_eq!(in_force(), Features::LANDED);
+        with(Features::ALL, || {
+            with(Features::NONE, || assert_eq!(in_force(), Features::NONE));
+            assert_eq!(in_force(), Features::ALL);
+        });
+        let panicked = std::panic::catch_unwind(|| with(Features::ALL, || panic!("on purpose")));
+        assert!(panicked.is_err());
+        assert_eq!(in_force(), Features::LANDED);
+    }
+}
