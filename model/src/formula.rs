@@ -42,10 +42,25 @@ impl Place<'_> {
         match &rule.body {
             Body::Function(expression) => self.function_holds(v, expression),
             Body::Change { cases, unchanged } => {
-                self.change_holds(v, cases) == Some(true)
-                    && self.no_change_holds(v, unchanged) == Some(true)
+                let cases: Vec<&Case> = cases.iter().collect();
+                let unchanged: Vec<&Condition> = unchanged.iter().collect();
+                self.both_hold(v, &cases, &unchanged)
+            }
+            // "read as the change formula over both lists, rising first, with its matching
+            // no-change formula"
+            pair @ Body::Pair { .. } => {
+                let cases = pair.cases();
+                let conditions: Vec<&Condition> =
+                    cases.iter().map(|case| &case.condition).collect();
+                self.both_hold(v, &cases, &conditions)
             }
         }
+    }
+
+    /// A change formula and its no-change formula.
+    fn both_hold(&self, v: usize, cases: &[&Case], conditions: &[&Condition]) -> bool {
+        self.change_holds(v, cases) == Some(true)
+            && self.no_change_holds(v, conditions) == Some(true)
     }
 
     /// `v = (e)`
@@ -55,7 +70,7 @@ impl Place<'_> {
 
     /// `~(v = _v) -> [c] & v = (e) | [c] & v = (e)`: all conditions are worked out, "a
     /// case's expression only if its condition holds".
-    fn change_holds(&self, v: usize, cases: &[Case]) -> Option<bool> {
+    fn change_holds(&self, v: usize, cases: &[&Case]) -> Option<bool> {
         let mut some_case = false;
         for case in cases {
             if self.condition(&case.condition)? {
@@ -68,7 +83,7 @@ impl Place<'_> {
     }
 
     /// `v = _v -> ~([c] | [c])`
-    fn no_change_holds(&self, v: usize, conditions: &[Condition]) -> Option<bool> {
+    fn no_change_holds(&self, v: usize, conditions: &[&Condition]) -> Option<bool> {
         let mut some = false;
         for condition in conditions {
             some |= self.condition(condition)?;

@@ -2,7 +2,7 @@
 
 use crate::number;
 use crate::program::{
-    Atom, Body, Condition, Expression, Factor, Operand, Product, Program, Relation, Sum, Term,
+    Atom, Body, Case, Condition, Expression, Factor, Operand, Product, Program, Relation, Sum, Term,
 };
 
 /// "Instructions (decimal code byte)".
@@ -29,14 +29,23 @@ pub mod code {
     pub const PICK: u8 = 20;
     pub const LET: u8 = 21;
     pub const SETTLE: u8 = 22;
+    /// A.6: "Instructions 24 id and 25 id pick a rising and a falling value."
+    pub const RISE: u8 = 24;
+    pub const FALL: u8 = 25;
+}
+
+/// Whether an instruction picks a value.
+pub fn is_pick(opcode: u8) -> bool {
+    matches!(opcode, code::PICK | code::RISE | code::FALL)
 }
 
 /// Whether a number follows the code byte.
 pub fn has_operand(opcode: u8) -> bool {
-    matches!(
+    let with_number = matches!(
         opcode,
-        code::CONSTANT | code::CURRENT | code::PREVIOUS | code::PICK | code::LET | code::SETTLE
-    )
+        code::CONSTANT | code::CURRENT | code::PREVIOUS | code::LET | code::SETTLE
+    );
+    with_number || is_pick(opcode)
 }
 
 /// One instruction: its code byte, its number (0 if it has none) and its length.
@@ -104,19 +113,28 @@ pub fn write_image(program: &Program) -> Vec<u8> {
                 write_expression(expression, &mut out);
                 with_number(code::LET, rule.variable as u64, &mut out);
             }
-            // "A case is: condition, gate, expression, pick; after the last case, settle."
             Body::Change { cases, .. } => {
-                for case in cases {
-                    write_condition(&case.condition, &mut out);
-                    out.push(code::GATE);
-                    write_expression(&case.expression, &mut out);
-                    with_number(code::PICK, rule.variable as u64, &mut out);
-                }
+                write_cases(cases, code::PICK, rule.variable, &mut out);
+                with_number(code::SETTLE, rule.variable as u64, &mut out);
+            }
+            Body::Pair { rising, falling } => {
+                write_cases(rising, code::RISE, rule.variable, &mut out);
+                write_cases(falling, code::FALL, rule.variable, &mut out);
                 with_number(code::SETTLE, rule.variable as u64, &mut out);
             }
         }
     }
     out
+}
+
+/// "A case is: condition, gate, expression, pick; after the last case, settle."
+fn write_cases(cases: &[Case], pick: u8, variable: usize, out: &mut Vec<u8>) {
+    for case in cases {
+        write_condition(&case.condition, out);
+        out.push(code::GATE);
+        write_expression(&case.expression, out);
+        with_number(pick, variable as u64, out);
+    }
 }
 
 /// "Header: count of inputs, count of variables, then low, high, start (signed) of each

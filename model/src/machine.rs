@@ -1,7 +1,7 @@
 //! Start and scan of an image. Every call checks the image before it works.
 
 use crate::check::{check_detail, Fault, Header};
-use crate::image::{code, decode};
+use crate::image::{code, decode, is_pick};
 use crate::number;
 use crate::{Refusal, HELD, NAMES};
 
@@ -111,7 +111,7 @@ impl Machine<'_> {
             if passing {
                 // "all instructions up to and including the next pick count a step each
                 // and do nothing else"
-                passing = instruction.opcode != code::PICK;
+                passing = !is_pick(instruction.opcode);
                 continue;
             }
             match self.step(instruction.opcode, instruction.number) {
@@ -154,7 +154,7 @@ impl Machine<'_> {
                 self.push(left | right);
             }
             code::GATE => return self.gate(),
-            code::PICK => self.pick(number as usize)?,
+            code::PICK | code::RISE | code::FALL => self.pick(opcode, number as usize)?,
             code::LET => {
                 let value = self.pop();
                 self.set(number as usize, value)?;
@@ -173,11 +173,16 @@ impl Machine<'_> {
         Ok(open)
     }
 
-    /// "16 a pick equal to the previous value", then 17.
-    fn pick(&mut self, id: usize) -> Result<(), u8> {
+    /// "16 a pick equal to the previous value", or "22 a rising pick at or below the previous
+    /// value, or a falling one at or above it, in place of 16 and before 17".
+    fn pick(&mut self, opcode: u8, id: usize) -> Result<(), u8> {
         let value = self.pop();
-        if value == self.previous[id] {
-            return Err(16);
+        let previous = self.previous[id];
+        match opcode {
+            code::RISE if value <= previous => return Err(22),
+            code::FALL if value >= previous => return Err(22),
+            code::PICK if value == previous => return Err(16),
+            _ => {}
         }
         self.picked = true;
         self.set(id, value)

@@ -1,8 +1,7 @@
 //! The plain scan: "given an accepted text, a state and a row, and knows no image".
 
 use crate::program::{
-    Atom, Body, Case, Condition, Expression, Factor, Name, Operand, Product, Program, Relation,
-    Sum, Term,
+    Atom, Body, Condition, Expression, Factor, Name, Operand, Product, Program, Relation, Sum, Term,
 };
 
 /// The plain scan of one row; Err is the number of the first refusal. `state` has one
@@ -28,7 +27,7 @@ pub fn plain_scan(program: &Program, state: &mut [i32], row: &[i32]) -> Result<(
         let name = &program.names[rule.variable];
         let new = match &rule.body {
             Body::Function(expression) => function(&values, name, expression)?,
-            Body::Change { cases, .. } => change(&values, name, state[rule.variable], cases)?,
+            body => change(&values, name, state[rule.variable], body)?,
         };
         current[rule.variable] = new;
     }
@@ -53,10 +52,11 @@ fn function(values: &Values, name: &Name, expression: &Expression) -> Result<i32
 /// "The cases of a rule are taken in order, each condition worked out; a false one ends
 /// its case. One that holds after another of the rule held is 15. Else the expression is
 /// worked out: equal to the previous value it is 16, then outside the variable's range
-/// 17, else it is the new value. If no case held, the new value is the previous one."
-fn change(values: &Values, name: &Name, previous: i32, cases: &[Case]) -> Result<i32, u8> {
+/// 17, else it is the new value. If no case held, the new value is the previous one." In a
+/// pair 22 stands in the place of 16 (A.6).
+fn change(values: &Values, name: &Name, previous: i32, body: &Body) -> Result<i32, u8> {
     let mut found = None;
-    for case in cases {
+    for (index, case) in body.cases().into_iter().enumerate() {
         if !values.condition(&case.condition)? {
             continue;
         }
@@ -64,15 +64,28 @@ fn change(values: &Values, name: &Name, previous: i32, cases: &[Case]) -> Result
             return Err(15);
         }
         let value = values.expression(&case.expression)?;
-        if value == previous {
-            return Err(16);
-        }
+        moved(body, index, value, previous)?;
         if !in_range(name, value) {
             return Err(17);
         }
         found = Some(value);
     }
     Ok(found.unwrap_or(previous))
+}
+
+/// Whether the value of a case, given by its index, moves as it must: 16, or "22 a rising
+/// pick at or below the previous value, or a falling one at or above it".
+fn moved(body: &Body, index: usize, value: i32, previous: i32) -> Result<(), u8> {
+    let (moves, number) = match body {
+        Body::Pair { rising, .. } if index < rising.len() => (value > previous, 22),
+        Body::Pair { .. } => (value < previous, 22),
+        _ => (value != previous, 16),
+    };
+    if moves {
+        Ok(())
+    } else {
+        Err(number)
+    }
 }
 
 /// The values that a rule may use. A current value that is used belongs to an input or

@@ -100,8 +100,9 @@ impl Writer<'_> {
     fn rule(&mut self, rule: &Rule) {
         match &rule.body {
             Body::Function(expression) => self.assignment(rule.variable, expression),
-            Body::Change { cases, .. } => {
-                for (index, case) in cases.iter().enumerate() {
+            // "one IF/ELSIF block .. a rule", a pair's too
+            body => {
+                for (index, case) in body.cases().iter().enumerate() {
                     self.out += if index == 0 { "IF " } else { "ELSIF " };
                     self.condition(&case.condition);
                     self.out += " THEN\n  ";

@@ -3,6 +3,7 @@
 mod common;
 
 use common::landed_and_all;
+use rolvenko_model::features::in_force;
 use std::collections::BTreeMap;
 
 use rolvenko_model::generate::{
@@ -14,10 +15,10 @@ use rolvenko_model::{Breach, Program};
 
 #[derive(Default)]
 struct Counts {
-    translate: [usize; 19],
-    check: [usize; 19],
-    start: [usize; 19],
-    scan: [usize; 19],
+    translate: [usize; 31],
+    check: [usize; 31],
+    start: [usize; 31],
+    scan: [usize; 31],
     breaches: BTreeMap<Breach, usize>,
 }
 
@@ -116,7 +117,12 @@ fn every_answer_is_met_in_force() {
     for number in (9..=18).filter(|&number| number != 10).chain([0]) {
         assert!(counts.scan[number] > 0, "scan {number}");
     }
-    assert_eq!(counts.breaches.len(), Breach::Missing as usize + 1);
+    let features = in_force();
+    assert_eq!(
+        counts.breaches.len(),
+        Breach::Missing as usize + 1 + usize::from(features.pairs)
+    );
+    assert_eq!(counts.scan[22] > 0, features.pairs);
     // Each number belongs to the services that the document names, to no others.
     assert_eq!(counts.translate[11..].iter().sum::<usize>(), 0);
     assert_eq!(counts.scan[1..9].iter().sum::<usize>() + counts.scan[10], 0);
@@ -159,6 +165,8 @@ fn trace_program_in_force() {
         }
     }
     println!("lines by result: {results:?}");
+    let mut wanted = vec![0, 12, 13, 14, 15, 16, 17];
+    wanted.extend(in_force().pairs.then_some(22));
     let numbers: Vec<u8> = results.keys().copied().collect();
-    assert_eq!(numbers, [0, 12, 13, 14, 15, 16, 17]);
+    assert_eq!(numbers, wanted);
 }

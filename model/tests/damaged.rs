@@ -1,6 +1,9 @@
 //! Damaged and random images: "the first header number or instruction that breaks
 //! soundness", and scans of those that are sound.
 
+mod common;
+
+use common::landed_and_all;
 use std::collections::BTreeMap;
 
 use rolvenko_model::generate::{
@@ -40,6 +43,10 @@ fn first_breach(rng: &mut Rng, image: &[u8], place: usize) {
 
 #[test]
 fn the_first_breach_is_answered() {
+    landed_and_all(the_first_breach_is_answered_in_force);
+}
+
+fn the_first_breach_is_answered_in_force() {
     let mut met: BTreeMap<Breach, usize> = BTreeMap::new();
     let mut sound = 0;
     for seed in 0..20_000 {
@@ -67,7 +74,11 @@ fn the_first_breach_is_answered() {
 /// instructions, and a refused one leaves the state.
 #[test]
 fn scans_of_sound_images() {
-    let mut met = [0; 19];
+    landed_and_all(scans_of_sound_images_in_force);
+}
+
+fn scans_of_sound_images_in_force() {
+    let mut met = [0; 40];
     for seed in 0..20_000 {
         let mut rng = Rng::new(90_000_000 + seed);
         let image = some_image(&mut rng);
@@ -91,7 +102,7 @@ fn scans_of_sound_images() {
                     met[0] += 1;
                 }
                 Err(refusal) => {
-                    assert!((14..=17).contains(&refusal.number));
+                    assert!(matches!(refusal.number, 14..=17 | 22));
                     assert!(refusal.steps > 0);
                     assert_eq!(found, lent);
                     met[refusal.number as usize] += 1;

@@ -1,5 +1,9 @@
 //! Request A.9: shares for several rule sets.
 
+mod common;
+
+use common::landed_and_all;
+use rolvenko_model::features::in_force;
 use rolvenko_model::generate::{
     closure, event, farm, row_in_range, rule_set, small_images, Event, Outcome, Rng, SmallImage,
 };
@@ -189,6 +193,10 @@ fn exact_rounds_by_seed() {
 /// set change a set's values or that number." A round that is 25 visits nobody.
 #[test]
 fn isolation() {
+    landed_and_all(isolation_in_force);
+}
+
+fn isolation_in_force() {
     let mut met = BTreeMap::new();
     for seed in 0..500 {
         let mut rng = Rng::new(97_000_000 + seed);
@@ -215,6 +223,7 @@ fn isolation() {
         }
     }
     println!("{met:?}");
+    assert_eq!(met.remove(&22).is_some(), in_force().pairs);
     for wanted in [0, 11, 12, 13, 14, 15, 16, 17, 18, 24, UNFINISHED, IDLE] {
         let count = met.remove(&wanted);
         assert!(count.is_some_and(|count| count > 20), "{wanted}");

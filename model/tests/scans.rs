@@ -4,6 +4,7 @@
 mod common;
 
 use common::landed_and_all;
+use rolvenko_model::features::in_force;
 use rolvenko_model::generate::{row, state, state_in_range, text, Rng, Shape};
 use rolvenko_model::program::Body;
 use rolvenko_model::{
@@ -33,7 +34,7 @@ fn same_conditions(program: &Program) {
 }
 
 /// Runs a list of rows by scan and by plain scan. Counts the rows by answer.
-fn run_rows(rng: &mut Rng, text: &[u8], rows: usize, met: &mut [usize; 19]) {
+fn run_rows(rng: &mut Rng, text: &[u8], rows: usize, met: &mut [usize; 40]) {
     let program = read_text(text).expect("accepted text");
     same_conditions(&program);
     let image = translated(text, &program);
@@ -76,7 +77,7 @@ fn scan_equals_plain_scan() {
 }
 
 fn scan_equals_plain_scan_in_force() {
-    let mut met = [0; 19];
+    let mut met = [0; 40];
     for seed in 0..4000 {
         let mut rng = Rng::new(seed);
         let shape = Shape::any(&mut rng);
@@ -87,6 +88,7 @@ fn scan_equals_plain_scan_in_force() {
     for answer in [0, 12, 13, 14, 15, 16, 17] {
         assert!(met[answer] > 200, "answer {answer}: {met:?}");
     }
+    assert_eq!(met[22] > 200, in_force().pairs, "{met:?}");
     assert_eq!(met.iter().sum::<usize>(), 48_000);
 }
 
@@ -96,7 +98,7 @@ fn texts_of_many_names() {
 }
 
 fn texts_of_many_names_in_force() {
-    let mut met = [0; 19];
+    let mut met = [0; 40];
     let mut most = 0;
     for seed in 0..150 {
         let mut rng = Rng::new(500_000 + seed);
@@ -116,7 +118,7 @@ fn scan_from_any_state() {
 }
 
 fn scan_from_any_state_in_force() {
-    let mut met = [0; 19];
+    let mut met = [0; 40];
     for seed in 0..3000 {
         let mut rng = Rng::new(1_000_000 + seed);
         let shape = Shape::any(&mut rng);
@@ -156,7 +158,7 @@ fn scan_from_any_state_in_force() {
 #[test]
 fn cases_with_random_rows() {
     let folder = concat!(env!("CARGO_MANIFEST_DIR"), "/../cases");
-    let mut met = [0; 19];
+    let mut met = [0; 40];
     for name in [
         "lock",
         "plc_square",

@@ -1,6 +1,9 @@
 //! The trace found satisfies every formula, and no other trace does: for each accepted
 //! step all values in a box larger than the ranges are tried.
 
+mod common;
+
+use common::landed_and_all;
 use rolvenko_model::formula::step_satisfies;
 use rolvenko_model::generate::{row, text, Rng, Shape};
 use rolvenko_model::{read_text, satisfies, scan, start, write_image, Program};
@@ -66,6 +69,10 @@ fn only_one(program: &Program, trace: &[Vec<i64>], accepted: &[Vec<i32>]) -> usi
 
 #[test]
 fn the_trace_found_is_the_only_one() {
+    landed_and_all(the_trace_found_is_the_only_one_in_force);
+}
+
+fn the_trace_found_is_the_only_one_in_force() {
     let mut tried = 0;
     let mut places = 0;
     let mut changed = 0;
@@ -80,12 +87,16 @@ fn the_trace_found_is_the_only_one() {
         changed += trace.windows(2).filter(|pair| pair[0] != pair[1]).count();
     }
     println!("{tried} states tried at {places} places, {changed} of them with a change");
-    assert!(tried > 150_000 && places > 15_000 && changed > 7000);
+    assert!(tried > 100_000 && places > 12_000 && changed > 5000);
 }
 
 /// Whole traces of two steps: all pairs of states of the box.
 #[test]
 fn whole_traces() {
+    landed_and_all(whole_traces_in_force);
+}
+
+fn whole_traces_in_force() {
     let mut tried = 0;
     for seed in 0..1500 {
         let mut rng = Rng::new(3_000_000 + seed);
@@ -108,13 +119,17 @@ fn whole_traces() {
         assert_eq!(fitting, [trace[..3].to_vec()]);
     }
     println!("{tried} traces tried");
-    assert!(tried > 150_000);
+    assert!(tried > 100_000);
 }
 
 /// Texts with wide ranges: the trace found satisfies the formulas; one with a value
 /// changed anywhere, by little or by much, does not.
 #[test]
 fn changed_traces() {
+    landed_and_all(changed_traces_in_force);
+}
+
+fn changed_traces_in_force() {
     let mut tried = 0;
     for seed in 0..6000 {
         let mut rng = Rng::new(4_000_000 + seed);
@@ -140,12 +155,16 @@ fn changed_traces() {
         }
     }
     println!("{tried} changed traces tried");
-    assert!(tried > 10_000);
+    assert!(tried > 8000);
 }
 
 /// "the start alone satisfies every such formula", whatever it holds.
 #[test]
 fn start_alone() {
+    landed_and_all(start_alone_in_force);
+}
+
+fn start_alone_in_force() {
     for seed in 0..200 {
         let mut rng = Rng::new(5_000_000 + seed);
         let text = text(&mut rng, Shape::WIDE);

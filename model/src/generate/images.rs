@@ -1,5 +1,6 @@
 //! Images that are not sound, or may not be.
 
+use super::pairs::{broken_pairs, more_codes, pick_codes};
 use super::Rng;
 use crate::check::Breach;
 use crate::image::{code, code_start, decode, has_operand};
@@ -81,6 +82,7 @@ fn codes() -> Vec<BrokenCode> {
     list.extend(order());
     list.extend(intruders());
     list.extend(missing());
+    list.extend(broken_pairs(&CASE));
     list
 }
 
@@ -243,7 +245,7 @@ fn damage_bytes(rng: &mut Rng, image: &mut Vec<u8>) {
 /// A byte, mostly a code byte.
 fn any_byte(rng: &mut Rng) -> u8 {
     if rng.chance(70) {
-        rng.below(24) as u8
+        rng.below(24 + more_codes().len()) as u8
     } else {
         rng.bits() as u8
     }
@@ -293,7 +295,8 @@ fn damage_instructions(rng: &mut Rng, image: &mut Vec<u8>) {
 }
 
 fn any_instruction(rng: &mut Rng) -> Vec<u8> {
-    let opcode = 1 + rng.below(22) as u8;
+    let listed: Vec<u8> = (1..=22).chain(more_codes()).collect();
+    let opcode = *rng.choose(&listed);
     let mut bytes = vec![opcode];
     if has_operand(opcode) {
         bytes.push(rng.below(4) as u8);
@@ -332,9 +335,10 @@ fn random_rule(rng: &mut Rng, variable: u8, names: u8, image: &mut Vec<u8>) {
         1 => image.extend([code::PREVIOUS, id(rng), code::NEGATE, code::LET, id(rng)]),
         2 if rng.chance(30) => image.extend(any_instruction(rng)),
         _ => {
-            for _ in 0..1 + rng.below(3) {
+            let count = 1 + rng.below(3);
+            for pick in pick_codes(rng, count) {
                 image.extend(CASE);
-                image.extend([code::PICK, id(rng)]);
+                image.extend([pick, id(rng)]);
             }
             image.extend([code::SETTLE, id(rng)]);
         }

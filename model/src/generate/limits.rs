@@ -1,7 +1,7 @@
 //! Texts at every limit of document 01 and one past it.
 
 use super::expected;
-use crate::{Refusal, BRACKETS, CASES, NAMES, NAME_BYTES, TEXT_LIMIT};
+use crate::{features, Refusal, BRACKETS, CASES, NAMES, NAME_BYTES, TEXT_LIMIT};
 
 /// A text with the answer expected from the translator (None: accepted).
 #[derive(Clone, Debug)]
@@ -133,6 +133,33 @@ fn cases(list: &mut Vec<LimitText>) {
     let (head, tail) = accepted.split_at(accepted.len() - "));".len());
     let extended = format!("{head} @| [_v = 32]{tail}");
     add(list, "33 conditions".into(), 7, &extended);
+    if features::in_force().pairs {
+        for (up, down) in [
+            (31, 1),
+            (16, 16),
+            (1, 31),
+            (33, 1),
+            (32, 1),
+            (31, 2),
+            (1, 32),
+        ] {
+            let label = format!("{up} rising and {down} falling cases");
+            add(list, label, 8, &rising_and_falling(up, down));
+        }
+    }
+}
+
+/// A pair with so many cases, the 33rd marked.
+fn rising_and_falling(up: usize, down: usize) -> String {
+    let cases = |from: usize, count: usize| {
+        let list: Vec<String> = (from..from + count)
+            .map(|index| if index == CASES { "@" } else { "" })
+            .map(|mark| format!("{mark}[_v = 0] & v = (1)"))
+            .collect();
+        list.join(" | ")
+    };
+    let (rising, falling) = (cases(0, up), cases(up, down));
+    format!("var v 0..1; v+: GX(v > _v -> {rising}); v-: GX(v < _v -> {falling});")
 }
 
 /// `depth` counted round brackets, with `mark` before the last one.

@@ -11,6 +11,7 @@ mod instalments;
 mod letter_case;
 mod limits;
 mod mutate;
+mod pairs;
 mod rounds;
 mod states;
 mod structured_text;

@@ -1,6 +1,7 @@
 //! Random texts that the translator accepts.
 
 use super::letter_case::{is_word, vary_names};
+use super::pairs::pair_wanted;
 use super::Rng;
 use crate::token::same_names;
 use crate::TEXT_LIMIT;
@@ -129,8 +130,8 @@ fn white_space(rng: &mut Rng, needed: bool, text: &mut Vec<u8>) {
 
 pub(super) struct Declared {
     pub(super) spelling: Vec<u8>,
-    low: i64,
-    high: i64,
+    pub(super) low: i64,
+    pub(super) high: i64,
 }
 
 pub(super) struct Writer<'r> {
@@ -165,7 +166,7 @@ impl Writer<'_> {
         self.tokens.push(token.as_ref().to_vec());
     }
 
-    fn put_all(&mut self, tokens: &[&[u8]]) {
+    pub(super) fn put_all(&mut self, tokens: &[&[u8]]) {
         for token in tokens {
             self.put(token);
         }
@@ -240,7 +241,7 @@ impl Writer<'_> {
         }
     }
 
-    fn signed(&mut self, value: i64) {
+    pub(super) fn signed(&mut self, value: i64) {
         if value < 0 || self.rng.chance(3) && value == 0 {
             self.put("-");
         }
@@ -258,6 +259,9 @@ impl Writer<'_> {
     }
 
     fn rule(&mut self, variable: usize) {
+        if pair_wanted(self.rng) {
+            return self.pair(variable);
+        }
         let v = self.names[variable].spelling.clone();
         if self.rng.chance(35) {
             self.put_all(&[&v, b":", b"GX", b"(", &v, b"=", b"("]);
@@ -306,7 +310,7 @@ impl Writer<'_> {
     }
 
     /// `_v = only`, sometimes with more after `&`.
-    fn equals_previous(&mut self, v: &[u8], only: i64) {
+    pub(super) fn equals_previous(&mut self, v: &[u8], only: i64) {
         self.put([b"_", v].concat());
         self.put("=");
         if only > i64::from(i32::MIN) {
@@ -321,7 +325,7 @@ impl Writer<'_> {
     }
 
     /// An expression for a new value: often one in the range that is not `other`.
-    fn value(&mut self, variable: usize, other: Option<i64>) {
+    pub(super) fn value(&mut self, variable: usize, other: Option<i64>) {
         let (low, high) = (self.names[variable].low, self.names[variable].high);
         if self.rng.chance(30) {
             return self.expression(3);

@@ -22,6 +22,9 @@ Sign =
 Start = 'init' Sign DIGITS/start ';'/declare
 Start = ';'/absent
 Rule = NAME/rule ':' 'GX' '(' Body
+Rule = NAME/rule Pair
+Pair = '+' ':' 'GX' '(' NAME/again '>' PREVIOUS/again '->' Cases ';' Falling
+Falling = NAME/again '-' ':' 'GX' '(' NAME/again '<' PREVIOUS/again '->' Cases ';'/ruled
 Body = NAME/again '=' '(' Expression ')' ')' ';'/ruled
 Body = '~' '(' Unchanged ')' '->' Cases ';' NAME/again ':' 'GX' '(' Second
 Second = Unchanged '->' '~' '('/compare List ')' ';'/ruled
@@ -130,6 +133,9 @@ fn advance(stacks: &[Stack], token: &Token, again: Option<&[u8]>) -> (Vec<Stack>
     let mut found = "";
     while let Some(mut stack) = work.pop() {
         let Some(symbol) = stack.pop() else { continue };
+        if symbol == "Pair" && !in_force().pairs {
+            continue;
+        }
         let bodies = productions(symbol);
         if bodies.is_empty() {
             let (terminal, role) = split(symbol);
