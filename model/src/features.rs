@@ -12,6 +12,8 @@ pub struct Features {
     pub names_without_case: bool,
     /// Request A.6, rising and falling formulas.
     pub pairs: bool,
+    /// Request A.7, delay on start.
+    pub timers: bool,
 }
 
 impl Features {
@@ -19,17 +21,20 @@ impl Features {
     pub const LANDED: Features = Features {
         names_without_case: false,
         pairs: false,
+        timers: false,
     };
 
     /// Document 01 and the requests that every model has.
     pub const NONE: Features = Features {
         names_without_case: false,
         pairs: false,
+        timers: false,
     };
 
     pub const ALL: Features = Features {
         names_without_case: true,
         pairs: true,
+        timers: true,
     };
 
     /// Every set of features.
@@ -37,8 +42,9 @@ impl Features {
         let set = |index: u32| Features {
             names_without_case: index & 1 != 0,
             pairs: index & 2 != 0,
+            timers: index & 4 != 0,
         };
-        (0..4).map(set).collect()
+        (0..8).map(set).collect()
     }
 }
 

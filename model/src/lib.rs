@@ -1,5 +1,5 @@
 //! Reference model of document 01, "Launch rules as formulas, images and traces", and of
-//! requests A.1, A.2, A.4, A.5, A.6, A.8, A.9, A.10 and A.12 of document 02.
+//! requests A.1, A.2, A.4, A.5, A.6, A.7, A.8, A.9, A.10 and A.12 of document 02.
 //!
 //! Written from the documents and their readings alone, in safe Rust with the
 //! standard library only. Comments in quotation marks are sentences of the documents.

@@ -5,19 +5,21 @@ use crate::program::{
 };
 
 /// The plain scan of one row; Err is the number of the first refusal. `state` has one
-/// value for each name.
+/// value for each name, then one for each timer.
 pub fn plain_scan(program: &Program, state: &mut [i32], row: &[i32]) -> Result<(), u8> {
     // "A row of wrong length is 12, else an input outside its range 13."
-    if row.len() != program.inputs {
+    if row.len() != program.row_length() {
         return Err(12);
     }
-    let mut inputs = row.iter().zip(&program.names);
-    if inputs.any(|(value, name)| !in_range(name, *value)) {
+    let (inputs, milliseconds) = row.split_at(program.inputs);
+    let mut ranged = inputs.iter().zip(&program.names);
+    // A.7: "a negative one is 13"
+    if ranged.any(|(value, name)| !in_range(name, *value)) || milliseconds.iter().any(|&m| m < 0) {
         return Err(13);
     }
     // "current ones are the row's inputs and the new values found so far"
     let mut current = state.to_vec();
-    current[..row.len()].copy_from_slice(row);
+    current[..inputs.len()].copy_from_slice(inputs);
     // "Rules are taken in text order"
     for rule in &program.rules {
         let values = Values {
@@ -30,10 +32,35 @@ pub fn plain_scan(program: &Program, state: &mut [i32], row: &[i32]) -> Result<(
             body => change(&values, name, state[rule.variable], body)?,
         };
         current[rule.variable] = new;
+        for &time in milliseconds {
+            work_timers(program, rule.variable, state, &mut current, time);
+        }
     }
     // "without one, the row's inputs and the new values are the state"
     state.copy_from_slice(&current);
     Ok(())
+}
+
+/// "Directly after the rule of w: if w is 0 or rose from 0, elapsed is 0; else the smaller
+/// of N and elapsed plus milliseconds. Then t is 1 exactly if w is 1 and elapsed is N."
+/// Elapsed times stand "after the values in the state, by timer id".
+fn work_timers(program: &Program, w: usize, state: &[i32], current: &mut [i32], time: i32) {
+    for (index, timer) in program.timers.iter().enumerate() {
+        if timer.watched != w {
+            continue;
+        }
+        let place = program.names.len() + index;
+        let rose_from_0 = state[w] == 0 && current[w] > 0;
+        let elapsed = if current[w] == 0 || rose_from_0 {
+            0
+        } else {
+            let sum = i64::from(state[place]) + i64::from(time);
+            sum.min(i64::from(timer.limit))
+        };
+        current[place] = elapsed as i32;
+        let is_over = elapsed == i64::from(timer.limit);
+        current[timer.id] = i32::from(current[w] == 1 && is_over);
+    }
 }
 
 fn in_range(name: &Name, value: i32) -> bool {

@@ -57,7 +57,7 @@ fn post(image: &[u8], row: &[i32]) -> Answer {
                 steps,
             })
         }
-        Ok(header) if header.inputs != row.len() => refused(12),
+        Ok(header) if header.row_length() != row.len() => refused(12),
         Ok(_) => Ok(0),
     }
 }

@@ -85,19 +85,23 @@ fn scans_of_sound_images_in_force() {
         let Ok(header) = check_detail(&image) else {
             continue;
         };
-        let mut state = vec![9; header.names];
+        let mut state = vec![9; header.state_length()];
         assert_eq!(start(&image, &mut state), Ok(()));
-        let starts: Vec<i32> = header.ranges().iter().map(|range| range.start).collect();
+        let starts: Vec<i32> = header
+            .state_ranges()
+            .iter()
+            .map(|range| range.start)
+            .collect();
         assert_eq!(state, starts);
         for _ in 0..4 {
-            let row = row_in_range(&mut rng, &header.ranges()[..header.inputs]);
-            let lent = state_in_range(&mut rng, header.ranges());
+            let row = row_in_range(&mut rng, &header.row_ranges());
+            let lent = state_in_range(&mut rng, &header.state_ranges());
             let mut found = lent.clone();
             match scan(&image, &mut found, &row) {
                 Ok(steps) => {
                     assert_eq!(steps as usize, instructions(&image));
-                    assert_eq!(found[..row.len()], row[..]);
-                    let ranges = header.ranges();
+                    assert_eq!(found[..header.inputs], row[..header.inputs]);
+                    let ranges = &header.state_ranges();
                     assert!(found.iter().zip(ranges).all(|(v, range)| range.holds(*v)));
                     met[0] += 1;
                 }

@@ -60,6 +60,7 @@ fn unsound_in_force() {
         met.insert(unsound.breach);
     }
     // Every breach of the list; `Breach::Missing` is the last of document 01.
-    let more = usize::from(in_force().pairs);
+    let features = in_force();
+    let more = usize::from(features.pairs) + 2 * usize::from(features.timers);
     assert_eq!(met.len(), Breach::Missing as usize + 1 + more);
 }

@@ -96,9 +96,9 @@ fn start_and_scan_leave_the_state_in_force() {
             0 => damaged_image(&mut rng, &sound),
             _ => sound,
         };
-        let ranges = program.ranges();
+        let ranges = program.state_ranges();
         let lent = state(&mut rng, &ranges);
-        let row = row(&mut rng, &ranges[..program.inputs]);
+        let row = row(&mut rng, &program.row_ranges());
         let checked = check(&image);
 
         let mut found = lent.clone();

@@ -162,7 +162,7 @@ fn exact_rounds_by_seed() {
         let Ok(header) = check_detail(&set.image) else {
             continue;
         };
-        let mut row = row_in_range(&mut rng, &header.ranges()[..header.inputs]);
+        let mut row = row_in_range(&mut rng, &header.row_ranges());
         set.paused.post(&set.image, &row).expect("a sound image");
         for _ in 0..4 {
             let mut wanted = set.state.clone();
@@ -176,7 +176,7 @@ fn exact_rounds_by_seed() {
                 assert_eq!(number, if last { end } else { UNFINISHED });
                 let rest = steps - (visit - 1) * set.share;
                 assert_eq!(now as usize, rest.min(set.share));
-                row = row_in_range(&mut rng, &header.ranges()[..header.inputs]);
+                row = row_in_range(&mut rng, &header.row_ranges());
                 set.paused.post(&set.image, &row).expect("a sound image");
             }
             assert_eq!(set.state, wanted);

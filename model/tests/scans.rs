@@ -40,14 +40,14 @@ fn run_rows(rng: &mut Rng, text: &[u8], rows: usize, met: &mut [usize; 40]) {
     let image = translated(text, &program);
     assert_eq!(check(&image), Ok(()));
     assert!(2 * image.len() <= 3 * text.len() + 4);
-    let ranges = program.ranges();
+    let ranges = program.state_ranges();
     // Start is lent a state of the right length with any values.
     let mut found = vec![rng.bits() as i32; ranges.len()];
     assert_eq!(start(&image, &mut found), Ok(()));
     assert_eq!(found, program.starts());
     let mut plain = program.starts();
     for _ in 0..rows {
-        let row = row(rng, &ranges[..program.inputs]);
+        let row = row(rng, &program.row_ranges());
         let before = found.clone();
         let answer = scan(&image, &mut found, &row);
         let plain_answer = plain_scan(&program, &mut plain, &row);
@@ -56,7 +56,7 @@ fn run_rows(rng: &mut Rng, text: &[u8], rows: usize, met: &mut [usize; 40]) {
             Ok(steps) => {
                 assert_eq!(plain_answer, Ok(()));
                 assert_eq!(steps as usize, instructions(&image));
-                assert_eq!(found[..row.len()], row[..]);
+                assert_eq!(found[..program.inputs], row[..program.inputs]);
                 met[0] += 1;
             }
             Err(refusal) => {
@@ -125,11 +125,11 @@ fn scan_from_any_state_in_force() {
         let text = text(&mut rng, shape);
         let program = read_text(&text).expect("accepted text");
         let image = write_image(&program);
-        let ranges = program.ranges();
+        let ranges = program.state_ranges();
         for _ in 0..8 {
             let mut plain = state_in_range(&mut rng, &ranges);
             let mut found = plain.clone();
-            let row = row(&mut rng, &ranges[..program.inputs]);
+            let row = row(&mut rng, &program.row_ranges());
             let number = scan(&image, &mut found, &row).err().map(|r| r.number);
             assert_eq!(plain_scan(&program, &mut plain, &row).err(), number);
             assert_eq!(plain, found);
@@ -137,7 +137,7 @@ fn scan_from_any_state_in_force() {
             let lent = state(&mut rng, &ranges);
             let mut found = lent.clone();
             let number = scan(&image, &mut found, &row).err().map_or(0, |r| r.number);
-            let right = lent.len() == ranges.len() && row.len() == program.inputs;
+            let right = lent.len() == ranges.len() && row.len() == program.row_length();
             assert_eq!(number == 12, !right);
             let outside = |(value, range): (&i32, &rolvenko_model::Range)| !range.holds(*value);
             let bad = right && lent.iter().zip(&ranges).any(outside);

@@ -3,6 +3,7 @@
 mod walk;
 
 use crate::number;
+use crate::program::{self, Timer};
 use crate::{Refusal, IMAGE_LIMIT, NAMES};
 use walk::check_code;
 
@@ -52,6 +53,11 @@ pub enum Breach {
     Missing,
     /// A.6: "the picks before one settle are all code 20, or some 24 and then some 25"
     PickSides,
+    /// A.7: the one instruction 23 of a timer "keeps these limits": t of range 0..1 starting
+    /// at 0, w of range 0..1, N from 1 to 2,147,483,647
+    BadTimer,
+    /// A.7: "directly after w's settle or let, timers of one w by id"
+    TimerPlace,
 }
 
 /// A breach and the place that is answered.
@@ -94,12 +100,32 @@ pub struct Header {
     ranges: [Range; NAMES],
     /// Place where the code begins.
     pub code: usize,
+    /// The timers of the code, by id.
+    pub timers: Vec<Timer>,
 }
 
 impl Header {
     /// Low, high and start of each name in declared order.
     pub fn ranges(&self) -> &[Range] {
         &self.ranges[..self.names]
+    }
+
+    /// Low, high and start of each value of a state.
+    pub fn state_ranges(&self) -> Vec<Range> {
+        program::state_ranges(self.ranges(), &self.timers)
+    }
+
+    /// Low and high of each value of a row.
+    pub fn row_ranges(&self) -> Vec<Range> {
+        program::row_ranges(&self.ranges()[..self.inputs], &self.timers)
+    }
+
+    pub fn state_length(&self) -> usize {
+        self.names + self.timers.len()
+    }
+
+    pub fn row_length(&self) -> usize {
+        self.inputs + usize::from(!self.timers.is_empty())
     }
 }
 
@@ -119,8 +145,10 @@ pub fn check_detail(image: &[u8]) -> Result<Header, Fault> {
             place: 0,
         });
     }
-    let header = read_header(image)?;
-    check_code(image, &header)?;
+    let mut header = read_header(image)?;
+    let mut timers = check_code(image, &header)?;
+    timers.sort_by_key(|timer| timer.id);
+    header.timers = timers;
     Ok(header)
 }
 
@@ -141,6 +169,7 @@ fn read_header(image: &[u8]) -> Result<Header, Fault> {
         names,
         ranges,
         code: at,
+        timers: Vec::new(),
     })
 }
 

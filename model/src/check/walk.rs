@@ -1,13 +1,15 @@
 //! The check of the code: a walk through the instructions.
 
-use super::{Breach, Fault, Header};
+use super::{Breach, Fault, Header, Range};
 use crate::features;
 use crate::image::{code, decode, is_pick, Instruction};
 use crate::number;
+use crate::program::Timer;
 use crate::{HELD, NAMES};
 
-/// Goes through the instructions; a breach is at the code byte of the instruction.
-pub(super) fn check_code(image: &[u8], header: &Header) -> Result<(), Fault> {
+/// Goes through the instructions; a breach is at the code byte of the instruction. Answers
+/// the timers in the order of the code.
+pub(super) fn check_code(image: &[u8], header: &Header) -> Result<Vec<Timer>, Fault> {
     let mut walk = Walk::new(header);
     let mut at = header.code;
     while at < image.len() {
@@ -27,7 +29,7 @@ pub(super) fn check_code(image: &[u8], header: &Header) -> Result<(), Fault> {
             place: image.len(),
         });
     }
-    Ok(())
+    Ok(walk.timers)
 }
 
 /// "only the codes listed", those of requests that are on among them.
@@ -35,6 +37,7 @@ fn is_listed(opcode: u8) -> bool {
     let features = features::in_force();
     match opcode {
         code::CONSTANT..=code::SETTLE => true,
+        code::TIMER => features.timers,
         code::RISE | code::FALL => features.pairs,
         _ => false,
     }
@@ -58,6 +61,10 @@ struct Walk<'h> {
     picked: Option<(usize, u8)>,
     /// Variables settled or let, by id.
     settled: [bool; NAMES],
+    /// Of the instruction before: the variable settled or let and, if timers of it followed,
+    /// the id of the last one.
+    after: Option<(usize, Option<usize>)>,
+    timers: Vec<Timer>,
 }
 
 impl<'h> Walk<'h> {
@@ -69,6 +76,8 @@ impl<'h> Walk<'h> {
             gate: false,
             picked: None,
             settled: [false; NAMES],
+            after: None,
+            timers: Vec::new(),
         }
     }
 
@@ -77,6 +86,7 @@ impl<'h> Walk<'h> {
         if self.gate && opcode > code::NEGATE && !is_pick(opcode) {
             return Err(Breach::BetweenGateAndPick);
         }
+        let after = self.after.take();
         match opcode {
             code::CONSTANT => self.constant(instruction.number),
             code::CURRENT => self.current(instruction.number),
@@ -92,6 +102,7 @@ impl<'h> Walk<'h> {
             code::GATE => self.open_gate(),
             code::PICK | code::RISE | code::FALL => self.pick(opcode, instruction.number),
             code::LET => self.assign(instruction.number),
+            code::TIMER => self.timer(after, instruction),
             _ => self.settle(instruction.number),
         }
     }
@@ -160,6 +171,35 @@ impl<'h> Walk<'h> {
         }
         self.depth = 0;
         self.settled[id] = true;
+        self.after = Some((id, None));
+        Ok(())
+    }
+
+    /// "In the header t is a variable; .. its one instruction 23 keeps these limits and
+    /// replaces a let, directly after w's settle or let, timers of one w by id."
+    fn timer(
+        &mut self,
+        after: Option<(usize, Option<usize>)>,
+        instruction: Instruction,
+    ) -> Result<(), Breach> {
+        let id = self.variable(instruction.number)?;
+        let watched = self.variable(instruction.more[0])?;
+        let limit = i32::try_from(instruction.more[1]).map_err(|_| Breach::BadTimer)?;
+        let ranges = self.header.ranges();
+        let bit = |range: Range| (range.low, range.high) == (0, 1);
+        if limit < 1 || !bit(ranges[id]) || ranges[id].start != 0 || !bit(ranges[watched]) {
+            return Err(Breach::BadTimer);
+        }
+        let (set, last) = after.ok_or(Breach::TimerPlace)?;
+        if set != watched || last.is_some_and(|last| last >= id) {
+            return Err(Breach::TimerPlace);
+        }
+        if self.settled[id] {
+            return Err(Breach::SettledAgain);
+        }
+        self.settled[id] = true;
+        self.after = Some((watched, Some(id)));
+        self.timers.push(Timer { id, watched, limit });
         Ok(())
     }
 
@@ -178,6 +218,7 @@ impl<'h> Walk<'h> {
         }
         self.picked = None;
         self.settled[id] = true;
+        self.after = Some((id, None));
         Ok(())
     }
 

@@ -20,7 +20,42 @@ pub fn limit_texts() -> Vec<LimitText> {
     brackets(&mut list);
     bounds(&mut list);
     constants(&mut list);
+    if features::in_force().timers {
+        timers(&mut list);
+    }
     list
+}
+
+/// "N from 1 to 2,147,483,647 milliseconds"; t is "counted among the 64".
+fn timers(list: &mut Vec<LimitText>) {
+    for (number, limit) in [
+        (0, "1"),
+        (0, "2147483647"),
+        (0, "0002147483647"),
+        (3, "@0"),
+        (3, "@2147483648"),
+        (3, "@4294967297"),
+    ] {
+        let text = format!("var w 0..1; timer t of w limit {limit}; w: GX(w = (1));");
+        add(list, format!("timer limit {limit}"), number, &text);
+    }
+    for count in [NAMES, NAMES + 1] {
+        for inputs in [0, 1, NAMES - 2] {
+            let mut text: String = (0..inputs).map(|id| format!("input i{id} 0..1;")).collect();
+            text += "var w 0..1;";
+            for id in inputs + 1..count {
+                let mark = if id == NAMES { "@" } else { "" };
+                text += &format!("timer {mark}t{id} of w limit {};", 1 + id % 3);
+            }
+            text += "w: GX(w = (1));";
+            add(
+                list,
+                format!("{count} names, {inputs} inputs, timers"),
+                8,
+                &text,
+            );
+        }
+    }
 }
 
 /// Adds a text whose mark `@` is the place of the refusal `number`.

@@ -16,6 +16,7 @@ mod rounds;
 mod states;
 mod structured_text;
 mod text;
+mod timers;
 mod values;
 
 pub use charge::{
@@ -34,6 +35,7 @@ pub use rounds::{event, farm, rule_set, Event, Outcome};
 pub use states::{any_number, row, row_in_range, state, state_in_range, trace_input};
 pub use structured_text::{edited_st_source, st_source, Names};
 pub use text::{render, text, text_tokens, Shape};
+pub use timers::timer_image;
 
 use crate::Refusal;
 

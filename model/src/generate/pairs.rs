@@ -78,10 +78,15 @@ impl Writer<'_> {
 
 /// Codes that an instruction may have beside those of document 01.
 pub(super) fn more_codes() -> Vec<u8> {
-    match features::in_force().pairs {
-        true => vec![code::RISE, code::FALL],
-        false => Vec::new(),
+    let features = features::in_force();
+    let mut codes = Vec::new();
+    if features.pairs {
+        codes.extend([code::RISE, code::FALL]);
     }
+    if features.timers {
+        codes.push(code::TIMER);
+    }
+    codes
 }
 
 /// The pick codes of a random rule: mostly such as are sound.

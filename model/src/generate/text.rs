@@ -13,6 +13,8 @@ pub struct Shape {
     pub inputs: usize,
     /// At most so many variables.
     pub variables: usize,
+    /// At most so many timers (A.7).
+    pub timers: usize,
     /// At most so many cases in a rule.
     pub cases: usize,
     /// Deepest counted brackets; at most 16.
@@ -26,6 +28,7 @@ impl Shape {
     pub const TINY: Shape = Shape {
         inputs: 2,
         variables: 2,
+        timers: 1,
         cases: 3,
         brackets: 2,
         reach: 2,
@@ -33,6 +36,7 @@ impl Shape {
     pub const SMALL: Shape = Shape {
         inputs: 3,
         variables: 4,
+        timers: 2,
         cases: 4,
         brackets: 3,
         reach: 9,
@@ -41,6 +45,7 @@ impl Shape {
     pub const WIDE: Shape = Shape {
         inputs: 5,
         variables: 8,
+        timers: 3,
         cases: 5,
         brackets: 16,
         reach: 2_147_483_647,
@@ -50,6 +55,7 @@ impl Shape {
     pub const MANY: Shape = Shape {
         inputs: 30,
         variables: 34,
+        timers: 8,
         cases: 2,
         brackets: 1,
         reach: 99,
@@ -81,6 +87,7 @@ pub fn text_tokens(rng: &mut Rng, shape: Shape) -> Vec<Vec<u8>> {
         names: Vec::new(),
         inputs: 0,
         ruled: Vec::new(),
+        watched: Vec::new(),
         open: 0,
     };
     writer.whole_text();
@@ -141,6 +148,8 @@ pub(super) struct Writer<'r> {
     pub(super) names: Vec<Declared>,
     pub(super) inputs: usize,
     pub(super) ruled: Vec<bool>,
+    /// Each timer and its w, by id.
+    pub(super) watched: Vec<(usize, usize)>,
     /// Counted brackets open now.
     pub(super) open: usize,
 }
@@ -152,13 +161,14 @@ impl Writer<'_> {
         for id in 0..self.inputs + variables {
             self.declaration(id < self.inputs);
         }
+        self.timers();
         let mut order: Vec<usize> = (self.inputs..self.inputs + variables).collect();
         for last in (1..order.len()).rev() {
             order.swap(last, self.rng.below(last + 1));
         }
         for variable in order {
             self.rule(variable);
-            self.ruled[variable] = true;
+            self.rule_stands(variable);
         }
     }
 
@@ -196,7 +206,7 @@ impl Writer<'_> {
     }
 
     /// A name not declared yet; some look like words of the grammar.
-    fn new_name(&mut self) -> Vec<u8> {
+    pub(super) fn new_name(&mut self) -> Vec<u8> {
         const LIKE_WORDS: [&str; 6] = ["inputs", "Var", "gx", "modx", "GX1", "init0"];
         loop {
             let mut name = Vec::new();

@@ -7,6 +7,7 @@
 //! allow it. `take` makes check 7; check 8 follows it, at the same place.
 
 mod rules;
+mod timers;
 mod values;
 
 use crate::program::{Name, Program};
@@ -47,6 +48,7 @@ pub fn parse(text: &[u8]) -> Result<Program<'_>, Refusal> {
         program: Program {
             names: Vec::new(),
             inputs: 0,
+            timers: Vec::new(),
             rules: Vec::new(),
         },
         ruled: [false; NAMES],
@@ -71,14 +73,26 @@ impl<'t> Parser<'t> {
             self.take()?;
             self.declaration()?;
         }
+        // "`timer t of w limit N;` stands after the variables"
+        while self.token.kind == Kind::Timer {
+            self.take()?;
+            self.timer()?;
+        }
         while self.token.kind != Kind::End {
             self.rule()?;
         }
         // "6 ... or a variable without rule (end of text)"
-        if self.program.rules.len() < self.program.names.len() - self.program.inputs {
+        if !self.all_ruled() {
             return Err(self.refuse(6));
         }
         Ok(())
+    }
+
+    /// A timer has no rule of its own; it is worked after that of its w.
+    fn all_ruled(&self) -> bool {
+        self.ruled[self.program.inputs..self.program.names.len()]
+            .iter()
+            .all(|&ruled| ruled)
     }
 
     /// `go 0..1 init 0;`, after `input` or `var`.

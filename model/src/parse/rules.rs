@@ -19,7 +19,7 @@ impl<'t> Parser<'t> {
                 _ => self.function(variable)?,
             }
         };
-        self.ruled[variable] = true;
+        self.rule_stands(variable);
         self.program.rules.push(Rule { variable, body });
         Ok(())
     }
@@ -42,7 +42,8 @@ impl<'t> Parser<'t> {
         let Some(id) = self.find(spelling) else {
             return Err(self.refuse(4));
         };
-        if id < self.program.inputs || self.ruled[id] {
+        // A.7: "A rule for t is 6"
+        if id < self.program.inputs || self.ruled[id] || self.is_timer(id) {
             return Err(self.refuse(6));
         }
         self.take()?;
