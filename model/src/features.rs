@@ -14,6 +14,8 @@ pub struct Features {
     pub pairs: bool,
     /// Request A.7, delay on start.
     pub timers: bool,
+    /// Request A.13, watch formulas.
+    pub watches: bool,
 }
 
 impl Features {
@@ -22,6 +24,7 @@ impl Features {
         names_without_case: false,
         pairs: false,
         timers: false,
+        watches: false,
     };
 
     /// Document 01 and the requests that every model has.
@@ -29,12 +32,14 @@ impl Features {
         names_without_case: false,
         pairs: false,
         timers: false,
+        watches: false,
     };
 
     pub const ALL: Features = Features {
         names_without_case: true,
         pairs: true,
         timers: true,
+        watches: true,
     };
 
     /// Every set of features.
@@ -43,8 +48,9 @@ impl Features {
             names_without_case: index & 1 != 0,
             pairs: index & 2 != 0,
             timers: index & 4 != 0,
+            watches: index & 8 != 0,
         };
-        (0..8).map(set).collect()
+        (0..16).map(set).collect()
     }
 }
 

@@ -56,7 +56,16 @@ pub fn step_satisfies_timed(
         })
 }
 
-/// One place of a trace after the start.
+/// Whether a condition holds at a place; None where it meets 14.
+pub(crate) fn condition_holds(
+    condition: &Condition,
+    previous: &[i64],
+    current: &[i64],
+) -> Option<bool> {
+    Place { previous, current }.condition(condition)
+}
+
+/// One place of a trace.
 struct Place<'a> {
     previous: &'a [i64],
     current: &'a [i64],

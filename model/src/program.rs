@@ -22,6 +22,15 @@ pub struct Program<'t> {
     pub timers: Vec<Timer>,
     /// "Then the rules, in the order of work; every variable has exactly one."
     pub rules: Vec<Rule>,
+    /// The watch formulas (A.13), in text order.
+    pub watches: Vec<Watch>,
+}
+
+/// `watch: G([c]);`, or with `then` `watch: G([c] -> X([c]));` (A.13)
+#[derive(Clone, Debug, PartialEq, Eq)]
+pub struct Watch {
+    pub first: Condition,
+    pub then: Option<Condition>,
 }
 
 /// `timer t of w limit N;` (A.7)

@@ -17,6 +17,9 @@ pub enum Kind {
     Timer,
     Of,
     Limit,
+    Watch,
+    G,
+    X,
     /// A grammar word in another letter case (A.2): the grammar allows it nowhere.
     OtherCase,
     DotDot,
@@ -152,11 +155,15 @@ const TIMER_WORDS: [Word; 3] = [
     (b"limit", Kind::Limit),
 ];
 
+/// A.13: "`watch`, `G` and `X` become grammar words."
+const WATCH_WORDS: [Word; 3] = [(b"watch", Kind::Watch), (b"G", Kind::G), (b"X", Kind::X)];
+
 /// The words of the grammar with the requests that are on.
 pub fn words() -> impl Iterator<Item = Word> {
     let features = features::in_force();
     let timers = TIMER_WORDS.into_iter().filter(move |_| features.timers);
-    WORDS.into_iter().chain(timers)
+    let watches = WATCH_WORDS.into_iter().filter(move |_| features.watches);
+    WORDS.into_iter().chain(timers).chain(watches)
 }
 
 /// "names are the same when their bytes are the same"; by A.2 "Names are now the same when

@@ -129,7 +129,8 @@ fn every_answer_is_met_in_force() {
     // Each number belongs to the services that the document names, to no others.
     assert_eq!(counts.translate[11..23].iter().sum::<usize>(), 0);
     assert_eq!(counts.translate[23] > 0, features.timers);
-    assert_eq!(counts.translate[24..].iter().sum::<usize>(), 0);
+    assert_eq!(counts.translate[24..30].iter().sum::<usize>(), 0);
+    assert_eq!(counts.translate[30] > 0, features.watches);
     assert_eq!(counts.scan[1..9].iter().sum::<usize>() + counts.scan[10], 0);
     assert_eq!(counts.start[13..].iter().sum::<usize>(), 0);
     assert_eq!(counts.check[12..].iter().sum::<usize>(), 0);

@@ -207,7 +207,7 @@ fn lists_by_seed() {
 
 fn lists_by_seed_in_force() {
     let mut met = BTreeMap::new();
-    for seed in 0..600 {
+    for seed in 0..1200 {
         let mut rng = Rng::new(95_000_000 + seed);
         let shape = Shape::any(&mut rng);
         let source = text(&mut rng, shape);

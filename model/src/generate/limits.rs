@@ -1,7 +1,7 @@
 //! Texts at every limit of document 01 and one past it.
 
 use super::expected;
-use crate::{features, Refusal, BRACKETS, CASES, NAMES, NAME_BYTES, TEXT_LIMIT};
+use crate::{features, Refusal, BRACKETS, CASES, NAMES, NAME_BYTES, TEXT_LIMIT, WATCHES};
 
 /// A text with the answer expected from the translator (None: accepted).
 #[derive(Clone, Debug)]
@@ -23,7 +23,33 @@ pub fn limit_texts() -> Vec<LimitText> {
     if features::in_force().timers {
         timers(&mut list);
     }
+    if features::in_force().watches {
+        watches(&mut list);
+    }
     list
+}
+
+/// "at most 16" watches; 16 brackets in each of their conditions.
+fn watches(list: &mut Vec<LimitText>) {
+    for count in [WATCHES, WATCHES + 1] {
+        let mut text = "var v 0..1; v: GX(v = (1)); ".to_owned();
+        for index in 0..count {
+            let mark = if index == WATCHES { "@" } else { "" };
+            text += &format!("{mark}watch: G([v < {index}]); ");
+        }
+        add(list, format!("{count} watches"), 30, &text);
+    }
+    for depth in [BRACKETS, BRACKETS + 1] {
+        let mark = if depth > BRACKETS { "@" } else { "" };
+        let (inner, all) = (
+            nested_condition(4, depth - 4, mark),
+            nested_condition(4, 12, ""),
+        );
+        let first = format!("watch: G([{inner}] -> X([{all}]));");
+        add(list, format!("{depth} brackets in a watch"), 8, &first);
+        let second = format!("watch: G([{all}] -> X([{inner}])); watch: G([{all}]);");
+        add(list, format!("{depth} brackets after X"), 8, &second);
+    }
 }
 
 /// "N from 1 to 2,147,483,647 milliseconds"; t is "counted among the 64".

@@ -18,6 +18,7 @@ mod structured_text;
 mod text;
 mod timers;
 mod values;
+mod watches;
 
 pub use charge::{
     bill, bill_of, counters, found_trace, licence_image, limit_sum, mutate_bill, Bill, REFUSED_SUM,
@@ -36,6 +37,7 @@ pub use states::{any_number, row, row_in_range, state, state_in_range, trace_inp
 pub use structured_text::{edited_st_source, st_source, Names};
 pub use text::{render, text, text_tokens, Shape};
 pub use timers::timer_image;
+pub use watches::{watch_parts, watched_trace, WatchParts};
 
 use crate::Refusal;
 

@@ -80,17 +80,9 @@ pub fn text(rng: &mut Rng, shape: Shape) -> Vec<u8> {
 
 /// The tokens of a random accepted text.
 pub fn text_tokens(rng: &mut Rng, shape: Shape) -> Vec<Vec<u8>> {
-    let mut writer = Writer {
-        rng,
-        shape,
-        tokens: Vec::new(),
-        names: Vec::new(),
-        inputs: 0,
-        ruled: Vec::new(),
-        watched: Vec::new(),
-        open: 0,
-    };
-    writer.whole_text();
+    let mut writer = Writer::new(rng, shape);
+    writer.names_and_rules();
+    writer.watches();
     let mut tokens = writer.tokens;
     vary_names(rng, &mut tokens);
     tokens
@@ -154,8 +146,21 @@ pub(super) struct Writer<'r> {
     pub(super) open: usize,
 }
 
-impl Writer<'_> {
-    fn whole_text(&mut self) {
+impl<'r> Writer<'r> {
+    pub(super) fn new(rng: &'r mut Rng, shape: Shape) -> Writer<'r> {
+        Writer {
+            rng,
+            shape,
+            tokens: Vec::new(),
+            names: Vec::new(),
+            inputs: 0,
+            ruled: Vec::new(),
+            watched: Vec::new(),
+            open: 0,
+        }
+    }
+
+    pub(super) fn names_and_rules(&mut self) {
         self.inputs = self.rng.below(self.shape.inputs + 1);
         let variables = self.rng.below(self.shape.variables + 1);
         for id in 0..self.inputs + variables {

@@ -9,6 +9,7 @@
 mod rules;
 mod timers;
 mod values;
+mod watches;
 
 use crate::program::{Name, Program};
 use crate::token::{next_token, same_names, Kind, Token};
@@ -38,6 +39,8 @@ struct Parser<'t> {
     wanted: Vec<Token<'t>>,
     /// How many of them have been compared.
     compared: usize,
+    /// Inside a watch formula.
+    watching: bool,
 }
 
 /// Reads a text of at most 32,768 bytes.
@@ -50,12 +53,14 @@ pub fn parse(text: &[u8]) -> Result<Program<'_>, Refusal> {
             inputs: 0,
             timers: Vec::new(),
             rules: Vec::new(),
+            watches: Vec::new(),
         },
         ruled: [false; NAMES],
         open: 0,
         list: List::Off,
         wanted: Vec::new(),
         compared: 0,
+        watching: false,
     };
     parser.whole_text()?;
     Ok(parser.program)
@@ -78,9 +83,14 @@ impl<'t> Parser<'t> {
             self.take()?;
             self.timer()?;
         }
-        while self.token.kind != Kind::End {
+        while !matches!(self.token.kind, Kind::End | Kind::Watch) {
             self.rule()?;
         }
+        while self.token.kind == Kind::Watch {
+            self.watch()?;
+        }
+        // A watch ends the rules.
+        self.allow(self.token.kind == Kind::End)?;
         // "6 ... or a variable without rule (end of text)"
         if !self.all_ruled() {
             return Err(self.refuse(6));

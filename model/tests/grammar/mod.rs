@@ -9,7 +9,11 @@ use rolvenko_model::token::{next_token, Kind, Token};
 
 /// The grammar. `'x'` is the token x; `/role` says what else is checked at the token.
 const GRAMMAR: &str = "
-Text = Inputs Variables Timers Rules END/end
+Text = Inputs Variables Timers Rules Watches END/end
+Watches = 'watch'/watch ':' 'G' '(' '[' Condition ']' Following ';' Watches
+Watches =
+Following = ')'
+Following = '->' 'X' '(' '[' Condition ']' ')' ')'
 Inputs = 'input' Declaration Inputs
 Inputs =
 Variables = 'var' Declaration Variables
@@ -92,6 +96,7 @@ struct Known {
     names: Vec<Entry>,
     new_name: Vec<u8>,
     word: Vec<u8>,
+    watches: usize,
     minus: bool,
     low: i128,
     high: i128,
@@ -230,7 +235,7 @@ impl Known {
             .position(|known| same(&known.spelling, name))
     }
 
-    /// Checks 3 to 8, and 23, in number order.
+    /// Checks 3 to 8, 23 and 30, in number order.
     fn refusal(&self, role: &str, token: &Token) -> Option<u8> {
         let over_long = token.name().len() > 16;
         let id = self.id(token.name());
@@ -250,6 +255,7 @@ impl Known {
         let known = id.map(|id| &self.names[id]);
         let early = role == "used"
             && token.kind == Kind::Name
+            && self.watches == 0
             && known.is_some_and(|name| name.word != b"input" && !name.ruled);
         let no_rule = role == "rule" && known.is_some_and(|name| name.word != b"var" || name.ruled);
         let unruled = |name: &Entry| name.word == b"var" && !name.ruled;
@@ -273,6 +279,7 @@ impl Known {
             (7, other),
             (8, too_many),
             (23, unwatchable),
+            (30, role == "watch" && self.watches == 16),
         ];
         checks.iter().find(|check| check.1).map(|check| check.0)
     }
@@ -309,6 +316,7 @@ impl Known {
                 own.for_each(|timer| timer.ruled = true);
             }
             "case" => self.cases += 1,
+            "watch" => self.watches += 1,
             "value" => self.keeping = false,
             "keep" => self.keeping = true,
             "compare" => {
