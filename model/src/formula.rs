@@ -26,6 +26,7 @@ pub fn satisfies_timed<S: AsRef<[i64]>>(
     trace: &[S],
     milliseconds: &[i64],
 ) -> bool {
+    assert!(trace.len() <= milliseconds.len() + 1, "one for each row");
     let length = program.state_length();
     let mut places = trace.windows(2).zip(milliseconds);
     trace.iter().all(|state| state.as_ref().len() == length)
@@ -78,17 +79,8 @@ impl Place<'_> {
         match &rule.body {
             Body::Function(expression) => self.function_holds(v, expression),
             Body::Change { cases, unchanged } => {
-                let cases: Vec<&Case> = cases.iter().collect();
-                let unchanged: Vec<&Condition> = unchanged.iter().collect();
-                self.both_hold(v, &cases, &unchanged)
-            }
-            // "read as the change formula over both lists, rising first, with its matching
-            // no-change formula"
-            pair @ Body::Pair { .. } => {
-                let cases = pair.cases();
-                let conditions: Vec<&Condition> =
-                    cases.iter().map(|case| &case.condition).collect();
-                self.both_hold(v, &cases, &conditions)
+                self.change_holds(v, cases) == Some(true)
+                    && self.no_change_holds(v, unchanged) == Some(true)
             }
         }
     }
@@ -109,12 +101,6 @@ impl Place<'_> {
         i128::from(self.current[at]) == elapsed && self.current[timer.id] == on
     }
 
-    /// A change formula and its no-change formula.
-    fn both_hold(&self, v: usize, cases: &[&Case], conditions: &[&Condition]) -> bool {
-        self.change_holds(v, cases) == Some(true)
-            && self.no_change_holds(v, conditions) == Some(true)
-    }
-
     /// `v = (e)`
     fn function_holds(&self, v: usize, expression: &Expression) -> bool {
         self.expression(expression) == Some(i128::from(self.current[v]))
@@ -122,7 +108,7 @@ impl Place<'_> {
 
     /// `~(v = _v) -> [c] & v = (e) | [c] & v = (e)`: all conditions are worked out, "a
     /// case's expression only if its condition holds".
-    fn change_holds(&self, v: usize, cases: &[&Case]) -> Option<bool> {
+    fn change_holds(&self, v: usize, cases: &[Case]) -> Option<bool> {
         let mut some_case = false;
         for case in cases {
             if self.condition(&case.condition)? {
@@ -135,7 +121,7 @@ impl Place<'_> {
     }
 
     /// `v = _v -> ~([c] | [c])`
-    fn no_change_holds(&self, v: usize, conditions: &[&Condition]) -> Option<bool> {
+    fn no_change_holds(&self, v: usize, conditions: &[Condition]) -> Option<bool> {
         let mut some = false;
         for condition in conditions {
             some |= self.condition(condition)?;

@@ -125,11 +125,12 @@ pub fn write_image(program: &Program) -> Vec<u8> {
                 with_number(code::LET, rule.variable as u64, &mut out);
             }
             Body::Change { cases, .. } => {
-                write_cases(cases, code::PICK, rule.variable, &mut out);
-                with_number(code::SETTLE, rule.variable as u64, &mut out);
-            }
-            Body::Pair { rising, falling } => {
-                write_cases(rising, code::RISE, rule.variable, &mut out);
+                let (first, pick) = match rule.rising {
+                    Some(rising) => (rising, code::RISE),
+                    None => (cases.len(), code::PICK),
+                };
+                let (first, falling) = cases.split_at(first);
+                write_cases(first, pick, rule.variable, &mut out);
                 write_cases(falling, code::FALL, rule.variable, &mut out);
                 with_number(code::SETTLE, rule.variable as u64, &mut out);
             }

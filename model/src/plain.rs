@@ -1,7 +1,8 @@
 //! The plain scan: "given an accepted text, a state and a row, and knows no image".
 
 use crate::program::{
-    Atom, Body, Condition, Expression, Factor, Name, Operand, Product, Program, Relation, Sum, Term,
+    Atom, Body, Case, Condition, Expression, Factor, Name, Operand, Product, Program, Relation,
+    Sum, Term,
 };
 
 /// The plain scan of one row; Err is the number of the first refusal. `state` has one
@@ -29,7 +30,9 @@ pub fn plain_scan(program: &Program, state: &mut [i32], row: &[i32]) -> Result<(
         let name = &program.names[rule.variable];
         let new = match &rule.body {
             Body::Function(expression) => function(&values, name, expression)?,
-            body => change(&values, name, state[rule.variable], body)?,
+            Body::Change { cases, .. } => {
+                change(&values, name, state[rule.variable], cases, rule.rising)?
+            }
         };
         current[rule.variable] = new;
         for &time in milliseconds {
@@ -81,9 +84,15 @@ fn function(values: &Values, name: &Name, expression: &Expression) -> Result<i32
 /// worked out: equal to the previous value it is 16, then outside the variable's range
 /// 17, else it is the new value. If no case held, the new value is the previous one." In a
 /// pair 22 stands in the place of 16 (A.6).
-fn change(values: &Values, name: &Name, previous: i32, body: &Body) -> Result<i32, u8> {
+fn change(
+    values: &Values,
+    name: &Name,
+    previous: i32,
+    cases: &[Case],
+    rising: Option<usize>,
+) -> Result<i32, u8> {
     let mut found = None;
-    for (index, case) in body.cases().into_iter().enumerate() {
+    for (index, case) in cases.iter().enumerate() {
         if !values.condition(&case.condition)? {
             continue;
         }
@@ -91,7 +100,8 @@ fn change(values: &Values, name: &Name, previous: i32, body: &Body) -> Result<i3
             return Err(15);
         }
         let value = values.expression(&case.expression)?;
-        moved(body, index, value, previous)?;
+        let rises = rising.map(|rising| index < rising);
+        moved(rises, value, previous)?;
         if !in_range(name, value) {
             return Err(17);
         }
@@ -100,13 +110,13 @@ fn change(values: &Values, name: &Name, previous: i32, body: &Body) -> Result<i3
     Ok(found.unwrap_or(previous))
 }
 
-/// Whether the value of a case, given by its index, moves as it must: 16, or "22 a rising
-/// pick at or below the previous value, or a falling one at or above it".
-fn moved(body: &Body, index: usize, value: i32, previous: i32) -> Result<(), u8> {
-    let (moves, number) = match body {
-        Body::Pair { rising, .. } if index < rising.len() => (value > previous, 22),
-        Body::Pair { .. } => (value < previous, 22),
-        _ => (value != previous, 16),
+/// Whether the value of a case moves as it must: 16, or "22 a rising pick at or below the
+/// previous value, or a falling one at or above it".
+fn moved(rises: Option<bool>, value: i32, previous: i32) -> Result<(), u8> {
+    let (moves, number) = match rises {
+        Some(true) => (value > previous, 22),
+        Some(false) => (value < previous, 22),
+        None => (value != previous, 16),
     };
     if moves {
         Ok(())

@@ -110,6 +110,10 @@ pub struct Rule {
     /// Id of the variable.
     pub variable: usize,
     pub body: Body,
+    /// Of a pair (A.6), how many of its cases are rising; all others are falling. "A pair is
+    /// read as the change formula over both lists, rising first, with its matching no-change
+    /// formula", and that is its body.
+    pub rising: Option<usize>,
 }
 
 #[derive(Clone, Debug, PartialEq, Eq)]
@@ -122,23 +126,6 @@ pub enum Body {
         cases: Vec<Case>,
         unchanged: Vec<Condition>,
     },
-    /// The rising and the falling formula of A.6: "A pair is read as the change formula
-    /// over both lists, rising first, with its matching no-change formula."
-    Pair {
-        rising: Vec<Case>,
-        falling: Vec<Case>,
-    },
-}
-
-impl Body {
-    /// All cases of a rule, of a pair the rising ones first. A function has none.
-    pub fn cases(&self) -> Vec<&Case> {
-        match self {
-            Body::Function(_) => Vec::new(),
-            Body::Change { cases, .. } => cases.iter().collect(),
-            Body::Pair { rising, falling } => rising.iter().chain(falling).collect(),
-        }
-    }
 }
 
 /// `[c] & v = (e)`

@@ -101,8 +101,8 @@ impl Writer<'_> {
         match &rule.body {
             Body::Function(expression) => self.assignment(rule.variable, expression),
             // "one IF/ELSIF block .. a rule", a pair's too
-            body => {
-                for (index, case) in body.cases().iter().enumerate() {
+            Body::Change { cases, .. } => {
+                for (index, case) in cases.iter().enumerate() {
                     self.out += if index == 0 { "IF " } else { "ELSIF " };
                     self.condition(&case.condition);
                     self.out += " THEN\n  ";

@@ -10,17 +10,22 @@ impl<'t> Parser<'t> {
     /// `v: GX(v = (e));`, a change formula with its no-change formula, or the pair of A.6.
     pub(super) fn rule(&mut self) -> Result<(), Refusal> {
         let variable = self.rule_name()?;
-        let body = if features::in_force().pairs && self.token.kind == Kind::Plus {
+        let rule = if features::in_force().pairs && self.token.kind == Kind::Plus {
             self.pair(variable)?
         } else {
             self.opening()?;
-            match self.token.kind {
+            let body = match self.token.kind {
                 Kind::Not => self.change(variable)?,
                 _ => self.function(variable)?,
+            };
+            Rule {
+                variable,
+                body,
+                rising: None,
             }
         };
         self.rule_stands(variable);
-        self.program.rules.push(Rule { variable, body });
+        self.program.rules.push(rule);
         Ok(())
     }
 
@@ -85,13 +90,21 @@ impl<'t> Parser<'t> {
     /// From the `+` of a rising formula to the end of its falling one: "`v+: GX(v > _v ->
     /// cases);` and `v-: GX(v < _v -> cases);`, in this order, case lists as before, at most
     /// 32 in the two together".
-    fn pair(&mut self, variable: usize) -> Result<Body, Refusal> {
+    fn pair(&mut self, variable: usize) -> Result<Rule, Refusal> {
         self.expect(Kind::Plus)?;
-        let rising = self.side(variable, Kind::Greater, CASES)?;
+        let mut cases = self.side(variable, Kind::Greater, CASES)?;
+        let rising = cases.len();
         self.repeated(Kind::Name, variable)?;
         self.expect(Kind::Minus)?;
-        let falling = self.side(variable, Kind::Less, CASES - rising.len())?;
-        Ok(Body::Pair { rising, falling })
+        cases.extend(self.side(variable, Kind::Less, CASES - rising)?);
+        // "read as the change formula over both lists, rising first, with its matching
+        // no-change formula"
+        let unchanged = cases.iter().map(|case| case.condition.clone()).collect();
+        Ok(Rule {
+            variable,
+            body: Body::Change { cases, unchanged },
+            rising: Some(rising),
+        })
     }
 
     /// `: GX(v > _v -> cases);`, or with `<`; at most so many cases.
