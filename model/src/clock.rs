@@ -23,13 +23,15 @@ pub fn clock(text: &[u8], table: &[i64], utc: i64, row: &mut [i32]) -> Result<()
     if !MINUTES.contains(&utc) {
         return Err(Refusal::new(20, 0));
     }
-    if row.len() != program.inputs {
+    // A row with timers ends with its milliseconds, which are no input and stay.
+    if row.len() != program.row_length() {
         return Err(Refusal::new(12, 0));
     }
     let (day, minute) = table.local(utc);
     // The row has a value for each input, the first of the names: variables are not
     // reached. "All other values of the row stay."
-    for (value, name) in row.iter_mut().zip(&program.names) {
+    let inputs = &program.names[..program.inputs];
+    for (value, name) in row.iter_mut().zip(inputs) {
         let is = |filled: &str| same_names(name.spelling, filled.as_bytes());
         if is("day") {
             *value = day as i32;

@@ -1,5 +1,5 @@
 //! Request A.10 of document 02, "Closed profile": "Team leads want rule sets that can
-//! never stop in service." Images have no timers yet (A.7), so none is 26 for one.
+//! never stop in service."
 
 use crate::check::{check_detail, Range};
 use crate::machine::scan;
@@ -90,7 +90,11 @@ impl Profile {
         let header = check_detail(image).map_err(|fault| fault.refusal())?;
         let names = header.ranges().to_vec();
         let sizes = names.iter().chain(&names[..header.inputs]).map(size);
-        let scans = product(sizes).ok_or(Refusal::new(26, 0))?;
+        // "26 a timer or too large a product, after 9 and 11"
+        let timed = !header.timers.is_empty();
+        let scans = product(sizes)
+            .filter(|_| !timed)
+            .ok_or(Refusal::new(26, 0))?;
         Ok(Profile {
             names,
             count_of_inputs: header.inputs,

@@ -10,28 +10,47 @@ use std::cell::Cell;
 pub struct Features {
     /// Request A.2, names without letter case.
     pub names_without_case: bool,
+    /// Request A.6, rising and falling formulas.
+    pub pairs: bool,
+    /// Request A.7, delay on start.
+    pub timers: bool,
+    /// Request A.13, watch formulas.
+    pub watches: bool,
 }
 
 impl Features {
     /// What has landed: who lands a request changes its line here.
     pub const LANDED: Features = Features {
         names_without_case: true,
+        pairs: false,
+        timers: false,
+        watches: false,
     };
 
     /// Document 01 and the requests that every model has.
     pub const NONE: Features = Features {
         names_without_case: false,
+        pairs: false,
+        timers: false,
+        watches: false,
     };
 
     pub const ALL: Features = Features {
         names_without_case: true,
+        pairs: true,
+        timers: true,
+        watches: true,
     };
 
     /// Every set of features.
     pub fn sets() -> Vec<Features> {
-        let switches = [false, true];
-        let sets = switches.map(|names_without_case| Features { names_without_case });
-        sets.to_vec()
+        let set = |index: u32| Features {
+            names_without_case: index & 1 != 0,
+            pairs: index & 2 != 0,
+            timers: index & 4 != 0,
+            watches: index & 8 != 0,
+        };
+        (0..16).map(set).collect()
     }
 }
 

@@ -7,29 +7,66 @@ use std::cmp::Ordering;
 
 use crate::program::{
     Atom, Body, Case, Condition, Expression, Factor, Operand, Product, Program, Relation, Rule,
-    Sum, Term,
+    Sum, Term, Timer,
 };
 
 /// Whether a list of states is a trace that satisfies every formula of the program:
 /// "A trace satisfies `GX(f)` exactly if f holds at each of its places after the start,
 /// with the values of the place before as previous values". Every state has one value
-/// for each name.
+/// for each name. Only for texts without timers.
 pub fn satisfies<S: AsRef<[i64]>>(program: &Program, trace: &[S]) -> bool {
-    let length = program.names.len();
+    assert!(program.timers.is_empty(), "a timer needs milliseconds");
+    satisfies_timed(program, trace, &vec![0; trace.len()])
+}
+
+/// The same with timers: "The one trace includes elapsed time and these equations". A place
+/// after the start has the milliseconds of its row, the first of them for the second place.
+pub fn satisfies_timed<S: AsRef<[i64]>>(
+    program: &Program,
+    trace: &[S],
+    milliseconds: &[i64],
+) -> bool {
+    assert!(trace.len() <= milliseconds.len() + 1, "one for each row");
+    let length = program.state_length();
+    let mut places = trace.windows(2).zip(milliseconds);
     trace.iter().all(|state| state.as_ref().len() == length)
-        && trace
-            .windows(2)
-            .all(|pair| step_satisfies(program, pair[0].as_ref(), pair[1].as_ref()))
+        && places.all(|(pair, &time)| {
+            step_satisfies_timed(program, pair[0].as_ref(), pair[1].as_ref(), time)
+        })
 }
 
 /// Whether every formula holds at a place with the values `current`, after a place with
-/// the values `previous`.
+/// the values `previous`. Only for texts without timers.
 pub fn step_satisfies(program: &Program, previous: &[i64], current: &[i64]) -> bool {
-    let place = Place { previous, current };
-    program.rules.iter().all(|rule| place.rule_holds(rule))
+    assert!(program.timers.is_empty(), "a timer needs milliseconds");
+    step_satisfies_timed(program, previous, current, 0)
 }
 
-/// One place of a trace after the start.
+/// The same with timers, so many milliseconds later.
+pub fn step_satisfies_timed(
+    program: &Program,
+    previous: &[i64],
+    current: &[i64],
+    milliseconds: i64,
+) -> bool {
+    let place = Place { previous, current };
+    let mut timers = program.timers.iter().enumerate();
+    program.rules.iter().all(|rule| place.rule_holds(rule))
+        && timers.all(|(index, timer)| {
+            place.timer_holds(timer, program.names.len() + index, milliseconds)
+        })
+}
+
+/// Whether a condition holds at a place; None where it meets 14.
+pub(crate) fn condition_holds(
+    condition: &Condition,
+    previous: &[i64],
+    current: &[i64],
+) -> Option<bool> {
+    Place { previous, current }.condition(condition)
+}
+
+/// One place of a trace.
 struct Place<'a> {
     previous: &'a [i64],
     current: &'a [i64],
@@ -46,6 +83,22 @@ impl Place<'_> {
                     && self.no_change_holds(v, unchanged) == Some(true)
             }
         }
+    }
+
+    /// The two equations of a timer, whose elapsed time stands at `at`.
+    fn timer_holds(&self, timer: &Timer, at: usize, milliseconds: i64) -> bool {
+        let (w, before) = (self.current[timer.watched], self.previous[timer.watched]);
+        let limit = i128::from(timer.limit);
+        // "if w is 0 or rose from 0, elapsed is 0; else the smaller of N and elapsed plus
+        // milliseconds"
+        let elapsed = if w == 0 || before == 0 && w > 0 {
+            0
+        } else {
+            limit.min(i128::from(self.previous[at]) + i128::from(milliseconds))
+        };
+        // "t is 1 exactly if w is 1 and elapsed is N", and it is of range 0..1
+        let on = i64::from(w == 1 && elapsed == limit);
+        i128::from(self.current[at]) == elapsed && self.current[timer.id] == on
     }
 
     /// `v = (e)`

@@ -2,7 +2,7 @@
 
 use crate::number;
 use crate::program::{
-    Atom, Body, Condition, Expression, Factor, Operand, Product, Program, Relation, Sum, Term,
+    Atom, Body, Case, Condition, Expression, Factor, Operand, Product, Program, Relation, Sum, Term,
 };
 
 /// "Instructions (decimal code byte)".
@@ -29,21 +29,34 @@ pub mod code {
     pub const PICK: u8 = 20;
     pub const LET: u8 = 21;
     pub const SETTLE: u8 = 22;
+    /// A.7: "Instruction 23 carries timer id, w's id and N, unsigned."
+    pub const TIMER: u8 = 23;
+    /// A.6: "Instructions 24 id and 25 id pick a rising and a falling value."
+    pub const RISE: u8 = 24;
+    pub const FALL: u8 = 25;
 }
 
-/// Whether a number follows the code byte.
-pub fn has_operand(opcode: u8) -> bool {
-    matches!(
-        opcode,
-        code::CONSTANT | code::CURRENT | code::PREVIOUS | code::PICK | code::LET | code::SETTLE
-    )
+/// Whether an instruction picks a value.
+pub fn is_pick(opcode: u8) -> bool {
+    matches!(opcode, code::PICK | code::RISE | code::FALL)
 }
 
-/// One instruction: its code byte, its number (0 if it has none) and its length.
+/// How many numbers follow the code byte.
+pub fn operands(opcode: u8) -> usize {
+    match opcode {
+        code::CONSTANT | code::CURRENT | code::PREVIOUS | code::LET | code::SETTLE => 1,
+        code::TIMER => 3,
+        _ => usize::from(is_pick(opcode)),
+    }
+}
+
+/// One instruction: its code byte, its first number (0 if it has none), the second and third
+/// of a timer, and its length.
 #[derive(Clone, Copy, Debug, PartialEq, Eq)]
 pub struct Instruction {
     pub opcode: u8,
     pub number: u64,
+    pub more: [u64; 2],
     pub length: usize,
 }
 
@@ -52,19 +65,26 @@ pub struct Instruction {
 #[inline]
 pub fn decode(bytes: &[u8]) -> Option<Instruction> {
     let (&opcode, rest) = bytes.split_first()?;
-    if !has_operand(opcode) {
-        return Some(Instruction {
-            opcode,
-            number: 0,
-            length: 1,
-        });
-    }
-    let (number, length) = number::read(rest).ok()?;
-    Some(Instruction {
+    let mut instruction = Instruction {
         opcode,
-        number,
-        length: 1 + length,
-    })
+        number: 0,
+        more: [0; 2],
+        length: 1,
+    };
+    let count = operands(opcode);
+    if count > 0 {
+        let (number, length) = number::read(rest).ok()?;
+        instruction.number = number;
+        instruction.length += length;
+    }
+    if count > 1 {
+        for operand in &mut instruction.more {
+            let (number, length) = number::read(&bytes[instruction.length..]).ok()?;
+            *operand = number;
+            instruction.length += length;
+        }
+    }
+    Some(instruction)
 }
 
 /// Where the code begins: "The code is the rest of the image after the header."
@@ -104,19 +124,41 @@ pub fn write_image(program: &Program) -> Vec<u8> {
                 write_expression(expression, &mut out);
                 with_number(code::LET, rule.variable as u64, &mut out);
             }
-            // "A case is: condition, gate, expression, pick; after the last case, settle."
             Body::Change { cases, .. } => {
-                for case in cases {
-                    write_condition(&case.condition, &mut out);
-                    out.push(code::GATE);
-                    write_expression(&case.expression, &mut out);
-                    with_number(code::PICK, rule.variable as u64, &mut out);
-                }
+                let (first, pick) = match rule.rising {
+                    Some(rising) => (rising, code::RISE),
+                    None => (cases.len(), code::PICK),
+                };
+                let (first, falling) = cases.split_at(first);
+                write_cases(first, pick, rule.variable, &mut out);
+                write_cases(falling, code::FALL, rule.variable, &mut out);
                 with_number(code::SETTLE, rule.variable as u64, &mut out);
             }
         }
+        write_timers(program, rule.variable, &mut out);
     }
     out
+}
+
+/// The instructions 23 "directly after w's settle or let, timers of one w by id".
+fn write_timers(program: &Program, watched: usize, out: &mut Vec<u8>) {
+    for timer in &program.timers {
+        if timer.watched == watched {
+            with_number(code::TIMER, timer.id as u64, out);
+            number::write(watched as u64, out);
+            number::write(timer.limit as u64, out);
+        }
+    }
+}
+
+/// "A case is: condition, gate, expression, pick; after the last case, settle."
+fn write_cases(cases: &[Case], pick: u8, variable: usize, out: &mut Vec<u8>) {
+    for case in cases {
+        write_condition(&case.condition, out);
+        out.push(code::GATE);
+        write_expression(&case.expression, out);
+        with_number(pick, variable as u64, out);
+    }
 }
 
 /// "Header: count of inputs, count of variables, then low, high, start (signed) of each

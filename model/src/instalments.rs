@@ -49,7 +49,7 @@ impl Paused {
     /// tests 9, 11, then 12 for the row; a refused one replaces nothing."
     pub fn post(&mut self, image: &[u8], row: &[i32]) -> Answer {
         let header = check_detail(image).map_err(ScanRefusal::unsound)?;
-        if row.len() != header.inputs {
+        if row.len() != header.row_length() {
             return Err(ScanRefusal::before_code(12));
         }
         self.waiting = Some(row.to_vec());

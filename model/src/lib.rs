@@ -1,5 +1,5 @@
 //! Reference model of document 01, "Launch rules as formulas, images and traces", and of
-//! requests A.1, A.2, A.4, A.5, A.8, A.9, A.10 and A.12 of document 02.
+//! requests A.1, A.2 and A.4 to A.13 of document 02.
 //!
 //! Written from the documents and their readings alone, in safe Rust with the
 //! standard library only. Comments in quotation marks are sentences of the documents.
@@ -23,6 +23,7 @@ pub mod st;
 pub mod structured_text;
 pub mod token;
 pub mod trace;
+pub mod watch;
 
 pub use charge::{charge, Charge};
 pub use check::{check, check_detail, Breach, Fault, Header, Range};
@@ -39,6 +40,7 @@ pub use program::Program;
 pub use rounds::{round, visit, RuleSet};
 pub use structured_text::{structured_text, write_structured_text};
 pub use trace::trace;
+pub use watch::{watch, write_report};
 
 /// "At most 32,768 bytes" of text.
 pub const TEXT_LIMIT: usize = 32_768;
@@ -52,6 +54,8 @@ pub const NAME_BYTES: usize = 16;
 pub const CASES: usize = 32;
 /// "16 open brackets of both kinds together".
 pub const BRACKETS: usize = 16;
+/// "at most 16" watches (A.13).
+pub const WATCHES: usize = 16;
 /// "never over 40 values held".
 pub const HELD: usize = 40;
 

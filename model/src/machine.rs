@@ -1,7 +1,7 @@
 //! Start and scan of an image. Every call checks the image before it works.
 
 use crate::check::{check_detail, Fault, Header};
-use crate::image::{code, decode};
+use crate::image::{code, decode, is_pick};
 use crate::number;
 use crate::{Refusal, HELD, NAMES};
 
@@ -36,12 +36,15 @@ impl ScanRefusal {
 /// Writes the starting state: tests 9, then 11, then 12.
 pub fn start(image: &[u8], state: &mut [i32]) -> Result<(), Refusal> {
     let header = check_detail(image).map_err(|fault| fault.refusal())?;
-    if state.len() != header.names {
+    if state.len() != header.state_length() {
         return Err(Refusal::new(12, 0));
     }
-    for (value, range) in state.iter_mut().zip(header.ranges()) {
+    let (values, elapsed) = state.split_at_mut(header.names);
+    for (value, range) in values.iter_mut().zip(header.ranges()) {
         *value = range.start;
     }
+    // "its elapsed time, starting at 0"
+    elapsed.fill(0);
     Ok(())
 }
 
@@ -49,15 +52,18 @@ pub fn start(image: &[u8], state: &mut [i32]) -> Result<(), Refusal> {
 pub fn scan(image: &[u8], state: &mut [i32], row: &[i32]) -> Result<u32, ScanRefusal> {
     let header = check_detail(image).map_err(ScanRefusal::unsound)?;
     before_code(&header, state, row).map_err(ScanRefusal::before_code)?;
+    let (inputs, time) = row.split_at(header.inputs);
     let mut machine = Machine {
         header: &header,
         previous: state,
         current: [0; NAMES],
+        elapsed: state[header.names..].to_vec(),
+        milliseconds: time.first().copied().unwrap_or(0),
         held: [0; HELD],
         depth: 0,
         picked: false,
     };
-    machine.current[..row.len()].copy_from_slice(row);
+    machine.current[..inputs.len()].copy_from_slice(inputs);
     let (steps, result) = machine.run(&image[header.code..]);
     if let Err(number) = result {
         return Err(ScanRefusal {
@@ -66,22 +72,34 @@ pub fn scan(image: &[u8], state: &mut [i32], row: &[i32]) -> Result<u32, ScanRef
             steps,
         });
     }
-    let current = machine.current;
-    state.copy_from_slice(&current[..header.names]);
+    let Machine {
+        current, elapsed, ..
+    } = machine;
+    state[..header.names].copy_from_slice(&current[..header.names]);
+    state[header.names..].copy_from_slice(&elapsed);
     Ok(steps)
 }
 
 /// "12 state or row of wrong length", "18 a value outside its range" of the state,
 /// "13 an input outside its range" of the row.
 fn before_code(header: &Header, state: &[i32], row: &[i32]) -> Result<(), u8> {
-    if state.len() != header.names || row.len() != header.inputs {
+    if state.len() != header.state_length() || row.len() != header.row_length() {
         return Err(12);
     }
     let ranges = header.ranges();
-    if state.iter().zip(ranges).any(|(v, range)| !range.holds(*v)) {
+    let (values, elapsed) = state.split_at(header.names);
+    let (inputs, milliseconds) = row.split_at(header.inputs);
+    // "A state holding elapsed outside 0..N is 18."
+    let mut times = elapsed.iter().zip(&header.timers);
+    if values.iter().zip(ranges).any(|(v, range)| !range.holds(*v))
+        || times.any(|(time, timer)| !(0..=timer.limit).contains(time))
+    {
         return Err(18);
     }
-    if row.iter().zip(ranges).any(|(v, range)| !range.holds(*v)) {
+    // "the milliseconds since the last accepted scan ..; a negative one is 13"
+    if inputs.iter().zip(ranges).any(|(v, range)| !range.holds(*v))
+        || milliseconds.iter().any(|&time| time < 0)
+    {
         return Err(13);
     }
     Ok(())
@@ -93,6 +111,9 @@ struct Machine<'a> {
     /// "previous values are those of the state found, inputs included"
     previous: &'a [i32],
     current: [i32; NAMES],
+    /// Elapsed times "by timer id"; those of timers not worked yet are the state's.
+    elapsed: Vec<i32>,
+    milliseconds: i32,
     held: [i32; HELD],
     depth: usize,
     /// A pick was made since the last settle.
@@ -111,7 +132,7 @@ impl Machine<'_> {
             if passing {
                 // "all instructions up to and including the next pick count a step each
                 // and do nothing else"
-                passing = instruction.opcode != code::PICK;
+                passing = !is_pick(instruction.opcode);
                 continue;
             }
             match self.step(instruction.opcode, instruction.number) {
@@ -154,11 +175,12 @@ impl Machine<'_> {
                 self.push(left | right);
             }
             code::GATE => return self.gate(),
-            code::PICK => self.pick(number as usize)?,
+            code::PICK | code::RISE | code::FALL => self.pick(opcode, number as usize)?,
             code::LET => {
                 let value = self.pop();
                 self.set(number as usize, value)?;
             }
+            code::TIMER => self.timer(number as usize),
             _ => self.settle(number as usize),
         }
         Ok(true)
@@ -173,11 +195,16 @@ impl Machine<'_> {
         Ok(open)
     }
 
-    /// "16 a pick equal to the previous value", then 17.
-    fn pick(&mut self, id: usize) -> Result<(), u8> {
+    /// "16 a pick equal to the previous value", or "22 a rising pick at or below the previous
+    /// value, or a falling one at or above it, in place of 16 and before 17".
+    fn pick(&mut self, opcode: u8, id: usize) -> Result<(), u8> {
         let value = self.pop();
-        if value == self.previous[id] {
-            return Err(16);
+        let previous = self.previous[id];
+        match opcode {
+            code::RISE if value <= previous => return Err(22),
+            code::FALL if value >= previous => return Err(22),
+            code::PICK if value == previous => return Err(16),
+            _ => {}
         }
         self.picked = true;
         self.set(id, value)
@@ -198,6 +225,25 @@ impl Machine<'_> {
             self.current[id] = self.previous[id];
         }
         self.picked = false;
+    }
+
+    /// "if w is 0 or rose from 0, elapsed is 0; else the smaller of N and elapsed plus
+    /// milliseconds. Then t is 1 exactly if w is 1 and elapsed is N."
+    fn timer(&mut self, id: usize) {
+        let timers = &self.header.timers;
+        let Some(at) = timers.iter().position(|timer| timer.id == id) else {
+            return;
+        };
+        let (w, limit) = (timers[at].watched, timers[at].limit);
+        let runs = self.current[w] == 1 && self.previous[w] == 1;
+        self.elapsed[at] = match runs {
+            // A sum past 32 bits is past N too.
+            true => self.elapsed[at]
+                .saturating_add(self.milliseconds)
+                .min(limit),
+            false => 0,
+        };
+        self.current[id] = i32::from(self.current[w] == 1 && self.elapsed[at] == limit);
     }
 
     fn push(&mut self, value: i32) {

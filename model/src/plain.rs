@@ -6,19 +6,21 @@ use crate::program::{
 };
 
 /// The plain scan of one row; Err is the number of the first refusal. `state` has one
-/// value for each name.
+/// value for each name, then one for each timer.
 pub fn plain_scan(program: &Program, state: &mut [i32], row: &[i32]) -> Result<(), u8> {
     // "A row of wrong length is 12, else an input outside its range 13."
-    if row.len() != program.inputs {
+    if row.len() != program.row_length() {
         return Err(12);
     }
-    let mut inputs = row.iter().zip(&program.names);
-    if inputs.any(|(value, name)| !in_range(name, *value)) {
+    let (inputs, milliseconds) = row.split_at(program.inputs);
+    let mut ranged = inputs.iter().zip(&program.names);
+    // A.7: "a negative one is 13"
+    if ranged.any(|(value, name)| !in_range(name, *value)) || milliseconds.iter().any(|&m| m < 0) {
         return Err(13);
     }
     // "current ones are the row's inputs and the new values found so far"
     let mut current = state.to_vec();
-    current[..row.len()].copy_from_slice(row);
+    current[..inputs.len()].copy_from_slice(inputs);
     // "Rules are taken in text order"
     for rule in &program.rules {
         let values = Values {
@@ -28,13 +30,40 @@ pub fn plain_scan(program: &Program, state: &mut [i32], row: &[i32]) -> Result<(
         let name = &program.names[rule.variable];
         let new = match &rule.body {
             Body::Function(expression) => function(&values, name, expression)?,
-            Body::Change { cases, .. } => change(&values, name, state[rule.variable], cases)?,
+            Body::Change { cases, .. } => {
+                change(&values, name, state[rule.variable], cases, rule.rising)?
+            }
         };
         current[rule.variable] = new;
+        for &time in milliseconds {
+            work_timers(program, rule.variable, state, &mut current, time);
+        }
     }
     // "without one, the row's inputs and the new values are the state"
     state.copy_from_slice(&current);
     Ok(())
+}
+
+/// "Directly after the rule of w: if w is 0 or rose from 0, elapsed is 0; else the smaller
+/// of N and elapsed plus milliseconds. Then t is 1 exactly if w is 1 and elapsed is N."
+/// Elapsed times stand "after the values in the state, by timer id".
+fn work_timers(program: &Program, w: usize, state: &[i32], current: &mut [i32], time: i32) {
+    for (index, timer) in program.timers.iter().enumerate() {
+        if timer.watched != w {
+            continue;
+        }
+        let place = program.names.len() + index;
+        let rose_from_0 = state[w] == 0 && current[w] > 0;
+        let elapsed = if current[w] == 0 || rose_from_0 {
+            0
+        } else {
+            let sum = i64::from(state[place]) + i64::from(time);
+            sum.min(i64::from(timer.limit))
+        };
+        current[place] = elapsed as i32;
+        let is_over = elapsed == i64::from(timer.limit);
+        current[timer.id] = i32::from(current[w] == 1 && is_over);
+    }
 }
 
 fn in_range(name: &Name, value: i32) -> bool {
@@ -53,10 +82,17 @@ fn function(values: &Values, name: &Name, expression: &Expression) -> Result<i32
 /// "The cases of a rule are taken in order, each condition worked out; a false one ends
 /// its case. One that holds after another of the rule held is 15. Else the expression is
 /// worked out: equal to the previous value it is 16, then outside the variable's range
-/// 17, else it is the new value. If no case held, the new value is the previous one."
-fn change(values: &Values, name: &Name, previous: i32, cases: &[Case]) -> Result<i32, u8> {
+/// 17, else it is the new value. If no case held, the new value is the previous one." In a
+/// pair 22 stands in the place of 16 (A.6).
+fn change(
+    values: &Values,
+    name: &Name,
+    previous: i32,
+    cases: &[Case],
+    rising: Option<usize>,
+) -> Result<i32, u8> {
     let mut found = None;
-    for case in cases {
+    for (index, case) in cases.iter().enumerate() {
         if !values.condition(&case.condition)? {
             continue;
         }
@@ -64,15 +100,29 @@ fn change(values: &Values, name: &Name, previous: i32, cases: &[Case]) -> Result
             return Err(15);
         }
         let value = values.expression(&case.expression)?;
-        if value == previous {
-            return Err(16);
-        }
+        let rises = rising.map(|rising| index < rising);
+        moved(rises, value, previous)?;
         if !in_range(name, value) {
             return Err(17);
         }
         found = Some(value);
     }
     Ok(found.unwrap_or(previous))
+}
+
+/// Whether the value of a case moves as it must: 16, or "22 a rising pick at or below the
+/// previous value, or a falling one at or above it".
+fn moved(rises: Option<bool>, value: i32, previous: i32) -> Result<(), u8> {
+    let (moves, number) = match rises {
+        Some(true) => (value > previous, 22),
+        Some(false) => (value < previous, 22),
+        None => (value != previous, 16),
+    };
+    if moves {
+        Ok(())
+    } else {
+        Err(number)
+    }
 }
 
 /// The values that a rule may use. A current value that is used belongs to an input or

@@ -18,7 +18,7 @@ const RESERVED: [&[u8]; 7] = [b"IF", b"THEN", b"ELSIF", b"DINT", b"AND", b"OR", 
 /// declaration, after all faults of the text; a short buffer is 10, after 21."
 pub fn structured_text(text: &[u8], out: &mut [u8]) -> Result<usize, Refusal> {
     let program = read_text(text)?;
-    if let Some(place) = reserved_name(text) {
+    if let Some(place) = unprintable(text) {
         return Err(Refusal::new(21, place));
     }
     let bytes = write_structured_text(&program).into_bytes();
@@ -29,19 +29,19 @@ pub fn structured_text(text: &[u8], out: &mut [u8]) -> Result<usize, Refusal> {
     Ok(bytes.len())
 }
 
-/// The place of the first name declared in an accepted text that is reserved "under A.2's
-/// sameness": "with a to z read as A to Z".
-fn reserved_name(text: &[u8]) -> Option<usize> {
+/// The first place of an accepted text that is 21: a declared name that is reserved "under
+/// A.2's sameness", "with a to z read as A to Z", or a timer, "at its word" (A.7).
+fn unprintable(text: &[u8]) -> Option<usize> {
     let tokens = tokens(text);
-    let declared = tokens
-        .windows(2)
-        .filter(|pair| matches!(pair[0].kind, Kind::Input | Kind::Var))
-        .map(|pair| pair[1]);
-    let mut reserved = declared.filter(|name| {
-        let upper = name.spelling.to_ascii_uppercase();
-        RESERVED.contains(&&upper[..])
+    let places = tokens.windows(2).filter_map(|pair| {
+        let upper = pair[1].spelling.to_ascii_uppercase();
+        match pair[0].kind {
+            Kind::Timer => Some(pair[0].place),
+            Kind::Input | Kind::Var if RESERVED.contains(&&upper[..]) => Some(pair[1].place),
+            _ => None,
+        }
     });
-    reserved.next().map(|name| name.place)
+    places.min()
 }
 
 /// "The writer prints sections VAR_INPUT and VAR (each left out if empty), one IF/ELSIF
@@ -100,6 +100,7 @@ impl Writer<'_> {
     fn rule(&mut self, rule: &Rule) {
         match &rule.body {
             Body::Function(expression) => self.assignment(rule.variable, expression),
+            // "one IF/ELSIF block .. a rule", a pair's too
             Body::Change { cases, .. } => {
                 for (index, case) in cases.iter().enumerate() {
                     self.out += if index == 0 { "IF " } else { "ELSIF " };

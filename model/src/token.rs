@@ -14,6 +14,12 @@ pub enum Kind {
     Init,
     Mod,
     Gx,
+    Timer,
+    Of,
+    Limit,
+    Watch,
+    G,
+    X,
     /// A grammar word in another letter case (A.2): the grammar allows it nowhere.
     OtherCase,
     DotDot,
@@ -120,8 +126,8 @@ fn run(rest: &[u8], class: fn(&u8) -> bool) -> usize {
 fn name_or_word(rest: &[u8]) -> (Kind, usize) {
     let length = run(rest, u8::is_ascii_alphanumeric);
     let spelling = &rest[..length];
-    let kind = match words().iter().find(|word| same_names(word.0, spelling)) {
-        Some((word, kind)) if *word == spelling => *kind,
+    let kind = match words().find(|word| same_names(word.0, spelling)) {
+        Some((word, kind)) if word == spelling => kind,
         // "a grammar word in another case is 2 wherever it stands, but directly after `_`
         // the `_` is lone, 1"
         Some(_) => Kind::OtherCase,
@@ -133,16 +139,31 @@ fn name_or_word(rest: &[u8]) -> (Kind, usize) {
 /// A word of the grammar and the kind of its token.
 type Word = (&'static [u8], Kind);
 
-/// "Words of the grammar, no names".
-pub fn words() -> &'static [Word] {
-    const WORDS: [Word; 5] = [
-        (b"input", Kind::Input),
-        (b"var", Kind::Var),
-        (b"init", Kind::Init),
-        (b"mod", Kind::Mod),
-        (b"GX", Kind::Gx),
-    ];
-    &WORDS
+/// "Words of the grammar, no names: `input var init mod GX`."
+const WORDS: [Word; 5] = [
+    (b"input", Kind::Input),
+    (b"var", Kind::Var),
+    (b"init", Kind::Init),
+    (b"mod", Kind::Mod),
+    (b"GX", Kind::Gx),
+];
+
+/// A.7: "`timer`, `of` and `limit` become grammar words."
+const TIMER_WORDS: [Word; 3] = [
+    (b"timer", Kind::Timer),
+    (b"of", Kind::Of),
+    (b"limit", Kind::Limit),
+];
+
+/// A.13: "`watch`, `G` and `X` become grammar words."
+const WATCH_WORDS: [Word; 3] = [(b"watch", Kind::Watch), (b"G", Kind::G), (b"X", Kind::X)];
+
+/// The words of the grammar with the requests that are on.
+pub fn words() -> impl Iterator<Item = Word> {
+    let features = features::in_force();
+    let timers = TIMER_WORDS.into_iter().filter(move |_| features.timers);
+    let watches = WATCH_WORDS.into_iter().filter(move |_| features.watches);
+    WORDS.into_iter().chain(timers).chain(watches)
 }
 
 /// "names are the same when their bytes are the same"; by A.2 "Names are now the same when

@@ -15,17 +15,19 @@ pub fn trace(input: &[u8]) -> Vec<u8> {
         }
     };
     let image = write_image(&program);
-    let mut state = vec![0; program.names.len()];
+    let names = program.names.len();
+    let mut state = vec![0; program.state_length()];
     let mut out = head(&program);
     let mut result = start(&image, &mut state).err().map_or(0, |r| r.number);
-    print(&mut out, 0, &state, result);
+    // "the trace program doesn't print elapsed time"
+    print(&mut out, 0, &state[..names], result);
     for (index, line) in lines(rows).enumerate() {
         result = match row(line) {
             Some(row) => scan(&image, &mut state, &row).err().map_or(0, |r| r.number),
             // "a line that isn't so, or has a number outside 32 bits, has the wrong length"
             None => 12,
         };
-        print(&mut out, index + 1, &state, result);
+        print(&mut out, index + 1, &state[..names], result);
     }
     out
 }

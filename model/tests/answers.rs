@@ -3,6 +3,7 @@
 mod common;
 
 use common::landed_and_all;
+use rolvenko_model::features::in_force;
 use std::collections::BTreeMap;
 
 use rolvenko_model::generate::{
@@ -14,10 +15,10 @@ use rolvenko_model::{Breach, Program};
 
 #[derive(Default)]
 struct Counts {
-    translate: [usize; 19],
-    check: [usize; 19],
-    start: [usize; 19],
-    scan: [usize; 19],
+    translate: [usize; 31],
+    check: [usize; 31],
+    start: [usize; 31],
+    scan: [usize; 31],
     breaches: BTreeMap<Breach, usize>,
 }
 
@@ -43,9 +44,9 @@ impl Counts {
             *self.breaches.entry(fault.breach).or_default() += 1;
             assert!(fault.place <= image.len());
         }
-        let ranges = program.ranges();
+        let ranges = program.state_ranges();
         let mut lent = state(rng, &ranges);
-        let row = row(rng, &ranges[..program.inputs]);
+        let row = row(rng, &program.row_ranges());
         let answer = scan(image, &mut lent, &row).err();
         self.scan[answer.map_or(0, |refusal| refusal.number) as usize] += 1;
         let answer = start(image, &mut lent).err();
@@ -116,9 +117,20 @@ fn every_answer_is_met_in_force() {
     for number in (9..=18).filter(|&number| number != 10).chain([0]) {
         assert!(counts.scan[number] > 0, "scan {number}");
     }
-    assert_eq!(counts.breaches.len(), Breach::Missing as usize + 1);
+    let features = in_force();
+    assert_eq!(
+        counts.breaches.len(),
+        Breach::Missing as usize
+            + 1
+            + usize::from(features.pairs)
+            + 2 * usize::from(features.timers)
+    );
+    assert_eq!(counts.scan[22] > 0, features.pairs);
     // Each number belongs to the services that the document names, to no others.
-    assert_eq!(counts.translate[11..].iter().sum::<usize>(), 0);
+    assert_eq!(counts.translate[11..23].iter().sum::<usize>(), 0);
+    assert_eq!(counts.translate[23] > 0, features.timers);
+    assert_eq!(counts.translate[24..30].iter().sum::<usize>(), 0);
+    assert_eq!(counts.translate[30] > 0, features.watches);
     assert_eq!(counts.scan[1..9].iter().sum::<usize>() + counts.scan[10], 0);
     assert_eq!(counts.start[13..].iter().sum::<usize>(), 0);
     assert_eq!(counts.check[12..].iter().sum::<usize>(), 0);
@@ -137,14 +149,13 @@ fn trace_program_in_force() {
         let shape = Shape::any(&mut rng);
         let text = text(&mut rng, shape);
         let program = read_text(&text).expect("accepted text");
-        let ranges = program.ranges();
-        let input = trace_input(&mut rng, &text, &ranges[..program.inputs], 6);
+        let input = trace_input(&mut rng, &text, &program.row_ranges(), 6);
         let printed = String::from_utf8(trace(&input)).expect("ASCII");
         assert!(printed.ends_with('\n'));
         let mut before: Vec<&str> = Vec::new();
         for (index, line) in printed.lines().enumerate() {
             let fields: Vec<&str> = line.split(' ').collect();
-            assert_eq!(fields.len(), ranges.len() + 2);
+            assert_eq!(fields.len(), program.names.len() + 2);
             if index == 0 {
                 continue;
             }
@@ -159,6 +170,8 @@ fn trace_program_in_force() {
         }
     }
     println!("lines by result: {results:?}");
+    let mut wanted = vec![0, 12, 13, 14, 15, 16, 17];
+    wanted.extend(in_force().pairs.then_some(22));
     let numbers: Vec<u8> = results.keys().copied().collect();
-    assert_eq!(numbers, [0, 12, 13, 14, 15, 16, 17]);
+    assert_eq!(numbers, wanted);
 }

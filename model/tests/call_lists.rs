@@ -1,6 +1,10 @@
 //! Request A.8: lists of calls on a paused scan, each answer compared with what the
 //! sentences say of the whole list before it.
 
+mod common;
+
+use common::landed_and_all;
+use rolvenko_model::features::in_force;
 use rolvenko_model::generate::{
     alphabet, call_list, closure, small_images, text, Call, Rng, Shape,
 };
@@ -53,7 +57,7 @@ fn post(image: &[u8], row: &[i32]) -> Answer {
                 steps,
             })
         }
-        Ok(header) if header.inputs != row.len() => refused(12),
+        Ok(header) if header.row_length() != row.len() => refused(12),
         Ok(_) => Ok(0),
     }
 }
@@ -198,8 +202,12 @@ fn one_more(before: &Situation, list: &[&Call]) -> Result<Situation, String> {
 /// Lists by seed on images of random texts, against the same reading of the whole list.
 #[test]
 fn lists_by_seed() {
+    landed_and_all(lists_by_seed_in_force);
+}
+
+fn lists_by_seed_in_force() {
     let mut met = BTreeMap::new();
-    for seed in 0..600 {
+    for seed in 0..1200 {
         let mut rng = Rng::new(95_000_000 + seed);
         let shape = Shape::any(&mut rng);
         let source = text(&mut rng, shape);
@@ -215,6 +223,8 @@ fn lists_by_seed() {
         }
     }
     println!("{met:?}");
+    let wrong_direction = met.remove(&("finish", 22));
+    assert_eq!(wrong_direction.is_some(), in_force().pairs);
     for (kind, numbers) in [
         ("post", &[0, 11, 12][..]),
         ("begin", &[0, 11, 12, 13, 18, UNFINISHED, IDLE]),

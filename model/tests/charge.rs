@@ -2,7 +2,7 @@
 
 mod common;
 
-use common::image;
+use common::{image, landed_and_all};
 use rolvenko_model::generate::{
     bill, bill_of, counters, damaged_image, found_trace, licence_image, limit_sum, mutate_bill,
     Bill, Rng, REFUSED_SUM,
@@ -297,6 +297,10 @@ fn order_of_refusals() {
 /// Each licence of each minute on its own.
 #[test]
 fn licence_by_licence() {
+    landed_and_all(licence_by_licence_in_force);
+}
+
+fn licence_by_licence_in_force() {
     let mut rows = 0;
     for seed in 0..300 {
         let mut rng = Rng::new(60_000_000 + seed);
@@ -324,6 +328,10 @@ fn licence_by_licence() {
 /// A bill made for a sum has that sum.
 #[test]
 fn exact_sums() {
+    landed_and_all(exact_sums_in_force);
+}
+
+fn exact_sums_in_force() {
     let mut met = [0; 2];
     for seed in 0..3000 {
         let mut rng = Rng::new(70_000_000 + seed);
@@ -347,6 +355,10 @@ fn exact_sums() {
 /// What the generators promise; every answer is met.
 #[test]
 fn generators() {
+    landed_and_all(generators_in_force);
+}
+
+fn generators_in_force() {
     let mut met = [0; 30];
     for seed in 0..6000 {
         let mut rng = Rng::new(80_000_000 + seed);
@@ -354,7 +366,7 @@ fn generators() {
         let header = check_detail(&image).expect("sound");
         let rows = rng.below(9);
         let trace = found_trace(&mut rng, &image, rows);
-        assert_eq!(trace.len() % header.names.max(1), 0);
+        assert_eq!(trace.len() % header.state_length().max(1), 0);
         let mut bill = bill(&mut rng, &header, trace);
         let found = answer(&image, &bill);
         assert!(counters(&header).is_empty() || matches!(found, Ok(_) | Err((29, 0))));

@@ -1,5 +1,8 @@
 //! Request A.1: the local hour of each farm.
 
+mod common;
+
+use common::landed_and_all;
 use rolvenko_model::features::with;
 use rolvenko_model::generate::{
     broken_table, clock_text, farm_table, mutated_clock_text, utc_minute, Rng,
@@ -224,13 +227,17 @@ fn every_minute() {
 /// What the generators promise; every answer is met.
 #[test]
 fn generators() {
-    let mut met = [0; 21];
+    landed_and_all(generators_in_force);
+}
+
+fn generators_in_force() {
+    let mut met = [0; 31];
     for seed in 0..4000 {
         let mut rng = Rng::new(50_000_000 + seed);
         assert_eq!(number(&farm_table(&mut rng), 0), 0);
         assert_eq!(number(&broken_table(&mut rng), 0), 19);
         let accepted = clock_text(&mut rng);
-        let inputs = read_text(&accepted).expect("accepted text").inputs;
+        let inputs = read_text(&accepted).expect("accepted text").row_length();
         let text = match seed % 4 {
             0 => mutated_clock_text(&mut rng),
             _ => accepted,

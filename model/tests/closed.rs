@@ -2,7 +2,7 @@
 
 mod common;
 
-use common::image;
+use common::{image, landed_and_all};
 use rolvenko_model::generate::{
     damaged_image, limit_product, one_refused, profile_image, row_in_range, state_in_range, Rng,
 };
@@ -162,6 +162,10 @@ fn one_refused_scan() {
 /// list of in-range rows from the fresh start ever meets 14 to 17 or 22".
 #[test]
 fn every_scan() {
+    landed_and_all(every_scan_in_force);
+}
+
+fn every_scan_in_force() {
     let (mut rows, mut lists) = (0, 0);
     for seed in 0..400 {
         let mut rng = Rng::new(91_000_000 + seed);

@@ -1,6 +1,9 @@
 //! Damaged and random images: "the first header number or instruction that breaks
 //! soundness", and scans of those that are sound.
 
+mod common;
+
+use common::landed_and_all;
 use std::collections::BTreeMap;
 
 use rolvenko_model::generate::{
@@ -40,6 +43,10 @@ fn first_breach(rng: &mut Rng, image: &[u8], place: usize) {
 
 #[test]
 fn the_first_breach_is_answered() {
+    landed_and_all(the_first_breach_is_answered_in_force);
+}
+
+fn the_first_breach_is_answered_in_force() {
     let mut met: BTreeMap<Breach, usize> = BTreeMap::new();
     let mut sound = 0;
     for seed in 0..20_000 {
@@ -67,31 +74,39 @@ fn the_first_breach_is_answered() {
 /// instructions, and a refused one leaves the state.
 #[test]
 fn scans_of_sound_images() {
-    let mut met = [0; 19];
+    landed_and_all(scans_of_sound_images_in_force);
+}
+
+fn scans_of_sound_images_in_force() {
+    let mut met = [0; 40];
     for seed in 0..20_000 {
         let mut rng = Rng::new(90_000_000 + seed);
         let image = some_image(&mut rng);
         let Ok(header) = check_detail(&image) else {
             continue;
         };
-        let mut state = vec![9; header.names];
+        let mut state = vec![9; header.state_length()];
         assert_eq!(start(&image, &mut state), Ok(()));
-        let starts: Vec<i32> = header.ranges().iter().map(|range| range.start).collect();
+        let starts: Vec<i32> = header
+            .state_ranges()
+            .iter()
+            .map(|range| range.start)
+            .collect();
         assert_eq!(state, starts);
         for _ in 0..4 {
-            let row = row_in_range(&mut rng, &header.ranges()[..header.inputs]);
-            let lent = state_in_range(&mut rng, header.ranges());
+            let row = row_in_range(&mut rng, &header.row_ranges());
+            let lent = state_in_range(&mut rng, &header.state_ranges());
             let mut found = lent.clone();
             match scan(&image, &mut found, &row) {
                 Ok(steps) => {
                     assert_eq!(steps as usize, instructions(&image));
-                    assert_eq!(found[..row.len()], row[..]);
-                    let ranges = header.ranges();
+                    assert_eq!(found[..header.inputs], row[..header.inputs]);
+                    let ranges = &header.state_ranges();
                     assert!(found.iter().zip(ranges).all(|(v, range)| range.holds(*v)));
                     met[0] += 1;
                 }
                 Err(refusal) => {
-                    assert!((14..=17).contains(&refusal.number));
+                    assert!(matches!(refusal.number, 14..=17 | 22));
                     assert!(refusal.steps > 0);
                     assert_eq!(found, lent);
                     met[refusal.number as usize] += 1;

@@ -1,5 +1,9 @@
 //! Texts at the limits and hand-made unsound images.
 
+mod common;
+
+use common::landed_and_all;
+use rolvenko_model::features::in_force;
 use std::collections::BTreeSet;
 
 use rolvenko_model::generate::{limit_texts, unsound_images};
@@ -7,6 +11,10 @@ use rolvenko_model::{check, check_detail, read_text, write_image, Breach, Fault}
 
 #[test]
 fn texts_at_the_limits() {
+    landed_and_all(texts_at_the_limits_in_force);
+}
+
+fn texts_at_the_limits_in_force() {
     let list = limit_texts();
     let mut numbers = BTreeSet::new();
     for limit in &list {
@@ -24,12 +32,18 @@ fn texts_at_the_limits() {
             assert!(2 * image.len() <= 3 * limit.text.len() + 4);
         }
     }
-    assert_eq!(numbers, BTreeSet::from([0, 3, 7, 8, 9]));
+    let mut wanted = BTreeSet::from([0, 3, 7, 8, 9]);
+    wanted.extend(in_force().watches.then_some(30));
+    assert_eq!(numbers, wanted);
     assert!(list.len() > 60);
 }
 
 #[test]
 fn unsound() {
+    landed_and_all(unsound_in_force);
+}
+
+fn unsound_in_force() {
     let mut met = BTreeSet::new();
     for unsound in unsound_images() {
         let fault = Fault {
@@ -47,6 +61,8 @@ fn unsound() {
         assert_eq!(fault.refusal().number, number);
         met.insert(unsound.breach);
     }
-    // Every breach of the list; `Breach::Missing` is the last of the enum.
-    assert_eq!(met.len(), Breach::Missing as usize + 1);
+    // Every breach of the list; `Breach::Missing` is the last of document 01.
+    let features = in_force();
+    let more = usize::from(features.pairs) + 2 * usize::from(features.timers);
+    assert_eq!(met.len(), Breach::Missing as usize + 1 + more);
 }

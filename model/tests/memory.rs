@@ -1,6 +1,9 @@
 //! "Every refusal leaves all lent memory as found; success writes only the image's
 //! bytes, or the state."
 
+mod common;
+
+use common::landed_and_all;
 use rolvenko_model::generate::{
     damaged_image, limit_texts, mutated_text, random_bytes, row, state, text, token_soup, Rng,
     Shape,
@@ -24,6 +27,10 @@ fn lend_buffer(rng: &mut Rng, text: &[u8], size: usize) -> Result<usize, Refusal
 
 #[test]
 fn translate_leaves_the_rest() {
+    landed_and_all(translate_leaves_the_rest_in_force);
+}
+
+fn translate_leaves_the_rest_in_force() {
     let mut refused = 0;
     for seed in 0..3000 {
         let mut rng = Rng::new(6_000_000 + seed);
@@ -45,6 +52,10 @@ fn translate_leaves_the_rest() {
 /// 10 at the text length for every buffer shorter than the image, and for no other.
 #[test]
 fn short_buffers() {
+    landed_and_all(short_buffers_in_force);
+}
+
+fn short_buffers_in_force() {
     let mut refused = 0;
     for seed in 0..300 {
         let mut rng = Rng::new(7_000_000 + seed);
@@ -70,7 +81,11 @@ fn short_buffers() {
 /// Start and scan of sound and damaged images, with states and rows of any kind.
 #[test]
 fn start_and_scan_leave_the_state() {
-    let mut met = [0; 19];
+    landed_and_all(start_and_scan_leave_the_state_in_force);
+}
+
+fn start_and_scan_leave_the_state_in_force() {
+    let mut met = [0; 40];
     for seed in 0..6000 {
         let mut rng = Rng::new(8_000_000 + seed);
         let shape = Shape::any(&mut rng);
@@ -81,9 +96,9 @@ fn start_and_scan_leave_the_state() {
             0 => damaged_image(&mut rng, &sound),
             _ => sound,
         };
-        let ranges = program.ranges();
+        let ranges = program.state_ranges();
         let lent = state(&mut rng, &ranges);
-        let row = row(&mut rng, &ranges[..program.inputs]);
+        let row = row(&mut rng, &program.row_ranges());
         let checked = check(&image);
 
         let mut found = lent.clone();

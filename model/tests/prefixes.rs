@@ -23,7 +23,7 @@ fn the_first_fault_is_answered() {
 }
 
 fn the_first_fault_is_answered_in_force() {
-    let mut met = [0; 11];
+    let mut met = [0; 31];
     for seed in 0..20_000 {
         let mut rng = Rng::new(40_000_000 + seed);
         let text = some_text(&mut rng);
@@ -62,7 +62,7 @@ fn white_space_has_no_influence() {
 }
 
 fn white_space_has_no_influence_in_force() {
-    let mut met = [0; 11];
+    let mut met = [0; 31];
     for seed in 0..10_000 {
         let mut rng = Rng::new(50_000_000 + seed);
         let text = some_text(&mut rng);

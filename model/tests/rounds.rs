@@ -1,5 +1,9 @@
 //! Request A.9: shares for several rule sets.
 
+mod common;
+
+use common::landed_and_all;
+use rolvenko_model::features::in_force;
 use rolvenko_model::generate::{
     closure, event, farm, row_in_range, rule_set, small_images, Event, Outcome, Rng, SmallImage,
 };
@@ -158,7 +162,7 @@ fn exact_rounds_by_seed() {
         let Ok(header) = check_detail(&set.image) else {
             continue;
         };
-        let mut row = row_in_range(&mut rng, &header.ranges()[..header.inputs]);
+        let mut row = row_in_range(&mut rng, &header.row_ranges());
         set.paused.post(&set.image, &row).expect("a sound image");
         for _ in 0..4 {
             let mut wanted = set.state.clone();
@@ -172,7 +176,7 @@ fn exact_rounds_by_seed() {
                 assert_eq!(number, if last { end } else { UNFINISHED });
                 let rest = steps - (visit - 1) * set.share;
                 assert_eq!(now as usize, rest.min(set.share));
-                row = row_in_range(&mut rng, &header.ranges()[..header.inputs]);
+                row = row_in_range(&mut rng, &header.row_ranges());
                 set.paused.post(&set.image, &row).expect("a sound image");
             }
             assert_eq!(set.state, wanted);
@@ -189,6 +193,10 @@ fn exact_rounds_by_seed() {
 /// set change a set's values or that number." A round that is 25 visits nobody.
 #[test]
 fn isolation() {
+    landed_and_all(isolation_in_force);
+}
+
+fn isolation_in_force() {
     let mut met = BTreeMap::new();
     for seed in 0..500 {
         let mut rng = Rng::new(97_000_000 + seed);
@@ -215,6 +223,7 @@ fn isolation() {
         }
     }
     println!("{met:?}");
+    assert_eq!(met.remove(&22).is_some(), in_force().pairs);
     for wanted in [0, 11, 12, 13, 14, 15, 16, 17, 18, 24, UNFINISHED, IDLE] {
         let count = met.remove(&wanted);
         assert!(count.is_some_and(|count| count > 20), "{wanted}");

@@ -4,6 +4,7 @@
 mod common;
 
 use common::landed_and_all;
+use rolvenko_model::features::in_force;
 use rolvenko_model::generate::{row, state, state_in_range, text, Rng, Shape};
 use rolvenko_model::program::Body;
 use rolvenko_model::{
@@ -33,20 +34,20 @@ fn same_conditions(program: &Program) {
 }
 
 /// Runs a list of rows by scan and by plain scan. Counts the rows by answer.
-fn run_rows(rng: &mut Rng, text: &[u8], rows: usize, met: &mut [usize; 19]) {
+fn run_rows(rng: &mut Rng, text: &[u8], rows: usize, met: &mut [usize; 40]) {
     let program = read_text(text).expect("accepted text");
     same_conditions(&program);
     let image = translated(text, &program);
     assert_eq!(check(&image), Ok(()));
     assert!(2 * image.len() <= 3 * text.len() + 4);
-    let ranges = program.ranges();
+    let ranges = program.state_ranges();
     // Start is lent a state of the right length with any values.
     let mut found = vec![rng.bits() as i32; ranges.len()];
     assert_eq!(start(&image, &mut found), Ok(()));
     assert_eq!(found, program.starts());
     let mut plain = program.starts();
     for _ in 0..rows {
-        let row = row(rng, &ranges[..program.inputs]);
+        let row = row(rng, &program.row_ranges());
         let before = found.clone();
         let answer = scan(&image, &mut found, &row);
         let plain_answer = plain_scan(&program, &mut plain, &row);
@@ -55,7 +56,7 @@ fn run_rows(rng: &mut Rng, text: &[u8], rows: usize, met: &mut [usize; 19]) {
             Ok(steps) => {
                 assert_eq!(plain_answer, Ok(()));
                 assert_eq!(steps as usize, instructions(&image));
-                assert_eq!(found[..row.len()], row[..]);
+                assert_eq!(found[..program.inputs], row[..program.inputs]);
                 met[0] += 1;
             }
             Err(refusal) => {
@@ -76,7 +77,7 @@ fn scan_equals_plain_scan() {
 }
 
 fn scan_equals_plain_scan_in_force() {
-    let mut met = [0; 19];
+    let mut met = [0; 40];
     for seed in 0..4000 {
         let mut rng = Rng::new(seed);
         let shape = Shape::any(&mut rng);
@@ -87,6 +88,7 @@ fn scan_equals_plain_scan_in_force() {
     for answer in [0, 12, 13, 14, 15, 16, 17] {
         assert!(met[answer] > 200, "answer {answer}: {met:?}");
     }
+    assert_eq!(met[22] > 200, in_force().pairs, "{met:?}");
     assert_eq!(met.iter().sum::<usize>(), 48_000);
 }
 
@@ -96,7 +98,7 @@ fn texts_of_many_names() {
 }
 
 fn texts_of_many_names_in_force() {
-    let mut met = [0; 19];
+    let mut met = [0; 40];
     let mut most = 0;
     for seed in 0..150 {
         let mut rng = Rng::new(500_000 + seed);
@@ -116,18 +118,18 @@ fn scan_from_any_state() {
 }
 
 fn scan_from_any_state_in_force() {
-    let mut met = [0; 19];
+    let mut met = [0; 40];
     for seed in 0..3000 {
         let mut rng = Rng::new(1_000_000 + seed);
         let shape = Shape::any(&mut rng);
         let text = text(&mut rng, shape);
         let program = read_text(&text).expect("accepted text");
         let image = write_image(&program);
-        let ranges = program.ranges();
+        let ranges = program.state_ranges();
         for _ in 0..8 {
             let mut plain = state_in_range(&mut rng, &ranges);
             let mut found = plain.clone();
-            let row = row(&mut rng, &ranges[..program.inputs]);
+            let row = row(&mut rng, &program.row_ranges());
             let number = scan(&image, &mut found, &row).err().map(|r| r.number);
             assert_eq!(plain_scan(&program, &mut plain, &row).err(), number);
             assert_eq!(plain, found);
@@ -135,7 +137,7 @@ fn scan_from_any_state_in_force() {
             let lent = state(&mut rng, &ranges);
             let mut found = lent.clone();
             let number = scan(&image, &mut found, &row).err().map_or(0, |r| r.number);
-            let right = lent.len() == ranges.len() && row.len() == program.inputs;
+            let right = lent.len() == ranges.len() && row.len() == program.row_length();
             assert_eq!(number == 12, !right);
             let outside = |(value, range): (&i32, &rolvenko_model::Range)| !range.holds(*value);
             let bad = right && lent.iter().zip(&ranges).any(outside);
@@ -156,7 +158,7 @@ fn scan_from_any_state_in_force() {
 #[test]
 fn cases_with_random_rows() {
     let folder = concat!(env!("CARGO_MANIFEST_DIR"), "/../cases");
-    let mut met = [0; 19];
+    let mut met = [0; 40];
     for name in [
         "lock",
         "plc_square",

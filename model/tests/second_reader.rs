@@ -4,6 +4,7 @@ mod common;
 mod grammar;
 
 use common::landed_and_all;
+use rolvenko_model::features::in_force;
 use rolvenko_model::generate::{
     limit_texts, mutate_bytes, mutate_tokens, mutated_text, random_bytes, render, text,
     text_tokens, token_soup, Rng, Shape,
@@ -30,7 +31,7 @@ fn the_readers_agree() {
 }
 
 fn the_readers_agree_in_force() {
-    let mut met = [0; 9];
+    let mut met = [0; 31];
     for seed in 0..12_000 {
         let mut rng = Rng::new(60_000_000 + seed);
         let shape = *rng.choose(&[Shape::TINY, Shape::SMALL, Shape::SMALL, Shape::WIDE]);
@@ -43,7 +44,8 @@ fn the_readers_agree_in_force() {
         met[compare(&bytes)] += 1;
     }
     println!("texts by answer: {met:?}");
-    assert!(met.iter().all(|&count| count > 20), "{met:?}");
+    assert!(met[..9].iter().all(|&count| count > 20), "{met:?}");
+    assert_eq!(met[23] > 2, in_force().timers, "{met:?}");
 }
 
 /// Small texts, edited at every token in turn.
@@ -53,7 +55,7 @@ fn the_readers_agree_on_small_texts() {
 }
 
 fn the_readers_agree_on_small_texts_in_force() {
-    let mut met = [0; 9];
+    let mut met = [0; 31];
     for seed in 0..4000 {
         let mut rng = Rng::new(70_000_000 + seed);
         let mut tokens = text_tokens(&mut rng, Shape::TINY);
@@ -74,7 +76,7 @@ fn the_readers_agree_at_the_limits() {
 }
 
 fn the_readers_agree_at_the_limits_in_force() {
-    let mut met = [0; 9];
+    let mut met = [0; 31];
     for limit in limit_texts() {
         // The second reader is slow on very long lists of tokens.
         if limit.text.len() < 5000 {

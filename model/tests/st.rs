@@ -1,5 +1,8 @@
 //! Request A.4: the meaning of ST, and that the writer's ST does what the scan does.
 
+mod common;
+
+use common::landed_and_all;
 use rolvenko_model::features::with;
 use rolvenko_model::generate::{limit_texts, row_in_range, st_source, state_in_range, Names, Rng};
 use rolvenko_model::st::{read, Evaluation, Operation, Sign, Statement, Unit};
@@ -294,6 +297,10 @@ fn one_row(unit: &Unit, program: &Program, state: &[i32], row: &[i32]) -> bool {
 /// The writer's ST reads as a unit, whose print is that ST, and does what the scan does.
 #[test]
 fn as_the_scan() {
+    landed_and_all(as_the_scan_in_force);
+}
+
+fn as_the_scan_in_force() {
     let (mut accepted, mut changed) = (0, 0);
     for seed in 0..1500 {
         let mut rng = Rng::new(99_000_000 + seed);

@@ -1,5 +1,8 @@
 //! Request A.4: the writer of ST, byte for byte.
 
+mod common;
+
+use common::landed_and_all;
 use rolvenko_model::generate::{edited_st_source, st_source, Names, Rng};
 use rolvenko_model::token::tokens;
 use rolvenko_model::{read_text, structured_text, write_structured_text, Program, Refusal};
@@ -126,21 +129,28 @@ fn changed_case(word: &str) -> String {
     word[..1].to_lowercase() + &word[1..]
 }
 
-/// The first declared name that is reserved.
+/// The first declared name that is reserved, or else the word `timer` if there is one:
+/// timers stand after all other names.
 fn first_reserved<'t>(program: &Program<'t>) -> Option<&'t [u8]> {
     let reserved = |name: &[u8]| {
         let upper = name.to_ascii_uppercase();
         let mut words = "IF THEN ELSIF DINT AND OR NOT".split(' ');
         words.any(|word| word.as_bytes() == upper)
     };
-    let mut names = program.names.iter().map(|name| name.spelling);
-    names.find(|name| reserved(name))
+    let others = program.names.len() - program.timers.len();
+    let mut names = program.names[..others].iter().map(|name| name.spelling);
+    let timer = program.timers.first().map(|_| &b"timer"[..]);
+    names.find(|name| reserved(name)).or(timer)
 }
 
 /// The answer is that of translation but for 21 and the room; every number is met.
 #[test]
 fn answers_by_seed() {
-    let mut met = [0; 22];
+    landed_and_all(answers_by_seed_in_force);
+}
+
+fn answers_by_seed_in_force() {
+    let mut met = [0; 31];
     for seed in 0..4000 {
         let mut rng = Rng::new(98_000_000 + seed);
         let text = match seed % 2 {

@@ -55,12 +55,12 @@ pub fn counters(header: &Header) -> Vec<usize> {
 /// The trace of a sound image after `rows` rows, some of them refused: the states in turn.
 pub fn found_trace(rng: &mut Rng, image: &[u8], rows: usize) -> Vec<i32> {
     let header = header(image);
-    let inputs = &header.ranges()[..header.inputs];
-    let mut state = vec![0; header.names];
+    let inputs = header.row_ranges();
+    let mut state = vec![0; header.state_length()];
     start(image, &mut state).expect("a sound image and a state of its length");
     let mut trace = state.clone();
     for _ in 0..rows {
-        if scan(image, &mut state, &row(rng, inputs)).is_ok() {
+        if scan(image, &mut state, &row(rng, &inputs)).is_ok() {
             trace.extend(&state);
         }
     }
@@ -76,7 +76,7 @@ pub fn bill(rng: &mut Rng, header: &Header, trace: Vec<i32>) -> Bill {
         false => *rng.choose(&counters),
     };
     // Without names nothing lent is the start alone.
-    let rows = (trace.len() / header.names.max(1)).saturating_sub(1);
+    let rows = (trace.len() / header.state_length().max(1)).saturating_sub(1);
     Bill {
         id,
         minutes: (0..rows).map(|_| minutes(rng)).collect(),
@@ -140,9 +140,9 @@ pub fn mutate_bill(rng: &mut Rng, header: &Header, bill: &mut Bill) {
             bill.minutes[at] = past_a_limit(rng);
         }
         6 => mutate_length(rng, &mut bill.trace),
-        7 => mutate_states(rng, header.names, bill),
+        7 => mutate_states(rng, header.state_length(), bill),
         _ if !bill.trace.is_empty() => {
-            let at = traced_place(rng, header.names, bill);
+            let at = traced_place(rng, header.state_length(), bill);
             bill.trace[at] = past_a_limit(rng);
         }
         _ => bill.trace.push(any_number(rng)),
@@ -260,7 +260,7 @@ fn most_held(bill: &Bill, rest: u128, minutes: i32) -> i32 {
 
 /// A state with so many licences and any other values.
 fn push_state(rng: &mut Rng, header: &Header, bill: &mut Bill, held: i32) {
-    for id in 0..header.names {
+    for id in 0..header.state_length() {
         let value = if id == bill.id { held } else { any_number(rng) };
         bill.trace.push(value);
     }

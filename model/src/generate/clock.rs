@@ -63,7 +63,7 @@ fn clock_tokens(rng: &mut Rng) -> Vec<Vec<u8>> {
 pub(super) fn rename(rng: &mut Rng, tokens: &mut [Vec<u8>], spelling: &[u8]) {
     let mut declared: Vec<Vec<u8>> = tokens
         .windows(2)
-        .filter(|pair| pair[0] == b"input" || pair[0] == b"var")
+        .filter(|pair| [&b"input"[..], b"var", b"timer"].contains(&&pair[0][..]))
         .map(|pair| pair[1].clone())
         .collect();
     let taken = declared.iter().any(|name| same_names(name, spelling));

@@ -1,8 +1,10 @@
 //! Images that are not sound, or may not be.
 
+use super::pairs::{broken_pairs, more_codes, pick_codes};
+use super::timers::{self, broken_timers, timer_image};
 use super::Rng;
 use crate::check::Breach;
-use crate::image::{code, code_start, decode, has_operand};
+use crate::image::{code, code_start, decode, operands};
 use crate::{HELD, IMAGE_LIMIT};
 
 /// An unsound image with the sentence of "Sound:" that it breaks and the place.
@@ -81,6 +83,8 @@ fn codes() -> Vec<BrokenCode> {
     list.extend(order());
     list.extend(intruders());
     list.extend(missing());
+    list.extend(broken_pairs(&CASE));
+    list.extend(broken_timers(&CASE));
     list
 }
 
@@ -119,7 +123,7 @@ fn numbers() -> Vec<BrokenCode> {
         (BadNumber, 7, vec![1, 128, 128, 128, 128, 128, 1]),
         (BadNumber, 3, case(&[20, 129, 0])),
         (UnknownCode, 1, vec![0]),
-        (UnknownCode, 1, vec![23]),
+        (UnknownCode, 1, vec![26]),
         (UnknownCode, 1, vec![255]),
     ]
 }
@@ -186,8 +190,8 @@ fn order() -> Vec<BrokenCode> {
 fn intruders() -> Vec<BrokenCode> {
     let mut list = Vec::new();
     for opcode in (10..=19).chain(21..=22) {
-        let number: &[u8] = if has_operand(opcode) { &[1] } else { &[] };
-        let tail = [&[1, 2, opcode], number].concat();
+        let number = vec![1; operands(opcode)];
+        let tail = [&[1, 2, opcode], &number[..]].concat();
         list.push((Breach::BetweenGateAndPick, 1 + number.len(), case(&tail)));
     }
     list
@@ -243,7 +247,7 @@ fn damage_bytes(rng: &mut Rng, image: &mut Vec<u8>) {
 /// A byte, mostly a code byte.
 fn any_byte(rng: &mut Rng) -> u8 {
     if rng.chance(70) {
-        rng.below(24) as u8
+        rng.below(24 + more_codes().len()) as u8
     } else {
         rng.bits() as u8
     }
@@ -293,9 +297,10 @@ fn damage_instructions(rng: &mut Rng, image: &mut Vec<u8>) {
 }
 
 fn any_instruction(rng: &mut Rng) -> Vec<u8> {
-    let opcode = 1 + rng.below(22) as u8;
+    let listed: Vec<u8> = (1..=22).chain(more_codes()).collect();
+    let opcode = *rng.choose(&listed);
     let mut bytes = vec![opcode];
-    if has_operand(opcode) {
+    for _ in 0..operands(opcode) {
         bytes.push(rng.below(4) as u8);
     }
     bytes
@@ -304,6 +309,9 @@ fn any_instruction(rng: &mut Rng) -> Vec<u8> {
 /// An image made of a header and random instructions, some of them in the order of a
 /// rule. Few are sound.
 pub fn random_image(rng: &mut Rng) -> Vec<u8> {
+    if timers::on() && rng.chance(30) {
+        return timer_image(rng);
+    }
     let inputs = rng.below(3) as u8;
     let variables = rng.below(3) as u8;
     let mut image = vec![inputs, variables];
@@ -332,9 +340,10 @@ fn random_rule(rng: &mut Rng, variable: u8, names: u8, image: &mut Vec<u8>) {
         1 => image.extend([code::PREVIOUS, id(rng), code::NEGATE, code::LET, id(rng)]),
         2 if rng.chance(30) => image.extend(any_instruction(rng)),
         _ => {
-            for _ in 0..1 + rng.below(3) {
+            let count = 1 + rng.below(3);
+            for pick in pick_codes(rng, count) {
                 image.extend(CASE);
-                image.extend([code::PICK, id(rng)]);
+                image.extend([pick, id(rng)]);
             }
             image.extend([code::SETTLE, id(rng)]);
         }

@@ -2,7 +2,7 @@
 
 use super::states::{any_number, row, state, state_in_range};
 use super::Rng;
-use crate::check::{check_detail, Header, Range};
+use crate::check::{check_detail, Header};
 use crate::instalments::{Answer, Paused};
 use std::collections::HashSet;
 use std::hash::Hash;
@@ -198,7 +198,7 @@ pub fn call_list(rng: &mut Rng, image: &[u8], count: usize) -> Vec<Call> {
     let header = check_detail(image).expect("a sound image");
     let mut lists = Lists {
         paused: Paused::default(),
-        kept: state_in_range(rng, header.ranges()),
+        kept: state_in_range(rng, &header.state_ranges()),
         image,
         header,
     };
@@ -237,7 +237,7 @@ impl Lists<'_> {
             0 => broken(self.image),
             _ => self.image.to_vec(),
         };
-        let row = row(rng, &self.header.ranges()[..self.header.inputs]);
+        let row = row(rng, &self.header.row_ranges());
         Call::Post { image, row }
     }
 
@@ -257,7 +257,7 @@ impl Lists<'_> {
 
     /// The state kept, now and then another.
     fn lent(&mut self, rng: &mut Rng) -> Vec<i32> {
-        let ranges: Vec<Range> = self.header.ranges().to_vec();
+        let ranges = self.header.state_ranges();
         match rng.below(12) {
             0 => state(rng, &ranges),
             1 if !ranges.is_empty() => {

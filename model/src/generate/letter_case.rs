@@ -50,7 +50,8 @@ pub(super) fn some_word(rng: &mut Rng) -> Option<Vec<u8>> {
     if !on() || !rng.chance(8) {
         return None;
     }
-    let mut word = rng.choose(words()).0.to_vec();
+    let words: Vec<_> = words().collect();
+    let mut word = rng.choose(&words).0.to_vec();
     shuffle(rng, &mut word);
     if rng.chance(25) {
         word.insert(0, b'_');

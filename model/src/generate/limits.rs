@@ -1,7 +1,7 @@
 //! Texts at every limit of document 01 and one past it.
 
 use super::expected;
-use crate::{Refusal, BRACKETS, CASES, NAMES, NAME_BYTES, TEXT_LIMIT};
+use crate::{features, Refusal, BRACKETS, CASES, NAMES, NAME_BYTES, TEXT_LIMIT, WATCHES};
 
 /// A text with the answer expected from the translator (None: accepted).
 #[derive(Clone, Debug)]
@@ -20,7 +20,68 @@ pub fn limit_texts() -> Vec<LimitText> {
     brackets(&mut list);
     bounds(&mut list);
     constants(&mut list);
+    if features::in_force().timers {
+        timers(&mut list);
+    }
+    if features::in_force().watches {
+        watches(&mut list);
+    }
     list
+}
+
+/// "at most 16" watches; 16 brackets in each of their conditions.
+fn watches(list: &mut Vec<LimitText>) {
+    for count in [WATCHES, WATCHES + 1] {
+        let mut text = "var v 0..1; v: GX(v = (1)); ".to_owned();
+        for index in 0..count {
+            let mark = if index == WATCHES { "@" } else { "" };
+            text += &format!("{mark}watch: G([v < {index}]); ");
+        }
+        add(list, format!("{count} watches"), 30, &text);
+    }
+    for depth in [BRACKETS, BRACKETS + 1] {
+        let mark = if depth > BRACKETS { "@" } else { "" };
+        let (inner, all) = (
+            nested_condition(4, depth - 4, mark),
+            nested_condition(4, 12, ""),
+        );
+        let first = format!("watch: G([{inner}] -> X([{all}]));");
+        add(list, format!("{depth} brackets in a watch"), 8, &first);
+        let second = format!("watch: G([{all}] -> X([{inner}])); watch: G([{all}]);");
+        add(list, format!("{depth} brackets after X"), 8, &second);
+    }
+}
+
+/// "N from 1 to 2,147,483,647 milliseconds"; t is "counted among the 64".
+fn timers(list: &mut Vec<LimitText>) {
+    for (number, limit) in [
+        (0, "1"),
+        (0, "2147483647"),
+        (0, "0002147483647"),
+        (3, "@0"),
+        (3, "@2147483648"),
+        (3, "@4294967297"),
+    ] {
+        let text = format!("var w 0..1; timer t of w limit {limit}; w: GX(w = (1));");
+        add(list, format!("timer limit {limit}"), number, &text);
+    }
+    for count in [NAMES, NAMES + 1] {
+        for inputs in [0, 1, NAMES - 2] {
+            let mut text: String = (0..inputs).map(|id| format!("input i{id} 0..1;")).collect();
+            text += "var w 0..1;";
+            for id in inputs + 1..count {
+                let mark = if id == NAMES { "@" } else { "" };
+                text += &format!("timer {mark}t{id} of w limit {};", 1 + id % 3);
+            }
+            text += "w: GX(w = (1));";
+            add(
+                list,
+                format!("{count} names, {inputs} inputs, timers"),
+                8,
+                &text,
+            );
+        }
+    }
 }
 
 /// Adds a text whose mark `@` is the place of the refusal `number`.
@@ -133,6 +194,33 @@ fn cases(list: &mut Vec<LimitText>) {
     let (head, tail) = accepted.split_at(accepted.len() - "));".len());
     let extended = format!("{head} @| [_v = 32]{tail}");
     add(list, "33 conditions".into(), 7, &extended);
+    if features::in_force().pairs {
+        for (up, down) in [
+            (31, 1),
+            (16, 16),
+            (1, 31),
+            (33, 1),
+            (32, 1),
+            (31, 2),
+            (1, 32),
+        ] {
+            let label = format!("{up} rising and {down} falling cases");
+            add(list, label, 8, &rising_and_falling(up, down));
+        }
+    }
+}
+
+/// A pair with so many cases, the 33rd marked.
+fn rising_and_falling(up: usize, down: usize) -> String {
+    let cases = |from: usize, count: usize| {
+        let list: Vec<String> = (from..from + count)
+            .map(|index| if index == CASES { "@" } else { "" })
+            .map(|mark| format!("{mark}[_v = 0] & v = (1)"))
+            .collect();
+        list.join(" | ")
+    };
+    let (rising, falling) = (cases(0, up), cases(up, down));
+    format!("var v 0..1; v+: GX(v > _v -> {rising}); v-: GX(v < _v -> {falling});")
 }
 
 /// `depth` counted round brackets, with `mark` before the last one.

@@ -11,11 +11,14 @@ mod instalments;
 mod letter_case;
 mod limits;
 mod mutate;
+mod pairs;
 mod rounds;
 mod states;
 mod structured_text;
 mod text;
+mod timers;
 mod values;
+mod watches;
 
 pub use charge::{
     bill, bill_of, counters, found_trace, licence_image, limit_sum, mutate_bill, Bill, REFUSED_SUM,
@@ -33,6 +36,8 @@ pub use rounds::{event, farm, rule_set, Event, Outcome};
 pub use states::{any_number, row, row_in_range, state, state_in_range, trace_input};
 pub use structured_text::{edited_st_source, st_source, Names};
 pub use text::{render, text, text_tokens, Shape};
+pub use timers::timer_image;
+pub use watches::{watch_parts, watched_trace, WatchParts};
 
 use crate::Refusal;
 

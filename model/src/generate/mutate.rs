@@ -2,7 +2,7 @@
 
 use super::letter_case::{mutate_case, some_word};
 use super::text::{render, text_tokens, Shape};
-use super::Rng;
+use super::{timers, watches, Rng};
 
 /// Tokens that an edit may put in.
 const TOKENS: [&str; 46] = [
@@ -112,7 +112,8 @@ fn any_token(rng: &mut Rng, tokens: &[Vec<u8>]) -> Vec<u8> {
     if !tokens.is_empty() && rng.chance(40) {
         return rng.choose(tokens).clone();
     }
-    if let Some(word) = some_word(rng) {
+    let word = some_word(rng).or_else(|| timers::some_word(rng));
+    if let Some(word) = word.or_else(|| watches::some_word(rng)) {
         return word;
     }
     rng.choose(&TOKENS).as_bytes().to_vec()

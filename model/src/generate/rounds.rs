@@ -94,7 +94,7 @@ pub fn rule_set(rng: &mut Rng) -> RuleSet {
     };
     let header = check_detail(&sound).expect("a sound image");
     RuleSet {
-        state: state_in_range(rng, header.ranges()),
+        state: state_in_range(rng, &header.state_ranges()),
         share: share(rng, instructions(&sound)),
         paused: Paused::default(),
         image: sound,
@@ -119,7 +119,7 @@ pub fn event(rng: &mut Rng, first: &[RuleSet], now: &[RuleSet]) -> Event {
     match rng.below(40) {
         0 => Event::Write {
             set,
-            state: state(rng, header.ranges()),
+            state: state(rng, &header.state_ranges()),
         },
         1 => Event::Share {
             set,
@@ -134,7 +134,7 @@ pub fn event(rng: &mut Rng, first: &[RuleSet], now: &[RuleSet]) -> Event {
         7..=27 => Event::Post {
             set,
             image: sometimes_broken(rng, image, 20),
-            row: row(rng, &header.ranges()[..header.inputs]),
+            row: row(rng, &header.row_ranges()),
         },
         _ => Event::Round,
     }

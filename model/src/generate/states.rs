@@ -1,5 +1,6 @@
 //! States, rows and inputs of the trace program.
 
+use super::timers::{is_milliseconds, milliseconds};
 use super::Rng;
 use crate::check::Range;
 
@@ -14,6 +15,9 @@ pub fn any_number(rng: &mut Rng) -> i32 {
 }
 
 fn in_range(rng: &mut Rng, range: &Range) -> i32 {
+    if is_milliseconds(range) {
+        return milliseconds(rng);
+    }
     match rng.below(4) {
         0 => range.low,
         1 => range.high,
@@ -39,7 +43,7 @@ pub fn state_in_range(rng: &mut Rng, ranges: &[Range]) -> Vec<i32> {
     ranges.iter().map(|range| in_range(rng, range)).collect()
 }
 
-/// A row with every input in its range; `ranges` are those of the inputs.
+/// A row with every value in its range; `ranges` are those of the row.
 pub fn row_in_range(rng: &mut Rng, ranges: &[Range]) -> Vec<i32> {
     state_in_range(rng, ranges)
 }

@@ -3,7 +3,7 @@
 use super::clock::rename;
 use super::mutate::edited;
 use super::text::{render, text_tokens, Shape};
-use super::Rng;
+use super::{timers, Rng};
 use crate::token::same_names;
 use crate::TEXT_LIMIT;
 
@@ -49,7 +49,12 @@ fn source_tokens(rng: &mut Rng, names: Names) -> Vec<Vec<u8>> {
         0 => Shape::MANY,
         _ => Shape::any(rng),
     };
-    let mut tokens = text_tokens(rng, shape);
+    // The writer answers a timer with 21.
+    let timers = match names {
+        Names::Any if timers::on() && rng.chance(50) => shape.timers,
+        _ => 0,
+    };
+    let mut tokens = text_tokens(rng, Shape { timers, ..shape });
     let reserved = match names {
         Names::Any => *rng.choose(&[0, 0, 0, 1, 1, 2, 3]),
         Names::Readable => 0,

@@ -1,6 +1,7 @@
 //! Random texts that the translator accepts.
 
 use super::letter_case::{is_word, vary_names};
+use super::pairs::pair_wanted;
 use super::Rng;
 use crate::token::same_names;
 use crate::TEXT_LIMIT;
@@ -12,6 +13,8 @@ pub struct Shape {
     pub inputs: usize,
     /// At most so many variables.
     pub variables: usize,
+    /// At most so many timers (A.7).
+    pub timers: usize,
     /// At most so many cases in a rule.
     pub cases: usize,
     /// Deepest counted brackets; at most 16.
@@ -25,6 +28,7 @@ impl Shape {
     pub const TINY: Shape = Shape {
         inputs: 2,
         variables: 2,
+        timers: 1,
         cases: 3,
         brackets: 2,
         reach: 2,
@@ -32,6 +36,7 @@ impl Shape {
     pub const SMALL: Shape = Shape {
         inputs: 3,
         variables: 4,
+        timers: 2,
         cases: 4,
         brackets: 3,
         reach: 9,
@@ -40,6 +45,7 @@ impl Shape {
     pub const WIDE: Shape = Shape {
         inputs: 5,
         variables: 8,
+        timers: 3,
         cases: 5,
         brackets: 16,
         reach: 2_147_483_647,
@@ -49,6 +55,7 @@ impl Shape {
     pub const MANY: Shape = Shape {
         inputs: 30,
         variables: 34,
+        timers: 8,
         cases: 2,
         brackets: 1,
         reach: 99,
@@ -73,16 +80,9 @@ pub fn text(rng: &mut Rng, shape: Shape) -> Vec<u8> {
 
 /// The tokens of a random accepted text.
 pub fn text_tokens(rng: &mut Rng, shape: Shape) -> Vec<Vec<u8>> {
-    let mut writer = Writer {
-        rng,
-        shape,
-        tokens: Vec::new(),
-        names: Vec::new(),
-        inputs: 0,
-        ruled: Vec::new(),
-        open: 0,
-    };
-    writer.whole_text();
+    let mut writer = Writer::new(rng, shape);
+    writer.names_and_rules();
+    writer.watches();
     let mut tokens = writer.tokens;
     vary_names(rng, &mut tokens);
     tokens
@@ -129,8 +129,8 @@ fn white_space(rng: &mut Rng, needed: bool, text: &mut Vec<u8>) {
 
 pub(super) struct Declared {
     pub(super) spelling: Vec<u8>,
-    low: i64,
-    high: i64,
+    pub(super) low: i64,
+    pub(super) high: i64,
 }
 
 pub(super) struct Writer<'r> {
@@ -140,24 +140,40 @@ pub(super) struct Writer<'r> {
     pub(super) names: Vec<Declared>,
     pub(super) inputs: usize,
     pub(super) ruled: Vec<bool>,
+    /// Each timer and its w, by id.
+    pub(super) watched: Vec<(usize, usize)>,
     /// Counted brackets open now.
     pub(super) open: usize,
 }
 
-impl Writer<'_> {
-    fn whole_text(&mut self) {
+impl<'r> Writer<'r> {
+    pub(super) fn new(rng: &'r mut Rng, shape: Shape) -> Writer<'r> {
+        Writer {
+            rng,
+            shape,
+            tokens: Vec::new(),
+            names: Vec::new(),
+            inputs: 0,
+            ruled: Vec::new(),
+            watched: Vec::new(),
+            open: 0,
+        }
+    }
+
+    pub(super) fn names_and_rules(&mut self) {
         self.inputs = self.rng.below(self.shape.inputs + 1);
         let variables = self.rng.below(self.shape.variables + 1);
         for id in 0..self.inputs + variables {
             self.declaration(id < self.inputs);
         }
+        self.timers();
         let mut order: Vec<usize> = (self.inputs..self.inputs + variables).collect();
         for last in (1..order.len()).rev() {
             order.swap(last, self.rng.below(last + 1));
         }
         for variable in order {
             self.rule(variable);
-            self.ruled[variable] = true;
+            self.rule_stands(variable);
         }
     }
 
@@ -165,7 +181,7 @@ impl Writer<'_> {
         self.tokens.push(token.as_ref().to_vec());
     }
 
-    fn put_all(&mut self, tokens: &[&[u8]]) {
+    pub(super) fn put_all(&mut self, tokens: &[&[u8]]) {
         for token in tokens {
             self.put(token);
         }
@@ -195,7 +211,7 @@ impl Writer<'_> {
     }
 
     /// A name not declared yet; some look like words of the grammar.
-    fn new_name(&mut self) -> Vec<u8> {
+    pub(super) fn new_name(&mut self) -> Vec<u8> {
         const LIKE_WORDS: [&str; 6] = ["inputs", "Var", "gx", "modx", "GX1", "init0"];
         loop {
             let mut name = Vec::new();
@@ -240,7 +256,7 @@ impl Writer<'_> {
         }
     }
 
-    fn signed(&mut self, value: i64) {
+    pub(super) fn signed(&mut self, value: i64) {
         if value < 0 || self.rng.chance(3) && value == 0 {
             self.put("-");
         }
@@ -258,6 +274,9 @@ impl Writer<'_> {
     }
 
     fn rule(&mut self, variable: usize) {
+        if pair_wanted(self.rng) {
+            return self.pair(variable);
+        }
         let v = self.names[variable].spelling.clone();
         if self.rng.chance(35) {
             self.put_all(&[&v, b":", b"GX", b"(", &v, b"=", b"("]);
@@ -306,7 +325,7 @@ impl Writer<'_> {
     }
 
     /// `_v = only`, sometimes with more after `&`.
-    fn equals_previous(&mut self, v: &[u8], only: i64) {
+    pub(super) fn equals_previous(&mut self, v: &[u8], only: i64) {
         self.put([b"_", v].concat());
         self.put("=");
         if only > i64::from(i32::MIN) {
@@ -321,7 +340,7 @@ impl Writer<'_> {
     }
 
     /// An expression for a new value: often one in the range that is not `other`.
-    fn value(&mut self, variable: usize, other: Option<i64>) {
+    pub(super) fn value(&mut self, variable: usize, other: Option<i64>) {
         let (low, high) = (self.names[variable].low, self.names[variable].high);
         if self.rng.chance(30) {
             return self.expression(3);

@@ -73,7 +73,7 @@ impl Writer<'_> {
                 let id = *self.rng.choose(&current);
                 self.put(self.names[id].spelling.clone());
             }
-            1 => {
+            1 if !self.names.is_empty() => {
                 let id = self.rng.below(self.names.len());
                 self.put([b"_", &self.names[id].spelling[..]].concat());
             }

@@ -7,7 +7,9 @@
 //! allow it. `take` makes check 7; check 8 follows it, at the same place.
 
 mod rules;
+mod timers;
 mod values;
+mod watches;
 
 use crate::program::{Name, Program};
 use crate::token::{next_token, same_names, Kind, Token};
@@ -37,6 +39,8 @@ struct Parser<'t> {
     wanted: Vec<Token<'t>>,
     /// How many of them have been compared.
     compared: usize,
+    /// Inside a watch formula.
+    watching: bool,
 }
 
 /// Reads a text of at most 32,768 bytes.
@@ -47,13 +51,16 @@ pub fn parse(text: &[u8]) -> Result<Program<'_>, Refusal> {
         program: Program {
             names: Vec::new(),
             inputs: 0,
+            timers: Vec::new(),
             rules: Vec::new(),
+            watches: Vec::new(),
         },
         ruled: [false; NAMES],
         open: 0,
         list: List::Off,
         wanted: Vec::new(),
         compared: 0,
+        watching: false,
     };
     parser.whole_text()?;
     Ok(parser.program)
@@ -71,14 +78,31 @@ impl<'t> Parser<'t> {
             self.take()?;
             self.declaration()?;
         }
-        while self.token.kind != Kind::End {
+        // "`timer t of w limit N;` stands after the variables"
+        while self.token.kind == Kind::Timer {
+            self.take()?;
+            self.timer()?;
+        }
+        while !matches!(self.token.kind, Kind::End | Kind::Watch) {
             self.rule()?;
         }
+        while self.token.kind == Kind::Watch {
+            self.watch()?;
+        }
+        // A watch ends the rules.
+        self.allow(self.token.kind == Kind::End)?;
         // "6 ... or a variable without rule (end of text)"
-        if self.program.rules.len() < self.program.names.len() - self.program.inputs {
+        if !self.all_ruled() {
             return Err(self.refuse(6));
         }
         Ok(())
+    }
+
+    /// A timer has no rule of its own; it is worked after that of its w.
+    fn all_ruled(&self) -> bool {
+        self.ruled[self.program.inputs..self.program.names.len()]
+            .iter()
+            .all(|&ruled| ruled)
     }
 
     /// `go 0..1 init 0;`, after `input` or `var`.

@@ -1,25 +1,39 @@
-//! Rules: a function, or a change formula followed by its no-change formula.
+//! Rules: a function, a change formula followed by its no-change formula, or a rising
+//! formula followed by its falling one.
 
 use super::{List, Parser};
 use crate::program::{Body, Case, Condition, Expression, Rule};
 use crate::token::{same_names, Kind};
-use crate::{Refusal, CASES, NAME_BYTES};
+use crate::{features, Refusal, CASES, NAME_BYTES};
 
 impl<'t> Parser<'t> {
-    /// `v: GX(v = (e));` or the pair of formulas.
+    /// `v: GX(v = (e));`, a change formula with its no-change formula, or the pair of A.6.
     pub(super) fn rule(&mut self) -> Result<(), Refusal> {
         let variable = self.rule_name()?;
+        let rule = if features::in_force().pairs && self.token.kind == Kind::Plus {
+            self.pair(variable)?
+        } else {
+            self.opening()?;
+            let body = match self.token.kind {
+                Kind::Not => self.change(variable)?,
+                _ => self.function(variable)?,
+            };
+            Rule {
+                variable,
+                body,
+                rising: None,
+            }
+        };
+        self.rule_stands(variable);
+        self.program.rules.push(rule);
+        Ok(())
+    }
+
+    /// `: GX(`
+    fn opening(&mut self) -> Result<(), Refusal> {
         self.expect(Kind::Colon)?;
         self.expect(Kind::Gx)?;
-        self.expect(Kind::OpenRound)?;
-        let body = if self.token.kind == Kind::Not {
-            self.change(variable)?
-        } else {
-            self.function(variable)?
-        };
-        self.ruled[variable] = true;
-        self.program.rules.push(Rule { variable, body });
-        Ok(())
+        self.expect(Kind::OpenRound)
     }
 
     /// "4 unknown ... name", "6 rule for an input or a second rule (at its name)",
@@ -33,7 +47,8 @@ impl<'t> Parser<'t> {
         let Some(id) = self.find(spelling) else {
             return Err(self.refuse(4));
         };
-        if id < self.program.inputs || self.ruled[id] {
+        // A.7: "A rule for t is 6"
+        if id < self.program.inputs || self.ruled[id] || self.is_timer(id) {
             return Err(self.refuse(6));
         }
         self.take()?;
@@ -56,14 +71,12 @@ impl<'t> Parser<'t> {
         self.expect(Kind::CloseRound)?;
         self.expect(Kind::Arrow)?;
         self.wanted.clear();
-        let cases = self.cases(variable)?;
+        let cases = self.cases(variable, CASES)?;
         self.expect(Kind::Semicolon)?;
 
         // "A change formula is followed directly by its no-change formula"
         self.repeated(Kind::Name, variable)?;
-        self.expect(Kind::Colon)?;
-        self.expect(Kind::Gx)?;
-        self.expect(Kind::OpenRound)?;
+        self.opening()?;
         self.unchanged_pair(variable)?;
         self.expect(Kind::Arrow)?;
         self.expect(Kind::Not)?;
@@ -72,6 +85,43 @@ impl<'t> Parser<'t> {
         self.expect(Kind::CloseRound)?;
         self.expect(Kind::Semicolon)?;
         Ok(Body::Change { cases, unchanged })
+    }
+
+    /// From the `+` of a rising formula to the end of its falling one: "`v+: GX(v > _v ->
+    /// cases);` and `v-: GX(v < _v -> cases);`, in this order, case lists as before, at most
+    /// 32 in the two together".
+    fn pair(&mut self, variable: usize) -> Result<Rule, Refusal> {
+        self.expect(Kind::Plus)?;
+        let mut cases = self.side(variable, Kind::Greater, CASES)?;
+        let rising = cases.len();
+        self.repeated(Kind::Name, variable)?;
+        self.expect(Kind::Minus)?;
+        cases.extend(self.side(variable, Kind::Less, CASES - rising)?);
+        // "read as the change formula over both lists, rising first, with its matching
+        // no-change formula"
+        let unchanged = cases.iter().map(|case| case.condition.clone()).collect();
+        Ok(Rule {
+            variable,
+            body: Body::Change { cases, unchanged },
+            rising: Some(rising),
+        })
+    }
+
+    /// `: GX(v > _v -> cases);`, or with `<`; at most so many cases.
+    fn side(
+        &mut self,
+        variable: usize,
+        direction: Kind,
+        most: usize,
+    ) -> Result<Vec<Case>, Refusal> {
+        self.opening()?;
+        self.repeated(Kind::Name, variable)?;
+        self.expect(direction)?;
+        self.repeated(Kind::Previous, variable)?;
+        self.expect(Kind::Arrow)?;
+        let cases = self.cases(variable, most)?;
+        self.expect(Kind::Semicolon)?;
+        Ok(cases)
     }
 
     /// `v = _v`
@@ -101,15 +151,15 @@ impl<'t> Parser<'t> {
 
     /// `[c] & v = (e) | [c] & v = (e))`, the closing bracket of `GX(` included.
     /// The tokens wanted in the no-change formula are kept: all of `[c]`, the `|`
-    /// between the cases, and the closing bracket.
-    fn cases(&mut self, variable: usize) -> Result<Vec<Case>, Refusal> {
+    /// between the cases, and the closing bracket. At most `most` cases.
+    fn cases(&mut self, variable: usize, most: usize) -> Result<Vec<Case>, Refusal> {
         let mut cases = Vec::new();
         loop {
             self.list = List::Keep;
             let place = self.token.place;
             self.expect(Kind::OpenSquare)?;
             // "8 ... 33rd case (at `[`)"
-            if cases.len() == CASES {
+            if cases.len() == most {
                 return Err(Refusal::new(8, place));
             }
             let condition = self.condition()?;

@@ -137,7 +137,8 @@ impl<'t> Parser<'t> {
         let Some(id) = self.find(token.name()) else {
             return Err(self.refuse(4));
         };
-        let early = id >= self.program.inputs && !self.ruled[id];
+        // A.13: watches "may use any current and previous value".
+        let early = id >= self.program.inputs && !self.ruled[id] && !self.watching;
         if token.kind == Kind::Name && early {
             return Err(self.refuse(5));
         }

@@ -9,11 +9,17 @@ use rolvenko_model::token::{next_token, Kind, Token};
 
 /// The grammar. `'x'` is the token x; `/role` says what else is checked at the token.
 const GRAMMAR: &str = "
-Text = Inputs Variables Rules END/end
+Text = Inputs Variables Timers Rules Watches END/end
+Watches = 'watch'/watch ':' 'G' '(' '[' Condition ']' Following ';' Watches
+Watches =
+Following = ')'
+Following = '->' 'X' '(' '[' Condition ']' ')' ')'
 Inputs = 'input' Declaration Inputs
 Inputs =
 Variables = 'var' Declaration Variables
 Variables =
+Timers = 'timer' NAME/declared 'of'/timed NAME/watched 'limit' DIGITS/limit ';' Timers
+Timers =
 Rules = Rule Rules
 Rules =
 Declaration = NAME/declared Sign DIGITS/low '..' Sign DIGITS/high Start
@@ -22,6 +28,9 @@ Sign =
 Start = 'init' Sign DIGITS/start ';'/declare
 Start = ';'/absent
 Rule = NAME/rule ':' 'GX' '(' Body
+Rule = NAME/rule Pair
+Pair = '+' ':' 'GX' '(' NAME/again '>' PREVIOUS/again '->' Cases ';' Falling
+Falling = NAME/again '-' ':' 'GX' '(' NAME/again '<' PREVIOUS/again '->' Cases ';'/ruled
 Body = NAME/again '=' '(' Expression ')' ')' ';'/ruled
 Body = '~' '(' Unchanged ')' '->' Cases ';' NAME/again ':' 'GX' '(' Second
 Second = Unchanged '->' '~' '('/compare List ')' ';'/ruled
@@ -68,13 +77,26 @@ Operand = '('/open Expression ')'/close
 /// Symbols still to be read, the next one last.
 type Stack = Vec<&'static str>;
 
+/// What is known of a name.
+struct Entry {
+    spelling: Vec<u8>,
+    /// The word of its declaration.
+    word: Vec<u8>,
+    /// It is of range 0..1.
+    bit: bool,
+    /// Its rule stands earlier, or that of a timer's w.
+    ruled: bool,
+    /// The w of a timer.
+    watched: Option<usize>,
+}
+
 /// What is known of the text so far, but for the grammar.
 #[derive(Default)]
 struct Known {
-    /// Spelling, whether it is an input, whether its rule stands earlier.
-    names: Vec<(Vec<u8>, bool, bool)>,
+    names: Vec<Entry>,
     new_name: Vec<u8>,
-    input: bool,
+    word: Vec<u8>,
+    watches: usize,
     minus: bool,
     low: i128,
     high: i128,
@@ -97,7 +119,7 @@ pub fn read(text: &[u8]) -> Option<(u8, usize)> {
         if token.kind == Kind::Bad {
             return Some((1, token.place));
         }
-        let again = known.names.get(known.rule).map(|name| &name.0[..]);
+        let again = known.names.get(known.rule).map(|name| &name.spelling[..]);
         let (next, role) = advance(&stacks, &token, again);
         if next.is_empty() {
             return Some((2, token.place));
@@ -130,6 +152,9 @@ fn advance(stacks: &[Stack], token: &Token, again: Option<&[u8]>) -> (Vec<Stack>
     let mut found = "";
     while let Some(mut stack) = work.pop() {
         let Some(symbol) = stack.pop() else { continue };
+        if symbol == "Pair" && !in_force().pairs {
+            continue;
+        }
         let bodies = productions(symbol);
         if bodies.is_empty() {
             let (terminal, role) = split(symbol);
@@ -205,10 +230,12 @@ impl Known {
     }
 
     fn id(&self, name: &[u8]) -> Option<usize> {
-        self.names.iter().position(|known| same(&known.0, name))
+        self.names
+            .iter()
+            .position(|known| same(&known.spelling, name))
     }
 
-    /// Checks 3 to 8 in number order.
+    /// Checks 3 to 8, 23 and 30, in number order.
     fn refusal(&self, role: &str, token: &Token) -> Option<u8> {
         let over_long = token.name().len() > 16;
         let id = self.id(token.name());
@@ -219,22 +246,27 @@ impl Known {
             "start" => !(self.low..=self.high).contains(&self.signed(token)),
             "absent" => !(self.low..=self.high).contains(&0),
             "number" => value(token) > most,
+            "limit" => !(1..=most).contains(&value(token)),
             _ => false,
         };
-        let uses_name = matches!(role, "rule" | "used");
+        let uses_name = matches!(role, "rule" | "used" | "watched");
         let unknown = uses_name && id.is_none() && !over_long;
         let twice = role == "declared" && id.is_some();
         let known = id.map(|id| &self.names[id]);
         let early = role == "used"
             && token.kind == Kind::Name
-            && known.is_some_and(|(_, input, ruled)| !input && !ruled);
-        let no_rule = role == "rule" && known.is_some_and(|(_, input, ruled)| *input || *ruled);
-        let missing = role == "end" && self.names.iter().any(|(_, input, ruled)| !input && !ruled);
+            && self.watches == 0
+            && known.is_some_and(|name| name.word != b"input" && !name.ruled);
+        let no_rule = role == "rule" && known.is_some_and(|name| name.word != b"var" || name.ruled);
+        let unruled = |name: &Entry| name.word == b"var" && !name.ruled;
+        let missing = role == "end" && self.names.iter().any(unruled);
+        let unwatchable =
+            role == "watched" && known.is_some_and(|name| name.word != b"var" || !name.bit);
         let wanted = self.list.get(self.next);
         let other = self.comparing && !wanted.is_some_and(|s| same(s, token.spelling));
         let too_many = match role {
             "declared" => over_long || self.names.len() == 64,
-            "rule" | "used" => over_long,
+            "rule" | "used" | "watched" => over_long,
             "open" => self.open == 16,
             "case" => self.cases == 32,
             _ => false,
@@ -246,6 +278,8 @@ impl Known {
             (6, no_rule || missing),
             (7, other),
             (8, too_many),
+            (23, unwatchable),
+            (30, role == "watch" && self.watches == 16),
         ];
         checks.iter().find(|check| check.1).map(|check| check.0)
     }
@@ -262,16 +296,27 @@ impl Known {
             "low" => self.low = self.signed(token),
             "high" => self.high = self.signed(token),
             "declare" | "absent" => {
-                let name = std::mem::take(&mut self.new_name);
-                self.names.push((name, self.input, false));
+                let bit = (self.low, self.high) == (0, 1);
+                self.declare(bit);
+            }
+            "timed" => self.declare(true),
+            "watched" => {
+                let watched = self.id(token.name());
+                self.names.last_mut().expect("a timer").watched = watched;
             }
             "rule" => {
                 self.rule = self.id(token.name()).expect("known name");
                 self.cases = 0;
                 self.list.clear();
             }
-            "ruled" => self.names[self.rule].2 = true,
+            "ruled" => {
+                self.names[self.rule].ruled = true;
+                let timers = self.names.iter_mut();
+                let own = timers.filter(|name| name.watched == Some(self.rule));
+                own.for_each(|timer| timer.ruled = true);
+            }
             "case" => self.cases += 1,
+            "watch" => self.watches += 1,
             "value" => self.keeping = false,
             "keep" => self.keeping = true,
             "compare" => {
@@ -284,8 +329,18 @@ impl Known {
             _ => {}
         }
         self.minus = role == "minus";
-        if matches!(token.kind, Kind::Input | Kind::Var) {
-            self.input = token.kind == Kind::Input;
+        if matches!(token.spelling, b"input" | b"var" | b"timer") {
+            self.word = token.spelling.to_vec();
         }
+    }
+
+    fn declare(&mut self, bit: bool) {
+        self.names.push(Entry {
+            spelling: std::mem::take(&mut self.new_name),
+            word: self.word.clone(),
+            bit,
+            ruled: false,
+            watched: None,
+        });
     }
 }

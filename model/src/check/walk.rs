@@ -1,190 +1,20 @@
-//! The check of an image: each sentence of "Sound:" in document 01.
+//! The check of the code: a walk through the instructions.
 
-use crate::image::{code, decode, Instruction};
+use super::{Breach, Fault, Header, Range};
+use crate::features;
+use crate::image::{code, decode, is_pick, Instruction};
 use crate::number;
-use crate::{Refusal, HELD, IMAGE_LIMIT, NAMES};
+use crate::program::Timer;
+use crate::{HELD, NAMES};
 
-/// Which sentence of "Sound:" is broken.
-#[derive(Clone, Copy, Debug, PartialEq, Eq, Hash, PartialOrd, Ord)]
-pub enum Breach {
-    /// "at most 65,536 bytes" (refusal 9; all others are 11)
-    TooLong,
-    /// "shortest form only"; also a number cut short or of more than five groups
-    BadNumber,
-    /// "at most 64 names"
-    TooManyNames,
-    /// "low <= start <= high, all in signed 32-bit range"
-    BadRange,
-    /// "operands of the right sort, numbers or yes-no"
-    WrongSort,
-    /// "never over 40 values held"
-    TooManyHeld,
-    /// "constants in signed 32-bit range"
-    BadConstant,
-    /// "only the codes listed"
-    UnknownCode,
-    /// "and ids of names declared"
-    UnknownId,
-    /// "gate finds just one yes-no"
-    GateHeld,
-    /// "pick and let just one number"
-    PickLetHeld,
-    /// "settle none"
-    SettleHeld,
-    /// "each pick its gate"
-    PickWithoutGate,
-    /// "with only codes 1 to 9 between" a gate and its pick
-    BetweenGateAndPick,
-    /// "picks followed by the settle of the same id ... with no let, and no pick or
-    /// settle of another id, in between"
-    BetweenPickAndSettle,
-    /// "at least one" pick before a settle
-    SettleWithoutPick,
-    /// "each variable settled or let once, not picked after that"
-    SettledAgain,
-    /// "no input ever"
-    InputSet,
-    /// "current values by the rule above"
-    CurrentTooEarly,
-    /// "nothing missing at the end"
-    Missing,
-}
-
-/// A breach and the place that is answered.
-#[derive(Clone, Copy, Debug, PartialEq, Eq)]
-pub struct Fault {
-    pub breach: Breach,
-    pub place: usize,
-}
-
-impl Fault {
-    pub fn refusal(&self) -> Refusal {
-        let number = if self.breach == Breach::TooLong {
-            9
-        } else {
-            11
-        };
-        Refusal::new(number, self.place)
-    }
-}
-
-/// The low, high and start of a name.
-#[derive(Clone, Copy, Debug, Default, PartialEq, Eq)]
-pub struct Range {
-    pub low: i32,
-    pub high: i32,
-    pub start: i32,
-}
-
-impl Range {
-    pub fn holds(&self, value: i32) -> bool {
-        self.low <= value && value <= self.high
-    }
-}
-
-/// The header of an image.
-#[derive(Clone, Debug)]
-pub struct Header {
-    pub inputs: usize,
-    pub names: usize,
-    ranges: [Range; NAMES],
-    /// Place where the code begins.
-    pub code: usize,
-}
-
-impl Header {
-    /// Low, high and start of each name in declared order.
-    pub fn ranges(&self) -> &[Range] {
-        &self.ranges[..self.names]
-    }
-}
-
-/// "Check ... test 9, then 11."
-pub fn check(image: &[u8]) -> Result<(), Refusal> {
-    match check_detail(image) {
-        Ok(_) => Ok(()),
-        Err(fault) => Err(fault.refusal()),
-    }
-}
-
-/// The check with the header of a sound image, or with the breach of an unsound one.
-pub fn check_detail(image: &[u8]) -> Result<Header, Fault> {
-    if image.len() > IMAGE_LIMIT {
-        return Err(Fault {
-            breach: Breach::TooLong,
-            place: 0,
-        });
-    }
-    let header = read_header(image)?;
-    check_code(image, &header)?;
-    Ok(header)
-}
-
-/// Reads the header; a breach is at "the first header number ... that breaks soundness".
-fn read_header(image: &[u8]) -> Result<Header, Fault> {
-    let mut at = 0;
-    let inputs = read_count(image, &mut at, NAMES)?;
-    let variables = read_count(image, &mut at, NAMES - inputs)?;
-    let names = inputs + variables;
-    let mut ranges = [Range::default(); NAMES];
-    for range in &mut ranges[..names] {
-        range.low = read_signed(image, &mut at, i32::MIN, i32::MAX)?;
-        range.high = read_signed(image, &mut at, range.low, i32::MAX)?;
-        range.start = read_signed(image, &mut at, range.low, range.high)?;
-    }
-    Ok(Header {
-        inputs,
-        names,
-        ranges,
-        code: at,
-    })
-}
-
-/// The header number at `at`. "What is cut short breaks at its own first byte"; where
-/// nothing of it is there, that place is the image length.
-fn read_number(image: &[u8], at: usize) -> Result<(u64, usize), Fault> {
-    number::read(&image[at..]).map_err(|_| Fault {
-        breach: if at == image.len() {
-            Breach::Missing
-        } else {
-            Breach::BadNumber
-        },
-        place: at,
-    })
-}
-
-fn read_count(image: &[u8], at: &mut usize, most: usize) -> Result<usize, Fault> {
-    let (count, length) = read_number(image, *at)?;
-    if count > most as u64 {
-        return Err(Fault {
-            breach: Breach::TooManyNames,
-            place: *at,
-        });
-    }
-    *at += length;
-    Ok(count as usize)
-}
-
-fn read_signed(image: &[u8], at: &mut usize, low: i32, high: i32) -> Result<i32, Fault> {
-    let (written, length) = read_number(image, *at)?;
-    let value = number::to_signed(written);
-    if value < i64::from(low) || value > i64::from(high) {
-        return Err(Fault {
-            breach: Breach::BadRange,
-            place: *at,
-        });
-    }
-    *at += length;
-    Ok(value as i32)
-}
-
-/// Goes through the instructions; a breach is at the code byte of the instruction.
-fn check_code(image: &[u8], header: &Header) -> Result<(), Fault> {
+/// Goes through the instructions; a breach is at the code byte of the instruction. Answers
+/// the timers in the order of the code.
+pub(super) fn check_code(image: &[u8], header: &Header) -> Result<Vec<Timer>, Fault> {
     let mut walk = Walk::new(header);
     let mut at = header.code;
     while at < image.len() {
         let fault = |breach| Fault { breach, place: at };
-        if !(code::CONSTANT..=code::SETTLE).contains(&image[at]) {
+        if !is_listed(image[at]) {
             return Err(fault(Breach::UnknownCode));
         }
         let Some(instruction) = decode(&image[at..]) else {
@@ -199,7 +29,18 @@ fn check_code(image: &[u8], header: &Header) -> Result<(), Fault> {
             place: image.len(),
         });
     }
-    Ok(())
+    Ok(walk.timers)
+}
+
+/// "only the codes listed", those of requests that are on among them.
+fn is_listed(opcode: u8) -> bool {
+    let features = features::in_force();
+    match opcode {
+        code::CONSTANT..=code::SETTLE => true,
+        code::TIMER => features.timers,
+        code::RISE | code::FALL => features.pairs,
+        _ => false,
+    }
 }
 
 #[derive(Clone, Copy, PartialEq, Eq)]
@@ -216,10 +57,14 @@ struct Walk<'h> {
     depth: usize,
     /// A gate has no pick yet.
     gate: bool,
-    /// The variable picked and not settled yet.
-    picked: Option<usize>,
+    /// The variable picked and not settled yet, and the code of its last pick.
+    picked: Option<(usize, u8)>,
     /// Variables settled or let, by id.
     settled: [bool; NAMES],
+    /// Of the instruction before: the variable settled or let and, if timers of it followed,
+    /// the id of the last one.
+    after: Option<(usize, Option<usize>)>,
+    timers: Vec<Timer>,
 }
 
 impl<'h> Walk<'h> {
@@ -231,14 +76,17 @@ impl<'h> Walk<'h> {
             gate: false,
             picked: None,
             settled: [false; NAMES],
+            after: None,
+            timers: Vec::new(),
         }
     }
 
     fn instruction(&mut self, instruction: Instruction) -> Result<(), Breach> {
         let opcode = instruction.opcode;
-        if self.gate && opcode > code::NEGATE && opcode != code::PICK {
+        if self.gate && opcode > code::NEGATE && !is_pick(opcode) {
             return Err(Breach::BetweenGateAndPick);
         }
+        let after = self.after.take();
         match opcode {
             code::CONSTANT => self.constant(instruction.number),
             code::CURRENT => self.current(instruction.number),
@@ -252,8 +100,9 @@ impl<'h> Walk<'h> {
             code::NOT => self.operation(1, Sort::YesNo, Sort::YesNo),
             code::AND | code::OR => self.operation(2, Sort::YesNo, Sort::YesNo),
             code::GATE => self.open_gate(),
-            code::PICK => self.pick(instruction.number),
+            code::PICK | code::RISE | code::FALL => self.pick(opcode, instruction.number),
             code::LET => self.assign(instruction.number),
+            code::TIMER => self.timer(after, instruction),
             _ => self.settle(instruction.number),
         }
     }
@@ -285,7 +134,7 @@ impl<'h> Walk<'h> {
         Ok(())
     }
 
-    fn pick(&mut self, number: u64) -> Result<(), Breach> {
+    fn pick(&mut self, opcode: u8, number: u64) -> Result<(), Breach> {
         let id = self.variable(number)?;
         if !self.gate {
             return Err(Breach::PickWithoutGate);
@@ -293,15 +142,18 @@ impl<'h> Walk<'h> {
         if !self.holds_just(Sort::Number) {
             return Err(Breach::PickLetHeld);
         }
-        if self.picked.is_some_and(|other| other != id) {
+        if self.picked.is_some_and(|(other, _)| other != id) {
             return Err(Breach::BetweenPickAndSettle);
         }
         if self.settled[id] {
             return Err(Breach::SettledAgain);
         }
+        if !may_follow(self.picked.map(|(_, last)| last), opcode) {
+            return Err(Breach::PickSides);
+        }
         self.depth = 0;
         self.gate = false;
-        self.picked = Some(id);
+        self.picked = Some((id, opcode));
         Ok(())
     }
 
@@ -319,6 +171,35 @@ impl<'h> Walk<'h> {
         }
         self.depth = 0;
         self.settled[id] = true;
+        self.after = Some((id, None));
+        Ok(())
+    }
+
+    /// "In the header t is a variable; .. its one instruction 23 keeps these limits and
+    /// replaces a let, directly after w's settle or let, timers of one w by id."
+    fn timer(
+        &mut self,
+        after: Option<(usize, Option<usize>)>,
+        instruction: Instruction,
+    ) -> Result<(), Breach> {
+        let id = self.variable(instruction.number)?;
+        let watched = self.variable(instruction.more[0])?;
+        let limit = i32::try_from(instruction.more[1]).map_err(|_| Breach::BadTimer)?;
+        let ranges = self.header.ranges();
+        let bit = |range: Range| (range.low, range.high) == (0, 1);
+        if limit < 1 || !bit(ranges[id]) || ranges[id].start != 0 || !bit(ranges[watched]) {
+            return Err(Breach::BadTimer);
+        }
+        let (set, last) = after.ok_or(Breach::TimerPlace)?;
+        if set != watched || last.is_some_and(|last| last >= id) {
+            return Err(Breach::TimerPlace);
+        }
+        if self.settled[id] {
+            return Err(Breach::SettledAgain);
+        }
+        self.settled[id] = true;
+        self.after = Some((watched, Some(id)));
+        self.timers.push(Timer { id, watched, limit });
         Ok(())
     }
 
@@ -328,13 +209,16 @@ impl<'h> Walk<'h> {
             return Err(Breach::SettleHeld);
         }
         match self.picked {
-            Some(picked) if picked == id => {}
+            // "some 24 and then some 25": a 24 may not be the last.
+            Some((picked, code::RISE)) if picked == id => return Err(Breach::PickSides),
+            Some((picked, _)) if picked == id => {}
             Some(_) => return Err(Breach::BetweenPickAndSettle),
             None if self.settled[id] => return Err(Breach::SettledAgain),
             None => return Err(Breach::SettleWithoutPick),
         }
         self.picked = None;
         self.settled[id] = true;
+        self.after = Some((id, None));
         Ok(())
     }
 
@@ -386,5 +270,14 @@ impl<'h> Walk<'h> {
     fn unfinished(&self) -> bool {
         let variables = &self.settled[self.header.inputs..self.header.names];
         self.gate || self.picked.is_some() || self.depth > 0 || variables.contains(&false)
+    }
+}
+
+/// Whether a pick may come after the pick `last` of the same variable, or as the first:
+/// "the picks before one settle are all code 20, or some 24 and then some 25".
+fn may_follow(last: Option<u8>, pick: u8) -> bool {
+    match pick {
+        code::FALL => matches!(last, Some(code::RISE | code::FALL)),
+        _ => last.is_none() || last == Some(pick),
     }
 }
