@@ -44,7 +44,20 @@ fn refused_texts() {
             (2, "timer t of w @limit1;".into()),
             (2, "timer t of w limit 1@w".into()),
             (2, "timer t of w limit 1 @init 0;".into()),
-            (2, "timer t of w limit 1; @var x 0..1;".into()),
+        ] {
+            expect(number, &format!("{D}{rest}"));
+        }
+        expect(4, "timer t of @w limit 1;");
+        expect(4, &format!("{D}@Timer t"));
+    });
+}
+
+/// After the timers, in the rules and at the end.
+#[test]
+fn refused_after_timers() {
+    with(A7, || {
+        for (number, rest) in [
+            (2, "timer t of w limit 1; @var x 0..1;".to_owned()),
             (2, "timer t of w limit 1; @input x 0..1;".into()),
             (2, "var @limit 0..1;".into()),
             (2, "w: GX(w = (@timer));".into()),
@@ -76,8 +89,6 @@ fn refused_texts() {
             23,
             "var w 0..1 init 1; timer t of w limit 1; timer u of @u limit 1;",
         );
-        expect(4, "timer t of @w limit 1;");
-        expect(4, &format!("{D}@Timer t"));
     });
 }
 
