@@ -44,6 +44,7 @@ static inline uint32_t rolvenko_place(uint64_t answer) { return (uint32_t)(answe
 static inline uint32_t rolvenko_count(uint64_t answer) { return (uint32_t)(answer & 0xffffff); }
 
 /* Translates a rule text and writes its image to the first bytes of `image`; count is the image's length. The bytes behind it stay.
+ * Names are the same in any letter case; a word of the grammar in another case is fault 2.
  *   9         the text is longer than 32,768 bytes; place 0
  *   1 to 8    the first fault of the text; place is that of its token, or text_len for the end of the text
  *   10        the text has no fault, but its image is longer than image_len; place is text_len
@@ -75,8 +76,8 @@ uint64_t rolvenko_start(const uint8_t *image, size_t image_len, int32_t *state, 
  */
 uint64_t rolvenko_scan(const uint8_t *image, size_t image_len, int32_t *state, size_t state_len, const int32_t *row, size_t row_len);
 
-/* Fills the inputs named `day`, `minute` and `again` of `row`, those of them that the text declares, with the local time of a farm at
- * the UTC minute `utc`, counted from 1 January 1970. The other numbers of the row stay. `row` has one number for each input, in declared
+/* Fills the inputs named `day`, `minute` and `again` (in any letter case) of `row`, those of them that the text declares, with the local
+ * time of a farm at the UTC minute `utc`, counted from 1 January 1970. The other numbers of the row stay. `row` has one number for each input, in declared
  * order; a variable of such a name is not filled, and no declared range is looked at. 0 as a whole, or a refusal.
  * `table` has two numbers for each of 1 to 32 entries, a UTC minute and the offset in minutes that holds from there on; table_len counts
  * the numbers. The first offset also holds for all earlier minutes.

@@ -1,0 +1,1 @@
+// Texts whose names are in other letter cases. Definitions and laws only.
