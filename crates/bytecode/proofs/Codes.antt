@@ -30,9 +30,9 @@ pub none-below : (code n : ℕ) → code < 1 → instructionOf code n ≡ none
 unfolding instructionOf
 none-below code n l = let e : code ≡ 0 = omega arith in rw e
 
-pub none-above : (code n : ℕ) → 22 < code → instructionOf code n ≡ none
+pub none-above : (code n : ℕ) → 22 < code → (code ≡ 24 → ⊥) → (code ≡ 25 → ⊥) → instructionOf code n ≡ none
 unfolding instructionOf
-none-above code n l =
+none-above code n l up down =
     rw (
       ne-eqb code 1 (λ e. omega arith),
       ne-eqb code 2 (λ e. omega arith),
@@ -49,6 +49,8 @@ none-above code n l =
       ne-eqb code 20 (λ e. omega arith),
       ne-eqb code 21 (λ e. omega arith),
       ne-eqb code 22 (λ e. omega arith),
+      ne-eqb code 24 up,
+      ne-eqb code 25 down,
     )
 
 -- what is left where none of the keys fits
@@ -71,6 +73,6 @@ others-above : (k code : ℕ) → 1 ≤ code → Others k code → k < code
 others-above zero code l h = l
 others-above (suc k) code l h = omega (arith, past (suc k) code (others-above k code l (h .0)) (h .1))
 
-pub none-other : (code n : ℕ) → Others 22 code → instructionOf code n ≡ none
-none-other zero n h = none-below zero n (omega arith)
-none-other (suc code) n h = none-above (suc code) n (others-above 22 (suc code) (omega arith) h)
+pub none-other : (code n : ℕ) → Others 22 code → (code ≡ 24 → ⊥) → (code ≡ 25 → ⊥) → instructionOf code n ≡ none
+none-other zero n h up down = none-below zero n (omega arith)
+none-other (suc code) n h up down = none-above (suc code) n (others-above 22 (suc code) (omega arith) h) up down

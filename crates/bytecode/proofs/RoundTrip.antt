@@ -10,7 +10,7 @@ use lib.ListN.{length, getD, drop, length-append, length-drop}
 use lib.Seq.{getD-drop}
 use borrow.Author.Tests.{lt-ltb, ltb-true}
 use Rattle.arith.specs.Values.{isInt32, add, subtract, multiply, divide, modulo, equal, notEqual, less, lessEqual, greater, greaterEqual}
-use Rattle.semantics.specs.Program.{changing}
+use Rattle.semantics.specs.Program.{changing, rising, falling}
 use Rattle.leb128.specs.Numbers.{number, zigzag, Read, got, nothing, _then_, numberAt}
 use Rattle.leb128.proofs.Signs.{unzigzag-zigzag}
 use Rattle.leb128.proofs.RoundTrip.{drop-behind, number-at, number-next, zigzag-small}
@@ -91,6 +91,8 @@ fetch-encoded bytes at both rest l h = alone bytes at 17 both rest refl refl h
 fetch-encoded bytes at either rest l h = alone bytes at 18 either rest refl refl h
 fetch-encoded bytes at gate rest l h = alone bytes at 19 gate rest refl refl h
 fetch-encoded bytes at (pick changing i) rest l h = with-number bytes at 20 i (pick changing i) rest refl l refl h
+fetch-encoded bytes at (pick rising i) rest l h = with-number bytes at 24 i (pick rising i) rest refl l refl h
+fetch-encoded bytes at (pick falling i) rest l h = with-number bytes at 25 i (pick falling i) rest refl l refl h
 fetch-encoded bytes at (assign i) rest l h = with-number bytes at 21 i (assign i) rest refl l refl h
 fetch-encoded bytes at (settle i) rest l h = with-number bytes at 22 i (settle i) rest refl l refl h
 

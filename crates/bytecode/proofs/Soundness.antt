@@ -12,7 +12,7 @@ use lib.Signed.{leZ}
 use borrow.Author.Tests.{lt-ltb, le-ltb}
 use Rattle.limits.specs.Answer.{Answer, accepted}
 use Rattle.arith.specs.Values.{isInt32}
-use Rattle.semantics.specs.Program.{Program, Range, Expression, Condition, Side, Case, Rule, function, change, target, rangesOf, UsableE, UsableC, UsableK, UsableR, OrderedRules, knownFirst, allTrue, RangeFits}
+use Rattle.semantics.specs.Program.{Program, Range, Expression, Condition, Side, Case, Rule, function, change, target, rangesOf, sides, SidedR, SidedAll, UsableE, UsableC, UsableK, UsableR, OrderedRules, knownFirst, allTrue, RangeFits}
 use Rattle.semantics.specs.Program as P
 use Rattle.arith.proofs.Basics.{T-true, and-left, and-right}
 use Rattle.semantics.proofs.Reference.{length-known}
@@ -20,9 +20,10 @@ use Rattle.leb128.specs.Numbers.{number, zigzag}
 use Rattle.bytecode.specs.Instructions.{Instruction, constant, current, previous, operation, negate, comparison, negated, both, either, gate, pick, assign, settle, encode, encodeAll}
 use Rattle.bytecode.specs.Translation.{codeE, codeC, codeCase, codeK, codeR, codeRules, encodeRanges, encodeHeader, imageOf, depthE, depthC, ShallowK, ShallowR, Shallow, RangesFit, Translatable}
 use Rattle.bytecode.specs.Signature.{Sort, truth}
-use Rattle.bytecode.specs.Check.{Picks, Known, known, guard, one, empty, unset, closed, fresh, opened, advance, complete, checkRange, checkRanges, Header, checkCounts, checkHeader, checkCode, checkBody, checkOf}
+use Rattle.bytecode.specs.Check.{Picks, Known, known, guard, one, empty, unset, closed, mayBegin, mayFollow, mayEnd, fresh, opened, advance, complete, checkRange, checkRanges, Header, checkCounts, checkHeader, checkCode, checkBody, checkOf}
 use Rattle.bytecode.specs.Parts.{headerOf, codeOf}
 use Rattle.leb128.proofs.RoundTrip.{drop-behind, number-at, signed-at}
+use Rattle.bytecode.proofs.Sides.{Follows, sided-walks}
 use Rattle.bytecode.proofs.RoundTrip.{Small, AllSmall, fetch-encoded, length-encode, encoded-inside}
 
 -- ---- the code keeps soundness
@@ -91,31 +92,32 @@ module _ (ids : List Bool) where
         let he = adv-E (k .value) [] true o ue (omega arith) in
         simp (advances-append, hc, he, ltb-is v (length ids) declared, first, h)
 
-    adv-K : (side : Side) (ks : List Case) → UsableK ids ks → ShallowK ks
-        → (last : Side) × (advances (codeK v ks) (known [] false (some (picksOn side)) ids) ≡ some (known [] false (some (picksOn last)) ids))
-    adv-K side [] u d = (side, refl)
-    adv-K side (k ∷ ks) u d =
-        let h = adv-case k (some (picksOn side)) (eqb-self v) (u .0) (u .1) (d .0) (d .1) in
-        let ih = adv-K (k .side) ks (u .2) (d .2) in
-        (ih .0, rw (advances-append (codeCase v k) (codeK v ks), h) (ih .1))
+    adv-K : (side : Side) (ks : List Case) → Follows side (sides ks) → UsableK ids ks → ShallowK ks
+        → (last : Side) × (advances (codeK v ks) (known [] false (some (picksOn side)) ids) ≡ some (known [] false (some (picksOn last)) ids)) × (mayEnd last ≡ true)
+    adv-K side [] f u d = (side, refl, T-true (mayEnd side) f)
+    adv-K side (k ∷ ks) f u d =
+        let h = adv-case k (some (picksOn side)) (rw (eqb-self v) (T-true (mayFollow side (k .side)) (f .0))) (u .0) (u .1) (d .0) (d .1) in
+        let ih = adv-K (k .side) ks (f .1) (u .2) (d .2) in
+        (ih .0, rw (advances-append (codeCase v k) (codeK v ks), h) (ih .1), ih .2)
 
-  adv-R : (r : Rule) → UsableR ids r → ShallowR r → target r < length ids → getD ids (target r) false ≡ false
+  adv-R : (r : Rule) → SidedR r → UsableR ids r → ShallowR r → target r < length ids → getD ids (target r) false ≡ false
       → advances (codeR r) (known [] false none ids) ≡ some (known [] false none (set ids (target r) true))
-  adv-R (function v e) u d l f =
+  adv-R (function v e) sided u d l f =
       let he = adv-E e [] false none u (omega arith) in
       simp (advances-append, he, ltb-is v (length ids) l, f)
-  adv-R (change v [] cs) u d l f = let b : ⊥ = omega (arith, d .0) in absurd b
-  adv-R (change v (k ∷ ks) cs) u d l f =
-      let h = adv-case v l f k none refl (u .0) (u .1) (d .1 .0) (d .1 .1) in
-      let hs = adv-K v l f (k .side) ks (u .2) (d .1 .2) in
-      rw (advances-append (codeCase v k ++ codeK v ks) (settle v ∷ []), advances-append (codeCase v k) (codeK v ks), h, hs .1, ltb-is v (length ids) l, f, eqb-self v)
+  adv-R (change v [] cs) sided u d l f = absurd (sided-walks [] sided)
+  adv-R (change v (k ∷ ks) cs) sided u d l f =
+      let w = sided-walks (sides (k ∷ ks)) sided in
+      let h = adv-case v l f k none (T-true (mayBegin (k .side)) (w .0)) (u .0) (u .1) (d .1 .0) (d .1 .1) in
+      let hs = adv-K v l f (k .side) ks (w .1) (u .2) (d .1 .2) in
+      rw (advances-append (codeCase v k ++ codeK v ks) (settle v ∷ []), advances-append (codeCase v k) (codeK v ks), h, hs .1, ltb-is v (length ids) l, f, eqb-self v, hs .2)
 
-adv-rules : (rs : List Rule) (ids : List Bool) → OrderedRules ids rs → Shallow rs
+adv-rules : (rs : List Rule) (ids : List Bool) → SidedAll rs → OrderedRules ids rs → Shallow rs
     → (end : List Bool) × (advances (codeRules rs) (known [] false none ids) ≡ some (known [] false none end)) × (allTrue end ≡ true)
-adv-rules [] ids o d = (ids, refl, T-true (allTrue ids) o)
-adv-rules (r ∷ rs) ids o d =
-    let h = adv-R ids r (o .0) (d .0) (ltb→lt (target r) (length ids) (o .1)) (o .2) in
-    let ih = adv-rules rs (set ids (target r) true) (o .3) (d .1) in
+adv-rules [] ids sided o d = (ids, refl, T-true (allTrue ids) o)
+adv-rules (r ∷ rs) ids sided o d =
+    let h = adv-R ids r (sided .0) (o .0) (d .0) (ltb→lt (target r) (length ids) (o .1)) (o .2) in
+    let ih = adv-rules rs (set ids (target r) true) (sided .1) (o .3) (d .1) in
     (ih .0, rw (advances-append (codeR r) (codeRules rs), h) (ih .1), ih .2)
 
 -- ---- operands are small
@@ -320,7 +322,7 @@ pub translated-small : (p : Program) → Translatable p → AllSmall (codeRules 
 translated-small p t =
     let l : length (knownFirst (p .inputs) (length (rangesOf p))) ≡ length (rangesOf p) = length-known (p .inputs) (length (rangesOf p)) in
     let f : length (rangesOf p) ≤ 64 = t .few in
-    let r = adv-rules (p .rules) (knownFirst (p .inputs) (length (rangesOf p))) (t .well-formed .ordered) (t .shallow) in
+    let r = adv-rules (p .rules) (knownFirst (p .inputs) (length (rangesOf p))) (t .well-formed .sided) (t .well-formed .ordered) (t .shallow) in
     all-small (codeRules (p .rules)) (known [] false none (knownFirst (p .inputs) (length (rangesOf p)))) (known [] false none (r .0)) (omega arith) (r .1)
 
 check-body : (p : Program) → Translatable p → checkBody (imageOf p) (programHeader p) ≡ accepted tt
@@ -329,7 +331,7 @@ check-body p t =
     let l : length (knownFirst (p .inputs) (length (rangesOf p))) ≡ length (rangesOf p) = length-known (p .inputs) (length (rangesOf p)) in
     let f : length (rangesOf p) ≤ 64 = t .few in
     let code = encodeAll (codeRules (p .rules)) in
-    let r = adv-rules (p .rules) (knownFirst (p .inputs) (length (rangesOf p))) (t .well-formed .ordered) (t .shallow) in
+    let r = adv-rules (p .rules) (knownFirst (p .inputs) (length (rangesOf p))) (t .well-formed .sided) (t .well-formed .ordered) (t .shallow) in
     let e : drop (length (encodeHeader p)) (encodeHeader p ++ code) ≡ code = drop-append-seam (encodeHeader p) code in
     rw e (check-code (length (encodeHeader p)) code (length code) 0 (codeRules (p .rules)) _ (known [] false none (r .0)) refl (omega arith) (omega arith) (r .1) (rw (r .2)))
 

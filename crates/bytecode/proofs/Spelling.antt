@@ -12,7 +12,7 @@ use lib.ListN.{length, getD, drop, drop-of-length-le}
 use lib.Seq.{drop-cons}
 use borrow.Author.Tests.{eqb-true, leb-true, le-leb, lt-leb, ltb-true}
 use Rattle.arith.proofs.Basics.{T-true, true-T, and-left, and-right}
-use Rattle.semantics.specs.Program.{Range, changing}
+use Rattle.semantics.specs.Program.{Range, changing, rising, falling}
 use Rattle.leb128.specs.Numbers.{number, zigzag, unzigzag, Read, got, nothing, _then_, numberAt, signedAt}
 use Rattle.leb128.proofs.Laws.{Bytes}
 use Rattle.leb128.proofs.Signs.{zigzag-unzigzag}
@@ -53,7 +53,7 @@ comparison-code c l m = among (λ n. comparisonCode (comparisonOf n) ≡ n) 10 6
 
 no-operand : (c : ℕ) → 4 ≤ c → c ≤ 19 → hasOperand c ≡ false
 unfolding hasOperand
-no-operand c l m = rw (le-leb 1 c (omega arith), lt-leb c 3 (omega arith), lt-leb 20 c (omega arith))
+no-operand c l m = rw (le-leb 1 c (omega arith), lt-leb c 3 (omega arith), lt-leb 20 c (omega arith), lt-leb 24 c (omega arith))
 
 module _ (c n : ℕ) (i : Instruction) where
   abbrev Encoded : Type 0
@@ -105,7 +105,9 @@ module _ (c n : ℕ) (i : Instruction) where
       case (eqb c 19) _ _ (single 19 gate refl) (λ z₁₀.
       case (eqb c 20) _ _ (single 20 (pick changing n) refl) (λ z₁₁.
       case (eqb c 21) _ _ (single 21 (assign n) refl) (λ z₁₂.
-      case (eqb c 22) _ _ (single 22 (settle n) refl) (λ z₁₃. unlisted)))))))))))))
+      case (eqb c 22) _ _ (single 22 (settle n) refl) (λ z₁₃.
+      case (eqb c 24) _ _ (single 24 (pick rising n) refl) (λ z₁₄.
+      case (eqb c 25) _ _ (single 25 (pick falling n) refl) (λ z₁₅. unlisted)))))))))))))))
 
 -- ---- what is read at a place is the one encoding of it, followed by the rest
 

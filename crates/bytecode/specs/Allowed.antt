@@ -57,11 +57,12 @@ AllowedIn computes rest g o ids = Unit {0}
 AllowedIn tests rest g o ids = g ≡ false
 -- gate finds just one yes-no; each gate has its pick
 AllowedIn opens rest g o ids = (g ≡ false) × (rest ≡ [])
--- pick just one number; each pick its gate; no pick of another id before the settle; a variable neither settled nor let, no input
+-- pick just one number; each pick its gate; no pick of another id before the settle, sides in order; a variable neither settled nor let,
+-- no input
 AllowedIn (picks side v) rest g o ids = (g ≡ true) × (rest ≡ []) × T (unset ids v) × T (fresh o side v)
 -- let just one number; no let between picks and their settle
 AllowedIn (lets v) rest g o ids = (g ≡ false) × (rest ≡ []) × T (unset ids v) × (o ≡ none)
--- settle none; picks of the same id, at least one, before it
+-- settle none; picks of the same id, at least one, before it, that may end
 AllowedIn (settles v) rest g o ids = (g ≡ false) × (rest ≡ []) × T (unset ids v) × T (opened o v)
 
 -- operands of the right sort, numbers or yes-no, then what the role asks for

@@ -9,7 +9,7 @@ use lib.Signed.{leZ}
 use Rattle.limits.specs.Limits.{stackLimit, nameLimit, imageLimit, tooLong, brokenImage}
 use Rattle.limits.specs.Answer.{Answer, accepted, refused, _andThen_}
 use Rattle.arith.specs.Values.{isInt32}
-use Rattle.semantics.specs.Program.{Range, Side, allTrue, knownFirst}
+use Rattle.semantics.specs.Program.{Range, Side, changing, rising, falling, allTrue, knownFirst}
 use Rattle.leb128.specs.Numbers.{Read, got, nothing, numberAt, signedAt}
 use Rattle.bytecode.specs.Instructions.{Instruction, fetch}
 use Rattle.bytecode.specs.Signature.{Sort, number, truth, Role, pushes, computes, tests, opens, picks, lets, settles, signature}
@@ -109,15 +109,39 @@ abbrev pub closed : Option Picks → Bool
 closed none = true
 closed (some p) = false
 
+-- The picks before one settle are all code 20, or some 24 and then some 25 (document 02, A.6): which side comes first,
+abbrev pub mayBegin : Side → Bool
+mayBegin changing = true
+mayBegin rising = true
+mayBegin falling = false
+
+-- which comes after which,
+abbrev pub mayFollow : Side → Side → Bool
+mayFollow changing changing = true
+mayFollow changing rising = false
+mayFollow changing falling = false
+mayFollow rising changing = false
+mayFollow rising rising = true
+mayFollow rising falling = true
+mayFollow falling changing = false
+mayFollow falling rising = false
+mayFollow falling falling = true
+
+-- and which is last
+abbrev pub mayEnd : Side → Bool
+mayEnd changing = true
+mayEnd rising = false
+mayEnd falling = true
+
 -- a pick of v on a side may follow
 abbrev pub fresh : Option Picks → Side → ℕ → Bool
-fresh none side v = true
-fresh (some p) side v = eqb (p .id) v
+fresh none side v = mayBegin side
+fresh (some p) side v = eqb (p .id) v && mayFollow (p .side) side
 
--- picks of v await their settle
+-- picks of v await their settle, and may end
 abbrev pub opened : Option Picks → ℕ → Bool
 opened none v = false
-opened (some p) v = eqb (p .id) v
+opened (some p) v = eqb (p .id) v && mayEnd (p .side)
 
 -- the operands taken are on top, of the right sorts, and what follows goes on with the values below them
 abbrev pub taking : List Sort → List Sort → (List Sort → Option Known) → Option Known
@@ -134,11 +158,12 @@ admits computes rest g o ids = some (known (number ∷ rest) g o ids)
 admits tests rest g o ids = guard (not g) (known (truth ∷ rest) g o ids)
 -- gate finds just one yes-no; each gate has its pick
 admits opens rest g o ids = guard (not g && empty rest) (known [] true o ids)
--- pick just one number; each pick its gate; not picked after it is settled or let, no input ever; no pick of another id before the settle
+-- pick just one number; each pick its gate; not picked after it is settled or let, no input ever; no pick of another id before the settle;
+-- sides in order
 admits (picks side v) rest g o ids = guard (g && empty rest && unset ids v && fresh o side v) (known [] false (some (record { side = side; id = v })) ids)
 -- let just one number; each variable settled or let once, no input ever; no let between picks and their settle
 admits (lets v) rest g o ids = guard (not g && empty rest && unset ids v && closed o) (known [] false none (set ids v true))
--- settle none; each variable settled or let once, no input ever; picks of the same id before it, at least one
+-- settle none; each variable settled or let once, no input ever; picks of the same id before it, at least one, that may end
 admits (settles v) rest g o ids = guard (not g && empty rest && unset ids v && opened o v) (known [] false none (set ids v true))
 
 -- One instruction keeps soundness, or breaks it: operands of the right sort, numbers or yes-no, then what its role asks for.

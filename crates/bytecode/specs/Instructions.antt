@@ -7,11 +7,12 @@ use lib.Dec.{eqb, leb, ltb}
 use lib.IntN.{ℤ}
 use lib.ListN.{length, getD}
 use Rattle.arith.specs.Values.{Operation, add, subtract, multiply, divide, modulo, Comparison, equal, notEqual, less, lessEqual, greater, greaterEqual}
-use Rattle.semantics.specs.Program.{Side, changing}
+use Rattle.semantics.specs.Program.{Side, changing, rising, falling}
 use Rattle.leb128.specs.Numbers.{number, zigzag, unzigzag, Read, got, nothing, _then_, numberAt}
 
 -- Instructions (decimal code byte): 1 constant (signed), 2 current id, 3 previous id, 4 + 5 − 6 × 7 / 8 mod 9 negate, 10 = 11 <>
--- 12 < 13 <= 14 > 15 >=, 16 not 17 and 18 or, 19 gate, 20 pick id, 21 let id, 22 settle id.
+-- 12 < 13 <= 14 > 15 >=, 16 not 17 and 18 or, 19 gate, 20 pick id, 21 let id, 22 settle id. Instructions 24 id and 25 id pick a rising and a
+-- falling value (document 02, A.6).
 pub data Instruction : Type 0 where
   constant : ℤ → Instruction
   current : ℕ → Instruction
@@ -46,6 +47,8 @@ comparisonCode greaterEqual = 15
 
 abbrev pub pickCode : Side → ℕ
 pickCode changing = 20
+pickCode rising = 24
+pickCode falling = 25
 
 abbrev pub encode : Instruction → List ℕ
 encode (constant z) = 1 ∷ number (zigzag z)
@@ -90,11 +93,13 @@ instructionOf code n =
     (cond (eqb code 19) (some gate)
     (cond (eqb code 20) (some (pick changing n))
     (cond (eqb code 21) (some (assign n))
-    (cond (eqb code 22) (some (settle n)) none))))))))))))
+    (cond (eqb code 22) (some (settle n))
+    (cond (eqb code 24) (some (pick rising n))
+    (cond (eqb code 25) (some (pick falling n)) none))))))))))))))
 
--- whether an operand follows the code byte: codes 1 to 3, and 20 to 22
+-- whether an operand follows the code byte: codes 1 to 3, 20 to 22, 24 and 25
 unfoldable pub hasOperand : ℕ → Bool
-hasOperand code = cond (leb 1 code && leb code 3) true (leb 20 code && leb code 22)
+hasOperand code = cond (leb 1 code && leb code 3) true (cond (leb 20 code && leb code 22) true (leb 24 code && leb code 25))
 
 abbrev pub decoded : Option Instruction → ℕ → Read Instruction
 decoded none next = nothing

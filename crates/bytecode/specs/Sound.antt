@@ -1,12 +1,12 @@
 -- Sound images: the properties of document 01's paragraph, over the whole code. Document 01, "The image" (Sound). Assumes nothing.
 use Prim.Native.Nat.{ℕ, _+_, _≤_, _<_}
 use mathlib.Core.Path.{_≡_}
-use mathlib.Core.Bool.{Bool, true, false}
+use mathlib.Core.Bool.{Bool, true, cond}
 use mathlib.Core.List.{List, [], _∷_, _++_}
-use lib.Dec.{T}
+use lib.Dec.{T, eqb}
 use lib.ListN.{length, set, drop}
 use Rattle.limits.specs.Limits.{stackLimit, nameLimit, imageLimit}
-use Rattle.semantics.specs.Program.{Range, Side, allTrue, knownFirst}
+use Rattle.semantics.specs.Program.{Range, Side, Sided, allTrue, knownFirst}
 use Rattle.leb128.specs.Numbers.{got, numberAt, signedAt}
 use Rattle.bytecode.specs.Instructions.{Instruction, gate, pick, settle, fetch}
 use Rattle.bytecode.specs.Signature.{Sort, Role, pushes, computes, tests, opens, picks, lets, settles, signature, heldBy}
@@ -93,6 +93,20 @@ pub record HasPicks (v : ℕ) (before : List Instruction) : Type 0 where
   pub found : before ≡ first ++ pick side v ∷ between
   pub same : Every (Within v) between
 
+-- the sides of the picks of v, in order
+abbrev pub sideIn : ℕ → Role → List Side
+sideIn v (pushes fits) = []
+sideIn v computes = []
+sideIn v tests = []
+sideIn v opens = []
+sideIn v (picks side u) = cond (eqb u v) (side ∷ []) []
+sideIn v (lets u) = []
+sideIn v (settles u) = []
+
+abbrev pub sidesOf : ℕ → List Instruction → List Side
+sidesOf v [] = []
+sidesOf v (i ∷ is) = sideIn v (signature i .role) ++ sidesOf v is
+
 -- what a role asks for, of the values below the operands and the ids known there
 abbrev pub FittingIn : Role → List Sort → List Bool → Type 0
 -- constants in signed 32-bit range; ids of names declared, current values by the rule above: of inputs, and of variables settled or let
@@ -122,6 +136,8 @@ pub record SoundCode (first : List Bool) (code : List Instruction) : Type 0 wher
   -- picks followed by the settle of the same id, at least one, with no let, and no pick or settle of another id, in between
   pub settled : (before : List Instruction) (side : Side) (v : ℕ) (after : List Instruction) → code ≡ before ++ pick side v ∷ after → HasSettle v after
   pub picked : (before : List Instruction) (v : ℕ) (after : List Instruction) → code ≡ before ++ settle v ∷ after → HasPicks v before
+  -- the picks before one settle are all code 20, or some 24 and then some 25 (document 02, A.6)
+  pub sided : (before : List Instruction) (v : ℕ) (after : List Instruction) → code ≡ before ++ settle v ∷ after → Sided (sidesOf v before)
   -- nothing missing at the end: no value held, each variable settled or let
   pub none-held : heldAfter code [] ≡ []
   pub all-set : T (allTrue (idsAfter code first))

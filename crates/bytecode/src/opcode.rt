@@ -42,3 +42,8 @@ pub const PICK: u8 = 20;
 pub const LET: u8 = 21;
 
 pub const SETTLE: u8 = 22;
+
+// Picks of a rising and of a falling value (document 02, A.6).
+pub const RISE: u8 = 24;
+
+pub const FALL: u8 = 25;

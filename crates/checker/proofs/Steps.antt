@@ -1,26 +1,25 @@
 -- The definition of one instruction's soundness, test by test, as the code takes the tests. Assumes nothing.
-use Prim.Native.Nat.{ℕ, zero, suc, _+_, _-_, _/_, _%_, _^_, _≤_, _<_}
+use Prim.Native.Nat.{ℕ, zero, suc, _+_, _-_, _*_, _/_, _%_, _^_, _≤_, _<_}
 use mathlib.Core.Path.{_≡_, refl, sym, ap, _∙_}
 use mathlib.Core.Bool.{Bool, true, false, not, _&&_}
 use mathlib.Core.List.{List, [], _∷_}
 use mathlib.Core.Option.{Option, none, some}
 use native.Mathlib.Omega.{arith}
-use native.Mathlib.Numerals.{add-one}
-use lib.Dec.{eqb, eqb·suc-suc}
+use lib.Dec.{eqb, ltb}
 use lib.ListN.{set}
-use borrow.Author.Tests.{eq-eqb, ne-eqb}
+use borrow.Author.Tests.{eq-eqb, ne-eqb, eqb-true, eqb-false, le-ltb}
 use Rattle.arith.specs.Inner.Flags.{flagsOf}
 use Rattle.arith.specs.Values.{Operation, Comparison, isInt32}
 use Rattle.arith.proofs.Basics.{T-true}
-use Rattle.semantics.specs.Program.{Side, changing}
+use Rattle.semantics.specs.Program.{Side, changing, rising, falling}
 use Rattle.leb128.specs.Numbers.{unzigzag}
 use Rattle.bytecode.specs.Instructions.{constant, operation, negate, comparison, negated, both, either, gate, pick, assign}
 use Rattle.bytecode.specs.Signature.{Sort, number, truth}
-use Rattle.bytecode.specs.Check.{Picks, Known, known, guard, one, empty, unset, closed, fresh, opened, advance}
+use Rattle.bytecode.specs.Check.{Picks, Known, known, guard, one, empty, unset, closed, mayBegin, mayFollow, fresh, opened, advance}
 use Rattle.bytecode.proofs.Heading.{unzigzag-int32}
 use Rattle.bytecode.proofs.Paired.{gateOf}
 use Rattle.checker.specs.declared.advance.Walk.{Walk}
-use Rattle.checker.specs.Inner.Walk.{sortOf, sortsOf, openOf, picksOf, knownOf, pushed, kept, joined, only, outside}
+use Rattle.checker.specs.Inner.Walk.{sortOf, sortsOf, openOf, sideOf, picksOf, knownOf, pushed, kept, joined, only, outside}
 use Rattle.checker.proofs.Bits.{sorts-none, sorts-one, sorts-cons, sorts-two}
 
 -- ---- the value on top
@@ -131,29 +130,96 @@ pub open-yes : (n : ℕ) → (n ≡ 0 → ⊥) → openOf n ≡ true
 open-yes zero h = absurd (h refl)
 open-yes (suc n) h = refl
 
--- ---- the id whose picks await their settle
+-- ---- the picks that await their settle
 
 pub closed-not : (p : ℕ) → (p ≡ 0 → ⊥) → closed (picksOf p) ≡ false
 closed-not zero h = absurd (h refl)
 closed-not (suc p) h = refl
 
-pub suc-picks : (v : ℕ) → picksOf (v + 1) ≡ some (record { side = changing; id = v })
-suc-picks v = rw (add-one v)
+pub picks-made : (side id : ℕ) → side < 3 → picksOf (3 * id + 1 + side) ≡ some (record { side = sideOf side; id = id })
+picks-made side id l =
+    let e : 3 * id + 1 + side ≡ suc (3 * id + side) = omega arith in
+    let q : (3 * id + side) / 3 ≡ id = omega arith in
+    let r : (3 * id + side) % 3 ≡ side = omega arith in
+    rw (e, q, r)
 
-pub opened-yes : (p v : ℕ) → p ≡ v + 1 → opened (picksOf p) v ≡ true
-opened-yes zero v h = let b : ⊥ = omega arith in absurd b
-opened-yes (suc p) v h = eq-eqb p v (omega arith)
+follow-self : (side : Side) → mayFollow side side ≡ true
+follow-self changing = refl
+follow-self rising = refl
+follow-self falling = refl
 
-pub opened-not : (p v : ℕ) → (p ≡ v + 1 → ⊥) → opened (picksOf p) v ≡ false
-opened-not zero v h = refl
-opened-not (suc p) v h = ne-eqb p v (λ e. h (omega arith))
+-- another side follows only where a falling one comes after a rising one
+follow-not : (a b : ℕ) → a < 3 → b < 2 → (a ≡ b → ⊥) → mayFollow (sideOf a) (sideOf b) ≡ false
+follow-not zero zero l m h = absurd (h refl)
+follow-not zero (suc zero) l m h = refl
+follow-not (suc zero) zero l m h = refl
+follow-not (suc zero) (suc zero) l m h = absurd (h refl)
+follow-not (suc (suc a)) zero l m h = refl
+follow-not (suc (suc a)) (suc zero) l m h = refl
+follow-not a (suc (suc b)) l m h = let f : ⊥ = omega arith in absurd f
 
-same-suc : (p v : ℕ) → eqb (suc p) (v + 1) ≡ eqb p v
-same-suc p v = rw (add-one v) (eqb·suc-suc p v)
+pub begin-is : (side : ℕ) → side < 3 → mayBegin (sideOf side) ≡ ltb side 2
+begin-is zero l = refl
+begin-is (suc zero) l = refl
+begin-is (suc (suc side)) l = sym (le-ltb (suc (suc side)) 2 (omega arith))
 
-pub fresh-is : (p v : ℕ) → (p ≡ 0 → ⊥) → fresh (picksOf p) changing v ≡ eqb p (v + 1)
-fresh-is zero v h = absurd (h refl)
-fresh-is (suc p) v h = sym (same-suc p v)
+by-test : {P : Type 0} (a b : ℕ) → (a ≡ b → P) → ((a ≡ b → ⊥) → P) → P
+by-test {P} a b y n = go (eqb a b) (eqb-true a b) (eqb-false a b)
+  where
+    go : (t : Bool) → (t ≡ true → a ≡ b) → (t ≡ false → a ≡ b → ⊥) → P
+    go true e f = y (e refl)
+    go false e f = n (f refl)
+
+pub fresh-same : (p side id : ℕ) → side < 3 → p ≡ 3 * id + 1 + side → fresh (picksOf p) (sideOf side) id ≡ true
+fresh-same zero side id l e = let f : ⊥ = omega arith in absurd f
+fresh-same (suc n) side id l e =
+    let q : n / 3 ≡ id = omega arith in
+    let r : n % 3 ≡ side = omega arith in
+    rw (q, r, eq-eqb id id refl) (follow-self (sideOf side))
+
+pub fresh-not : (p side id : ℕ) → (p ≡ 0 → ⊥) → side < 2 → (p ≡ 3 * id + 1 + side → ⊥) → fresh (picksOf p) (sideOf side) id ≡ false
+fresh-not zero side id z l h = absurd (z refl)
+fresh-not (suc n) side id z l h =
+    by-test (n / 3) id
+    (λ q. rw (eq-eqb (n / 3) id q) (follow-not (n % 3) side (omega arith) l λ r. h (omega arith)))
+    (λ q. rw (ne-eqb (n / 3) id q))
+
+pub fresh-falling : (p id : ℕ) → (p ≡ 0 → ⊥) → (p ≡ 3 * id + 1 + 2 → ⊥) → fresh (picksOf p) falling id ≡ eqb p (3 * id + 2)
+fresh-falling zero id z h = absurd (z refl)
+fresh-falling (suc n) id z h =
+    by-test (n / 3) id
+    (λ q. by-test (n % 3) 1
+    (λ r. rw (eq-eqb (n / 3) id q, r, eq-eqb (suc n) (3 * id + 2) (omega arith)))
+    (λ r. let e : n % 3 ≡ 0 = last (n % 3) (omega arith) r λ w. h (omega arith) in rw (eq-eqb (n / 3) id q, e, ne-eqb (suc n) (3 * id + 2) λ w. omega arith)))
+    (λ q. rw (ne-eqb (n / 3) id q, ne-eqb (suc n) (3 * id + 2) λ w. q (omega arith)))
+  where
+    last : (k : ℕ) → k < 3 → (k ≡ 1 → ⊥) → (k ≡ 2 → ⊥) → k ≡ 0
+    last zero l a b = refl
+    last (suc zero) l a b = absurd (a refl)
+    last (suc (suc zero)) l a b = absurd (b refl)
+    last (suc (suc (suc k))) l a b = let f : ⊥ = omega arith in absurd f
+
+pub opened-level : (p id : ℕ) → p ≡ 3 * id + 1 → opened (picksOf p) id ≡ true
+opened-level zero id e = let f : ⊥ = omega arith in absurd f
+opened-level (suc n) id e =
+    let q : n / 3 ≡ id = omega arith in
+    let r : n % 3 ≡ 0 = omega arith in
+    rw (q, r, eq-eqb id id refl)
+
+pub opened-other : (p id : ℕ) → (p ≡ 3 * id + 1 → ⊥) → opened (picksOf p) id ≡ eqb p (3 * id + 3)
+opened-other zero id h = sym (ne-eqb 0 (3 * id + 3) λ e. omega arith)
+opened-other (suc n) id h =
+    by-test (n / 3) id
+    (λ q. by-test (n % 3) 2
+    (λ r. rw (eq-eqb (n / 3) id q, r, eq-eqb (suc n) (3 * id + 3) (omega arith)))
+    (λ r. let e : n % 3 ≡ 1 = middle (n % 3) (omega arith) (λ w. h (omega arith)) r in rw (eq-eqb (n / 3) id q, e, ne-eqb (suc n) (3 * id + 3) λ w. omega arith)))
+    (λ q. rw (ne-eqb (n / 3) id q, ne-eqb (suc n) (3 * id + 3) λ w. q (omega arith)))
+  where
+    middle : (k : ℕ) → k < 3 → (k ≡ 0 → ⊥) → (k ≡ 2 → ⊥) → k ≡ 1
+    middle zero l a b = absurd (a refl)
+    middle (suc zero) l a b = refl
+    middle (suc (suc zero)) l a b = absurd (b refl)
+    middle (suc (suc (suc k))) l a b = let f : ⊥ = omega arith in absurd f
 
 -- ---- the instructions
 

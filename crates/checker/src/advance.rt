@@ -6,11 +6,10 @@ ghost use mathlib.Core.Bool.{true, false};
 ghost use Prim.Native.Nat.{_<_, _^_};
 ghost use lib.ListN.{getD, set};
 ghost use Rattle.arith.specs.Inner.Flags.{flagsOf};
-ghost use Rattle.semantics.specs.Program.{changing};
 ghost use Rattle.bytecode.specs.Instructions.{current as currentOf, previous as previousOf, gate as gateOf, pick as pickOf, assign as assignOf, settle as settleOf, instructionOf};
 ghost use Rattle.bytecode.specs.Signature.{truth};
-ghost use Rattle.bytecode.specs.Check.{known as knownAs, advance as advanceOf, unset as unsetOf, fresh};
-ghost use Rattle.checker.specs.Inner.Walk.{sortOf, sortsOf, openOf, picksOf, knownOf, advancedKnown, Small, SmallAfter};
+ghost use Rattle.bytecode.specs.Check.{known as knownAs, advance as advanceOf, unset as unsetOf, fresh, opened};
+ghost use Rattle.checker.specs.Inner.Walk.{sortOf, sortsOf, openOf, sideOf, picksOf, knownOf, advancedKnown, Small, SmallAfter};
 ghost use Rattle.checker.specs.Inner.Walk.{advanceBy, pushed, kept, joined, only, outside};
 use arith::bits;
 
@@ -19,9 +18,16 @@ pub const NUMBER: u64 = 0;
 
 pub const TRUTH: u64 = 1;
 
+// The side of a pick.
+pub const CHANGING: u64 = 0;
+
+pub const RISING: u64 = 1;
+
+pub const FALLING: u64 = 2;
+
 // What is known before an instruction: how many values are held, and their sorts as bits (the lowest that of the last held); 1 if
-// a gate awaits its pick, else 0 (a number, so that the struct has no padding to copy); the id whose picks await their settle plus
-// 1, or 0; which ids' current values may be used, as bits (the lowest that of id 0), and how many ids there are.
+// a gate awaits its pick, else 0 (a number, so that the struct has no padding to copy); 1 plus three times the id whose picks await their
+// settle plus the side of the last, or 0; which ids' current values may be used, as bits (the lowest that of id 0), and how many ids there are.
 pub struct Walk {
     pub held: u64,
     pub sorts: u64,
@@ -186,20 +192,26 @@ fn is_unset(w: Walk, id: u64) -> bool
     !bits::bit(w.known, id)
 }
 
-// Picks of this id may follow.
-fn may_pick(w: Walk, id: u64) -> bool
-    requires { ⌜ id < 2 ^ 32 ⌝ }
-    ensures { λ r. ⌜ r ≡ fresh (picksOf (w .picking)) changing id ⌝ }
+// A pick of this id on a side may follow: picks are all changing, or some rising and then some falling.
+fn may_pick(w: Walk, side: u64, id: u64) -> bool
+    requires { ⌜ (side < 3) × (id < 2 ^ 32) ⌝ }
+    ensures { λ r. ⌜ r ≡ fresh (picksOf (w .picking)) (sideOf side) id ⌝ }
 {
     if w.picking == 0 {
+        return side < FALLING;
+    }
+    if w.picking == 3 * id + 1 + side {
         return true;
     }
-    w.picking == id + 1
+    if side < FALLING {
+        return false;
+    }
+    w.picking == 3 * id + 2
 }
 
-pub fn pick(w: Walk, id: u64) -> Advanced
-    requires { ⌜ (Small w) × (id < 2 ^ 32) ⌝ }
-    ensures { λ r. ⌜ advancedKnown r ≡ advanceOf (pickOf changing id) (knownOf w) ⌝ }
+pub fn pick(w: Walk, side: u64, id: u64) -> Advanced
+    requires { ⌜ (Small w) × (side < 3) × (id < 2 ^ 32) ⌝ }
+    ensures { λ r. ⌜ advancedKnown r ≡ advanceOf (pickOf (sideOf side) id) (knownOf w) ⌝ }
     ensures { λ r. ⌜ SmallAfter r ⌝ }
 {
     if w.gate == 0 {
@@ -211,14 +223,14 @@ pub fn pick(w: Walk, id: u64) -> Advanced
     if !is_unset(w, id) {
         return Advanced::Broken;
     }
-    if !may_pick(w, id) {
+    if !may_pick(w, side, id) {
         return Advanced::Broken;
     }
     Advanced::Kept(Walk {
         held: 0,
         sorts: 0,
         gate: 0,
-        picking: id + 1,
+        picking: 3 * id + 1 + side,
         known: w.known,
         names: w.names,
     })
@@ -260,6 +272,17 @@ pub fn assign(w: Walk, id: u64) -> Advanced
     Advanced::Kept(ruled(w, id))
 }
 
+// Picks of this id await their settle, and the last is not a rising one.
+fn may_settle(w: Walk, id: u64) -> bool
+    requires { ⌜ id < 2 ^ 32 ⌝ }
+    ensures { λ r. ⌜ r ≡ opened (picksOf (w .picking)) id ⌝ }
+{
+    if w.picking == 3 * id + 1 {
+        return true;
+    }
+    w.picking == 3 * id + 3
+}
+
 pub fn settle(w: Walk, id: u64) -> Advanced
     requires { ⌜ (Small w) × (id < 2 ^ 32) ⌝ }
     ensures { λ r. ⌜ advancedKnown r ≡ advanceOf (settleOf id) (knownOf w) ⌝ }
@@ -274,7 +297,7 @@ pub fn settle(w: Walk, id: u64) -> Advanced
     if !is_unset(w, id) {
         return Advanced::Broken;
     }
-    if w.picking != id + 1 {
+    if !may_settle(w, id) {
         return Advanced::Broken;
     }
     Advanced::Kept(ruled(w, id))
@@ -298,9 +321,11 @@ pub fn advance(code: u8, n: u64, w: Walk) -> Advanced
         17 => test(w, TRUTH),
         18 => test(w, TRUTH),
         19 => gate(w),
-        20 => pick(w, n),
+        20 => pick(w, CHANGING, n),
         21 => assign(w, n),
         22 => settle(w, n),
+        24 => pick(w, RISING, n),
+        25 => pick(w, FALLING, n),
         _ => Advanced::Broken,
     }
 }

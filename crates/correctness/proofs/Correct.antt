@@ -11,10 +11,11 @@ use borrow.Author.Tests.{eq-eqb}
 use Rattle.limits.specs.Answer.{Answer, accepted, refused}
 use Rattle.arith.specs.Values.{Outcome, ok, refusal, _>>=_, check}
 use Rattle.semantics.specs.Program.{Program, rangesOf, knownFirst}
-use Rattle.semantics.specs.Formula.{State}
+use Rattle.semantics.specs.Formula.{State, writtenOf, GX, All}
 use Rattle.semantics.specs.ReferenceScan.{allWithin, scanRules, withInputs, referenceScan}
-use Rattle.semantics.specs.Rows.{Reply, reply, referenceReplies, startsOf, InRanges, OnlyTrace}
+use Rattle.semantics.specs.Rows.{Reply, reply, referenceReplies, startsOf, traceOf, InRanges, OnlyTrace}
 use Rattle.arith.proofs.Basics.{T-true, bind-assoc}
+use Rattle.semantics.proofs.Written.{written-trace}
 use Rattle.semantics.proofs.Reference.{length-known, reference-next, reference-trace, starts-in-range}
 use Rattle.bytecode.specs.Instructions.{encodeAll}
 use Rattle.bytecode.specs.Translation.{codeRules, imageOf, Translatable}
@@ -31,7 +32,7 @@ use Rattle.translate.specs.Services.{translationOf}
 use Rattle.scan.specs.Services.{AfterStart, startOf, started, AfterScan, finished, runOf, scanCode, testedScan, scanned, scanOf, scansOf}
 use Rattle.scan.proofs.Steps.{scan-steps}
 use Rattle.translate.proofs.Kept.{image-stored, stored-image}
-use Rattle.correctness.specs.TraceCorrect.{replyOf, repliesOf, StepsIf, StepsAre, begun, TraceCorrect, Demand3}
+use Rattle.correctness.specs.TraceCorrect.{replyOf, repliesOf, StepsIf, StepsAre, begun, found, TraceCorrect, Demand3}
 
 -- ---- one scan
 
@@ -120,6 +121,15 @@ module _ (p : Program) (t : Translatable p) where
         last = x .last;
         steps = all-steps (imageOf p) rows (begun (imageOf p) lent);
       }
+
+  -- a pair's formulas hold as they are written too (document 02, A.6)
+  pub image-written : (lent : State) → length lent ≡ length (rangesOf p) → (rows : List (List ℤ)) → All (λ f. GX f (traceOf (begun (imageOf p) lent) (found (imageOf p) lent rows))) (writtenOf p)
+  image-written lent l rows =
+      let g = starts-in-range p (t .well-formed) in
+      let a = scans-agree p t rows (startsOf p) g in
+      let q : startsOf p ≡ begun (imageOf p) lent = sym (ap {A = AfterStart} (λ r. r .state) (start-translated lent l)) in
+      let x = subst (λ (rs : List Reply). All (λ f. GX f (traceOf (startsOf p) rs)) (writtenOf p)) (sym a) (written-trace p (t .well-formed) rows (startsOf p) g) in
+      subst (λ (s : State). All (λ f. GX f (traceOf s (repliesOf (imageOf p) s rows))) (writtenOf p)) q x
 
 -- ---- texts
 

@@ -156,7 +156,7 @@ module _ (code : List ℕ) (b : Progress) (inside : b .at < length code) where
 
 pub no-operand : (code : ℕ) → 4 ≤ code → code < 20 → hasOperand code ≡ false
 unfolding hasOperand
-no-operand code l h = rw (le-leb 1 code (omega arith), lt-leb code 3 (omega arith), lt-leb 20 code h)
+no-operand code l h = rw (le-leb 1 code (omega arith), lt-leb code 3 (omega arith), lt-leb 20 code h, lt-leb 24 code (omega arith))
 
 module _ (code : ℕ) (m : Registers) (vals left : List ℤ) (r : Stepped) (go : m .passing ≡ false) where
   pub calculated-is : 4 ≤ code → code ≤ 8 → OnStack (operation (operationOf code)) m vals r left

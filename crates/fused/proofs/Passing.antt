@@ -59,27 +59,27 @@ at-each {P} k code l y n = by (eqb code k) (eqb-true code k) (eqb-false code k)
     by false a b = n (past k code l (b refl))
 
 module _ (vs : List Sort) (o : Option Picks) (ids : List Bool) (code n : ℕ) where
-  open-above : 16 ≤ code → (code ≡ 20 → ⊥) → advanceBy (instructionOf code n) (known vs true o ids) ≡ none
+  open-above : 16 ≤ code → (code ≡ 20 → ⊥) → (code ≡ 24 → ⊥) → (code ≡ 25 → ⊥) → advanceBy (instructionOf code n) (known vs true o ids) ≡ none
   unfolding instructionOf
-  open-above l no-pick =
+  open-above l no-pick no-rise no-fall =
       at-each 16 code l (λ e. rw e (one-none Sort.truth vs)) λ l₁.
       at-each 17 code l₁ (λ e. rw e (two-none Sort.truth vs)) λ l₂.
       at-each 18 code l₂ (λ e. rw e (two-none Sort.truth vs)) λ l₃.
       at-each 19 code l₃ (λ e. rw e (one-none Sort.truth vs)) λ l₄.
       at-each 20 code l₄ (λ e. absurd (no-pick e)) λ l₅.
       at-each 21 code l₅ (λ e. rw e (one-none Sort.number vs)) λ l₆.
-      at-each 22 code l₆ (λ e. rw e refl) λ l₇. rw (none-above code n l₇)
+      at-each 22 code l₆ (λ e. rw e refl) λ l₇. rw (none-above code n l₇ no-rise no-fall)
 
-  open-none : 10 ≤ code → (code ≡ 20 → ⊥) → advanceBy (instructionOf code n) (known vs true o ids) ≡ none
-  open-none l no-pick = by (ltb code 16) (ltb-true code 16) (ltb-false code 16)
+  open-none : 10 ≤ code → (code ≡ 20 → ⊥) → (code ≡ 24 → ⊥) → (code ≡ 25 → ⊥) → advanceBy (instructionOf code n) (known vs true o ids) ≡ none
+  open-none l no-pick no-rise no-fall = by (ltb code 16) (ltb-true code 16) (ltb-false code 16)
     where
       by : (t : Bool) → (t ≡ true → code < 16) → (t ≡ false → 16 ≤ code) → advanceBy (instructionOf code n) (known vs true o ids) ≡ none
       by true y m = let h = y refl in rw (comparison-of code n l (omega arith)) (two-none Sort.number vs)
-      by false y m = open-above (m refl) no-pick
+      by false y m = open-above (m refl) no-pick no-rise no-fall
 
-pub open-breaks : (w : Walk) → openOf (w .gate) ≡ true → (code n : ℕ) → 10 ≤ code → (code ≡ 20 → ⊥) → advanceBy (instructionOf code n) (knownOf w) ≡ none
-open-breaks w g code n l no-pick =
-    subst (λ (t : Bool). advanceBy (instructionOf code n) (known (sortsOf (w .held) (w .sorts)) t (picksOf (w .picking)) (flagsOf (w .names) (w .known))) ≡ none) (sym g) (open-none (sortsOf (w .held) (w .sorts)) (picksOf (w .picking)) (flagsOf (w .names) (w .known)) code n l no-pick)
+pub open-breaks : (w : Walk) → openOf (w .gate) ≡ true → (code n : ℕ) → 10 ≤ code → (code ≡ 20 → ⊥) → (code ≡ 24 → ⊥) → (code ≡ 25 → ⊥) → advanceBy (instructionOf code n) (knownOf w) ≡ none
+open-breaks w g code n l no-pick no-rise no-fall =
+    subst (λ (t : Bool). advanceBy (instructionOf code n) (known (sortsOf (w .held) (w .sorts)) t (picksOf (w .picking)) (flagsOf (w .names) (w .known))) ≡ none) (sym g) (open-none (sortsOf (w .held) (w .sorts)) (picksOf (w .picking)) (flagsOf (w .names) (w .known)) code n l no-pick no-rise no-fall)
 
 -- ---- what is passed over leaves the memory as it is
 

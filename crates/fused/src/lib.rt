@@ -105,7 +105,19 @@ fn pass(code: &[u8], b: Progress) -> Moved
             let leb128::Unsigned::Number(n, next) = operand(code, at) else {
                 return Moved::Broken;
             };
-            over(b, next, false, advance::pick(w, n))
+            over(b, next, false, advance::pick(w, advance::CHANGING, n))
+        }
+        24 => {
+            let leb128::Unsigned::Number(n, next) = operand(code, at) else {
+                return Moved::Broken;
+            };
+            over(b, next, false, advance::pick(w, advance::RISING, n))
+        }
+        25 => {
+            let leb128::Unsigned::Number(n, next) = operand(code, at) else {
+                return Moved::Broken;
+            };
+            over(b, next, false, advance::pick(w, advance::FALLING, n))
         }
         _ => Moved::Broken,
     }
@@ -255,7 +267,7 @@ fn advance_one(
             let leb128::Unsigned::Number(n, next) = operand(code, at) else {
                 return Moved::Broken;
             };
-            let Advanced::Kept(k) = advance::pick(w, n) else {
+            let Advanced::Kept(k) = advance::pick(w, advance::CHANGING, n) else {
                 return Moved::Broken;
             };
             onward(k, next, machine::step(low, high, prev, cur, vals, m, 20, n))
@@ -277,6 +289,24 @@ fn advance_one(
                 return Moved::Broken;
             };
             onward(k, next, machine::step(low, high, prev, cur, vals, m, 22, n))
+        }
+        24 => {
+            let leb128::Unsigned::Number(n, next) = operand(code, at) else {
+                return Moved::Broken;
+            };
+            let Advanced::Kept(k) = advance::pick(w, advance::RISING, n) else {
+                return Moved::Broken;
+            };
+            onward(k, next, machine::step(low, high, prev, cur, vals, m, 24, n))
+        }
+        25 => {
+            let leb128::Unsigned::Number(n, next) = operand(code, at) else {
+                return Moved::Broken;
+            };
+            let Advanced::Kept(k) = advance::pick(w, advance::FALLING, n) else {
+                return Moved::Broken;
+            };
+            onward(k, next, machine::step(low, high, prev, cur, vals, m, 25, n))
         }
         _ => Moved::Broken,
     }

@@ -24,6 +24,7 @@ use Rattle.grammar.proofs.Shape.{NamesFit}
 use Rattle.grammar.proofs.Whole.{named, spelled-fit}
 use Rattle.grammar.proofs.DerivedText.{parse-reads}
 use Rattle.grammar.proofs.Depth.{depthRules, rules-depth, rules-shallow}
+use Rattle.grammar.proofs.Sided.{rules-sided}
 use Rattle.grammar.proofs.Size.{spelled-small}
 use Rattle.grammar.proofs.Image.{image-emitted}
 
@@ -95,6 +96,7 @@ module _ (text : List ℕ) (p : Program) (n : ℕ) (e : parse text ≡ accepted 
           starts = starts-within (rangesOf p) fits;
           ordered = s .ordered;
           agrees = parse-reads text p n e .1;
+          sided = rules-sided (namesOf p) (s .rule-tokens) (p .rules) (s .spells-rules);
         };
         few = omega (arith, l, s .few);
         ranges-fit = fits;

@@ -65,6 +65,8 @@ others code n h k p =
     cond-other (eqb code 20) _ _ (λ e. absurd (p (eqb-true code 20 e))) λ e₁₁.
     cond-other (eqb code 21) _ _ (λ e. other _ refl) λ e₁₂.
     cond-other (eqb code 22) _ _ (λ e. other _ refl) λ e₁₃.
+    cond-other (eqb code 24) _ _ (λ e. let b : ⊥ = omega (arith, eqb-true code 24 e) in absurd b) λ e₁₄.
+    cond-other (eqb code 25) _ _ (λ e. let b : ⊥ = omega (arith, eqb-true code 25 e) in absurd b) λ e₁₅.
     let f₃ = up 3 code (up 2 code (up 1 code h e₁) e₂) e₃ in
     let f₆ = over 10 15 code (up 9 code (over 4 8 code f₃ e₄) e₅) e₆ in
     let f₉ = up 18 code (up 17 code (up 16 code f₆ e₇) e₈) e₉ in

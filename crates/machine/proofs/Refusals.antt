@@ -1,8 +1,8 @@
--- The run of sound code is refused by 14 to 17 only: no operand is ever missing, never over 40 values are held, and every id is
+-- The run of sound code is refused by 14 to 17 and 22 only: no operand is ever missing, never over 40 values are held, and every id is
 -- declared. Assumes nothing.
 use Prim.Native.Nat.{ℕ, zero, suc, _+_, _≤_, _<_}
 use native.Mathlib.Omega.{arith}
-use mathlib.Core.Path.{_≡_, refl, ap, _∙_, subst}
+use mathlib.Core.Path.{_≡_, refl, sym, ap, _∙_, subst}
 use mathlib.Core.Bool.{Bool, true, false, not, _&&_, _||_}
 use mathlib.Core.List.{List, [], _∷_}
 use mathlib.Core.Option.{Option, none, some}
@@ -13,7 +13,7 @@ use lib.Signed.{quotZ}
 use borrow.Author.Tests.{lt-ltb, ltb-true}
 use Rattle.limits.specs.Answer.{accepted}
 use Rattle.arith.specs.Values.{Outcome, ok, refusal, _>>=_, require, eqZ, isInt32, int32, nonZero, remainder, Operation, add, subtract, multiply, divide, modulo, arithmetic, negation, compares}
-use Rattle.semantics.specs.Program.{Range, Side, changing, within}
+use Rattle.semantics.specs.Program.{Range, Side, changing, rising, falling, within}
 use Rattle.semantics.specs.Formula.{State, at}
 use Rattle.semantics.specs.ReferenceScan.{rangeAt, ranged, moves, stays, picked}
 use Rattle.arith.proofs.Basics.{T-true, and-left, and-right, ok≢refusal}
@@ -27,10 +27,10 @@ use Rattle.bytecode.proofs.Walk.{check-stepped}
 use Rattle.machine.specs.Step.{Machine, machine, bit, yes, push, pop, gated, settled, endsPassing, isPick, declared, perform, step}
 use Rattle.machine.specs.Runs.{afterStep, run}
 
--- a refusal of the rules at work: 14, 15, 16 or 17
-pub record ByRules (k : ℕ) : Type 0 where
-  pub least : 14 ≤ k
-  pub most : k ≤ 17
+-- a refusal of the rules at work: 14, 15, 16 or 17, or 22 (document 02, A.6)
+pub data ByRules (k : ℕ) : Type 0 where
+  at-work : 14 ≤ k → k ≤ 17 → ByRules k
+  turned : k ≡ 22 → ByRules k
 
 -- how a run of sound code may end
 abbrev pub RefusedByRules : Outcome Machine → Type 0
@@ -57,7 +57,7 @@ bind-number (ok a) f k e h g = g a e
 bind-number (refusal j) f k e h g = let q : j ≡ k = cc in subst ByRules q (h j refl)
 
 by-rules : (n k : ℕ) → 14 ≤ n → n ≤ 17 → n ≡ k → ByRules k
-by-rules n k a b e = record { least = omega arith; most = omega arith }
+by-rules n k a b e = at-work (omega arith) (omega arith)
 
 int32-rules : (z : ℤ) (k : ℕ) → int32 z ≡ refusal k → ByRules k
 int32-rules z k e = by-rules 14 k (omega arith) (omega arith) (require-number (isInt32 z) 14 z k e)
@@ -82,6 +82,8 @@ ranged-rules ns v z k e = by-rules 17 k (omega arith) (omega arith) (require-num
 
 stays-rules : (side : Side) (k : ℕ) → stays side ≡ k → ByRules k
 stays-rules changing k e = by-rules 16 k (omega arith) (omega arith) e
+stays-rules rising k e = turned (sym e)
+stays-rules falling k e = turned (sym e)
 
 picked-rules : (side : Side) (ns : List Range) (s : State) (v : ℕ) (z : ℤ) (k : ℕ) → picked side ns s v z ≡ refusal k → ByRules k
 unfolding picked
@@ -155,7 +157,7 @@ none-held ms h = rw h
 
 gate-kept : (b c : Bool) (ms : List ℤ) (t : State) (o : Option Picks) (ids : List Bool) (d : Known) → known [] true o ids ≡ d → ms ≡ [] → Kept d (gated b c ms t)
 gate-kept false c ms t o ids d e h = over [] o ids d c ms t e h
-gate-kept true true ms t o ids d e h = record { least = omega arith; most = omega arith }
+gate-kept true true ms t o ids d e h = at-work (omega arith) (omega arith)
 gate-kept true false ms t o ids d e h = moved (known [] true o ids) d (machine false false ms t) e (none-held ms h)
 
 settled-kept : (v : ℕ) (z : ℤ) (c : Bool) (ms : List ℤ) (t : State) (d : Known) (o : Option Picks) (ids : List Bool) → known [] false o ids ≡ d → ms ≡ [] → Matches d (settled v z c ms t)

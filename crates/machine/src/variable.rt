@@ -8,7 +8,7 @@ ghost use Prim.Native.Nat.{_≤_};
 ghost use lib.IntN.{ℤ};
 ghost use lib.ListN.{length};
 ghost use Rattle.limits.specs.Limits.{stackLimit};
-ghost use Rattle.semantics.specs.Program.{Range, changing};
+ghost use Rattle.semantics.specs.Program.{Range, changing, rising, falling};
 ghost use Rattle.semantics.specs.Formula.{State};
 ghost use Rattle.bytecode.specs.Instructions.{gate as gating, pick as picking, assign as assigning, settle as settling};
 ghost use Rattle.machine.specs.Step.{perform};
@@ -108,6 +108,80 @@ pub fn pick(
     }
     if arith::is_equal(vals[top], prev[i]) {
         return Stepped::Refused(limits::EQUAL_TO_PREVIOUS);
+    }
+    let k = Registers {
+        held: n,
+        picked: true,
+        passing: false,
+    };
+    assign(low, high, cur, vals, k, id)
+}
+
+// The same, refused first if it is at or below the previous value.
+pub fn rise(
+    low: &[i32],
+    high: &[i32],
+    prev: &[i32],
+    cur: &mut [i32],
+    vals: &[i32],
+    m: Registers,
+    id: u64,
+) -> Stepped
+    requires { ⌜ Stack m (now vals) ⌝ }
+    requires { ⌜ OneEach (now low) (now high) (now prev) (now cur) ⌝ }
+    ensures { λ r. ⌜ ((ns : List Range) → RangesIn ns (now (low .entry)) (now (high .entry))
+        → stepOutcome r (now (vals .entry)) (now (cur .exit))
+        ≡ perform ns (now (prev .entry)) (picking rising id) (m .picked) (heldOf (now (vals .entry)) (m .held)) (now (cur .entry))) ⌝ }
+    ensures { λ r. ⌜ Few r ⌝ }
+{
+    let n = m.held;
+    if n == 0 {
+        return Stepped::Refused(limits::BROKEN_IMAGE);
+    }
+    let top = n - 1;
+    let i = id as usize;
+    if prev.len() <= i {
+        return Stepped::Refused(limits::BROKEN_IMAGE);
+    }
+    if arith::is_less_equal(vals[top], prev[i]) {
+        return Stepped::Refused(limits::WRONG_DIRECTION);
+    }
+    let k = Registers {
+        held: n,
+        picked: true,
+        passing: false,
+    };
+    assign(low, high, cur, vals, k, id)
+}
+
+// The same, refused first if it is at or above the previous value.
+pub fn fall(
+    low: &[i32],
+    high: &[i32],
+    prev: &[i32],
+    cur: &mut [i32],
+    vals: &[i32],
+    m: Registers,
+    id: u64,
+) -> Stepped
+    requires { ⌜ Stack m (now vals) ⌝ }
+    requires { ⌜ OneEach (now low) (now high) (now prev) (now cur) ⌝ }
+    ensures { λ r. ⌜ ((ns : List Range) → RangesIn ns (now (low .entry)) (now (high .entry))
+        → stepOutcome r (now (vals .entry)) (now (cur .exit))
+        ≡ perform ns (now (prev .entry)) (picking falling id) (m .picked) (heldOf (now (vals .entry)) (m .held)) (now (cur .entry))) ⌝ }
+    ensures { λ r. ⌜ Few r ⌝ }
+{
+    let n = m.held;
+    if n == 0 {
+        return Stepped::Refused(limits::BROKEN_IMAGE);
+    }
+    let top = n - 1;
+    let i = id as usize;
+    if prev.len() <= i {
+        return Stepped::Refused(limits::BROKEN_IMAGE);
+    }
+    if arith::is_greater_equal(vals[top], prev[i]) {
+        return Stepped::Refused(limits::WRONG_DIRECTION);
     }
     let k = Registers {
         held: n,

@@ -2,6 +2,7 @@
 use mathlib.Core.Path.{_≡_, refl}
 use mathlib.Core.Bool.{Bool, true, false, _&&_}
 use mathlib.Core.List.{List}
+use mathlib.Core.Logic.{_⊎_, inl, inr}
 use Prim.Native.Nat.{ℕ, _≤_}
 use native.Mathlib.Omega.{arith}
 use lib.Dec.{T, eqb, eqb→eq}
@@ -19,7 +20,7 @@ use Rattle.bytecode.specs.Parts.{headerOf, codeOf}
 use Rattle.bytecode.proofs.Walk.{check-sound}
 use Rattle.machine.specs.Step.{Machine, machine}
 use Rattle.machine.specs.States.{stateLength, rowLength, stateInRange, rowInRange}
-use Rattle.machine.proofs.Refusals.{RefusedByRules}
+use Rattle.machine.proofs.Refusals.{at-work, turned, RefusedByRules}
 use Rattle.machine.proofs.Ranges.{Within, AllWithin}
 use Rattle.bytecode.proofs.SoundHeader.{header-is}
 use Rattle.machine.proofs.SoundRuns.{sound-by-rules, sound-within}
@@ -27,24 +28,25 @@ use Rattle.scan.specs.Services.{AfterScan, finished, runOf, scanCode, te
 
 -- ---- refusals
 
--- a refusal of the caller, the state, the row or the rules at work: 12 to 18, without a place
+-- a refusal of the caller, the state, the row or the rules at work: 12 to 18, or 22, without a place
 abbrev pub OfCaller : Answer (Unit {0}) → Type 0
 OfCaller (accepted u) = Unit {0}
-OfCaller (refused number place) = (12 ≤ number) × (number ≤ 18) × (place ≡ 0)
+OfCaller (refused number place) = (((12 ≤ number) × (number ≤ 18)) ⊎ (number ≡ 22)) × (place ≡ 0)
 
 tested-caller : (b : Bool) (k : ℕ) (s : State) (r : AfterScan) → 12 ≤ k → k ≤ 18 → OfCaller (r .answer) → OfCaller (testedScan b k s r .answer)
 tested-caller true k s r l m h = h
-tested-caller false k s r l m h = (l, m, refl)
+tested-caller false k s r l m h = (inl (l, m), refl)
 
 finished-caller : (s : State) (n : ℕ) (o : Outcome Machine) → RefusedByRules o → OfCaller (finished s n o .answer)
 finished-caller s n (ok (machine b c vs t)) h = tt
-finished-caller s n (refusal k) h = (omega (arith, h .least), omega (arith, h .most), refl)
+finished-caller s n (refusal k) (at-work l m) = (inl (omega arith, omega arith), refl)
+finished-caller s n (refusal k) (turned e) = (inr e, refl)
 
 code-caller : (image : List ℕ) → checkOf image ≡ accepted tt → (found : State) (row : List ℤ) → OfCaller (scanCode image found row .answer)
 unfolding scanCode
 code-caller image e found row = finished-caller found _ (runOf image found row .last) (sound-by-rules image e found (withInputs found row) (length (codeOf image)))
 
--- a scan of a sound image is refused by 12 to 18 only
+-- a scan of a sound image is refused by 12 to 18 and 22 only
 pub sound-scan : (image : List ℕ) → checkOf image ≡ accepted tt → (found : State) (row : List ℤ) → OfCaller (scanOf image found row .answer)
 unfolding scanOf
 sound-scan image e found row =

@@ -1,3 +1,4 @@
 pub mod Unique
 pub mod Reference
 pub mod Flags
+pub mod Written

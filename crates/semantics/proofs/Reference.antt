@@ -15,7 +15,7 @@ use Rattle.semantics.specs.Formula.{State, at, evalC, Formula, formulasO
 use Rattle.semantics.specs.ReferenceScan.{allWithin, scanRules, withInputs, referenceScan}
 use Rattle.semantics.specs.Rows.{Reply, reply, referenceReplies, startsOf, acceptedStates, acceptedRows, traceOf, Fits, InRanges, AllInRanges, OnlyTrace}
 use Rattle.arith.proofs.Basics.{and-T, ok≢refusal}
-use Rattle.semantics.proofs.Unique.{Agree, HoldsRule, HoldsAll, scan-holds, scan-value, scan-within, allWithin-inputs}
+use Rattle.semantics.proofs.Unique.{Agree, HoldsRule, HoldsAll, NewAll, scan-new, new-holds, scan-value, scan-within, allWithin-inputs}
 
 -- ---- every formula at a place, and along a trace
 
@@ -31,7 +31,7 @@ module _ (s t : State) (a b : Condition) (x : Bool) (k : ℕ) (e : evalC s t a �
 pub refused-unsatisfied : (f : Formula) (s t : State) (k : ℕ) → f s t ≡ refusal k → Holds f s t → ⊥
 refused-unsatisfied f s t k e h = ok≢refusal true k (sym h ∙ e)
 
-all-append : (P : Formula → Type 0) (fs gs : List Formula) → All P fs → All P gs → All P (fs ++ gs)
+pub all-append : (P : Formula → Type 0) (fs gs : List Formula) → All P fs → All P gs → All P (fs ++ gs)
 all-append P [] gs a b = b
 all-append P (f ∷ fs) gs a b = (a .0, all-append P fs gs (a .1) b)
 
@@ -54,11 +54,11 @@ hold-rules s t [] h = tt
 hold-rules s t (r ∷ rs) h =
     (all-first (λ f. Holds f s t) (formulasOfRule r) (formulasOfRules rs) h, hold-rules s t rs (all-second (λ f. Holds f s t) (formulasOfRule r) (formulasOfRules rs) h))
 
-all-start : (s : State) (fs : List Formula) → All (λ f. GX f (s ∷ [])) fs
+pub all-start : (s : State) (fs : List Formula) → All (λ f. GX f (s ∷ [])) fs
 all-start s [] = tt
 all-start s (f ∷ fs) = (tt, all-start s fs)
 
-all-cons : (s t : State) (ts : List State) (fs : List Formula) → All (λ f. Holds f s t) fs → All (λ f. GX f (t ∷ ts)) fs → All (λ f. GX f (s ∷ t ∷ ts)) fs
+pub all-cons : (s t : State) (ts : List State) (fs : List Formula) → All (λ f. Holds f s t) fs → All (λ f. GX f (t ∷ ts)) fs → All (λ f. GX f (s ∷ t ∷ ts)) fs
 all-cons s t ts [] a b = tt
 all-cons s t ts (f ∷ fs) a b = ((a .0, b .0), all-cons s t ts fs (a .1) (b .1))
 
@@ -76,6 +76,7 @@ all-tail s t ts (f ∷ fs) a = (a .0 .1, all-tail s t ts fs (a .1))
 pub record Next (p : Program) (s : State) (row : List ℤ) (u : State) : Type 0 where
   pub kept : InRanges p u
   pub inputs : take (p .inputs) u ≡ row
+  pub new : NewAll (rangesOf p) s u (p .rules)
   pub holds : HoldsAll s u (p .rules)
   pub only : (w : State) → length w ≡ length (rangesOf p) → take (p .inputs) w ≡ row → HoldsAll s w (p .rules) → w ≡ u
 
@@ -132,13 +133,14 @@ module _ (p : Program) (wf : WellFormed p) (s : State) (g : InRanges p s) (row :
   next u e =
       let known = knownFirst (p .inputs) (length (rangesOf p)) in
       let l : length (withInputs s row) ≡ length known = size₀ ∙ sym (length-known (p .inputs) (length (rangesOf p))) in
-      let h = scan-holds (rangesOf p) s (p .rules) known (withInputs s row) u l (wf .ordered) (wf .agrees) e in
+      let h = scan-new (rangesOf p) s (p .rules) known (withInputs s row) u l (wf .ordered) e in
       let w = scan-within (rangesOf p) s (g .size) (g .ranges) (p .rules) (withInputs s row) u e within₀ in
       let size : length u ≡ length (rangesOf p) = w .1 ∙ size₀ in
       record {
         kept = record { size = size; ranges = w .0 };
         inputs = take-inputs u size (h .0);
-        holds = h .1;
+        new = h .1;
+        holds = new-holds (rangesOf p) s (p .rules) u (wf .agrees) (h .1);
         only = λ w₁ m i hs. scan-value (rangesOf p) s (p .rules) known (withInputs s row) u w₁ l (m ∙ sym (length-known (p .inputs) (length (rangesOf p)))) (wf .ordered) (wf .agrees) e (agree₀ w₁ i) hs;
       }
 

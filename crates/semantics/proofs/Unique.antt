@@ -10,10 +10,11 @@ use mathlib.Core.List.{List, [], _∷_, _++_, map}
 use mathlib.Core.Option.{Option, none, some}
 use lib.Dec.{T, ltb→lt}
 use lib.IntN.{ℤ, pos}
+use lib.Signed.{leZ, ≤ℤ-refl}
 use lib.ListN.{length, getD, set, drop, length-set}
 use lib.Seq.{drop-nil, getD-set-same, getD-set-other, ext-getD}
 use Rattle.arith.specs.Values.{ok, _>>=_, require, eqZ}
-use Rattle.semantics.specs.Program.{Range, Expression, constant, current, previous, operation, negate, Condition, comparison, negated, both, either, Side, changing, Case, Rule, function, change, target, UsableE, UsableC, UsableK, UsableR, OrderedRules, AgreesR, AgreesAll, allTrue, within}
+use Rattle.semantics.specs.Program.{Range, Expression, constant, current, previous, operation, negate, Condition, comparison, negated, both, either, Side, changing, rising, falling, Case, Rule, function, change, target, UsableE, UsableC, UsableK, UsableR, OrderedRules, AgreesR, AgreesAll, allTrue, within}
 use Rattle.semantics.specs.Formula.{State, at, evalE, evalC, anyCase, anyCondition, changeFormula, noChangeFormula, functionFormula, formulasOfRule, Holds, All}
 use Rattle.semantics.specs.ReferenceScan.{noRange, allWithin, rangeAt, ranged, moves, stays, picked, tryCase, tryCases, orPrevious, newValue, scanRules}
 use borrow.Author.Tests.{not-true}
@@ -70,9 +71,22 @@ data Tried (ns : List Range) (s t : State) (v : ℕ) (ks : List Case) : Option �
   noneHeld : anyCondition (conditions ks) s t ≡ ok false → anyCase v ks s t ≡ ok false → Tried ns s t v ks none
   oneHeld : (z : ℤ) → T (within (rangeAt ns v) z) → eqZ z (at s v) ≡ false → anyCondition (conditions ks) s t ≡ ok true → anyCase v ks s t ≡ ok (eqZ (at t v) z) → Tried ns s t v ks (some z)
 
+pub le-self : (a : ℤ) → leZ a a ≡ true
+le-self a = T-true (leZ a a) (≤ℤ-refl a .le)
+
+differ : (a b : ℤ) → (a ≡ b → ⊥) → eqZ a b ≡ false
+differ a b n = go (eqZ a b) (eqZ-true a b)
+  where
+    go : (t : Bool) → (t ≡ true → a ≡ b) → t ≡ false
+    go true h = absurd (n (h refl))
+    go false h = refl
+
 -- a value on any side of the previous one is another
 moves-apart : (side : Side) (before z : ℤ) → moves side before z ≡ true → eqZ z before ≡ false
+unfolding moves
 moves-apart changing before z e = T-not-false (eqZ z before) (rw e tt)
+moves-apart rising before z e = differ z before λ h. false≢true (rw (h, le-self before) at e)
+moves-apart falling before z e = differ z before λ h. false≢true (rw (h, le-self before) at e)
 
 -- no further case holds after one that did
 data Quiet (s t : State) (v : ℕ) (ks : List Case) (y : ℤ) (f : Option ℤ) : Type 0 where
@@ -96,7 +110,7 @@ module _ (ns : List Range) (s t : State) (v : ℕ) where
   after [] y f e = quiet (sym (ok-inj e)) refl refl
   after (k ∷ ks) y f e = after-case k ks y f (unbind (evalC s t (k .condition)) _ f e) λ q. after ks y f q
 
-  picked-is : (side : Side) (x z : ℤ) → picked side ns s v x ≡ ok z → (x ≡ z) × (moves side (at s v) z ≡ true) × T (within (rangeAt ns v) z)
+  pub picked-is : (side : Side) (x z : ℤ) → picked side ns s v x ≡ ok z → (x ≡ z) × (moves side (at s v) z ≡ true) × T (within (rangeAt ns v) z)
   unfolding picked
   picked-is side x z e =
       let go : Bound (require (moves side (at s v) x) (stays side) x) (λ y. ranged ns v y) z → (x ≡ z) × (moves side (at s v) z ≡ true) × T (within (rangeAt ns v) z) =
@@ -150,7 +164,7 @@ module _ (ns : List Range) (s t : State) where
       elim [ bound y p q ↦ p ∙ ap ok (passed (within (rangeAt ns v) y) 17 y z q .1) ] in
       go (unbind (evalE s t e) (λ y. ranged ns v y) z h)
 
-  rule-holds : (r : Rule) (z : ℤ) → AgreesR r → newValue ns s t r ≡ ok z → at t (target r) ≡ z → HoldsRule s t r
+  pub rule-holds : (r : Rule) (z : ℤ) → AgreesR r → newValue ns s t r ≡ ok z → at t (target r) ≡ z → HoldsRule s t r
   unfolding HoldsRule formulasOfRule functionFormula newValue
   rule-holds (function v e) z same h k = (rw (function-value v e z h, k, eqZ-self), tt)
   rule-holds (change v ks cs) z same h k = go (unbind (tryCases ns s t v none ks) _ z h)
@@ -247,27 +261,37 @@ agree-set known a b v z l h agree e i k = go (ℕ-discrete i v)
     go (no p) = getD-set-other a v i z (pos 0) p ∙ agree i (sym (getD-set-other known v i true false p) ∙ k)
 
 module _ (ns : List Range) (s : State) where
-  holds-step : (r : Rule) (rs : List Rule) (known : List Bool) (t u : State) (z : ℤ) → length t ≡ length known → OrderedRules known (r ∷ rs) → AgreesR r → newValue ns s t r ≡ ok z
-      → Agree (set known (target r) true) (set t (target r) z) u × HoldsAll s u rs
-      → Agree known t u × HoldsAll s u (r ∷ rs)
-  holds-step r rs known t u z l o same p ih =
+  -- each rule's new value at a place is the value of its variable there
+  abbrev pub NewAll : State → List Rule → Type 0
+  NewAll u [] = Unit {0}
+  NewAll u (r ∷ rs) = (newValue ns s u r ≡ ok (at u (target r))) × NewAll u rs
+
+  new-step : (r : Rule) (rs : List Rule) (known : List Bool) (t u : State) (z : ℤ) → length t ≡ length known → OrderedRules known (r ∷ rs) → newValue ns s t r ≡ ok z
+      → Agree (set known (target r) true) (set t (target r) z) u × NewAll u rs
+      → Agree known t u × NewAll u (r ∷ rs)
+  new-step r rs known t u z l o p ih =
       let v = target r in
       let d₀ : v < length known = ltb→lt v (length known) (o .1) in
       let agree : Agree known t u = λ i k.
       let d : i ≢ v = known≢ known i v k (o .2) in
       sym (getD-set-other t v i z (pos 0) d) ∙ ih .0 i (getD-set-other known v i true false d ∙ k) in
       let new : at u v ≡ z = sym (ih .0 v (getD-set-same known v true false d₀)) ∙ getD-set-same t v z (pos 0) (omega arith) in
-      (agree, (rule-holds ns s u r z same (sym (newValue-agree known s t u agree ns r (o .0)) ∙ p) new, ih .1))
+      (agree, (sym (newValue-agree known s t u agree ns r (o .0)) ∙ (p ∙ ap ok (sym new)), ih .1))
 
-  -- The state found holds the values known, and every formula.
-  pub scan-holds : (rs : List Rule) (known : List Bool) (t u : State) → length t ≡ length known → OrderedRules known rs → AgreesAll rs → scanRules ns s t rs ≡ ok u
-      → Agree known t u × HoldsAll s u rs
-  scan-holds [] known t u l o same e = ((λ i k. rw (ok-inj e)), tt)
-  scan-holds (r ∷ rs) known t u l o same e = go (λ z q. scan-holds rs (set known (target r) true) (set t (target r) z) u (simp length-set l) (o .3) (same .1) q) (unbind (newValue ns s t r) _ u e)
+  -- The state found holds the values known, and every new value.
+  pub scan-new : (rs : List Rule) (known : List Bool) (t u : State) → length t ≡ length known → OrderedRules known rs → scanRules ns s t rs ≡ ok u
+      → Agree known t u × NewAll u rs
+  scan-new [] known t u l o e = ((λ i k. rw (ok-inj e)), tt)
+  scan-new (r ∷ rs) known t u l o e = go (λ z q. scan-new rs (set known (target r) true) (set t (target r) z) u (simp length-set l) (o .3) q) (unbind (newValue ns s t r) _ u e)
     where
-      go : ((z : ℤ) → scanRules ns s (set t (target r) z) rs ≡ ok u → Agree (set known (target r) true) (set t (target r) z) u × HoldsAll s u rs)
-          → Bound (newValue ns s t r) (λ z. scanRules ns s (set t (target r) z) rs) u → Agree known t u × HoldsAll s u (r ∷ rs)
-      go ih (bound z p q) = holds-step r rs known t u z l o (same .0) p (ih z q)
+      go : ((z : ℤ) → scanRules ns s (set t (target r) z) rs ≡ ok u → Agree (set known (target r) true) (set t (target r) z) u × NewAll u rs)
+          → Bound (newValue ns s t r) (λ z. scanRules ns s (set t (target r) z) rs) u → Agree known t u × NewAll u (r ∷ rs)
+      go ih (bound z p q) = new-step r rs known t u z l o p (ih z q)
+
+  -- It holds every formula.
+  pub new-holds : (rs : List Rule) (u : State) → AgreesAll rs → NewAll u rs → HoldsAll s u rs
+  new-holds [] u same h = tt
+  new-holds (r ∷ rs) u same h = (rule-holds ns s u r (at u (target r)) (same .0) (h .0) refl, new-holds rs u (same .1) (h .1))
 
   -- A state that holds the values known, and every formula, is the state found.
   pub scan-value : (rs : List Rule) (known : List Bool) (t u w : State) → length t ≡ length known → length w ≡ length known → OrderedRules known rs → AgreesAll rs

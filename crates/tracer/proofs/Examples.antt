@@ -5,7 +5,7 @@ use mathlib.Core.Path.{_≡_, refl}
 use mathlib.Core.List.{List, [], _∷_, map}
 use Rattle.arith.specs.Values.{arithmetic, negation, compares}
 use Rattle.semantics.specs.Program.{within}
-use Rattle.semantics.specs.ReferenceScan.{picked, newValue, referenceScan}
+use Rattle.semantics.specs.ReferenceScan.{moves, picked, newValue, referenceScan}
 use Rattle.lexer.specs.Bytes.{bytes, sameBytes, capital, capitals}
 use Rattle.lexer.specs.Token.{kindNumber, is}
 use Rattle.lexer.specs.Lexer.{isSpace, isDigit, isLetter, isAlphanumeric, runOn, runEnd, sameName, grammarWord, exactWord, wordOf, overLong, pairOf, signOf, readOf, signAt, wordAt, digitsAt, previousAt, tokenOf, tokenPast, tokenAt, sameSpelling, sameToken, valueOn, valueOf}
@@ -49,5 +49,5 @@ examples =
 
 -- the definition gives what the table says
 pub examples-hold : map (λ (e : Example). printed (bytes (e .reads))) examples ≡ map (λ (e : Example). bytes (e .writes)) examples
-unfolding examples sameBytes kindNumber is isSpace isDigit isLetter isAlphanumeric runOn runEnd capital capitals sameName grammarWord exactWord wordOf overLong pairOf signOf readOf signAt wordAt digitsAt previousAt tokenOf tokenPast tokenAt sameSpelling sameToken valueOn valueOf expected phrase followed rest chain idFrom idOf withId currentAt previousValueAt literalAt primary negative factor productOf sumOf term expression bracket wholeExpression comparisonBy compared comparisonAt opposite inverted atom connect andOf orOf conjunction condition square wholeCondition listed inRange signedLiteralAt boundAt newName startAt declaration declarationsFrom declarations caseAt casesFrom listFrom plainList partFrom kindAt partsFrom firstFound agreeingList functionAt changeAt formulas ruleAt rulesFrom program parse programOf within picked newValue referenceScan arithmetic negation compares linesOf bare isHashLine textIn textOf rowsIn rowLines numberOf fieldsOf numbersOf rowOf longRow handedOf digitsUpTo unsignedDecimal decimalOf refusedLine headLine rowLine printed
+unfolding examples sameBytes kindNumber is isSpace isDigit isLetter isAlphanumeric runOn runEnd capital capitals sameName grammarWord exactWord wordOf overLong pairOf signOf readOf signAt wordAt digitsAt previousAt tokenOf tokenPast tokenAt sameSpelling sameToken valueOn valueOf expected phrase followed rest chain idFrom idOf withId currentAt previousValueAt literalAt primary negative factor productOf sumOf term expression bracket wholeExpression comparisonBy compared comparisonAt opposite inverted atom connect andOf orOf conjunction condition square wholeCondition listed inRange signedLiteralAt boundAt newName startAt declaration declarationsFrom declarations caseAt casesFrom listFrom plainList partFrom kindAt partsFrom firstFound agreeingList functionAt changeAt formulas ruleAt rulesFrom program parse programOf within moves picked newValue referenceScan arithmetic negation compares linesOf bare isHashLine textIn textOf rowsIn rowLines numberOf fieldsOf numbersOf rowOf longRow handedOf digitsUpTo unsignedDecimal decimalOf refusedLine headLine rowLine printed
 examples-hold = refl

@@ -5,7 +5,7 @@ use mathlib.Core.List.{List, [], _∷_}
 use mathlib.Core.Option.{Option, none, some}
 use Rattle.limits.specs.Limits.{stackLimit, nameLimit}
 use Rattle.arith.specs.Inner.Flags.{flagsOf}
-use Rattle.semantics.specs.Program.{changing}
+use Rattle.semantics.specs.Program.{Side, changing, rising, falling}
 use Rattle.bytecode.specs.Instructions.{Instruction}
 use Rattle.bytecode.specs.Signature.{Sort, number, truth, pushes}
 use Rattle.bytecode.specs.Check.{Picks, Known, known, one, admits, advance}
@@ -30,10 +30,16 @@ abbrev pub openOf : ℕ → Bool
 openOf zero = false
 openOf (suc n) = true
 
--- `picking` is the id whose picks await their settle plus 1, or 0
+-- sides by number
+abbrev pub sideOf : ℕ → Side
+sideOf zero = changing
+sideOf (suc zero) = rising
+sideOf (suc (suc n)) = falling
+
+-- `picking` is 0, or 1 plus three times the id whose picks await their settle plus the side of the last
 abbrev pub picksOf : ℕ → Option Picks
 picksOf zero = none
-picksOf (suc v) = some (record { side = changing; id = v })
+picksOf (suc n) = some (record { side = sideOf (n % 3); id = n / 3 })
 
 -- `known` tells of each id whether its current value may be used, the lowest bit that of id 0
 abbrev pub knownOf : Walk → Known

@@ -83,44 +83,53 @@ returns-11 c =
     (λ ns r. c .before .settle .ensures .0 ns (a .vals .now) (names-length ns (a .low .now) (a .high .now) r ∙ size) ∙ rw (c .before .before .before .match .keys11), c .before .settle .ensures .1)
 
 returns-12 : tie.Need-returns-12
-returns-12 c =
+unfolding instructionOf
+returns-12 c = (λ ns r. c .before .rise .ensures .0 ns r ∙ rw (c .before .before .before .before .match .keys12), c .before .rise .ensures .1)
+
+returns-13 : tie.Need-returns-13
+unfolding instructionOf
+returns-13 c = (λ ns r. c .before .fall .ensures .0 ns r ∙ rw (c .before .before .before .before .match .keys13), c .before .fall .ensures .1)
+
+returns-14 : tie.Need-returns-14
+returns-14 c =
     let at-match = c .before .before .before .before .before in
     let start = at-match .before in
     let a = start .args in
     let r = at-match .match .rest in
     let e =
     operation-code (a .code) (a .n) (c .before .before .before .before .if1 .left) (c .before .before .before .if2 .taken)
-    (r .0 .0 .0 .0 .0 .0 .0 .0 .0 .0 .1) (r .0 .0 .0 .0 .0 .0 .0 .0 .0 .1) (r .0 .0 .0 .0 .0 .0 .0 .0 .1) in
+    (r .0 .0 .0 .0 .0 .0 .0 .0 .0 .0 .0 .0 .1) (r .0 .0 .0 .0 .0 .0 .0 .0 .0 .0 .0 .1) (r .0 .0 .0 .0 .0 .0 .0 .0 .0 .0 .1) in
     (λ ns q. c .before .calculate .ensures .0 ns (a .prev .now) (a .cur .now) ∙ rw e, c .before .calculate .ensures .1)
 
-returns-13 : tie.Need-returns-13
-returns-13 c =
+returns-15 : tie.Need-returns-15
+returns-15 c =
     let at-match = c .before .before .before .before .before .before in
     let start = at-match .before in
     let a = start .args in
     let below = c .before .before .before .if3 .taken in
-    let e = comparison-code (a .code) (a .n) (c .before .before .before .before .if2 .left) below (at-match .match .rest .0 .0 .0 .0 .0 .0 .0 .1) in
+    let e = comparison-code (a .code) (a .n) (c .before .before .before .before .if2 .left) below (at-match .match .rest .0 .0 .0 .0 .0 .0 .0 .0 .0 .1) in
     (λ ns q. c .before .relate3 .ensures .0 (a .cur .now) ∙ related-same _ _ _ (heldOf (a .vals .now) (a .m .held)) (a .cur .now) (λ x y. truth-comparison (a .code) x y below) ∙ rw e, c .before .relate3 .ensures .1)
 
-returns-14 : tie.Need-returns-14
-returns-14 c = (λ ns r. rw (none-below (c .before .before .args .code) (c .before .before .args .n) (c .if1 .taken)), search needs)
+returns-16 : tie.Need-returns-16
+returns-16 c = (λ ns r. rw (none-below (c .before .before .args .code) (c .before .before .args .n) (c .if1 .taken)), search needs)
 
-returns-15 : tie.Need-returns-15
-returns-15 c =
+returns-17 : tie.Need-returns-17
+returns-17 c =
     let a = c .before .before .before .before .args in
     let r = c .before .before .before .match .rest in
     let e =
     none-above (a .code) (a .n)
-    (above (a .code) (c .if3 .left) (r .0 .0 .0 .0 .0 .0 .1) (r .0 .0 .0 .0 .0 .1) (r .0 .0 .0 .0 .1) (r .0 .0 .0 .1) (r .0 .0 .1) (r .0 .1) (r .1)) in
+    (above (a .code) (c .if3 .left) (r .0 .0 .0 .0 .0 .0 .0 .0 .1) (r .0 .0 .0 .0 .0 .0 .0 .1) (r .0 .0 .0 .0 .0 .0 .1) (r .0 .0 .0 .0 .0 .1) (r .0 .0 .0 .0 .1) (r .0 .0 .0 .1) (r .0 .0 .1)) (r .0 .1) (r .1) in
     (λ ns q. rw e, search needs)
 
 pub act-spec : {M : Type 1} → statement M
 act-spec =
     tie.close
-    (tie.spec (λ c κs. search needs) (λ c κs. search needs) (λ c κs. search needs) (λ c κs. search needs) (λ c κs. search needs)
+    (tie.spec (λ c κs. search needs) (λ c κs. search needs) (λ c κs. search needs) (λ c κs. search needs) (λ c κs. search needs) (λ c κs. search needs) (λ c κs. search needs)
     (λ c κs. search needs) (λ c κs. search needs) (λ c κs. search needs) (λ c κs. search needs) (λ c κs. search needs)
     (λ c κs. search needs) (λ c κs. search needs) (λ c κs. search needs) (λ c κs. search needs) (λ c. search needs) returns
     (λ c. search needs) (λ c. search needs) returns-2 (λ c. search needs) returns-3 (λ c. search needs) returns-4 (λ c. search needs)
     returns-5 (λ c. search needs) returns-6 (λ c. search needs) returns-7 (λ c. search needs) returns-8 (λ c. search needs)
     (λ c. search needs) returns-9 (λ c. search needs) (λ c. search needs) returns-10 (λ c. search needs) returns-11 (λ c. search needs)
-    returns-12 (λ c. search needs) returns-13 returns-14 returns-15)
+    (λ c. search needs) returns-12 (λ c. search needs) (λ c. search needs) returns-13 (λ c. search needs) returns-14 (λ c. search needs)
+    returns-15 returns-16 returns-17)

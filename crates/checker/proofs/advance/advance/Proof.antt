@@ -54,31 +54,39 @@ unfolding instructionOf
 returns-11 c = (rw (c .before .match .keys11) (c .settle .ensures .0), c .settle .ensures .1)
 
 returns-12 : tie.Need-returns-12
-returns-12 c =
-    let a = c .before .before .before .before .args in
-    let r = c .before .before .before .match .rest in
-    (rw (operation-of (a .code) (a .n) (from-four (a .code) (c .before .before .if1 .left) (r .0 .0 .0 .0 .0 .0 .0 .0 .0 .0 .1) (r .0 .0 .0 .0 .0 .0 .0 .0 .0 .1) (r .0 .0 .0 .0 .0 .0 .0 .0 .1)) (omega (arith, c .before .if2 .taken))) (c .join .ensures .0 ∙ sym (operation-is (operationOf (a .code)) (knownOf (a .w)))), c .join .ensures .1)
+unfolding instructionOf
+returns-12 c = (rw (c .before .match .keys12) (c .pick2 .ensures .0), c .pick2 .ensures .1)
 
 returns-13 : tie.Need-returns-13
-returns-13 c =
-    let a = c .before .before .before .before .before .args in
-    (rw (comparison-of (a .code) (a .n) (omega (arith, c .before .before .if2 .left, c .before .before .before .before .match .rest .0 .0 .0 .0 .0 .0 .0 .1)) (omega (arith, c .before .if3 .taken))) (c .test3 .ensures .0 ∙ sym (comparison-is (comparisonOf (a .code)) (knownOf (a .w)))), c .test3 .ensures .1)
+unfolding instructionOf
+returns-13 c = (rw (c .before .match .keys13) (c .pick3 .ensures .0), c .pick3 .ensures .1)
 
 returns-14 : tie.Need-returns-14
 returns-14 c =
-    let a = c .before .before .args in
-    (rw (none-below (a .code) (a .n) (c .if1 .taken)), tt)
+    let a = c .before .before .before .before .args in
+    let r = c .before .before .before .match .rest in
+    (rw (operation-of (a .code) (a .n) (from-four (a .code) (c .before .before .if1 .left) (r .0 .0 .0 .0 .0 .0 .0 .0 .0 .0 .0 .0 .1) (r .0 .0 .0 .0 .0 .0 .0 .0 .0 .0 .0 .1) (r .0 .0 .0 .0 .0 .0 .0 .0 .0 .0 .1)) (omega (arith, c .before .if2 .taken))) (c .join .ensures .0 ∙ sym (operation-is (operationOf (a .code)) (knownOf (a .w)))), c .join .ensures .1)
 
 returns-15 : tie.Need-returns-15
 returns-15 c =
+    let a = c .before .before .before .before .before .args in
+    (rw (comparison-of (a .code) (a .n) (omega (arith, c .before .before .if2 .left, c .before .before .before .before .match .rest .0 .0 .0 .0 .0 .0 .0 .0 .0 .1)) (omega (arith, c .before .if3 .taken))) (c .test3 .ensures .0 ∙ sym (comparison-is (comparisonOf (a .code)) (knownOf (a .w)))), c .test3 .ensures .1)
+
+returns-16 : tie.Need-returns-16
+returns-16 c =
+    let a = c .before .before .args in
+    (rw (none-below (a .code) (a .n) (c .if1 .taken)), tt)
+
+returns-17 : tie.Need-returns-17
+returns-17 c =
     let a = c .before .before .before .before .args in
     let r = c .before .before .before .match .rest in
-    (rw (none-above (a .code) (a .n) (above (a .code) (c .if3 .left) (r .0 .0 .0 .0 .0 .0 .1) (r .0 .0 .0 .0 .0 .1) (r .0 .0 .0 .0 .1) (r .0 .0 .0 .1) (r .0 .0 .1) (r .0 .1) (r .1))), tt)
+    (rw (none-above (a .code) (a .n) (above (a .code) (c .if3 .left) (r .0 .0 .0 .0 .0 .0 .0 .0 .1) (r .0 .0 .0 .0 .0 .0 .0 .1) (r .0 .0 .0 .0 .0 .0 .1) (r .0 .0 .0 .0 .0 .1) (r .0 .0 .0 .0 .1) (r .0 .0 .0 .1) (r .0 .0 .1)) (r .0 .1) (r .1)), tt)
 
 pub advance-spec : {M : Type 1} → statement M
 advance-spec =
     tie.close
-    (tie.spec (λ c κs. search needs) (λ c κs. search needs) (λ c κs. search needs) (λ c κs. search needs) (λ c κs. search needs)
+    (tie.spec (λ c κs. search needs) (λ c κs. search needs) (λ c κs. search needs) (λ c κs. search needs) (λ c κs. search needs) (λ c κs. search needs) (λ c κs. search needs)
     (λ c κs. search needs) (λ c κs. search needs) (λ c κs. search needs) (λ c κs. search needs) (λ c κs. search needs)
     (λ c κs. search needs) (λ c κs. search needs) (λ c κs. search needs) returns returns-2 returns-3 returns-4 returns-5 returns-6 returns-7
-    returns-8 returns-9 returns-10 returns-11 returns-12 returns-13 returns-14 returns-15)
+    returns-8 returns-9 returns-10 returns-11 returns-12 returns-13 returns-14 returns-15 returns-16 returns-17)

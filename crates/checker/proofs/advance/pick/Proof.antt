@@ -2,7 +2,7 @@
 use mathlib.Core.Path.{sym, _∙_}
 use borrow.Author.Tests.{not-true, not-false}
 use Rattle.checker.proofs.Bits.{sorts-none}
-use Rattle.checker.proofs.Steps.{pick-is, suc-picks, open-yes}
+use Rattle.checker.proofs.Steps.{pick-is, picks-made, open-yes}
 use borrow.Author.Needs.{needs}
 use native.Mathlib.Omega.{arith}
 use Rattle.checker.proofs.advance.pick.Statement.{statement}
@@ -30,7 +30,7 @@ returns-5 c =
     let at-if1 = at-holds-only .before in
     let start = at-if1 .before .before in
     let p = start .pre .0 in (
-      rw (pick-is, open-yes (start .args .w .gate) (at-if1 .if1 .left), sym (at-holds-only .holds-only .ensures) ∙ not-false _ (c .before .before .before .before .if2 .left), sym (c .before .before .before .is-unset .ensures) ∙ not-false _ (c .before .before .if3 .left), sym (c .before .may-pick .ensures) ∙ not-false _ (c .if4 .left), sorts-none, suc-picks),
+      rw (pick-is, open-yes (start .args .w .gate) (at-if1 .if1 .left), sym (at-holds-only .holds-only .ensures) ∙ not-false _ (c .before .before .before .before .if2 .left), sym (c .before .before .before .is-unset .ensures) ∙ not-false _ (c .before .before .if3 .left), sym (c .before .may-pick .ensures) ∙ not-false _ (c .if4 .left), sorts-none, picks-made _ _ (start .pre .1)),
       record { few-held = omega arith; sorts-low = omega arith; few-names = p .few-names; known-low = p .known-low },
     )
 
@@ -38,4 +38,4 @@ pub pick-spec : {M : Type 1} → statement M
 pick-spec =
     tie.close
     (tie.spec returns (λ c κs. search needs) returns-2 (λ c κs. search needs) returns-3 (λ c κs. search needs) returns-4 (λ c. search needs)
-    returns-5)
+    (λ c. search needs) (λ c. search needs) returns-5)

@@ -12,6 +12,7 @@ use Rattle.machine.proofs.Changes.{pick-undeclared, pick-refused, pick-
 use Rattle.machine.proofs.Stack.{pop-none}
 use Rattle.semantics.specs.Program.{changing}
 use Rattle.semantics.specs.Formula.{at}
+use Rattle.semantics.specs.ReferenceScan.{moves}
 use Rattle.arith.specs.Values.{eqZ, compares}
 use Rattle.machine.proofs.variable.pick.Statement.{statement}
 use Rattle.machine.proofs.variable.pick.Tie as tie
@@ -26,7 +27,7 @@ returns-2 c =
     (λ ns r. pick-undeclared ns (a .low .now) (a .high .now) r (a .prev .now) (a .vals .now) (a .m .held) (a .m .picked) (a .cur .now) (a .id) (c .before .if1 .left) changing h, search needs)
 
 returns-3 : tie.Need-returns-3
-unfolding compares
+unfolding compares moves
 returns-3 c =
     let a = c .before .before .before .before .before .before .args in
     let v = at (a .vals .now) (a .m .held - 1) in
@@ -38,7 +39,7 @@ returns-3 c =
     (λ ns r. pick-refused ns (a .low .now) (a .high .now) r (a .prev .now) (a .vals .now) (a .m .held) (a .m .picked) (a .cur .now) (a .id) (c .before .before .before .before .before .if1 .left) h changing (rw e), search needs)
 
 returns-4 : tie.Need-returns-4
-unfolding compares
+unfolding compares moves
 returns-4 c =
     let at-is-equal-arg2 = c .before .before .before .before .before in
     let at-is-equal-arg = at-is-equal-arg2 .before in
