@@ -96,7 +96,7 @@ module _ (text : List ℕ) (p : Program) (n : ℕ) (e : parse text ≡ accepted 
           starts = starts-within (rangesOf p) fits;
           ordered = s .ordered;
           agrees = parse-reads text p n e .1;
-          sided = rules-sided (namesOf p) (s .rule-tokens) (p .rules) (s .spells-rules);
+          sided = rules-sided (normals (namesOf p)) (s .rule-tokens) (p .rules) (s .spells-rules);
         };
         few = omega (arith, l, s .few);
         ranges-fit = fits;
