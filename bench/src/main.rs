@@ -6,6 +6,7 @@
 //!     bench --once WHO SERVICE INPUT CALLS          just so many calls, for bench/instructions
 
 mod input;
+mod instalments;
 mod native;
 mod once;
 mod refused;
@@ -60,6 +61,7 @@ fn tables(rounds: u32) {
     );
     lines.iter().for_each(Line::print);
     growth(&lines);
+    instalments::table(&inputs, rounds);
     refused::table(inputs.iter().find(|input| input.name == "lock").expect("the lock"), rounds);
 }
 
