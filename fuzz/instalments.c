@@ -55,9 +55,10 @@ static uint64_t answered(const struct call *c, int32_t *paused, size_t cells, co
     }
 }
 
-/* Whether the answer leaves the paused memory as it was. */
-static int moves_nothing(const struct call *c, struct parts p) {
-    if (p.number == ROLVENKO_IDLE || p.number == ROLVENKO_UNFINISHED || p.number == 24)
+/* Whether the answer leaves the paused memory as it was. A memory that these calls did not leave may hold 24 as the number of a refused
+ * scan; at the end of the code (2) it is the finish's own. */
+static int moves_nothing(const struct call *c, struct parts p, int32_t phase) {
+    if (p.number == ROLVENKO_IDLE || p.number == ROLVENKO_UNFINISHED || (p.number == 24 && phase == 2))
         return 1;
     return (c->kind == POST && p.number != 0) || (c->kind == ADVANCE && p.count == 0);
 }
@@ -77,7 +78,7 @@ static struct parts call(struct call *c, int32_t *paused, size_t cells) {
     promise(p.number <= 30 || p.number == ROLVENKO_IDLE || p.number == ROLVENKO_UNFINISHED);
     promise(p.place <= c->length || p.place == 0);
     promise(p.count <= 65536 && (c->kind != ADVANCE || p.number != 0 || p.count <= c->steps));
-    if (moves_nothing(c, p) || cells != PAUSED)
+    if (moves_nothing(c, p, paused[0]) || cells != PAUSED)
         promise(all == 0 || memcmp(memory.own, paused, all) == 0);
     if (c->kind != FINISH || p.number != 0)
         promise(bytes == 0 || memcmp(written.own, c->numbers, bytes) == 0);

@@ -8,6 +8,7 @@
 
 mod closed;
 mod input;
+mod instalments;
 mod native;
 mod once;
 mod refused;
@@ -64,6 +65,7 @@ fn tables(rounds: u32) {
     );
     lines.iter().for_each(Line::print);
     growth(&lines);
+    instalments::table(&inputs, rounds);
     refused::table(inputs.iter().find(|input| input.name == "lock").expect("the lock"), rounds);
     closed::table(rounds);
 }

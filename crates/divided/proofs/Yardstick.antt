@@ -3,21 +3,21 @@
 use Prim.Native.Nat.{ℕ, zero, suc, _+_, _-_, _≤_, _<_, min}
 use native.Mathlib.Omega.{arith}
 use mathlib.Core.Path.{_≡_, refl, sym, ap, _∙_}
-use mathlib.Core.Bool.{Bool, true, false}
+use mathlib.Core.Bool.{true}
 use mathlib.Core.List.{List, [], _∷_}
 use mathlib.Core.Option.{Option, none, some}
-use lib.Dec.{eqb}
-use lib.IntN.{ℤ, pos, negsuc}
-use borrow.Author.Tests.{le-ltb, eq-eqb}
+use lib.IntN.{ℤ}
+use borrow.Author.Tests.{le-ltb}
 use Rattle.limits.specs.Answer.{Answer, accepted, refused}
-use Rattle.arith.specs.Values.{Outcome, ok, refusal, eqZ}
+use Rattle.arith.specs.Values.{Outcome, ok, refusal}
+use Rattle.arith.proofs.Basics.{eqZ-self}
 use Rattle.semantics.specs.Formula.{State}
 use Rattle.bytecode.specs.Parts.{countFrom, headerOf}
 use Rattle.bytecode.specs.Check.{checkOf}
 use Rattle.bytecode.proofs.Walk.{refused≢accepted}
 use Rattle.machine.specs.Step.{Machine, machine}
 use Rattle.machine.proofs.Laws.{run-steps}
-use Rattle.scan.specs.Services.{AfterScan, finished, scanCode, scanOf}
+use Rattle.scan.specs.Services.{AfterScan, finished, runOf, scanCode, scanOf}
 use Rattle.scan.specs.Inner.Parts.{scannedBy}
 use Rattle.before.specs.Before.{beforeCode}
 use Rattle.before.proofs.Scans.{scan-is}
@@ -26,7 +26,7 @@ use Rattle.paused.specs.declared.Response.the-variants as R
 use Rattle.paused.specs.Responses.{stepsIn}
 use Rattle.resumable.specs.Instalment.{ranFrom}
 use Rattle.lifecycle.specs.Calls.{sameValues, mayPost}
-use Rattle.divided.specs.Expected.{Call, post, begin, advance, finish, Said, leaves, Scan, whole, Expected, expect, expectPost, furtherBy, expectEnd, expects, expectedSaid, Between, AllBetween, givenIn, doneIn, endOf}
+use Rattle.divided.specs.Expected.{Call, post, begin, advance, finish, Said, leaves, Scan, whole, Expected, expect, expectPost, furtherBy, expectEnd, expects, expectedSaid, Between, AllBetween, givenIn, doneIn, saidOf}
 
 -- ---- the steps of an instalment
 
@@ -48,7 +48,7 @@ posted-steps : (a : Answer (Unit {0})) (row : List ℤ) (w : Option (List ℤ)) 
 posted-steps (refused number place) row w o = refl
 posted-steps (accepted u) row w o = refl
 
-posted-scan : (a : Answer (Unit {0})) (row : List ℤ) (w : Option (List ℤ)) (o : Option Scan) → expectPost a row w o .scan ≡ o
+pub posted-scan : (a : Answer (Unit {0})) (row : List ℤ) (w : Option (List ℤ)) (o : Option Scan) → expectPost a row w o .scan ≡ o
 posted-scan (refused number place) row w o = refl
 posted-scan (accepted u) row w o = refl
 
@@ -57,7 +57,8 @@ pub expected-total : (cs : List Call) → AllBetween cs → (w : Option (List �
 expected-total [] h w o = omega arith
 expected-total (post i row ∷ cs) h w o =
     let a = mayPost (checkOf i) (headerOf i) row in
-    rw (posted-steps a row w (some o), posted-scan a row w (some o)) (expected-total cs (h .1) (expectPost a row w (some o) .waiting) o)
+    let e = expected-total cs (h .1) (expectPost a row w (some o) .waiting) o in
+    rw (posted-steps a row w (some o), posted-scan a row w (some o)) (omega (arith, e))
 expected-total (advance n ∷ cs) h w o =
     let k = min n (whole o .steps - o .done) in
     let e = expected-total cs (h .1) w (furtherBy k o) in
@@ -67,13 +68,9 @@ expected-total (finish s ∷ cs) h w o = absurd (h .0)
 
 -- ---- the result
 
-same-number : (z : ℤ) → eqZ z z ≡ true
-same-number (pos n) = eq-eqb n n refl
-same-number (negsuc n) = eq-eqb n n refl
-
 pub same-itself : (s : State) → sameValues s s ≡ true
 same-itself [] = refl
-same-itself (z ∷ s) = rw (same-number z, same-itself s)
+same-itself (z ∷ s) = rw (eqZ-self z) (same-itself s)
 
 -- a refused scan leaves the state
 kept-state : (image : List ℕ) (s : State) (row : List ℤ) (n p : ℕ) → scanOf image s row .answer ≡ refused n p → scanOf image s row .state ≡ s
@@ -86,12 +83,12 @@ kept-state image s row n p e = rw (scan-is image s row) (by (beforeCode image s 
 
     by : (a : Answer (Unit {0})) → scannedBy a s (scanCode image s row) .answer ≡ refused n p → scannedBy a s (scanCode image s row) .state ≡ s
     by (refused number place) q = refl
-    by (accepted u) q = ran-out _ _ q
+    by (accepted u) q = ran-out (runOf image s row .steps) (runOf image s row .last) q
 
 -- a finish of a scan all of whose steps are done, lent the state of the start, answers the undivided scan and leaves its state
-pub expected-result : (w : Option (List ℤ)) (o : Scan) → whole o .steps ≤ o .done → expects (finish (o .start)) w (some o) .said ≡ endOf (whole o)
+pub expected-result : (w : Option (List ℤ)) (o : Scan) → whole o .steps ≤ o .done → expects (finish (o .start)) w (some o) .said ≡ saidOf (whole o)
 expected-result w o h = rw (le-ltb (o .done) (whole o .steps) h) (by (whole o .answer) refl)
   where
-    by : (a : Answer (Unit {0})) → whole o .answer ≡ a → expectEnd (o .start) o w a .said ≡ endOf (whole o)
+    by : (a : Answer (Unit {0})) → whole o .answer ≡ a → expectEnd (o .start) o w a .said ≡ saidOf (whole o)
     by (refused n p) e = rw (e, kept-state (o .image) (o .start) (o .row) n p e)
     by (accepted tt) e = rw (same-itself (o .start), e)

@@ -153,5 +153,5 @@ abbrev pub responseOf : Answer (Unit {0}) → ℕ → Response
 responseOf (refused number place) n = R.Refused number place n
 responseOf (accepted u) n = R.Done n
 
-abbrev pub endOf : AfterScan → Said
-endOf a = leaves (responseOf (a .answer) (a .steps)) (a .state)
+abbrev pub saidOf : AfterScan → Said
+saidOf a = leaves (responseOf (a .answer) (a .steps)) (a .state)

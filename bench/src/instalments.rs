@@ -1,0 +1,87 @@
+//! A scan in instalments beside the undivided scan of the same row: posting, starting, and instalments of some sizes with their finish. The
+//! instalments are timed from a copy of the memory of a scan just started, so the copy (2,560 bytes) counts too.
+
+use crate::input::Input;
+use crate::timing::Least;
+use rolvenko::instalments::PAUSED;
+use rolvenko::{Paused, Response};
+use std::hint::black_box;
+
+const SIZES: [usize; 4] = [1, 64, 1024, 65_536];
+
+/// The first row of an input, scanned from the declared starts.
+struct Subject<'i> {
+    input: &'i Input,
+    begun: [i32; PAUSED],
+}
+
+impl<'i> Subject<'i> {
+    fn new(input: &'i Input) -> Subject<'i> {
+        let mut paused = Paused::new();
+        assert_eq!(paused.post(&input.image, &input.rows[0]), Response::Done(0));
+        assert_eq!(paused.begin(&input.image, &input.starts), Response::Done(0));
+        let begun = *paused.numbers();
+        Subject { input, begun }
+    }
+
+    fn scan(&self) {
+        let mut state = self.input.starts.clone();
+        rolvenko::scan(black_box(&self.input.image), &mut state, &self.input.rows[0]).expect("an accepted row");
+    }
+
+    fn post(&self) {
+        let mut paused = Paused::from_numbers(self.begun);
+        assert_eq!(paused.post(black_box(&self.input.image), &self.input.rows[0]), Response::Done(0));
+    }
+
+    /// A start is a post before it.
+    fn begin(&self) {
+        let mut paused = Paused::new();
+        assert_eq!(paused.post(black_box(&self.input.image), &self.input.rows[0]), Response::Done(0));
+        assert_eq!(paused.begin(&self.input.image, &self.input.starts), Response::Done(0));
+    }
+
+    fn instalments(&self, size: usize) {
+        let mut paused = Paused::from_numbers(self.begun);
+        let mut state = self.input.starts.clone();
+        let mut left = self.input.instructions;
+        while left > 0 {
+            let Response::Done(steps) = paused.advance(black_box(&self.input.image), size) else {
+                panic!("an instalment");
+            };
+            left -= steps as usize;
+        }
+        assert_eq!(paused.finish(&mut state), Response::Done(self.input.instructions as u32));
+    }
+}
+
+/// Nanoseconds, over so many rounds: of post and start a call, of instalments an instruction with the ratio to scan.
+pub fn table(inputs: &[Input], rounds: u32) {
+    println!("\na scan in instalments: ns a call of post and of start, ns an instruction of scan and of instalments with their finish");
+    println!("{:<14} {:>7} {:>9} {:>9} {:>7}  instalments of {SIZES:?}, ratio to scan", "input", "units", "post", "start", "scan");
+    for input in inputs {
+        let subject = Subject::new(input);
+        let (mut scan, mut post, mut begin) = (Least::default(), Least::default(), Least::default());
+        let mut sizes = SIZES.map(|_| Least::default());
+        for _ in 0..rounds {
+            scan.round(&mut || subject.scan());
+            post.round(&mut || subject.post());
+            begin.round(&mut || subject.begin());
+            for (size, time) in SIZES.into_iter().zip(&mut sizes) {
+                time.round(&mut || subject.instalments(size));
+            }
+        }
+        let units = input.instructions as f64;
+        let each = |time: &Least| time.seconds * 1e9 / units;
+        let shown = sizes.each_ref().map(|time| format!("{:>7.2} ({:.2})", each(time), time.seconds / scan.seconds));
+        println!(
+            "{:<14} {:>7} {:>9.0} {:>9.0} {:>7.2}  {}",
+            input.name,
+            input.instructions,
+            post.seconds * 1e9,
+            (begin.seconds - post.seconds) * 1e9,
+            each(&scan),
+            shown.join(" ")
+        );
+    }
+}
