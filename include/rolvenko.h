@@ -7,9 +7,9 @@
  *
  * The answer. Each function answers one 64-bit number, number * 2^56 + place * 2^24 + count:
  *
- *     number   0 for a success, else the refusal, 1 to 20, 24 or 26 to 29; of the calls of a scan in instalments also 254 and 255
+ *     number   0 for a success, else the refusal, 1 to 20, 22, 24 or 26 to 29; of the calls of a scan in instalments also 254 and 255
  *     place    the byte place of a refusal in the text or image; of 27 the scans before the refused one; 0 for a success and for the
- *              refusals 9, 12 to 20, 24, 26, 28 and 29
+ *              refusals 9, 12 to 20, 22, 24, 26, 28 and 29
  *     count    of a success of rolvenko_translate the image's length, of rolvenko_scan, rolvenko_advance and rolvenko_finish (refused or
  *              not) the steps; else 0
  *
@@ -111,12 +111,12 @@ static inline uint64_t rolvenko_cents(uint64_t answer) { return answer / 60; }
 static inline unsigned rolvenko_sixtieths(uint64_t answer) { return (unsigned)(answer % 60); }
 
 /* Whether the rules of an image can never stop in service: every in-range state is scanned with every in-range row, and 0 as a whole says
- * that no such scan is refused. Then no list of in-range rows from rolvenko_start ever meets 14 to 17. Rows are tried inside states; the
+ * that no such scan is refused. Then no list of in-range rows from rolvenko_start ever meets 14 to 17 or 22. Rows are tried inside states; the
  * last declared name moves fastest in both, from low to high. Nothing is written.
  *   9, 11     as rolvenko_check
  *   26        the product of all range sizes times the product of the input range sizes is over 65,536
  *   27        a scan is refused; place counts the scans before it, 0 to 65,535, and rolvenko_combination gives its state and row
- * It takes as long as up to 65,536 scans.
+ * It takes four to five times as long as so many calls of rolvenko_scan.
  */
 uint64_t rolvenko_closed(const uint8_t *image, size_t image_len);
 
@@ -162,7 +162,8 @@ uint64_t rolvenko_advance(int32_t *paused, size_t paused_len, const uint8_t *ima
 
 /* Asks for the end of the scan: idle without one, unfinished too early. A refused scan answers its refusal and is over; else `state`,
  * which must be as at the start, becomes the next state and the scan is over. Count is the total steps.
- *   14 to 17  as rolvenko_scan
+ *   14 to 17, 22  as rolvenko_scan
+ *   11        an instalment was lent another image of the same length; place 0
  *   24        the state differs, in length too, from the one at the start; count 0, and the scan still awaits its finish
  */
 uint64_t rolvenko_finish(int32_t *paused, size_t paused_len, int32_t *state, size_t state_len);

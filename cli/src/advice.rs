@@ -22,6 +22,7 @@ pub fn advice(number: u8) -> &'static str {
         18 => "take states from start and scan only; this one was changed in between",
         19 => "1 to 32 entries of two numbers; minutes strictly rising within 0 to 2,147,483,647; offsets of -720 to 840",
         20 => "count minutes from 1 January 1970, 0 to 2,147,483,647",
+        22 => "a rising case must raise the value, and a falling one lower it: say so in its condition",
         26 => "narrow the ranges: inputs count twice",
         27 => "mend the rule that refuses this state and row",
         28 => "bill a variable whose range starts at 0 or above, with minutes of 0 to 1440 a row and rates of 0 to 1,000,000",

@@ -5,9 +5,9 @@ use crate::text::{declared, tokens};
 use rolvenko::{translate, Refusal, IMAGE_ROOM};
 use std::collections::BTreeSet;
 
-const SIGNS: [&str; 30] = [
+const SIGNS: [&str; 26] = [
     "input", "var", "init", "mod", "GX", ";", ":", "(", ")", "[", "]", "~", "&", "|", "=", "<>", "<", "<=", ">", ">=", "+", "-", "*", "/",
-    "..", "->", ",", ".", "_", "!",
+    "..", "->",
 ];
 /// candidates from the text that are tried at most
 const MOST: usize = 512;
@@ -23,13 +23,23 @@ fn takes(text: &[u8], place: usize, candidate: &[u8]) -> bool {
     }
 }
 
+/// Whether a number has a place there, whatever its value: 1 and 2 come first at a token.
+fn takes_number(text: &[u8], place: usize) -> bool {
+    let tried = [&text[..place], b" 1"].concat();
+    translate(&tried, &mut vec![0; IMAGE_ROOM]).map_or_else(|r| r.place == tried.len() || (3..9).contains(&r.number), |_| true)
+}
+
 /// The candidates that are taken at the place of a refusal, in words.
 pub fn wanted(text: &[u8], refusal: Refusal) -> Vec<String> {
     let place = refusal.place.min(text.len());
     let names = declared(&text[..place]);
     let mut found = Vec::new();
     if refusal.number == 7 {
-        let spelled: BTreeSet<&[u8]> = tokens(&text[..place]).iter().map(|t| t.of(text)).collect();
+        // the wanted token stands in the change formula, so behind the last but one `->`
+        let before = tokens(&text[..place]);
+        let arrow = before.iter().rposition(|t| t.of(text) == b"->").unwrap_or(0);
+        let first = before[..arrow].iter().rposition(|t| t.of(text) == b"->").unwrap_or(0);
+        let spelled: BTreeSet<&[u8]> = before[first..].iter().map(|t| t.of(text)).collect();
         let taken = spelled.into_iter().take(MOST).filter(|t| takes(text, place, t));
         return taken.map(|t| format!("`{}`", String::from_utf8_lossy(t))).collect();
     }
@@ -49,7 +59,7 @@ pub fn wanted(text: &[u8], refusal: Refusal) -> Vec<String> {
         0..=3 => found.extend(before.iter().map(|n| format!("`{n}`"))),
         _ => found.push("a previous value".to_owned()),
     }
-    if takes(text, place, b"1") {
+    if takes_number(text, place) {
         found.push("a number".to_owned());
     }
     found.extend(SIGNS.iter().filter(|s| takes(text, place, s.as_bytes())).map(|s| format!("`{s}`")));

@@ -3,9 +3,10 @@
 use crate::advice::advice;
 use crate::farm::Farm;
 use crate::source::Rules;
-use crate::stop::Stop;
+use crate::stop::{tell, Stop};
 use crate::trace::{scans, Clock, Given};
 use rolvenko::{charge, meaning};
+use std::io::Write;
 use std::path::Path;
 
 /// Rates in cents per licence-hour; licences above the threshold go at the second.
@@ -36,9 +37,9 @@ pub fn bill(mut rules: Rules, rows: Option<&Path>, zeros: Option<u64>, clock: Op
         Ok(())
     })?;
     match charge(&farm.image, id, &trace, &minutes, rates.threshold, rates.rate, rates.above) {
-        Ok(sum) => println!("{of}: {} {}/60 cents over {} rows, {refused} refused", sum.cents, sum.sixtieths, minutes.len()),
+        Ok(sum) => writeln!(std::io::stdout(), "{of}: {} {}/60 cents over {} rows, {refused} refused", sum.cents, sum.sixtieths, minutes.len())?,
         Err(refusal) => {
-            eprintln!("{}: refused {}: {}\n  {}", farm.path.display(), refusal.number, meaning(refusal.number), advice(refusal.number));
+            tell(&format!("{}: refused {}: {}\n  {}\n", farm.path.display(), refusal.number, meaning(refusal.number), advice(refusal.number)));
             return Err(Stop::Refused);
         }
     }

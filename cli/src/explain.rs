@@ -12,7 +12,9 @@ use std::path::Path;
 
 /// The text with a replacement character for each run of bytes that is no UTF-8, and where each place of the text stands in it.
 fn readable(text: &[u8]) -> (String, impl Fn(usize) -> usize + '_) {
-    let shown = String::from_utf8_lossy(text).into_owned();
+    // control characters are not for a terminal
+    let hide = |c: char| if c.is_ascii_control() && !matches!(c, '\n' | '\t') { '?' } else { c };
+    let shown = String::from_utf8_lossy(text).chars().map(hide).collect();
     let place = move |at: usize| String::from_utf8_lossy(&text[..at.min(text.len())]).len();
     (shown, place)
 }
@@ -42,7 +44,10 @@ fn told(text: &[u8], refusal: Refusal) -> Told {
         }
         (4, None) => told.token = ask::nearest(&text[..place], &spelled).map_or("not declared".to_owned(), |n| format!("not declared; is `{n}` meant?")),
         (5, _) => told.token = "its rule does not stand before this one".to_owned(),
-        (6, _) if place == text.len() => told.token = format!("no rule for {}", ask::without_rule(text).join(", ")),
+        (6, _) if place == text.len() => {
+            let missing = ask::without_rule(text);
+            told.token = if missing.is_empty() { "a variable has no rule".to_owned() } else { format!("no rule for {}", missing.join(", ")) };
+        }
         (6, Some(name)) if name.input => told.token = "an input".to_owned(),
         (6, _) => told.token = "has a rule already".to_owned(),
         _ => (),

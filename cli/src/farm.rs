@@ -1,11 +1,12 @@
 //! A rule text with its image: names, ranges, and scans in turn.
 
+use crate::advice::advice;
 use crate::explain;
 use crate::image::{Image, Range};
 use crate::source::Rules;
-use crate::stop::Stop;
+use crate::stop::{tell, Stop};
 use crate::text::declared;
-use rolvenko::{check, clock, scan, start, translate, ScanRefusal, IMAGE_ROOM};
+use rolvenko::{check, clock, meaning, scan, start, translate, ScanRefusal, IMAGE_ROOM};
 use std::path::PathBuf;
 
 pub struct Farm {
@@ -24,7 +25,7 @@ impl Farm {
         match translate(&rules.text, &mut image) {
             Ok(length) => image.truncate(length),
             Err(refusal) => {
-                eprint!("{}", explain::text_refused(&rules.path, &rules.text, refusal));
+                tell(&explain::text_refused(&rules.path, &rules.text, refusal));
                 return Err(Stop::Refused);
             }
         }
@@ -47,6 +48,9 @@ impl Farm {
 
     /// Fills `day`, `minute` and `again` of a row of the right length.
     pub fn fill(&self, table: &[i64], utc: i64, row: &mut [i32]) -> Result<(), Stop> {
-        clock(&self.text, table, utc, row).map_err(|r| Stop::Failed(format!("{r}")))
+        clock(&self.text, table, utc, row).map_err(|refusal| {
+            tell(&format!("refused {}: {}\n  {}\n", refusal.number, meaning(refusal.number), advice(refusal.number)));
+            Stop::Refused
+        })
     }
 }

@@ -69,12 +69,14 @@ pub fn name(code: u8) -> Option<&'static str> {
         20 => "pick",
         21 => "let",
         22 => "settle",
+        24 => "pick rising",
+        25 => "pick falling",
         _ => return None,
     })
 }
 
 fn has_operand(code: u8) -> bool {
-    matches!(code, 1..=3 | 20..=22)
+    matches!(code, 1..=3 | 20..=22 | 24 | 25)
 }
 
 impl Image {
@@ -89,7 +91,7 @@ impl Image {
 
     fn read_header(&mut self, bytes: &[u8]) -> Result<usize, usize> {
         let (inputs, at) = number(bytes, 0).filter(|(n, _)| *n <= 64).ok_or(0usize)?;
-        let (variables, mut at) = number(bytes, at).filter(|(n, _)| *n + inputs <= 64).ok_or(at)?;
+        let (variables, mut at) = number(bytes, at).filter(|(n, _)| *n <= 64 - inputs).ok_or(at)?;
         (self.inputs, self.variables) = (inputs as usize, variables as usize);
         for _ in 0..inputs + variables {
             let first = at;

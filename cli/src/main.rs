@@ -19,9 +19,9 @@ mod trace;
 mod vcd;
 
 use clap::{Args, Parser, Subcommand};
-use source::Rules;
+use source::{Rules, Taken};
 use std::fs;
-use std::io::Write;
+use std::io::{Read, Write};
 use std::path::{Path, PathBuf};
 use std::process::ExitCode;
 use stop::Stop;
@@ -45,9 +45,15 @@ enum Command {
         output: Option<PathBuf>,
     },
     /// Say whether an image is sound, or a rule text accepted
-    Check { file: PathBuf },
+    Check {
+        #[command(flatten)]
+        file: Either,
+    },
     /// Print an image's header and instructions with their places
-    Show { file: PathBuf },
+    Show {
+        #[command(flatten)]
+        file: Either,
+    },
     /// Print the state after each row
     Trace {
         #[command(flatten)]
@@ -74,22 +80,44 @@ enum Command {
         threshold: i32,
         #[arg(long, default_value_t = 0)]
         rate_above: i32,
-        /// minutes of each row
-        #[arg(long, default_value_t = 1)]
-        minutes: i32,
+        /// minutes of each row; those of --every with a farm table, else 1
+        #[arg(long)]
+        minutes: Option<i32>,
     },
     /// Say whether rules can ever stop in service
     Closed { rules: PathBuf },
     /// Print a farm table for a zone of the system's zone database
     Table {
         zone: String,
-        /// first year
-        #[arg(long, value_name = "YEAR", default_value_t = 2026)]
-        from: i64,
-        /// last year
-        #[arg(long, value_name = "YEAR", default_value_t = 2027)]
-        to: i64,
+        /// first year; this one by default
+        #[arg(long, value_name = "YEAR")]
+        from: Option<i64>,
+        /// last year; the one after the first by default
+        #[arg(long, value_name = "YEAR")]
+        to: Option<i64>,
     },
+}
+
+/// An image, or rules.
+#[derive(Args)]
+struct Either {
+    file: PathBuf,
+    /// take the file for an image, whatever its bytes
+    #[arg(long, conflicts_with = "rules")]
+    image: bool,
+    /// take the file for rules
+    #[arg(long)]
+    rules: bool,
+}
+
+impl Either {
+    fn taken(&self) -> Option<Taken> {
+        match (self.image, self.rules) {
+            (true, _) => Some(Taken::Image),
+            (_, true) => Some(Taken::Rules),
+            _ => None,
+        }
+    }
 }
 
 /// Rules, rows and local time.
@@ -119,7 +147,12 @@ impl Run {
         let (Some(path), Some(first)) = (&self.table, self.start) else {
             return Ok(None);
         };
-        let text = fs::read_to_string(path).map_err(|e| Stop::file(path, e))?;
+        let mut text = String::new();
+        let most = 1 << 16;
+        let read = fs::File::open(path).and_then(|f| f.take(most).read_to_string(&mut text)).map_err(|e| Stop::file(path, e))?;
+        if read as u64 == most {
+            return Err(Stop::file(path, "too long for a farm table"));
+        }
         let words = text.lines().map(|l| l.split('#').next().unwrap_or("")).flat_map(str::split_whitespace);
         let table = words.map(|w| w.parse().map_err(|_| Stop::file(path, format!("`{w}` is no number")))).collect::<Result<_, _>>()?;
         Ok(Some(Clock { table, first, every: self.every }))
@@ -137,18 +170,22 @@ fn translate(path: &Path, output: Option<&Path>) -> Result<(), Stop> {
 fn run(command: Command) -> Result<(), Stop> {
     match command {
         Command::Translate { rules, output } => translate(&rules, output.as_deref()),
-        Command::Check { file } => show::check(&file),
-        Command::Show { file } => show::show(&file),
+        Command::Check { file } => show::check(&file.file, file.taken()),
+        Command::Show { file } => show::show(&file.file, file.taken()),
         Command::Trace { run, csv, vcd } => {
             let form = vcd.map_or(if csv { Form::Csv } else { Form::Plain }, Form::Vcd);
             trace::trace(Rules::read(&run.rules)?, run.rows.as_deref(), run.zeros, run.clock()?, form)
         }
         Command::Charge { run, of, rate, threshold, rate_above, minutes } => {
-            let rates = bill::Rates { threshold, rate, above: rate_above, minutes };
+            let row = run.table.as_ref().map_or(1, |_| i32::try_from(run.every).unwrap_or(i32::MAX));
+            let rates = bill::Rates { threshold, rate, above: rate_above, minutes: minutes.unwrap_or(row) };
             bill::bill(Rules::read(&run.rules)?, run.rows.as_deref(), run.zeros, run.clock()?, &of, &rates)
         }
         Command::Closed { rules } => profile::profile(&Rules::read(&rules)?),
-        Command::Table { zone, from, to } => table::print(&zone, from, to),
+        Command::Table { zone, from, to } => {
+            let from = from.unwrap_or_else(table::this_year);
+            table::print(&zone, from, to.unwrap_or(from.saturating_add(1)))
+        }
     }
 }
 
@@ -157,7 +194,7 @@ fn main() -> ExitCode {
         Ok(()) | Err(Stop::Closed) => ExitCode::SUCCESS,
         Err(Stop::Refused) => ExitCode::from(1),
         Err(Stop::Failed(message)) => {
-            eprintln!("rolvenko: {message}");
+            stop::tell(&format!("rolvenko: {message}\n"));
             ExitCode::from(2)
         }
     }

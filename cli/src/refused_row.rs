@@ -8,7 +8,8 @@ use rolvenko::{meaning, scan, ScanRefusal};
 
 const PREVIOUS: u8 = 3;
 const GATE: u8 = 19;
-const PICK: u8 = 20;
+/// 20, and rising and falling
+const PICKS: [u8; 3] = [20, 24, 25];
 const LET: u8 = 21;
 const SETTLE: u8 = 22;
 
@@ -19,7 +20,7 @@ pub fn row_refused(farm: &Farm, row: Option<&[i32]>, refusal: ScanRefusal) -> St
         (12, Some(row)) => format!("the row has {}: {}", numbers(row.len()), inputs_wanted(farm)),
         (13, Some(row)) => input_outside(farm, row),
         (18, _) => state_outside(farm),
-        (14..=17, Some(row)) => at_work(farm, row, refusal),
+        (14..=17 | 22, Some(row)) => at_work(farm, row, refusal),
         _ => meaning(refusal.number).to_owned(),
     };
     format!("refused {}: {what}\n  {}\n", refusal.number, advice(refusal.number))
@@ -68,7 +69,7 @@ fn at_work(farm: &Farm, row: &[i32], refusal: ScanRefusal) -> String {
         return meaning(refusal.number).to_owned();
     };
     let rule = rule_of(code, index);
-    let case = code[rule.start..index].iter().filter(|i| i.code == PICK).count();
+    let case = code[rule.start..index].iter().filter(|i| PICKS.contains(&i.code)).count();
     let name = &farm.names[variable];
     let places = cases(&farm.text, name);
     let spelled = |n: usize| {
@@ -116,7 +117,7 @@ fn values_used(farm: &Farm, row: &[i32], rule: &[Instruction]) -> String {
 /// behind it keep their variables.
 fn holds(farm: &Farm, row: &[i32], rule: &std::ops::Range<usize>, n: usize) -> bool {
     let code = &farm.read.code;
-    let picks: Vec<usize> = rule.clone().filter(|i| code[*i].code == PICK).collect();
+    let picks: Vec<usize> = rule.clone().filter(|i| PICKS.contains(&code[*i].code)).collect();
     let first = if n == 0 { rule.start } else { picks[n - 1] + 1 };
     let settle = &code[rule.end - 1];
     let mut image = farm.image[..code[rule.start].at].to_vec();

@@ -3,8 +3,8 @@
 use crate::explain;
 use crate::farm::Farm;
 use crate::image::{Image, Instruction};
-use crate::source::{content, Content};
-use crate::stop::Stop;
+use crate::source::{content, Content, Taken};
+use crate::stop::{tell, Stop};
 use rolvenko::Refusal;
 use std::io::{BufWriter, Write};
 use std::path::Path;
@@ -13,21 +13,23 @@ use std::path::Path;
 struct Shown {
     bytes: Vec<u8>,
     names: Vec<String>,
+    verdict: &'static str,
 }
 
-fn open(path: &Path) -> Result<Shown, Stop> {
-    Ok(match content(path)? {
-        Content::Image(bytes) => Shown { bytes, names: Vec::new() },
+fn open(path: &Path, taken: Option<Taken>) -> Result<Shown, Stop> {
+    Ok(match content(path, taken)? {
+        Content::Image(bytes) => Shown { bytes, names: Vec::new(), verdict: "image, sound" },
         Content::Text(rules) => {
             let farm = Farm::new(&rules)?;
-            Shown { bytes: farm.image, names: farm.names }
+            Shown { bytes: farm.image, names: farm.names, verdict: "rules, accepted" }
         }
     })
 }
 
-pub fn check(path: &Path) -> Result<(), Stop> {
-    let shown = open(path)?;
-    refused(path, &shown, rolvenko::check(&shown.bytes))
+pub fn check(path: &Path, taken: Option<Taken>) -> Result<(), Stop> {
+    let shown = open(path, taken)?;
+    refused(path, &shown, rolvenko::check(&shown.bytes))?;
+    Ok(writeln!(std::io::stdout(), "{}: {}", path.display(), shown.verdict)?)
 }
 
 fn refused(path: &Path, shown: &Shown, answer: Result<(), Refusal>) -> Result<(), Stop> {
@@ -37,7 +39,7 @@ fn refused(path: &Path, shown: &Shown, answer: Result<(), Refusal>) -> Result<()
     let image = Image::read(&shown.bytes);
     let there = image.code.iter().find(|i| i.at == refusal.place).map(|i| i.words(&shown.names));
     let there = there.or_else(|| (refusal.number == 11 && refusal.place == shown.bytes.len()).then(|| "the end".to_owned()));
-    eprint!("{}", explain::image_refused(path, refusal, there.as_deref()));
+    tell(&explain::image_refused(path, refusal, there.as_deref()));
     Err(Stop::Refused)
 }
 
@@ -49,8 +51,8 @@ fn end_of(image: &Image, index: usize, bytes: &[u8]) -> usize {
     image.code.get(index + 1).map_or(image.broken.unwrap_or(bytes.len()), |next: &Instruction| next.at)
 }
 
-pub fn show(path: &Path) -> Result<(), Stop> {
-    let shown = open(path)?;
+pub fn show(path: &Path, taken: Option<Taken>) -> Result<(), Stop> {
+    let shown = open(path, taken)?;
     let image = Image::read(&shown.bytes);
     let mut out = BufWriter::new(std::io::stdout().lock());
     writeln!(out, "{} bytes, {} inputs, {} variables, {} instructions from place {}", shown.bytes.len(), image.inputs, image.variables, image.code.len(), image.code_at)?;

@@ -66,25 +66,38 @@ impl Rows {
     /// The next line without its end, or none.
     pub fn next(&mut self) -> Result<Option<Vec<u8>>, Stop> {
         let mut line = Vec::new();
-        // no row of 64 numbers has more bytes: what is longer is no row whatever follows
-        let limit = 1 << 16;
-        let read = (&mut self.reader).take(limit).read_until(b'\n', &mut line).map_err(|e| Stop::file(&self.path, e))?;
-        if read == 0 {
+        let mut begun = false;
+        loop {
+            let part = self.reader.fill_buf().map_err(|e| Stop::file(&self.path, e))?;
+            if part.is_empty() {
+                break;
+            }
+            begun = true;
+            let end = part.iter().position(|b| *b == b'\n');
+            part[..end.unwrap_or(part.len())].iter().for_each(|b| keep(&mut line, *b));
+            let used = end.map_or(part.len(), |i| i + 1);
+            self.reader.consume(used);
+            if end.is_some() {
+                break;
+            }
+        }
+        if !begun {
             return Ok(None);
         }
-        let mut whole = line.ends_with(b"\n") || read < limit as usize;
-        while !whole {
-            let part = self.reader.fill_buf().map_err(|e| Stop::file(&self.path, e))?;
-            let end = part.iter().position(|b| *b == b'\n');
-            let used = end.map_or(part.len(), |i| i + 1);
-            whole = end.is_some() || part.is_empty();
-            self.reader.consume(used);
-        }
         self.line += 1;
-        if line.ends_with(b"\n") {
-            line.pop();
-        }
         Ok(Some(line))
+    }
+}
+
+/// Leading zeros say nothing and are dropped. Without them no row of 64 numbers is over the limit, so what is cut there is no row, or has too
+/// many numbers.
+fn keep(line: &mut Vec<u8>, byte: u8) {
+    let leads = line.last() == Some(&b'0') && !line.iter().rev().nth(1).map_or(false, u8::is_ascii_digit);
+    if byte.is_ascii_digit() && leads {
+        line.pop();
+    }
+    if line.len() <= 1 << 16 {
+        line.push(byte);
     }
 }
 
@@ -104,17 +117,26 @@ pub fn row(line: &[u8]) -> Option<Vec<i32>> {
         .collect()
 }
 
-/// What a file holds. Every sound image has a byte 0, 21 or 22, and no accepted text has a byte below 32 but tab, LF and CR.
+/// What a file holds, where the command line does not say: an image if a byte below 32 but tab, LF and CR stands before a `#` line. Every sound
+/// image has a byte 0, 21 or 22, and no accepted text has one.
+#[derive(Clone, Copy)]
+pub enum Taken {
+    Image,
+    Rules,
+}
+
 pub enum Content {
     Image(Vec<u8>),
     Text(Rules),
 }
 
-pub fn content(path: &Path) -> Result<Content, Stop> {
+pub fn content(path: &Path, taken: Option<Taken>) -> Result<Content, Stop> {
     let mut bytes = Vec::new();
     open(path)?.take(IMAGE_LIMIT as u64 + 1).read_to_end(&mut bytes).map_err(|e| Stop::file(path, e))?;
-    Ok(match bytes.iter().any(|b| *b < 32 && !matches!(b, b'\t' | b'\n' | b'\r')) {
-        true => Content::Image(bytes),
-        false => Content::Text(Rules::from(path, BufReader::new(Box::new(Cursor::new(bytes))))?),
+    let rows = bytes.windows(3).position(|w| w == b"\n#\n").unwrap_or(bytes.len());
+    let unprintable = bytes[..rows].iter().any(|b| *b < 32 && !matches!(b, b'\t' | b'\n' | b'\r'));
+    Ok(match taken.unwrap_or(if unprintable { Taken::Image } else { Taken::Rules }) {
+        Taken::Image => Content::Image(bytes),
+        Taken::Rules => Content::Text(Rules::from(path, BufReader::new(Box::new(Cursor::new(bytes))))?),
     })
 }

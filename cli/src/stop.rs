@@ -1,8 +1,13 @@
 //! Why a run ends early, and the status that it ends with.
 
 use std::fmt::Display;
-use std::io;
+use std::io::{self, Write};
 use std::path::Path;
+
+/// Says something on standard error; if nobody reads it, so be it.
+pub fn tell(text: &str) {
+    let _ = io::stderr().write_all(text.as_bytes());
+}
 
 #[derive(Debug)]
 pub enum Stop {

@@ -136,8 +136,8 @@ pub fn print(zone: &str, from: i64, to: i64) -> Result<(), Stop> {
     let path = zone_file(zone).ok_or_else(unknown)?;
     let bytes = std::fs::read(&path).map_err(|_| unknown())?;
     let read = Zone::read(&bytes).ok_or_else(|| Stop::Failed(format!("{}: no TZif file of version 2 or later", path.display())))?;
-    if !(1970..=6053).contains(&from) || to < from {
-        return Err(Stop::Failed("years go from 1970 on, the first before the last".to_owned()));
+    if !(1970..=6052).contains(&from) || !(from..=6052).contains(&to) {
+        return Err(Stop::Failed("years go from 1970 to 6052, the first not after the last".to_owned()));
     }
     let entries = read.table(from, to).map_err(|why| Stop::Failed(format!("{zone}, {from} to {to}: {}", words(&why))))?;
     let mut out = std::io::stdout().lock();
@@ -158,10 +158,20 @@ fn words(why: &NoTable) -> String {
     }
 }
 
+/// The year of a UTC day.
+fn year_of(day: i64) -> i64 {
+    (1970 + day.div_euclid(366)..).find(|y| posix::days(y + 1, 1, 1) > day).unwrap_or(1970)
+}
+
+pub fn this_year() -> i64 {
+    let now = std::time::SystemTime::now().duration_since(std::time::UNIX_EPOCH);
+    now.map_or(1970, |since| year_of(since.as_secs() as i64 / 86_400))
+}
+
 /// A UTC second as date and time.
 fn stamp(second: i64) -> String {
     let day = second.div_euclid(86_400);
-    let year = (1970 + day.div_euclid(366)..).find(|y| posix::days(y + 1, 1, 1) > day).unwrap_or(1970);
+    let year = year_of(day);
     let month = (1..=12).rev().find(|m| posix::days(year, *m, 1) <= day).unwrap_or(1);
     let rest = second.rem_euclid(86_400);
     format!("{year}-{month:02}-{:02} {:02}:{:02}Z", day - posix::days(year, month, 1) + 1, rest / 3600, rest / 60 % 60)

@@ -3,7 +3,7 @@
 use crate::farm::Farm;
 use crate::refused_row::row_refused;
 use crate::source::{row, Rows, Rules};
-use crate::stop::Stop;
+use crate::stop::{tell, Stop};
 use crate::vcd::Waveform;
 use std::fs;
 use std::io::{BufWriter, Write};
@@ -31,7 +31,11 @@ pub enum Given {
 
 impl Given {
     pub fn of(rules: &mut Rules, rows: Option<&Path>, zeros: Option<u64>, inputs: usize) -> Result<Given, Stop> {
+        if rules.rows.is_some() && (rows.is_some() || zeros.is_some()) {
+            return Err(Stop::Failed(format!("{}: rows stand behind its `#` line already", rules.path.display())));
+        }
         Ok(match (rows, zeros) {
+            (Some(path), _) if path == Path::new("-") && rules.path == path => return Err(Stop::Failed("rules and rows cannot both be standard input".to_owned())),
             (Some(path), _) => Given::Lines(Rows::open(path)?),
             (None, Some(count)) => Given::Zeros { count, inputs },
             (None, None) => rules.rows.take().map_or(Given::Nothing, Given::Lines),
@@ -64,6 +68,10 @@ pub struct Scanned {
 
 /// Scans the rows in turn and hands each over, the start first as number 0; answers how many were refused.
 pub fn scans(farm: &mut Farm, given: &mut Given, clock: Option<&Clock>, mut each: impl FnMut(&Farm, Scanned) -> Result<(), Stop>) -> Result<u64, Stop> {
+    if let Some(clock) = clock {
+        // 19 and 20 come before any row
+        farm.fill(&clock.table, clock.first, &mut vec![0; farm.read.inputs])?;
+    }
     each(farm, Scanned { number: 0, result: 0 })?;
     let mut refused = 0;
     let mut number = 0;
@@ -71,7 +79,7 @@ pub fn scans(farm: &mut Farm, given: &mut Given, clock: Option<&Clock>, mut each
         number += 1;
         if let (Some(clock), Some(values)) = (clock, values.as_mut()) {
             if values.len() == farm.read.inputs {
-                farm.fill(&clock.table, clock.first + (number as i64 - 1) * clock.every, values)?;
+                farm.fill(&clock.table, clock.first.saturating_add((number as i64 - 1).saturating_mul(clock.every)), values)?;
             }
         }
         let result = match farm.scan(values.as_deref()) {
@@ -79,7 +87,7 @@ pub fn scans(farm: &mut Farm, given: &mut Given, clock: Option<&Clock>, mut each
             Err(refusal) => {
                 refused += 1;
                 let place = at.unwrap_or_else(|| format!("row {number}"));
-                eprint!("{place}: {}", row_refused(farm, values.as_deref(), refusal));
+                tell(&format!("{place}: {}", row_refused(farm, values.as_deref(), refusal)));
                 refusal.number
             }
         };

@@ -32,7 +32,7 @@ pub struct Waveform {
     pub text: String,
 }
 
-/// The widths of the wire that tells a row's refusal.
+/// The range of the wire `_result`, which tells a row's refusal; no declared name begins so.
 const RESULT: Range = Range { low: 0, high: 31, start: 0 };
 
 impl Waveform {
@@ -40,7 +40,7 @@ impl Waveform {
         let mut text = String::from("$timescale 1 s $end\n");
         let _ = writeln!(text, "$comment a unit of time is a row $end\n$scope module {module} $end");
         let mut wires = Vec::new();
-        let all = names.iter().map(String::as_str).zip(ranges.iter().copied()).chain([("result", RESULT)]);
+        let all = names.iter().map(String::as_str).zip(ranges.iter().copied()).chain([("_result", RESULT)]);
         for (n, (name, range)) in all.enumerate() {
             let width = width(range);
             let _ = writeln!(text, "$var wire {width} {} {name} $end", identifier(n));

@@ -104,6 +104,7 @@ fn what_was_wanted_is_asked_of_the_archive() {
         (b"var v 0..1; v: GX(v = (1)); v: GX(v = (1));", "^ has a rule already"),
         (b"var v 0..1; v GX", "^^ wanted: `:`"),
         (b"var 0..1;", "^ wanted: a new name"),
+        (b"var v 5..;", "wanted: a number, `-`"),
     ] {
         let checked = fed(&["check", "-"], text);
         let answer = told(&checked);
@@ -195,6 +196,45 @@ fn a_closed_pipe_is_no_failure() {
     drop(child.stdout.take());
     let ended = child.wait_with_output().unwrap();
     assert_eq!((status(&ended), told(&ended).as_str()), (0, ""));
+    let mut child = Command::new(TOOL).args(["trace", word(&rules), "/dev/stdin"]).stdin(Stdio::piped()).stdout(Stdio::null()).stderr(Stdio::piped()).spawn().unwrap();
+    drop(child.stderr.take());
+    child.stdin.take().unwrap().write_all(&b"x\n".repeat(20000)).unwrap();
+    assert_eq!(child.wait().unwrap().code(), Some(1));
+}
+
+#[test]
+fn lines_of_any_length_are_rows() {
+    let rules = file("zeros.txt", b"input i 0..9; var v 0..9; v: GX(v = (i));\n");
+    let row = [&vec![b'0'; 70_000][..], b"7\n-", &vec![b'0'; 9], b"\n", &vec![b'1'; 70_000][..], b"\n"].concat();
+    assert_eq!(out(&fed(&["trace", word(&rules), "-"], &row)), "scan i v result\n0 0 0 0\n1 7 7 0\n2 0 0 0\n3 0 0 12\n");
+}
+
+#[test]
+fn what_a_file_is_taken_for_is_said() {
+    let empty = file("empty", b"");
+    assert_eq!(out(&tool(&["check", word(&empty)])), format!("{}: rules, accepted\n", word(&empty)));
+    assert_eq!(status(&tool(&["check", "--image", word(&empty)])), 1);
+    let nul = file("nul.txt", b"var v\0 0..1;");
+    assert!(told(&tool(&["check", "--rules", word(&nul)])).contains(":1:6: refused 1: "));
+    let wide = file("wide.image", &[2, 0xFF, 0xFF, 0xFF, 0xFF, 0x0F, 0, 0, 0]);
+    assert_eq!(status(&tool(&["show", word(&wide)])), 1);
+}
+
+#[test]
+fn rows_come_from_one_place() {
+    let rules = file("rows.txt", b"input i 0..9;\n#\n1\n");
+    assert_eq!(status(&tool(&["trace", word(&rules), "--zeros", "1"])), 2);
+    assert_eq!(status(&tool(&["trace", "-", "-"])), 2);
+}
+
+#[test]
+fn a_broken_farm_table_is_refused_before_any_row() {
+    let rules = file("clock.txt", b"input day 0..99999;\n");
+    let table = file("falling.table", b"10 60\n5 0\n");
+    let traced = tool(&["trace", word(&rules), "--table", word(&table), "--start", "1"]);
+    assert_eq!((status(&traced), told(&traced).starts_with("refused 19: ")), (1, true));
+    let endless = tool(&["trace", word(&rules), "--table", "/dev/zero", "--start", "1"]);
+    assert_eq!(status(&endless), 2);
 }
 
 #[test]

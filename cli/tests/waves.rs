@@ -48,7 +48,7 @@ fn a_waveform_goes_through_gtkwave_and_back() {
     let own = values(&written);
     assert_eq!(own["low"], BTreeMap::from([(0, 0), (1, -1), (2, -2)]));
     assert_eq!(own["up"], BTreeMap::from([(0, 0), (1, 100), (2, 200), (3, 300)]));
-    assert_eq!(own["result"], BTreeMap::from([(0, 0), (4, 13), (5, 17)]));
+    assert_eq!(own["_result"], BTreeMap::from([(0, 0), (4, 13), (5, 17)]));
     let converted = Command::new("vcd2fst").arg(&wave).arg(&fst).output().expect("Debian's package gtkwave is wanted");
     assert!(converted.status.success());
     let back = Command::new("fst2vcd").arg(&fst).output().unwrap();

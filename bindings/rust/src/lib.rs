@@ -84,6 +84,7 @@ pub fn meaning(number: u8) -> &'static str {
         18 => "a value of the state is outside its range",
         19 => "the farm table breaks its limits",
         20 => "the UTC minute is below 0 or over 2,147,483,647",
+        22 => "a rising pick at or below the previous value, or a falling one at or above it",
         24 => "the state at the finish is not the one at the start",
         26 => "the states and rows to scan are more than 65,536",
         27 => "an in-range state and row whose scan is refused",
@@ -194,7 +195,7 @@ pub fn start(image: &[u8], state: &mut [i32]) -> Result<(), Refusal> {
     counted(answer).map(|_| ())
 }
 
-/// Scans a row of inputs: the state becomes the next one, and the steps are answered. A refusal (9, 11 to 18) leaves the state as
+/// Scans a row of inputs: the state becomes the next one, and the steps are answered. A refusal (9, 11 to 18, 22) leaves the state as
 /// it was.
 pub fn scan(image: &[u8], state: &mut [i32], row: &[i32]) -> Result<u32, ScanRefusal> {
     // As for `start`, and it reads `row_len` numbers at `row`.

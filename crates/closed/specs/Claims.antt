@@ -33,7 +33,7 @@ pub record Closed (image : List ℕ) : Type 0 where
   pub small : productOfSizes (headerOf image .ranges) * productOfSizes (inputRanges (headerOf image)) ≤ combinationLimit
   pub accepts : (s : State) (row : List ℤ) → InRangeState (headerOf image) s → InRangeRow (headerOf image) row → scanOf image s row .answer ≡ accepted tt
 
--- Then no list of in-range rows from the fresh start ever meets 14 to 17 (law `closed-runs`): no refusal at all.
+-- Then no list of in-range rows from the fresh start ever meets 14 to 17 or 22 (law `closed-runs`): no refusal at all.
 abbrev pub InRangeRows : Header → List (List ℤ) → Type 0
 InRangeRows h [] = Unit {0}
 InRangeRows h (r ∷ rs) = InRangeRow h r × InRangeRows h rs
