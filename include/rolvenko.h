@@ -15,7 +15,8 @@
  *
  * But a success of rolvenko_charge is its sum; see there.
  *
- * Memory. What is lent as const is only read. A refusal leaves all lent memory as it was; what a success writes stands at each function.
+ * Memory. What is lent as const is only read. A refusal leaves all lent memory as it was, but for `paused`: a refused rolvenko_begin has taken the
+ * waiting row, and the refusal of a scan that rolvenko_finish tells ends it. What a success writes stands at each function.
  * Nothing outside the lengths given is touched. The caller owes what C cannot say: each pointer has its length's elements behind it,
  * int32_t and int64_t ones are aligned, and what is written overlaps nothing else that is lent to the same call. With a length of 0 nothing is read
  * or written: pass any pointer that is not NULL. (NULL with 0 works in the archive as compiled, and the tests try it, but the proofs
@@ -72,6 +73,7 @@ uint64_t rolvenko_start(const uint8_t *image, size_t image_len, int32_t *state, 
  *   14        a result outside 32 bits, or division by zero (mod by zero gives 0)
  *   15        a second condition of a rule holds
  *   16        a case's value equals the previous value
+ *   22        of instruction 24 (rising) a value at or below the previous one, of 25 (falling) one at or above it
  *   17        a new value is outside its declared range
  */
 uint64_t rolvenko_scan(const uint8_t *image, size_t image_len, int32_t *state, size_t state_len, const int32_t *row, size_t row_len);

@@ -87,7 +87,7 @@ pub fn advance(paused: &mut [i32], image: &[u8], steps: usize) -> Response {
     response(unsafe { archive::rolvenko_advance(paused.as_mut_ptr(), paused.len(), image.as_ptr(), image.len(), steps) })
 }
 
-/// Asks for the end of the scan: idle without one, unfinished too early, the scan's refusal (14 to 17), 24 for another state than at the
+/// Asks for the end of the scan: idle without one, unfinished too early, the scan's refusal (14 to 17, 22), 24 for another state than at the
 /// start, or the total steps; then, and only then, the state is the next one.
 pub fn finish(paused: &mut [i32], state: &mut [i32]) -> Response {
     // The function reads and writes `paused_len` numbers at `paused` and `state_len` numbers at `state`.
