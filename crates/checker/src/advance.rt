@@ -57,7 +57,7 @@ pub fn push(w: Walk) -> Advanced
     Advanced::Kept(k)
 }
 
-fn is_known(w: Walk, id: u64) -> bool
+pub fn is_known(w: Walk, id: u64) -> bool
     requires { ⌜ Small w ⌝ }
     ensures { λ r. ⌜ r ≡ getD (flagsOf (w .names) (w .known)) id false ⌝ }
 {

@@ -25,11 +25,12 @@ use Rattle.machine.specs.declared.Stepped.the-variants.{Next, Refused}
 use Rattle.machine.specs.Inner.Memory.{heldOf, OneEach}
 use Rattle.machine.proofs.Loop.{Going, ended, again, refused}
 use Rattle.fused.specs.declared.Progress.{Progress}
-use Rattle.fused.specs.declared.Moved.{Moved}
-use Rattle.fused.specs.declared.Moved.the-variants as M
+use Rattle.fused.specs.declared.ahead.Leap.{Leap}
+use Rattle.fused.specs.declared.ahead.Leap.the-variants as L
 use Rattle.fused.specs.declared.Ended.{Ended}
 use Rattle.fused.specs.declared.Ended.the-variants as E
-use Rattle.fused.specs.Inner.Passes.{registersOf, Ready, BreaksAt, Moves, Refuses, MovesBy, RefusedBy, CheckedCode, BrokenCode, Succeeds, Fails, RunBy}
+use Rattle.fused.specs.Inner.Passes.{registersOf, Ready, BreaksAt, Moves, Refuses, RefusedBy, CheckedCode, BrokenCode, Succeeds, Fails, RunBy}
+use Rattle.fused.specs.Inner.Leaps.{Goes, lastly, first, LeapsBy}
 
 -- nothing held, nothing picked, nothing passed over
 abbrev idle : Registers
@@ -62,17 +63,17 @@ few-held false n h = h
 
 module _ {code : List ℕ} {low high prev : List ℤ} {inputs : ℕ} {cur₀ vals₀ cur vals : List ℤ} {b : Progress} {steps : ℕ}
     (f : Fusing code low high prev inputs cur₀ vals₀ cur vals b steps) where
-  pub moved-refused : (vals₁ cur₁ : List ℤ) (r : Moved) (k : Progress) (number : ℕ) → MovesBy code low high prev b vals cur vals₁ cur₁ r → r ≡ M.Refused k number
+  pub leapt-refused : (vals₁ cur₁ : List ℤ) (r : Leap) (k : Progress) (number : ℕ) → LeapsBy code low high prev b vals cur vals₁ cur₁ r → r ≡ L.Refused k number
       → Refuses code low high prev b vals cur k number
-  moved-refused vals₁ cur₁ r k number m e = subst (λ x. MovesBy code low high prev b vals cur vals₁ cur₁ x) e m
+  leapt-refused vals₁ cur₁ r k number m e = subst (λ x. LeapsBy code low high prev b vals cur vals₁ cur₁ x) e m
 
-  pub moved : (vals₁ cur₁ : List ℤ) (r : Moved) (k : Progress) → MovesBy code low high prev b vals cur vals₁ cur₁ r → r ≡ M.On k → Moves code low high prev b vals cur vals₁ cur₁ k
-  moved vals₁ cur₁ r k m e = subst (λ x. MovesBy code low high prev b vals cur vals₁ cur₁ x) e m
+  pub leapt : (vals₁ cur₁ : List ℤ) (r : Leap) (k : Progress) (n : ℕ) → LeapsBy code low high prev b vals cur vals₁ cur₁ r → r ≡ L.On k n → Goes code low high prev n b vals cur k vals₁ cur₁
+  leapt vals₁ cur₁ r k n m e = subst (λ x. LeapsBy code low high prev b vals cur vals₁ cur₁ x) e m
 
-  pub moved-broken : (vals₁ cur₁ : List ℤ) (r : Moved) → MovesBy code low high prev b vals cur vals₁ cur₁ r → r ≡ M.Broken → BreaksAt code b
-  moved-broken vals₁ cur₁ r m e = subst (λ x. MovesBy code low high prev b vals cur vals₁ cur₁ x) e m
+  pub leapt-broken : (vals₁ cur₁ : List ℤ) (r : Leap) → LeapsBy code low high prev b vals cur vals₁ cur₁ r → r ≡ L.Broken → BreaksAt code b
+  leapt-broken vals₁ cur₁ r m e = subst (λ x. LeapsBy code low high prev b vals cur vals₁ cur₁ x) e m
 
-  pub fusing-goes : (vals₁ cur₁ : List ℤ) (k : Progress) → b .at < length code → Moves code low high prev b vals cur vals₁ cur₁ k → length vals₁ ≡ length vals → length cur₁ ≡ length cur
+  fusing-goes : (vals₁ cur₁ : List ℤ) (k : Progress) → b .at < length code → Moves code low high prev b vals cur vals₁ cur₁ k → length vals₁ ≡ length vals → length cur₁ ≡ length cur
       → Fusing code low high prev inputs cur₀ vals₀ cur₁ vals₁ k (steps + 1)
   fusing-goes vals₁ cur₁ k l m deeper wider =
       let i = m .instruction in
@@ -141,3 +142,23 @@ module _ {code : List ℕ} {low high prev : List ℤ} {inputs : ℕ} {cur₀ val
 
     pub fusing-misses : false ≡ complete (knownOf (b .walk)) → BrokenCode code inputs (length low) (length code)
     fusing-misses missing = fusing-breaks (length code) (judges-end code (b .at) _ (J.Broken (length code)) l (λ base. rw (← missing)))
+
+-- ---- several instructions
+
+-- each has a byte at least, and ends inside the code
+pub goes-far : {code : List ℕ} {low high prev : List ℤ} (n : ℕ) (b : Progress) (vals cur : List ℤ) (k : Progress) (vals₁ cur₁ : List ℤ) → Goes code low high prev n b vals cur k vals₁ cur₁
+    → (b .at + n ≤ k .at) × (k .at ≤ length code) × (1 ≤ n)
+goes-far {code} _ _ _ _ _ _ _ (lastly b vals cur vals₁ cur₁ k m) = (omega (arith, fetch-next code (b .at) (m .instruction) (k .at) (m .fetched) .1), m .inside, omega arith)
+goes-far {code} _ _ _ _ _ _ _ (first n b vals cur vals₁ cur₁ m vals₂ cur₂ k o deeper wider rest) =
+    let far = goes-far n m vals₁ cur₁ k vals₂ cur₂ rest in
+    (omega (arith, far .0, fetch-next code (b .at) (o .instruction) (m .at) (o .fetched) .1), far .1, omega arith)
+
+pub fusing-leaps : {code : List ℕ} {low high prev : List ℤ} {inputs : ℕ} {cur₀ vals₀ : List ℤ} {steps : ℕ} (n : ℕ) (b : Progress) (vals cur : List ℤ) (k : Progress) (vals₁ cur₁ : List ℤ)
+    → Goes code low high prev n b vals cur k vals₁ cur₁ → Fusing code low high prev inputs cur₀ vals₀ cur vals b steps → length vals₁ ≡ length vals → length cur₁ ≡ length cur
+    → Fusing code low high prev inputs cur₀ vals₀ cur₁ vals₁ k (steps + n)
+fusing-leaps {code} _ _ _ _ _ _ _ (lastly b vals cur vals₁ cur₁ k m) f deeper wider =
+    fusing-goes f vals₁ cur₁ k (fetch-next code (b .at) (m .instruction) (k .at) (m .fetched) .0) m deeper wider
+fusing-leaps {code} {low} {high} {prev} {inputs} {cur₀} {vals₀} {steps} _ _ _ _ _ _ _ (first n b vals cur vals₁ cur₁ m vals₂ cur₂ k o deep wide rest) f deeper wider =
+    let on = fusing-goes f vals₁ cur₁ m (fetch-next code (b .at) (o .instruction) (m .at) (o .fetched) .0) o deep wide in
+    let e : steps + 1 + n ≡ steps + (1 + n) = omega arith in
+    subst (λ (s : ℕ). Fusing code low high prev inputs cur₀ vals₀ cur₂ vals₂ k s) e (fusing-leaps n m vals₁ cur₁ k vals₂ cur₂ rest on (deeper ∙ sym deep) (wider ∙ sym wide))

@@ -1,5 +1,6 @@
 // Check and run in one pass over the code: each instruction is read once, moves the walk and is done. Where it breaks soundness the place is
 // answered; where the machine refuses it, the walk alone goes on, since an instruction behind that breaks soundness comes first.
+use ahead::Leap;
 use checker::Verdict;
 use checker::advance;
 use checker::advance::Advanced;
@@ -18,6 +19,7 @@ ghost use Rattle.checker.specs.Inner.Walk.{openOf, Small};
 ghost use Rattle.machine.specs.Inner.Memory.{OneEach};
 ghost use Rattle.fused.specs.Inner.Passes.{passedOver, movedOf, PassesBy, Ready, MovesBy, RefusedBy, RunBy};
 
+pub mod ahead;
 pub mod header;
 
 // The walk before an instruction, and the place of that instruction; whether the variable at hand was picked, and whether
@@ -345,18 +347,18 @@ fn run_in(
     };
     let mut steps = 0;
     while b.at < code.len() {
-        let m = advance_one(code, low, high, prev, cur, vals, b);
+        let m = ahead::advance_ahead(code, low, high, prev, cur, vals, b);
         match m {
-            Moved::On(k) => {
+            Leap::On(k, n) => {
                 b = k;
-                steps += 1;
+                steps += n;
             }
-            Moved::Refused(k, number) => {
+            Leap::Refused(k, number) => {
                 let behind = k.at;
                 let w = k.walk;
                 return refused(code, behind, w, number, steps + 1);
             }
-            Moved::Broken => {
+            Leap::Broken => {
                 return Ended::Broken(b.at);
             }
         }

@@ -28,7 +28,7 @@ held-set l i zero v h = refl
 held-set l i (suc n) v h = rw (getD-set-other l i n v (pos 0) (λ e. omega arith), held-set l i n v (omega arith))
 
 -- a store on top
-held-put : (l : List ℤ) (n : ℕ) (v : ℤ) → n < length l → heldOf (set l n v) (n + 1) ≡ v ∷ heldOf l n
+pub held-put : (l : List ℤ) (n : ℕ) (v : ℤ) → n < length l → heldOf (set l n v) (n + 1) ≡ v ∷ heldOf l n
 unfolding heldOf
 held-put l n v h = rw (add-one n, getD-set-same l n v (pos 0) h, held-set l n n v (omega arith))
 

@@ -4,8 +4,7 @@ use mathlib.Core.Path.{sym, _∙_}
 use native.Mathlib.Omega.{arith}
 use borrow.Author.Needs.{needs}
 use lib.ListN.{length}
-use Rattle.bytecode.proofs.RoundTrip.{fetch-next}
-use Rattle.fused.proofs.Fusing.{Fusing, moved, moved-refused, moved-broken, fusing-begins, fusing-goes, fusing-breaks, fusing-stops, fusing-ends, fusing-misses}
+use Rattle.fused.proofs.Fusing.{Fusing, leapt, leapt-refused, leapt-broken, fusing-begins, fusing-breaks, fusing-stops, fusing-ends, fusing-misses, goes-far, fusing-leaps}
 use Rattle.fused.proofs.run_in.Statement.{statement}
 use Rattle.fused.proofs.run_in.Tie as tie
 
@@ -21,60 +20,43 @@ initial-requires c κs = omega (arith, c .before .pre .1 .0, c .before .pre .1 .
 loop-holds : tie.Need-loop-holds Inv-loop μ-loop
 loop-holds c = rw (c .initial .ensures) (fusing-begins _ _ _ _ _ _ _ (c .before .before .pre .0) (c .before .before .pre .1 .0) (c .before .before .pre .1 .1) (c .before .before .pre .1 .2))
 
-advance-one-requires : tie.Need-advance-one-requires Inv-loop μ-loop
-advance-one-requires c κs = (c .before .before .before .before .loop .inv .ready, c .before .before .if1 .taken)
+advance-ahead-requires : tie.Need-advance-ahead-requires Inv-loop μ-loop
+advance-ahead-requires c κs = (c .before .before .before .before .loop .inv .ready, c .before .before .if1 .taken)
 
 add-steps : tie.Need-add-steps Inv-loop μ-loop
 add-steps c =
-    let at-if1 = c .before .before .before .before .before .before .before .before in
-    let at-loop = at-if1 .before .before in
-    omega (arith, at-loop .loop .inv .few, at-if1 .if1 .taken)
+    let inv = c .before .before .before .before .before .before .before .before .before .before .loop .inv in
+    let far = goes-far _ _ _ _ _ _ _ (leapt inv _ _ (c .before .before .before .before .before .advance-ahead .result) _ _ (c .before .before .before .before .before .advance-ahead .ensures) (c .before .m .given .1)) in
+    omega (arith, inv .few, far .0, far .1, c .before .before .before .before .before .before .before .before .before .before .before .before .before .good .0)
 
 -- a turn that goes on
 loop-less : tie.Need-loop-less Inv-loop μ-loop
 loop-less c =
-    let at-one = c .before .before .before .before .before in
-    let at-if1 = at-one .before .before .before in
-    let at-loop = at-if1 .before .before in
-    let m = moved (at-loop .loop .inv) _ _ (at-one .advance-one .result) _ (at-one .advance-one .ensures) (c .before .m .given .1) in
-    omega (arith, fetch-next _ _ _ _ (m .fetched) .1, at-if1 .if1 .taken)
+    let far = goes-far _ _ _ _ _ _ _ (leapt (c .before .before .before .before .before .before .before .before .before .before .loop .inv) _ _ (c .before .before .before .before .before .advance-ahead .result) _ _ (c .before .before .before .before .before .advance-ahead .ensures) (c .before .m .given .1)) in
+    omega (arith, far .0, far .2, c .before .before .before .before .before .before .before .before .if1 .taken)
 
 loop-again : tie.Need-loop-again Inv-loop μ-loop
 loop-again c =
-    let at-one = c .before .before .before .before .before in
-    let at-if1 = at-one .before .before .before in
-    let at-loop = at-if1 .before .before in
-    let inv = at-loop .loop .inv in
-    fusing-goes inv _ _ _ (at-if1 .if1 .taken) (moved inv _ _ (at-one .advance-one .result) _ (at-one .advance-one .ensures) (c .before .m .given .1))
-    (at-one .advance-one .kept .1 .1 .1 .1 .1 .0) (at-one .advance-one .kept .1 .1 .1 .1 .0)
+    let inv = c .before .before .before .before .before .before .before .before .before .before .loop .inv in
+    fusing-leaps _ _ _ _ _ _ _ (leapt inv _ _ (c .before .before .before .before .before .advance-ahead .result) _ _ (c .before .before .before .before .before .advance-ahead .ensures) (c .before .m .given .1)) inv
+    (c .before .before .before .before .before .advance-ahead .kept .1 .1 .1 .1 .1 .0) (c .before .before .before .before .before .advance-ahead .kept .1 .1 .1 .1 .0)
 
 -- a turn that the machine refuses
 add-refused : tie.Need-add-refused Inv-loop μ-loop
-add-refused c =
-    let at-if1 = c .before .before .before .before .before .before .before .before .before in
-    let at-loop = at-if1 .before .before in
-    let start = at-loop .before .before .before in
-    omega (arith, at-loop .loop .inv .few, at-if1 .if1 .taken, start .good .0)
+add-refused c = omega (arith, c .before .before .before .before .before .before .before .before .before .before .before .loop .inv .few, c .before .before .before .before .before .before .before .before .before .if1 .taken, c .before .before .before .before .before .before .before .before .before .before .before .before .before .before .good .0)
 
 refused-requires : tie.Need-refused-requires Inv-loop μ-loop
-refused-requires c κs =
-    let at-one = c .before .before .before .before .before .before in
-    let at-loop = at-one .before .before .before .before .before in
-    moved-refused (at-loop .loop .inv) _ _ (at-one .advance-one .result) _ _ (at-one .advance-one .ensures) (c .before .before .m2 .given .1) .small
+refused-requires c κs = leapt-refused (c .before .before .before .before .before .before .before .before .before .before .before .loop .inv) _ _ (c .before .before .before .before .before .before .advance-ahead .result) _ _ (c .before .before .before .before .before .before .advance-ahead .ensures) (c .before .before .m2 .given .1) .small
 
 returns : tie.Need-returns Inv-loop μ-loop
 returns c =
-    let at-one = c .before .before .before .before .before .before .before in
-    let at-if1 = at-one .before .before .before in
-    let at-loop = at-if1 .before .before in
-    let inv = at-loop .loop .inv in
-    fusing-stops inv _ _ (at-if1 .if1 .taken) (moved-refused inv _ _ (at-one .advance-one .result) _ _ (at-one .advance-one .ensures) (c .before .before .before .m2 .given .1)) _
-    (c .refused .result) (c .refused .ensures)
+    let inv = c .before .before .before .before .before .before .before .before .before .before .before .before .loop .inv in
+    fusing-stops inv _ _ (c .before .before .before .before .before .before .before .before .before .before .if1 .taken) (leapt-refused inv _ _ (c .before .before .before .before .before .before .before .advance-ahead .result) _ _ (c .before .before .before .before .before .before .before .advance-ahead .ensures) (c .before .before .before .m2 .given .1)) _ (c .refused .result) (c .refused .ensures)
 
 returns-2 : tie.Need-returns-2 Inv-loop μ-loop
 returns-2 c =
     let inv = c .before .before .before .before .before .before .before .before .before .loop .inv in
-    (fusing-breaks inv _ (moved-broken inv _ _ (c .before .before .before .before .advance-one .result) (c .before .before .before .before .advance-one .ensures) (c .enum-told .given .1)), omega (arith, c .before .before .before .before .before .before .before .if1 .taken))
+    (fusing-breaks inv _ (leapt-broken inv _ _ (c .before .before .before .before .advance-ahead .result) (c .before .before .before .before .advance-ahead .ensures) (c .enum-told .given .1)), omega (arith, c .before .before .before .before .before .before .before .if1 .taken))
 
 complete-requires : tie.Need-complete-requires Inv-loop μ-loop
 complete-requires c κs = c .before .before .before .loop .inv .ready .small
@@ -89,7 +71,7 @@ pub run-in-spec : {M : Type 1} → statement M
 run-in-spec =
     tie.close
     (tie.spec Inv-loop μ-loop
-    initial-requires loop-holds advance-one-requires (λ c. search needs) add-steps loop-less loop-again
+    initial-requires loop-holds advance-ahead-requires (λ c. search needs) add-steps loop-less loop-again
     (λ c. search needs) add-refused refused-requires (λ c. search needs) (λ c. search needs) returns
     (λ c. search needs) (λ c. search needs) (λ c. search needs) returns-2
     complete-requires (λ c. search needs) (λ c. search needs) returns-3 (λ c. search needs) (λ c. search needs) returns-4)

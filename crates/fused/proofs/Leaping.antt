@@ -1,0 +1,307 @@
+-- Instructions that stand ahead together: walk and machine go as many steps. Assumes nothing.
+use Prim.Native.Nat.{ℕ, _+_, _*_, _%_, _^_, _≤_, _<_}
+use native.Mathlib.Omega.{arith}
+use native.Mathlib.Numerals.{add-one}
+use native.Mathlib.Nat.{pow-suc}
+use mathlib.Core.Path.{_≡_, refl, sym, ap, subst, _∙_}
+use mathlib.Core.Bool.{Bool, true, false, false≢true}
+use mathlib.Core.List.{List}
+use mathlib.Core.Option.{some}
+use lib.IntN.{ℤ}
+use lib.ListN.{length, getD, set, length-set}
+use borrow.Author.Tests.{lt-ltb}
+use Rattle.arith.specs.Inner.Flags.{flagsOf}
+use Rattle.arith.specs.Values.{Comparison, ok, compares}
+use Rattle.arith.proofs.Flags.{length-flags}
+use Rattle.semantics.specs.Program.{Range}
+use Rattle.semantics.specs.Formula.{State, at as valueAt}
+use Rattle.leb128.specs.Numbers.{got, unzigzag}
+use Rattle.leb128.proofs.Laws.{one-group}
+use Rattle.bytecode.specs.Instructions.{Instruction, constant, current, previous, operation, comparison, operationOf, comparisonOf, instructionOf, hasOperand, fetch}
+use Rattle.bytecode.specs.Signature.{number, truth}
+use Rattle.bytecode.specs.Check.{advance}
+use Rattle.bytecode.proofs.Codes.{operation-of, comparison-of}
+use Rattle.bytecode.proofs.Fetching.{fetch-alone, fetch-number}
+use Rattle.checker.specs.declared.advance.Walk.{Walk}
+use Rattle.checker.specs.declared.advance.Advanced.the-variants.{Kept}
+use Rattle.checker.specs.Inner.Walk.{openOf, knownOf, pushed, joined, outside, Small}
+use Rattle.checker.proofs.Bits.{length-sorts, sorts-cons, sorts-push, sorts-number, number-low}
+use Rattle.checker.proofs.Steps.{operation-is, comparison-is, constant-is}
+use Rattle.machine.specs.declared.Registers.{Registers}
+use Rattle.machine.specs.declared.Stepped.the-variants as S
+use Rattle.machine.specs.Step.{machine, bit, push, perform}
+use Rattle.machine.specs.Inner.Memory.{heldOf}
+use Rattle.machine.specs.Inner.Groups.{truthOf}
+use Rattle.machine.proofs.Changes.{names-length}
+use Rattle.machine.proofs.Codes.{truth-comparison}
+use Rattle.machine.proofs.Stack.{held-put, push-put}
+use Rattle.fused.specs.declared.Progress.{Progress}
+use Rattle.fused.specs.declared.Moved.{Moved}
+use Rattle.fused.specs.declared.Moved.the-variants as M
+use Rattle.fused.specs.declared.ahead.Leap.{Leap}
+use Rattle.fused.specs.Inner.Passes.{Ready, Moves, MovesBy}
+use Rattle.fused.specs.Inner.Leaps.{ComparisonSeen, OperationSeen, Goes, lastly, first, leapOf, LeapsBy}
+use Rattle.fused.proofs.Joining.{arrives, no-operand}
+use Rattle.fused.proofs.Passing.{over-moves-by}
+
+-- ---- the bytes ahead
+
+module _ (code : List ℕ) (at byte : ℕ) (is : getD code at 0 ≡ byte) (i : Instruction) where
+  -- a code byte and an operand of one byte
+  short-fetch : at + 1 < length code → hasOperand byte ≡ true → getD code (at + 1) 0 < 128 → instructionOf byte (getD code (at + 1) 0) ≡ some i → fetch code at ≡ got i (at + 2)
+  short-fetch l has s e =
+      let two : at + 1 + 1 ≡ at + 2 = omega arith in
+      fetch-number code at (getD code (at + 1) 0) (at + 1 + 1) (omega arith) (ap hasOperand is ∙ has) (one-group code (at + 1) l s) ∙ rw (is, e, two)
+
+  -- a code byte alone
+  lone-fetch : at < length code → hasOperand byte ≡ false → instructionOf byte 0 ≡ some i → fetch code at ≡ got i (at + 1)
+  lone-fetch l has e = fetch-alone code at l (ap hasOperand is ∙ has) ∙ rw (is, e)
+
+module _ (code : List ℕ) (at : ℕ) where
+  constant-ahead : at + 1 < length code → getD code at 0 ≡ 1 → getD code (at + 1) 0 < 128 → fetch code at ≡ got (constant (unzigzag (getD code (at + 1) 0))) (at + 2)
+  unfolding instructionOf hasOperand
+  constant-ahead l is s = short-fetch code at 1 is (constant (unzigzag (getD code (at + 1) 0))) l refl s refl
+
+module _ (code : List ℕ) (at : ℕ) where
+  second-is : at + 4 < length code → getD code (at + 2) 0 ≡ 1 → getD code (at + 3) 0 < 128 → fetch code (at + 2) ≡ got (constant (unzigzag (getD code (at + 3) 0))) (at + 4)
+  second-is l is s =
+      let p : at + 2 + 1 ≡ at + 3 = omega arith in
+      let q : at + 2 + 2 ≡ at + 4 = omega arith in
+      let s₁ : getD code (at + 2 + 1) 0 < 128 = rw p s in
+      rw (p, q) at (constant-ahead code (at + 2) (omega arith) is s₁)
+
+  third-is : at + 4 < length code → 10 ≤ getD code (at + 4) 0 → getD code (at + 4) 0 ≤ 15 → fetch code (at + 4) ≡ got (comparison (comparisonOf (getD code (at + 4) 0))) (at + 5)
+  third-is l a z =
+      let q : at + 4 + 1 ≡ at + 5 = omega arith in
+      let has : hasOperand (getD code (at + 4) 0) ≡ false = no-operand (getD code (at + 4) 0) (omega arith) (omega arith) in
+      rw q at (lone-fetch code (at + 4) (getD code (at + 4) 0) refl (comparison (comparisonOf (getD code (at + 4) 0))) l has (comparison-of (getD code (at + 4) 0) 0 a z))
+
+  operation-third : at + 2 < length code → 4 ≤ getD code (at + 2) 0 → getD code (at + 2) 0 ≤ 8 → fetch code (at + 2) ≡ got (operation (operationOf (getD code (at + 2) 0))) (at + 3)
+  operation-third l a z =
+      let q : at + 2 + 1 ≡ at + 3 = omega arith in
+      let has : hasOperand (getD code (at + 2) 0) ≡ false = no-operand (getD code (at + 2) 0) a (omega arith) in
+      rw q at (lone-fetch code (at + 2) (getD code (at + 2) 0) refl (operation (operationOf (getD code (at + 2) 0))) l has (operation-of (getD code (at + 2) 0) 0 a z))
+
+  pub operation-seen : (w : Walk) → getD code at 0 ≡ 1 → at + 2 < length code → 4 ≤ getD code (at + 2) 0 → getD code (at + 2) 0 ≤ 8 → getD code (at + 1) 0 < 128 → 1 ≤ w .held → w .held + 1 ≤ 40 → w .sorts % 2 ≡ 0
+      → OperationSeen code at w
+  operation-seen w is l a z s some-held room on-number =
+      record {
+        operand = getD code (at + 1) 0;
+        operator = operationOf (getD code (at + 2) 0);
+        first = constant-ahead code at (omega arith) is s;
+        second = operation-third l a z;
+        inside = omega arith;
+        short = s;
+        some-held = some-held;
+        room = room;
+        on-number = on-number;
+      }
+
+-- ---- a value that is put on top
+
+module _ (w : Walk) (i : ℕ) (l : i < w .names) where
+  previous-pushed : advance (previous i) (knownOf w) ≡ pushed (knownOf w)
+  unfolding pushed
+  previous-pushed = rw (length-flags (w .names) (w .known), lt-ltb i (w .names) l)
+
+  current-pushed : getD (flagsOf (w .names) (w .known)) i false ≡ true → advance (current i) (knownOf w) ≡ pushed (knownOf w)
+  unfolding pushed
+  current-pushed e = rw e
+
+  module _ (ns : List Range) (s t : State) (c : Bool) (vs : List ℤ) (e : length ns ≡ w .names) where
+    previous-loaded : perform ns s (previous i) c vs t ≡ push (valueAt s i) c vs t
+    previous-loaded = rw (e, lt-ltb i (w .names) l)
+
+    current-loaded : perform ns s (current i) c vs t ≡ push (valueAt t i) c vs t
+    current-loaded = rw (e, lt-ltb i (w .names) l)
+
+module _ (code : List ℕ) (prev cur : List ℤ) (at : ℕ) (w : Walk) (small : Small w) (found : Bool) (l : at + 4 < length code) (one : getD code (at + 2) 0 ≡ 1)
+    (least : 10 ≤ getD code (at + 4) 0) (most : getD code (at + 4) 0 ≤ 15) (id : getD code (at + 1) 0 < w .names) (short : getD code (at + 3) 0 < 128)
+    (shut : w .gate ≡ 0) (room : w .held + 2 ≤ 40) where
+  seen : (byte : ℕ) → getD code at 0 ≡ byte → hasOperand byte ≡ true → (loading : Instruction) → instructionOf byte (getD code (at + 1) 0) ≡ some loading
+      → advance loading (knownOf w) ≡ pushed (knownOf w) → (x : ℤ) → ((ns : List Range) (c : Bool) (vs : List ℤ) → length ns ≡ w .names → perform ns prev loading c vs cur ≡ push x c vs cur)
+      → found ≡ truthOf (getD code (at + 4) 0) x (unzigzag (getD code (at + 3) 0)) → ComparisonSeen code prev cur at w found
+  seen byte is has loading i e x loads f =
+      record {
+        loading = loading;
+        x = x;
+        operand = getD code (at + 3) 0;
+        relation = comparisonOf (getD code (at + 4) 0);
+        first = short-fetch code at byte is loading (omega arith) has (omega (arith, small .few-names)) i;
+        second = second-is code at l one short;
+        third = third-is code at l least most;
+        inside = omega arith;
+        short = short;
+        room = room;
+        shut = shut;
+        admitted = e;
+        loaded = loads;
+        finds = f ∙ truth-comparison (getD code (at + 4) 0) x (unzigzag (getD code (at + 3) 0)) (omega arith);
+      }
+
+  pub previous-seen : getD code at 0 ≡ 3 → found ≡ truthOf (getD code (at + 4) 0) (valueAt prev (getD code (at + 1) 0)) (unzigzag (getD code (at + 3) 0)) → ComparisonSeen code prev cur at w found
+  unfolding instructionOf hasOperand
+  previous-seen is f =
+      let i = getD code (at + 1) 0 in
+      seen 3 is refl (previous i) refl (previous-pushed w i id) (valueAt prev i) (λ ns c vs e. previous-loaded w i id ns prev cur c vs e) f
+
+  pub current-seen : getD code at 0 ≡ 2 → getD (flagsOf (w .names) (w .known)) (getD code (at + 1) 0) false ≡ true
+      → found ≡ truthOf (getD code (at + 4) 0) (valueAt cur (getD code (at + 1) 0)) (unzigzag (getD code (at + 3) 0)) → ComparisonSeen code prev cur at w found
+  unfolding instructionOf hasOperand
+  current-seen is known f =
+      let i = getD code (at + 1) 0 in
+      seen 2 is refl (current i) refl (current-pushed w i id known) (valueAt cur i) (λ ns c vs e. current-loaded w i id ns prev cur c vs e) f
+
+-- ---- the walk
+
+-- a number more is held, or a yes-no
+abbrev pub withNumber : Walk → Walk
+withNumber w = record { held = w .held + 1; sorts = w .sorts * 2; gate = w .gate; picking = w .picking; known = w .known; names = w .names }
+
+abbrev pub withTruth : Walk → Walk
+withTruth w = record { held = w .held + 1; sorts = w .sorts * 2 + 1; gate = w .gate; picking = w .picking; known = w .known; names = w .names }
+
+truth-low : (n k : ℕ) → k < 2 ^ n → k * 2 + 1 < 2 ^ (n + 1)
+truth-low n k h = rw (add-one n, pow-suc) (omega arith)
+
+module _ (w : Walk) where
+  pushed-is : w .held < 40 → pushed (knownOf w) ≡ some (knownOf (withNumber w))
+  unfolding pushed
+  pushed-is h = rw (length-sorts (w .held) (w .sorts), lt-ltb (w .held) 40 h, sorts-number (w .held) (w .sorts))
+
+  number-small : Small w → w .held < 40 → Small (withNumber w)
+  number-small s h = record { few-held = omega arith; sorts-low = number-low (w .held) (w .sorts) (s .sorts-low); few-names = s .few-names; known-low = s .known-low }
+
+  truth-small : Small w → w .held < 40 → Small (withTruth w)
+  truth-small s h = record { few-held = omega arith; sorts-low = truth-low (w .held) (w .sorts) (s .sorts-low); few-names = s .few-names; known-low = s .known-low }
+
+  two-tested : w .gate ≡ 0 → outside (openOf (w .gate)) (joined number truth (knownOf (withNumber (withNumber w)))) ≡ some (knownOf (withTruth w))
+  unfolding joined
+  two-tested e = rw (e, sorts-number (w .held + 1) (w .sorts * 2), sorts-number (w .held) (w .sorts), sorts-push (w .held) (w .sorts) 1 (omega arith))
+
+  two-joined : 1 ≤ w .held → w .sorts % 2 ≡ 0 → joined number number (knownOf (withNumber w)) ≡ some (knownOf w)
+  unfolding joined
+  two-joined h e = rw (sorts-number (w .held) (w .sorts), sorts-cons (w .held) (w .sorts) h, e)
+
+-- ---- the machine
+
+compares-two : (ns : List Range) (s t : State) (o : Comparison) (c : Bool) (vals : List ℤ) (h : ℕ) (x y : ℤ) → h + 2 ≤ 40 → 40 ≤ length vals
+    → ok (machine false c (heldOf (set vals h (bit (compares o x y))) (h + 1)) t) ≡ perform ns s (comparison o) c (heldOf (set (set vals h x) (h + 1) y) (h + 1 + 1)) t
+compares-two ns s t o c vals h x y l room =
+    let deep : h + 1 < length (set vals h x) = omega (arith, length-set vals h x) in
+    rw (held-put (set vals h x) (h + 1) y deep, held-put vals h x (omega arith), held-put vals h (bit (compares o x y)) (omega arith))
+
+-- ---- a comparison at once
+
+module _ {low high prev cur vals : List ℤ} {b : Progress} (r : Ready low high prev cur vals b) where
+  -- a store, and a walk over the same names
+  on-ready : (k : Progress) (i : ℕ) (v : ℤ) → Small (k .walk) → k .walk .names ≡ b .walk .names → k .passing ≡ false → Ready low high prev cur (set vals i v) k
+  on-ready k i v small names go =
+      record { small = small; sized = names ∙ r .sized; room = omega (arith, length-set vals i v, r .room); named = r .named; opened = λ t. absurd (false≢true (sym go ∙ t)) }
+
+module _ (code : List ℕ) {low high prev cur vals : List ℤ} {b : Progress} (r : Ready low high prev cur vals b) (go : b .passing ≡ false) (found : Bool)
+    (c : ComparisonSeen code prev cur (b .at) (b .walk) found) where
+  abbrev y : ℤ
+  y = unzigzag (c .operand)
+
+  abbrev one-on : Progress
+  one-on = record { walk = withNumber (b .walk); at = b .at + 2; picked = b .picked; passing = false }
+
+  abbrev two-on : Progress
+  two-on = record { walk = withNumber (withNumber (b .walk)); at = b .at + 4; picked = b .picked; passing = false }
+
+  abbrev pub three-on : Progress
+  three-on = record { walk = withTruth (b .walk); at = b .at + 5; picked = b .picked; passing = false }
+
+  abbrev holding : ℕ → Registers
+  holding n = record { held = n; picked = b .picked; passing = false }
+
+  abbrev vals-one : List ℤ
+  vals-one = set vals (b .walk .held) (c .x)
+
+  abbrev vals-two : List ℤ
+  vals-two = set vals-one (b .walk .held + 1) y
+
+  ready-one : Ready low high prev cur vals-one one-on
+  ready-one = on-ready r one-on (b .walk .held) (c .x) (number-small (b .walk) (r .small) (omega (arith, c .room))) refl refl
+
+  ready-two : Ready low high prev cur vals-two two-on
+  ready-two = on-ready ready-one two-on (b .walk .held + 1) y (number-small (withNumber (b .walk)) (ready-one .small) (omega (arith, c .room))) refl refl
+
+  move-one : Moves code low high prev b vals cur vals-one cur one-on
+  move-one =
+      arrives r go code (b .at + 2) (withNumber (b .walk)) vals-one cur (some (c .loading)) (c .first) (omega (arith, c .inside)) (Kept (withNumber (b .walk))) refl
+      (sym (c .admitted ∙ pushed-is (b .walk) (omega (arith, c .room)))) (ready-one .small) (S.Next (holding (b .walk .held + 1)))
+      (λ ns q. push-put vals (b .walk .held) (c .x) (b .picked) cur (omega (arith, c .room)) (r .room)
+      ∙ sym (c .loaded ns (b .picked) (heldOf vals (b .walk .held)) (names-length ns low high q ∙ sym (r .sized))))
+      (M.On one-on) refl
+
+  move-two : Moves code low high prev one-on vals-one cur vals-two cur two-on
+  move-two =
+      arrives ready-one refl code (b .at + 4) (withNumber (withNumber (b .walk))) vals-two cur (some (constant y)) (c .second) (omega (arith, c .inside)) (Kept (withNumber (withNumber (b .walk)))) refl
+      (sym (constant-is (c .operand) (knownOf (withNumber (b .walk))) (omega (arith, c .short)) ∙ pushed-is (withNumber (b .walk)) (omega (arith, c .room)))) (ready-two .small)
+      (S.Next (holding (b .walk .held + 1 + 1))) (λ ns q. push-put vals-one (b .walk .held + 1) y (b .picked) cur (omega (arith, c .room)) (ready-one .room)) (M.On two-on) refl
+
+  move-three : Moves code low high prev two-on vals-two cur (set vals (b .walk .held) (bit found)) cur three-on
+  move-three =
+      arrives ready-two refl code (b .at + 5) (withTruth (b .walk)) (set vals (b .walk .held) (bit found)) cur (some (comparison (c .relation))) (c .third) (c .inside) (Kept (withTruth (b .walk))) refl
+      (sym (comparison-is (c .relation) (knownOf (withNumber (withNumber (b .walk)))) ∙ two-tested (b .walk) (c .shut))) (truth-small (b .walk) (r .small) (omega (arith, c .room)))
+      (S.Next (holding (b .walk .held + 1)))
+      (λ ns q. rw (c .finds) (compares-two ns prev cur (c .relation) (b .picked) vals (b .walk .held) (c .x) y (c .room) (r .room))) (M.On three-on) refl
+
+  pub comparison-goes : Goes code low high prev 3 b vals cur three-on (set vals (b .walk .held) (bit found)) cur
+  comparison-goes =
+      first 2 b vals cur vals-one cur one-on (set vals (b .walk .held) (bit found)) cur three-on move-one (length-set vals (b .walk .held) (c .x)) refl
+      (first 1 one-on vals-one cur vals-two cur two-on (set vals (b .walk .held) (bit found)) cur three-on move-two (length-set vals-one (b .walk .held + 1) y) refl
+      (lastly two-on vals-two cur (set vals (b .walk .held) (bit found)) cur three-on move-three))
+
+-- ---- a constant and its operation that are passed over
+
+module _ (code : List ℕ) {low high prev cur vals : List ℤ} {b : Progress} (r : Ready low high prev cur vals b) (go : b .passing ≡ true) (c : OperationSeen code (b .at) (b .walk)) where
+  abbrev between : Progress
+  between = record { walk = withNumber (b .walk); at = b .at + 2; picked = b .picked; passing = true }
+
+  abbrev pub pair-on : Progress
+  pair-on = record { walk = b .walk; at = b .at + 3; picked = b .picked; passing = true }
+
+  ready-between : Ready low high prev cur vals between
+  ready-between = record { small = number-small (b .walk) (r .small) (omega (arith, c .room)); sized = r .sized; room = r .room; named = r .named; opened = λ t. r .opened go }
+
+  pass-one : Moves code low high prev b vals cur vals cur between
+  pass-one =
+      over-moves-by code r go (M.On between) record {
+        instruction = constant (unzigzag (c .operand));
+        fetched = c .first;
+        inside = omega (arith, c .inside);
+        advanced = constant-is (c .operand) (knownOf (b .walk)) (omega (arith, c .short)) ∙ pushed-is (b .walk) (omega (arith, c .room));
+        small = ready-between .small;
+        same-picked = refl;
+        passing-is = refl;
+      }
+
+  pass-two : Moves code low high prev between vals cur vals cur pair-on
+  pass-two =
+      over-moves-by code ready-between refl (M.On pair-on) record {
+        instruction = operation (c .operator);
+        fetched = c .second;
+        inside = c .inside;
+        advanced = operation-is (c .operator) (knownOf (withNumber (b .walk))) ∙ two-joined (b .walk) (c .some-held) (c .on-number);
+        small = r .small;
+        same-picked = refl;
+        passing-is = refl;
+      }
+
+  pub pair-goes : Goes code low high prev 2 b vals cur pair-on vals cur
+  pair-goes = first 1 b vals cur vals cur between vals cur pair-on pass-one refl refl (lastly between vals cur vals cur pair-on pass-two)
+
+-- ---- one instruction
+
+single-leaps : (code : List ℕ) (low high prev : List ℤ) (b : Progress) (vals cur vals₁ cur₁ : List ℤ) (m : Moved) → MovesBy code low high prev b vals cur vals₁ cur₁ m
+    → LeapsBy code low high prev b vals cur vals₁ cur₁ (leapOf m)
+single-leaps code low high prev b vals cur vals₁ cur₁ (M.On k) p = lastly b vals cur vals₁ cur₁ k p
+single-leaps code low high prev b vals cur vals₁ cur₁ (M.Refused k j) p = p
+single-leaps code low high prev b vals cur vals₁ cur₁ M.Broken p = p
+
+pub leaps-alone : (code : List ℕ) (low high prev : List ℤ) (b : Progress) (vals cur vals₁ cur₁ : List ℤ) (m : Moved) (r : Leap) → r ≡ leapOf m → MovesBy code low high prev b vals cur vals₁ cur₁ m
+    → LeapsBy code low high prev b vals cur vals₁ cur₁ r
+leaps-alone code low high prev b vals cur vals₁ cur₁ m r e p = subst (λ x. LeapsBy code low high prev b vals cur vals₁ cur₁ x) (sym e) (single-leaps code low high prev b vals cur vals₁ cur₁ m p)
