@@ -16,7 +16,7 @@ use Rattle.machine.specs.Step.{Machine, machine}
 use Rattle.machine.specs.Runs.{Ran, ran, run, resume}
 use Rattle.machine.proofs.Laws.{run-end, run-divided}
 use Rattle.machine.proofs.Copies.{length-over}
-use Rattle.machine.proofs.Refusals.{RefusedByRules}
+use Rattle.machine.proofs.Refusals.{at-work, turned, RefusedByRules}
 use Rattle.machine.proofs.SoundRuns.{runOfImage, sound-by-rules}
 use Rattle.runs.proofs.Divided.{run-place, run-counts, run-exact, run-min, run-goes}
 use Rattle.runs.proofs.Sizes.{Sized, SizedIn, run-sized}
@@ -83,7 +83,8 @@ module _ (o : Scan) (y : May (o .image) (o .start) (o .row)) where
 
   numbered : (r : Outcome Machine) → RefusedByRules r → Numbered r
   numbered (ok m) h = tt
-  numbered (refusal k) h = omega (arith, h .most)
+  numbered (refusal k) (at-work least most) = omega (arith, most)
+  numbered (refusal k) (turned e) = omega (arith, e)
 
   pub goes-numbered : (b : ℕ) → Numbered (goes o b .last)
   goes-numbered b = numbered (goes o b .last) (sound-by-rules (o .image) (y .sound) (o .start) (withInputs (o .start) (o .row)) b)
