@@ -10,7 +10,9 @@ use std::cell::Cell;
 pub struct Features {
     /// Request A.2, names without letter case.
     pub names_without_case: bool,
-    /// Request A.6, rising and falling formulas.
+    /// Request A.6, instructions 24 and 25 in images.
+    pub pair_images: bool,
+    /// Request A.6, rising and falling formulas in texts; their images come with them.
     pub pairs: bool,
     /// Request A.7, delay on start.
     pub timers: bool,
@@ -22,6 +24,7 @@ impl Features {
     /// What has landed: who lands a request changes its line here.
     pub const LANDED: Features = Features {
         names_without_case: true,
+        pair_images: true,
         pairs: false,
         timers: false,
         watches: false,
@@ -30,6 +33,7 @@ impl Features {
     /// Document 01 and the requests that every model has.
     pub const NONE: Features = Features {
         names_without_case: false,
+        pair_images: false,
         pairs: false,
         timers: false,
         watches: false,
@@ -37,20 +41,27 @@ impl Features {
 
     pub const ALL: Features = Features {
         names_without_case: true,
+        pair_images: true,
         pairs: true,
         timers: true,
         watches: true,
     };
 
-    /// Every set of features.
+    /// Whether images may have instructions 24 and 25.
+    pub fn pair_codes(&self) -> bool {
+        self.pair_images || self.pairs
+    }
+
+    /// Every set of requests, and what has landed, of A.6 perhaps a part.
     pub fn sets() -> Vec<Features> {
         let set = |index: u32| Features {
             names_without_case: index & 1 != 0,
+            pair_images: index & 2 != 0,
             pairs: index & 2 != 0,
             timers: index & 4 != 0,
             watches: index & 8 != 0,
         };
-        (0..16).map(set).collect()
+        (0..16).map(set).chain([Features::LANDED]).collect()
     }
 }
 

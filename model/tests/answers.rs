@@ -122,10 +122,10 @@ fn every_answer_is_met_in_force() {
         counts.breaches.len(),
         Breach::Missing as usize
             + 1
-            + usize::from(features.pairs)
+            + usize::from(features.pair_codes())
             + 2 * usize::from(features.timers)
     );
-    assert_eq!(counts.scan[22] > 0, features.pairs);
+    assert_eq!(counts.scan[22] > 0, features.pair_codes());
     // Each number belongs to the services that the document names, to no others.
     assert_eq!(counts.translate[11..23].iter().sum::<usize>(), 0);
     assert_eq!(counts.translate[23] > 0, features.timers);

@@ -52,9 +52,8 @@ fn scans(rng: &mut Rng, shape: Shape) {
 #[test]
 fn every_set() {
     let sets = Features::sets();
-    assert_eq!(sets.len(), 16);
+    assert_eq!(sets.len(), 17);
     assert!(sets.contains(&Features::NONE) && sets.contains(&Features::ALL));
-    assert!(sets.contains(&Features::LANDED));
     for (index, features) in sets.into_iter().enumerate() {
         with(features, || {
             for seed in 0..300 {

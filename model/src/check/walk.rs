@@ -38,7 +38,7 @@ fn is_listed(opcode: u8) -> bool {
     match opcode {
         code::CONSTANT..=code::SETTLE => true,
         code::TIMER => features.timers,
-        code::RISE | code::FALL => features.pairs,
+        code::RISE | code::FALL => features.pair_codes(),
         _ => false,
     }
 }

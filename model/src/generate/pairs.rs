@@ -80,7 +80,7 @@ impl Writer<'_> {
 pub(super) fn more_codes() -> Vec<u8> {
     let features = features::in_force();
     let mut codes = Vec::new();
-    if features.pairs {
+    if features.pair_codes() {
         codes.extend([code::RISE, code::FALL]);
     }
     if features.timers {
@@ -91,7 +91,7 @@ pub(super) fn more_codes() -> Vec<u8> {
 
 /// The pick codes of a random rule: mostly such as are sound.
 pub(super) fn pick_codes(rng: &mut Rng, count: usize) -> Vec<u8> {
-    if !features::in_force().pairs || rng.chance(40) {
+    if !features::in_force().pair_codes() || rng.chance(40) {
         return vec![code::PICK; count];
     }
     if rng.chance(20) {
@@ -121,7 +121,7 @@ const BROKEN_PICKS: [(&[u8], usize); 11] = [
 
 /// Broken code for variable 1 after a header: breach, how far before the end, code.
 pub(super) fn broken_pairs(case: &[u8]) -> Vec<(Breach, usize, Vec<u8>)> {
-    if !features::in_force().pairs {
+    if !features::in_force().pair_codes() {
         return Vec::new();
     }
     let with_case = |tail: &[u8]| [case, tail].concat();
