@@ -18,10 +18,10 @@ returns-2 c = (visit-high (c .before .before .before .args .image .now) (c .befo
 
 returns-3 : tie.Need-returns-3
 returns-3 c = (
-      visit-gives (c .before .before .before .before .before .before .before .before .before .before .before .before .before .before .args .image .now) (c .before .before .before .before .before .before .before .before .before .before .before .before .before .before .args .share) (c .before .before .before .before .before .before .before .before .before .before .before .before .before .before .args .paused .now) (c .before .before .before .before .before .before .before .before .before .before .before .before .before .before .args .state .now) (c .before .before .before .before .before .before .before .before .before .before .before .before .if1 .left) (c .before .before .before .before .before .before .before .before .before .before .before .if2 .left) (c .before .before .before .before .before .before .before .before .begin .result) _ (c .before .before .before .before .before .before .before .before .begin .ensures .0) _ (c .before .before .give .ensures .0)
-          (ap (λ (b : Response). visitFrom (c .before .before .before .before .before .before .before .before .before .before .before .before .before .before .args .image .now) (c .before .before .before .before .before .before .before .before .before .before .before .before .before .before .args .share) (c .before .before .before .before .before .before .before .before .before .before .before .before .before .before .args .state .now) b (c .before .before .before .before .before .before .before .before .begin .last .0)) (c .before .before .before .before .before .enum-told .given .1)),
-      c .before .before .give .ensures .1,
-    )
+  visit-gives (c .before .before .before .before .before .before .before .before .before .before .before .before .before .before .args .image .now) (c .before .before .before .before .before .before .before .before .before .before .before .before .before .before .args .share) (c .before .before .before .before .before .before .before .before .before .before .before .before .before .before .args .paused .now) (c .before .before .before .before .before .before .before .before .before .before .before .before .before .before .args .state .now) (c .before .before .before .before .before .before .before .before .before .before .before .before .if1 .left) (c .before .before .before .before .before .before .before .before .before .before .before .if2 .left) (c .before .before .before .before .before .before .before .before .begin .result) _ (c .before .before .before .before .before .before .before .before .begin .ensures .0) _ (c .before .before .give .ensures .0)
+      (ap (λ (b : Response). visitFrom (c .before .before .before .before .before .before .before .before .before .before .before .before .before .before .args .image .now) (c .before .before .before .before .before .before .before .before .before .before .before .before .before .before .args .share) (c .before .before .before .before .before .before .before .before .before .before .before .before .before .before .args .state .now) b (c .before .before .before .before .before .before .before .before .begin .last .0)) (c .before .before .before .before .before .enum-told .given .1)),
+  c .before .before .give .ensures .1,
+)
 
 returns-4 : tie.Need-returns-4
 returns-4 c =
@@ -30,17 +30,17 @@ returns-4 c =
 
 returns-5 : tie.Need-returns-5
 returns-5 c = (
-      visit-gives (c .before .before .before .before .before .before .before .before .before .before .before .before .before .before .args .image .now) (c .before .before .before .before .before .before .before .before .before .before .before .before .before .before .args .share) (c .before .before .before .before .before .before .before .before .before .before .before .before .before .before .args .paused .now) (c .before .before .before .before .before .before .before .before .before .before .before .before .before .before .args .state .now) (c .before .before .before .before .before .before .before .before .before .before .before .before .if1 .left) (c .before .before .before .before .before .before .before .before .before .before .before .if2 .left) (c .before .before .before .before .before .before .before .before .begin .result) _ (c .before .before .before .before .before .before .before .before .begin .ensures .0) _ (c .before .before .give2 .ensures .0)
-          (ap (λ (b : Response). visitFrom (c .before .before .before .before .before .before .before .before .before .before .before .before .before .before .args .image .now) (c .before .before .before .before .before .before .before .before .before .before .before .before .before .before .args .share) (c .before .before .before .before .before .before .before .before .before .before .before .before .before .before .args .state .now) b (c .before .before .before .before .before .before .before .before .begin .last .0)) (c .before .before .before .before .before .enum-told2 .given .1)),
-      c .before .before .give2 .ensures .1,
-    )
+  visit-gives (c .before .before .before .before .before .before .before .before .before .before .before .before .before .before .args .image .now) (c .before .before .before .before .before .before .before .before .before .before .before .before .before .before .args .share) (c .before .before .before .before .before .before .before .before .before .before .before .before .before .before .args .paused .now) (c .before .before .before .before .before .before .before .before .before .before .before .before .before .before .args .state .now) (c .before .before .before .before .before .before .before .before .before .before .before .before .if1 .left) (c .before .before .before .before .before .before .before .before .before .before .before .if2 .left) (c .before .before .before .before .before .before .before .before .begin .result) _ (c .before .before .before .before .before .before .before .before .begin .ensures .0) _ (c .before .before .give2 .ensures .0)
+      (ap (λ (b : Response). visitFrom (c .before .before .before .before .before .before .before .before .before .before .before .before .before .before .args .image .now) (c .before .before .before .before .before .before .before .before .before .before .before .before .before .before .args .share) (c .before .before .before .before .before .before .before .before .before .before .before .before .before .before .args .state .now) b (c .before .before .before .before .before .before .before .before .begin .last .0)) (c .before .before .before .before .before .enum-told2 .given .1)),
+  c .before .before .give2 .ensures .1,
+)
 
 returns-6 : tie.Need-returns-6
 returns-6 c = (
-      visit-gives (c .before .before .before .before .before .before .before .before .before .before .before .before .before .before .args .image .now) (c .before .before .before .before .before .before .before .before .before .before .before .before .before .before .args .share) (c .before .before .before .before .before .before .before .before .before .before .before .before .before .before .args .paused .now) (c .before .before .before .before .before .before .before .before .before .before .before .before .before .before .args .state .now) (c .before .before .before .before .before .before .before .before .before .before .before .before .if1 .left) (c .before .before .before .before .before .before .before .before .before .before .before .if2 .left) (c .before .before .before .before .before .before .before .before .begin .result) _ (c .before .before .before .before .before .before .before .before .begin .ensures .0) _ (c .before .before .give3 .ensures .0)
-          (ap (λ (b : Response). visitFrom (c .before .before .before .before .before .before .before .before .before .before .before .before .before .before .args .image .now) (c .before .before .before .before .before .before .before .before .before .before .before .before .before .before .args .share) (c .before .before .before .before .before .before .before .before .before .before .before .before .before .before .args .state .now) b (c .before .before .before .before .before .before .before .before .begin .last .0)) (c .before .before .before .before .before .enum-told3 .given .1)),
-      c .before .before .give3 .ensures .1,
-    )
+  visit-gives (c .before .before .before .before .before .before .before .before .before .before .before .before .before .before .args .image .now) (c .before .before .before .before .before .before .before .before .before .before .before .before .before .before .args .share) (c .before .before .before .before .before .before .before .before .before .before .before .before .before .before .args .paused .now) (c .before .before .before .before .before .before .before .before .before .before .before .before .before .before .args .state .now) (c .before .before .before .before .before .before .before .before .before .before .before .before .if1 .left) (c .before .before .before .before .before .before .before .before .before .before .before .if2 .left) (c .before .before .before .before .before .before .before .before .begin .result) _ (c .before .before .before .before .before .before .before .before .begin .ensures .0) _ (c .before .before .give3 .ensures .0)
+      (ap (λ (b : Response). visitFrom (c .before .before .before .before .before .before .before .before .before .before .before .before .before .before .args .image .now) (c .before .before .before .before .before .before .before .before .before .before .before .before .before .before .args .share) (c .before .before .before .before .before .before .before .before .before .before .before .before .before .before .args .state .now) b (c .before .before .before .before .before .before .before .before .begin .last .0)) (c .before .before .before .before .before .enum-told3 .given .1)),
+  c .before .before .give3 .ensures .1,
+)
 
 pub visit-spec : {M : Type 1} → statement M
 visit-spec =
