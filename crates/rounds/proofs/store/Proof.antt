@@ -1,0 +1,12 @@
+-- `rounds::store` meets its contract: a store out of range leaves the list as it is. Assumes nothing.
+use mathlib.Core.Path.{sym}
+use lib.Seq.{set-out}
+use borrow.Author.Needs.{needs}
+use Rattle.rounds.proofs.store.Statement.{statement}
+use Rattle.rounds.proofs.store.Tie as tie
+
+returns-2 : tie.Need-returns-2
+returns-2 c = sym (set-out _ _ _ (c .if1 .left))
+
+pub store-spec : {M : Type 1} → statement M
+store-spec = tie.close (tie.spec (λ c. search needs) (λ c. search needs) (λ c. search needs) (λ c. search needs) returns-2)

@@ -1,0 +1,2 @@
+pub mod Farm
+pub mod Joined

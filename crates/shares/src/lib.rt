@@ -1,0 +1,1 @@
+// Shares are exact and rule sets do not meet: definitions and laws only.
