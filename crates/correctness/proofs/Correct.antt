@@ -6,23 +6,23 @@ use mathlib.Core.Bool.{Bool, true, false, _&&_}
 use mathlib.Core.List.{List, [], _∷_}
 use lib.Dec.{eqb}
 use lib.IntN.{ℤ}
-use lib.ListN.{length, length-map}
+use lib.ListN.{length}
 use borrow.Author.Tests.{eq-eqb}
 use Rattle.limits.specs.Answer.{Answer, accepted, refused}
 use Rattle.arith.specs.Values.{Outcome, ok, refusal, _>>=_, check}
 use Rattle.semantics.specs.Program.{Program, rangesOf, knownFirst}
 use Rattle.semantics.specs.Formula.{State}
-use Rattle.semantics.specs.ReferenceScan.{allWithin, scanRules, withInputs, referenceScan}
+use Rattle.semantics.specs.Shape.{allWithin, stateLength, rowLength, stateInRange, rowInRange}
+use Rattle.semantics.specs.ReferenceScan.{scanRules, withInputs, referenceScan}
 use Rattle.semantics.specs.Rows.{Reply, reply, referenceReplies, startsOf, InRanges, OnlyTrace}
 use Rattle.arith.proofs.Basics.{T-true, bind-assoc}
 use Rattle.semantics.proofs.Reference.{length-known, reference-next, reference-trace, starts-in-range}
 use Rattle.bytecode.specs.Instructions.{encodeAll}
 use Rattle.bytecode.specs.Translation.{codeRules, imageOf, Translatable}
 use Rattle.bytecode.specs.Check.{checkOf}
-use Rattle.bytecode.specs.Parts.{headerOf, codeOf, instructionsIn}
+use Rattle.bytecode.specs.Parts.{headerOf, codeOf, instructionsIn, shapeIn}
 use Rattle.bytecode.proofs.Soundness.{header-of, code-of, translated-small, check-translated}
 use Rattle.machine.specs.Step.{Machine, machine}
-use Rattle.machine.specs.States.{stateLength, rowLength, stateInRange, rowInRange}
 use Rattle.machine.proofs.Laws.{run-steps}
 use Rattle.machine.proofs.Ranges.{currentOf}
 use Rattle.machine.proofs.Translated.{exec-rules, run-exec}
@@ -107,12 +107,12 @@ pub scan-steps : (image : List ℕ) (s : State) (row : List ℤ) → StepsIf (in
 unfolding scanOf
 scan-steps image s row = go (checkOf image)
   where
-    go : (a : Answer (Unit {0})) → StepsIf (instructionsIn image) (scanned a (headerOf image) image s row .steps) (scanned a (headerOf image) image s row .answer)
+    go : (a : Answer (Unit {0})) → StepsIf (instructionsIn image) (scanned a (shapeIn image) image s row .steps) (scanned a (shapeIn image) image s row .answer)
     go (refused number place) = tt
     go (accepted u) =
-        steps-tested _ (eqb (length s) (stateLength (headerOf image)) && eqb (length row) (rowLength (headerOf image))) 12 s _
-        (steps-tested _ (stateInRange (headerOf image) s) 18 s _
-        (steps-tested _ (rowInRange (headerOf image) row) 13 s _ (code-steps image s row)))
+        steps-tested _ (eqb (length s) (stateLength (shapeIn image)) && eqb (length row) (rowLength (shapeIn image))) 12 s _
+        (steps-tested _ (stateInRange (shapeIn image) s) 18 s _
+        (steps-tested _ (rowInRange (shapeIn image) row) 13 s _ (code-steps image s row)))
 
 pub all-steps : (image : List ℕ) (rows : List (List ℤ)) (s : State) → StepsAre (instructionsIn image) (scansOf image s rows)
 all-steps image [] s = tt
@@ -153,5 +153,5 @@ trace-correct text buffer n e lent rows =
       program = x .program;
       parsed = x .parsed;
       spelled = accepted-exactly .accepted-spelled text (x .program) (x .parsed);
-      correct = λ l. rw (stored-image text buffer n x) (image-correct (x .program) (program-translatable text (x .program) (x .parsed)) lent (l ∙ sym (length-map (x .program .names) (λ n. n .range))) rows);
+      correct = λ l. rw (stored-image text buffer n x) (image-correct (x .program) (program-translatable text (x .program) (x .parsed)) lent l rows);
     }

@@ -1,4 +1,3 @@
 pub mod Joining
 pub mod Passing
 pub mod Fusing
-pub mod Ranged

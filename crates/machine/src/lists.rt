@@ -5,7 +5,8 @@ ghost use mathlib.Core.List.{List, _++_};
 ghost use Prim.Native.Nat.{_≤_};
 ghost use lib.ListN.{length, drop};
 ghost use Rattle.semantics.specs.Program.{Range};
-ghost use Rattle.semantics.specs.ReferenceScan.{allWithin, withInputs};
+ghost use Rattle.semantics.specs.Shape.{allWithin};
+ghost use Rattle.semantics.specs.ReferenceScan.{withInputs};
 ghost use Rattle.machine.specs.Inner.Memory.{RangesIn};
 
 // `from`, written over the front of `to`.
