@@ -7,7 +7,7 @@ use lib.ListN.{length, replicate}
 use Rattle.limits.specs.Answer.{Answer, accepted, refused}
 use Rattle.arith.specs.Values.{arithmetic, compares}
 use Rattle.semantics.specs.Program.{within}
-use Rattle.semantics.specs.ReferenceScan.{picked}
+use Rattle.semantics.specs.ReferenceScan.{moves, picked}
 use Rattle.machine.specs.Step.{bit, yes}
 use Rattle.leb128.specs.Numbers.{unzigzag, numberAt, signedAt, groups, grouped, numberIn, below32}
 use Rattle.bytecode.specs.Instructions.{instructionOf, hasOperand, fetch}
@@ -60,7 +60,7 @@ examples =
 
 -- the definition gives what the table says
 pub profiles-hold : map (λ (e : Example). closedOf (e .image)) examples ≡ map expected examples
-unfolding examples adds unzigzag groups grouped numberIn below32 numberAt signedAt instructionOf hasOperand fetch checkCounts checkRange checkHeader checkBody checkOf headerOf codeOf scanCode scanOf sizeBetween isSmall combinationsOf closedIn closedOf bit yes within picked arithmetic compares
+unfolding examples adds unzigzag groups grouped numberIn below32 numberAt signedAt instructionOf hasOperand fetch checkCounts checkRange checkHeader checkBody checkOf headerOf codeOf scanCode scanOf sizeBetween isSmall combinationsOf closedIn closedOf bit yes within moves picked arithmetic compares
 profiles-hold = refl
 
 -- combinations of `adds` by their numbers: the one that 27 names, the last, one past it; a row too long; 11

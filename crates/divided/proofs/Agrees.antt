@@ -16,13 +16,13 @@ use Rattle.machine.specs.Step.{Machine, machine}
 use Rattle.machine.specs.Runs.{Ran, ran, run, resume}
 use Rattle.machine.proofs.Laws.{run-end, run-divided}
 use Rattle.machine.proofs.Copies.{length-over}
-use Rattle.machine.proofs.Refusals.{RefusedByRules}
+use Rattle.machine.proofs.Refusals.{at-work, turned, RefusedByRules}
 use Rattle.machine.proofs.SoundRuns.{runOfImage, sound-by-rules}
 use Rattle.runs.proofs.Divided.{run-place, run-counts, run-exact, run-min, run-goes}
 use Rattle.runs.proofs.Sizes.{Sized, SizedIn, run-sized}
 use Rattle.scan.specs.Services.{AfterScan, finished, scanCode, scanOf}
-use Rattle.paused.specs.Memory.{startPlace, lowPlace, highPlace, slice, checkpointOf, shapeOf, waitingOf}
-use Rattle.lifecycle.specs.Calls.{shapeFor}
+use Rattle.paused.specs.Memory.{startPlace, lowPlace, highPlace, slice, checkpointOf, layoutOf, waitingOf}
+use Rattle.lifecycle.specs.Calls.{layoutFor}
 use Rattle.divided.specs.Expected.{Scan, whole, Played, Expected}
 use Rattle.divided.proofs.May.{Placed, placed, May}
 use Rattle.divided.proofs.Left.{Stands, Numbered}
@@ -37,7 +37,7 @@ codeLength o = length (codeOf (o .image))
 pub record Standing (image : List ℕ) (cells : List ℤ) (o : Scan) : Type 0 where
   pub same : image ≡ o .image
   pub may : May (o .image) (o .start) (o .row)
-  pub shape : shapeOf cells ≡ shapeFor (o .image) (o .start)
+  pub layout : layoutOf cells ≡ layoutFor (o .image) (o .start)
   pub start : slice startPlace (length (o .start)) cells ≡ o .start
   pub low : slice lowPlace (length (o .start)) cells ≡ lows (headerOf (o .image) .ranges)
   pub high : slice highPlace (length (o .start)) cells ≡ highs (headerOf (o .image) .ranges)
@@ -83,7 +83,8 @@ module _ (o : Scan) (y : May (o .image) (o .start) (o .row)) where
 
   numbered : (r : Outcome Machine) → RefusedByRules r → Numbered r
   numbered (ok m) h = tt
-  numbered (refusal k) h = omega (arith, h .most)
+  numbered (refusal k) (at-work least most) = omega (arith, most)
+  numbered (refusal k) (turned e) = omega (arith, e)
 
   pub goes-numbered : (b : ℕ) → Numbered (goes o b .last)
   goes-numbered b = numbered (goes o b .last) (sound-by-rules (o .image) (y .sound) (o .start) (withInputs (o .start) (o .row)) b)

@@ -12,7 +12,7 @@ use Rattle.limits.specs.Answer.{Answer, accepted, refused}
 use Rattle.arith.specs.Values.{Outcome, ok, refusal}
 use Rattle.arith.proofs.Basics.{eqZ-self}
 use Rattle.semantics.specs.Formula.{State}
-use Rattle.bytecode.specs.Parts.{countFrom, headerOf}
+use Rattle.bytecode.specs.Parts.{countFrom, shapeIn}
 use Rattle.bytecode.specs.Check.{checkOf}
 use Rattle.bytecode.proofs.Walk.{refused≢accepted}
 use Rattle.machine.specs.Step.{Machine, machine}
@@ -23,8 +23,9 @@ use Rattle.before.specs.Before.{beforeCode}
 use Rattle.before.proofs.Scans.{scan-is}
 use Rattle.paused.specs.declared.Checkpoint.{Checkpoint}
 use Rattle.paused.specs.declared.Response.the-variants as R
+use Rattle.paused.specs.Memory.{startPlace, slice}
 use Rattle.paused.specs.Responses.{stepsIn}
-use Rattle.resumable.specs.Instalment.{ranFrom}
+use Rattle.resumable.specs.Instalment.{rangesIn, standing, ranFrom}
 use Rattle.lifecycle.specs.Calls.{sameValues, mayPost}
 use Rattle.divided.specs.Expected.{Call, post, begin, advance, finish, Said, leaves, Scan, whole, Expected, expect, expectPost, furtherBy, expectEnd, expects, expectedSaid, Between, AllBetween, givenIn, doneIn, saidOf}
 
@@ -33,7 +34,7 @@ use Rattle.divided.specs.Expected.{Call, post, begin, advance, finish, S
 -- where it is not refused: the instructions of the code from where the scan stopped, at most as many as are given
 pub counted : (code : List ℕ) (n : ℕ) (p : Checkpoint) (size : ℕ) (cells : List ℤ) (m : Machine) → ranFrom code n p size cells .last ≡ ok m → ranFrom code n p size cells .steps ≡ countFrom code n (p .place)
 unfolding ranFrom
-counted code n p size cells m e = run-steps _ _ code n (p .place) 0 _ m e ∙ omega arith
+counted code n p size cells m e = run-steps (rangesIn size cells) (slice startPlace size cells) code n (p .place) 0 (standing p size cells) m e ∙ omega arith
 
 -- with 0 steps nothing moves
 pub expected-zero : (w : Option (List ℤ)) (o : Scan) → expects (advance 0) w (some o) ≡ expect (record { reply = R.Done 0; left = none }) w (some o)
@@ -56,7 +57,7 @@ posted-scan (accepted u) row w o = refl
 pub expected-total : (cs : List Call) → AllBetween cs → (w : Option (List ℤ)) (o : Scan) → doneIn (expectedSaid cs w (some o)) ≡ min (givenIn cs) (whole o .steps - o .done)
 expected-total [] h w o = omega arith
 expected-total (post i row ∷ cs) h w o =
-    let a = mayPost (checkOf i) (headerOf i) row in
+    let a = mayPost (checkOf i) (shapeIn i) row in
     let e = expected-total cs (h .1) (expectPost a row w (some o) .waiting) o in
     rw (posted-steps a row w (some o), posted-scan a row w (some o)) (omega (arith, e))
 expected-total (advance n ∷ cs) h w o =
