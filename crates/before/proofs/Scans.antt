@@ -8,9 +8,9 @@ use lib.IntN.{ℤ}
 use lib.ListN.{length}
 use Rattle.limits.specs.Answer.{Answer, accepted, refused}
 use Rattle.semantics.specs.Formula.{State}
-use Rattle.bytecode.specs.Check.{Header, checkOf}
-use Rattle.bytecode.specs.Parts.{headerOf}
-use Rattle.machine.specs.States.{stateLength, rowLength, stateInRange, rowInRange}
+use Rattle.bytecode.specs.Check.{checkOf}
+use Rattle.bytecode.specs.Parts.{shapeIn}
+use Rattle.semantics.specs.Shape.{Shape, stateLength, rowLength, stateInRange, rowInRange}
 use Rattle.scan.specs.Services.{AfterScan, scanCode, testedScan, scanned, scanOf}
 use Rattle.scan.specs.Inner.Parts.{scannedBy}
 use Rattle.before.specs.Before.{testedBefore, mayScan, beforeCode}
@@ -19,12 +19,12 @@ tested-is : (b : Bool) (k : ℕ) (found : State) (a : Answer (Unit {0})) (x y : 
 tested-is true k found a x y e = e
 tested-is false k found a x y e = refl
 
-scanned-is : (a : Answer (Unit {0})) (h : Header) (image : List ℕ) (found : State) (row : List ℤ) → scanned a h image found row ≡ scannedBy (mayScan a h found row) found (scanCode image found row)
-scanned-is (refused number place) h image found row = refl
-scanned-is (accepted u) h image found row =
-    tested-is (eqb (length found) (stateLength h) && eqb (length row) (rowLength h)) 12 found _ (scanCode image found row) _
-    (tested-is (stateInRange h found) 18 found _ (scanCode image found row) _ (tested-is (rowInRange h row) 13 found (accepted tt) (scanCode image found row) (scanCode image found row) refl))
+scanned-is : (a : Answer (Unit {0})) (k : Shape) (image : List ℕ) (found : State) (row : List ℤ) → scanned a k image found row ≡ scannedBy (mayScan a k found row) found (scanCode image found row)
+scanned-is (refused number place) k image found row = refl
+scanned-is (accepted u) k image found row =
+    tested-is (eqb (length found) (stateLength k) && eqb (length row) (rowLength k)) 12 found _ (scanCode image found row) _
+    (tested-is (stateInRange k found) 18 found _ (scanCode image found row) _ (tested-is (rowInRange k row) 13 found (accepted tt) (scanCode image found row) (scanCode image found row) refl))
 
 pub scan-is : (image : List ℕ) (found : State) (row : List ℤ) → scanOf image found row ≡ scannedBy (beforeCode image found row) found (scanCode image found row)
 unfolding scanOf beforeCode
-scan-is image found row = scanned-is (checkOf image) (headerOf image) image found row
+scan-is image found row = scanned-is (checkOf image) (shapeIn image) image found row

@@ -1,5 +1,5 @@
 // The tests of a scan before its code: 9, 11, 12, 18, 13.
-use bytecode::Counted;
+use bytecode::Headed;
 use checker::Checked;
 use machine::lists;
 ghost use mathlib.Core.Path.{_≡_};
@@ -7,11 +7,10 @@ ghost use mathlib.Core.List.{List};
 ghost use Rattle.limits.specs.Answer.{accepted};
 ghost use Rattle.semantics.specs.Program.{Range};
 ghost use Rattle.bytecode.specs.Check.{checkOf};
-ghost use Rattle.bytecode.specs.Parts.{headerOf};
 ghost use Rattle.machine.specs.Inner.Memory.{RangesIn};
 ghost use Rattle.scan.specs.Inner.Parts.{FittingMemory, Scratch};
 ghost use Rattle.before.specs.Before.{beforeCode};
-ghost use Rattle.before.specs.Inner.Known.{beforeAnswer, inRanges, CopiedBy, BegunBy, Announced};
+ghost use Rattle.before.specs.Inner.Known.{beforeAnswer, inRanges, CopiedBy, BegunBy};
 
 // The place of the code, or a refusal's number and place.
 pub enum Before {
@@ -42,34 +41,7 @@ fn before_ranges(
     Before::Code(place)
 }
 
-// The ranges of as many names as the state has values, from a place of the image on; then the values.
-fn before_names(
-    image: &[u8],
-    first: usize,
-    state: &[i32],
-    row: &[i32],
-    low: &mut [i32],
-    high: &mut [i32],
-    work: &mut [i32],
-) -> Before
-    requires { ⌜ Announced (now image) first (now state) (now row) ⌝ }
-    requires { ⌜ Scratch (now state) (now low) (now high) (now work) ⌝ }
-    ensures { λ r. ⌜ beforeAnswer r ≡ inRanges (headerOf (now (image .entry)) .ranges) (now (state .entry)) (now (row .entry)) ⌝ }
-    ensures { λ r. ⌜ BegunBy (now (image .entry)) (now (state .entry)) (now (row .entry)) (now (low .exit)) (now (high .exit)) (now (work .exit)) r ⌝ }
-{
-    let names = state.len();
-    let place = bytecode::ranges(image, first, names, low, high, work);
-    before_ranges(
-        place,
-        &low[..names],
-        &high[..names],
-        state,
-        row,
-        &mut work[..names],
-    )
-}
-
-// A sound image: the lengths, then the rest. A sound image always has its counts.
+// A sound image: the lengths, then the rest. A sound image always has its header; the starts that `work` takes are not kept.
 fn before_sound(
     image: &[u8],
     state: &[i32],
@@ -83,8 +55,8 @@ fn before_sound(
     ensures { λ r. ⌜ beforeAnswer r ≡ beforeCode (now (image .entry)) (now (state .entry)) (now (row .entry)) ⌝ }
     ensures { λ r. ⌜ BegunBy (now (image .entry)) (now (state .entry)) (now (row .entry)) (now (low .exit)) (now (high .exit)) (now (work .exit)) r ⌝ }
 {
-    let counted = bytecode::counts(image);
-    let Counted::Counts(inputs, names, first) = counted else {
+    let headed = bytecode::header(image, low, high, work);
+    let Headed::Header(inputs, names, place) = headed else {
         return Before::Refused(limits::BROKEN_IMAGE, 0);
     };
     if state.len() != names {
@@ -93,7 +65,14 @@ fn before_sound(
     if row.len() != inputs {
         return Before::Refused(limits::WRONG_LENGTH, 0);
     }
-    before_names(image, first, state, row, low, high, work)
+    before_ranges(
+        place,
+        &low[..names],
+        &high[..names],
+        state,
+        row,
+        &mut work[..names],
+    )
 }
 
 // 9, 11, 12, 18, 13; what the code's run needs then stands at the front of the lent memory.

@@ -1,30 +1,29 @@
 -- Headers: the ways in which counts and ranges are read, and what a header that is accepted has. Assumes nothing.
 use Prim.Native.Nat.{ℕ, zero, suc, _+_, _-_, _^_, _≤_, _<_}
-use native.Mathlib.Numerals.{add-one}
 use native.Mathlib.Omega.{arith}
 use mathlib.Core.Path.{_≡_, refl, sym, ap, subst, _∙_}
 use mathlib.Core.Bool.{Bool, true, false, not, _&&_}
-use mathlib.Core.List.{List, [], _∷_, map}
+use mathlib.Core.List.{List, [], _∷_, _++_, map, append-assoc, append-nil, map-append}
 use lib.Dec.{T, leb, ltb}
 use lib.IntN.{ℤ, pos, negsuc}
-use lib.ListN.{length, set, length-set}
-use lib.Seq.{sets}
+use lib.ListN.{length, set, length-map, length-append}
+use lib.Seq.{sets, length-sets}
 use lib.Signed.{leZ, ltZ}
 use borrow.Author.Tests.{le-leb, lt-leb, ltb-true, ltb-false}
 use mir.Syntax.{w32}
 use mir.Val.{SFits}
-use Rattle.limits.specs.Answer.{Answer, accepted, refused, _andThen_}
+use Rattle.limits.specs.Answer.{Answer, accepted, refused}
 use Rattle.arith.specs.Values.{isInt32}
 use Rattle.arith.proofs.Basics.{T-true}
 use Rattle.arith.proofs.Laws.{fits-int32, int32-fits}
 use Rattle.semantics.specs.Program.{Range}
 use Rattle.leb128.specs.Numbers.{Read, got, nothing, _then_, numberAt, signedAt, unzigzag}
 use Rattle.leb128.proofs.Signs.{zigzag-unzigzag, zigzag-fits}
-use Rattle.bytecode.specs.Check.{item, Placed, checkRange, checkRanges, Counts, checkCounts, Header, headerWith, checkHeader}
-use Rattle.bytecode.specs.Parts.{extentOf, rangeHere, rangesFrom, rangesEnd}
-use Rattle.bytecode.specs.Sound.{RangesAt}
+use Rattle.leb128.proofs.Stores.{sets-append}
+use Rattle.bytecode.specs.Check.{item, Placed, checkRange, checkRanges, checkCounts, Header, headerWith}
+use Rattle.bytecode.specs.Parts.{lows, highs, starts}
+use Rattle.bytecode.specs.Results.{HeaderStands}
 use Rattle.bytecode.proofs.Fetching.{number-within}
-use Rattle.bytecode.proofs.Walk.{header-read}
 
 -- ---- a signed number
 
@@ -139,150 +138,75 @@ module _ (bytes : List ℕ) (k at₁ : ℕ) (e₁ : numberAt bytes 0 ≡ got k a
 
 -- ---- the ranges of all names
 
--- Of the ranges of a header, i are read: what is left of them, and what then follows.
-pub record Heading (bytes : List ℕ) (inputs names first i place : ℕ) : Type 0 where
+-- one more number of a range, behind those of the ranges before it
+module _ (f : Range → ℤ) where
+  pub stored-next : (ns : List Range) (n : Range) (i : ℕ) (whole part more : List ℤ) → length ns ≡ i → part ≡ sets whole 0 (map f ns) → more ≡ set part i (f n) → more ≡ sets whole 0 (map f (ns ++ n ∷ []))
+  stored-next ns n i whole part more e p q =
+      let k : 0 + length (map f ns) ≡ i = omega (arith, length-map ns f) in
+      q ∙ ap (λ (l : List ℤ). set l i (f n)) p
+      ∙ sym (rw (map-append f ns (n ∷ []), sets-append whole 0 (map f ns) (f n ∷ []), k))
+
+-- Of the ranges of a header, i are read and stored: what is left of them, and what then follows.
+pub record Heading (bytes : List ℕ) (inputs names first i place : ℕ) (low₀ high₀ start₀ low high start : List ℤ) : Type 0 where
   pub among : i ≤ names
   pub inside : place ≤ length bytes
+  pub ranges : List Range
+  pub many : length ranges ≡ i
   pub rest : List Range → ℕ → Answer Header
   pub goes : checkRanges bytes names first (headerWith inputs) ≡ checkRanges bytes (names - i) place rest
-  pub ends : (ns : List Range) (next : ℕ) → (rest ns next andThen extentOf) ≡ accepted (record { inputs = inputs; names = i + length ns; place = next })
+  pub ends : (ns : List Range) (next : ℕ) → rest ns next ≡ headerWith inputs (ranges ++ ns) next
+  pub lower : low ≡ sets low₀ 0 (lows ranges)
+  pub upper : high ≡ sets high₀ 0 (highs ranges)
+  pub starting : start ≡ sets start₀ 0 (starts ranges)
 
-abbrev pub behind : List ℕ → ℕ → Answer ℕ
-behind bytes at = checkRange bytes at andThen λ p. accepted (p .next)
-
-module _ {bytes : List ℕ} {inputs names first i place : ℕ} (h : Heading bytes inputs names first i place) where
+module _ {bytes : List ℕ} {inputs names first i place : ℕ} {low₀ high₀ start₀ low high start : List ℤ} (h : Heading bytes inputs names first i place low₀ high₀ start₀ low high start) where
   -- a range that breaks
-  pub heading-breaks : (at : ℕ) → i < names → refused 11 at ≡ behind bytes place → refused 11 at ≡ (checkRanges bytes names first (headerWith inputs) andThen extentOf)
-  heading-breaks at l e = rw (h .goes) (go (names - i) refl (checkRange bytes place) refl e)
-    where
-      go : (m : ℕ) → names - i ≡ m → (a : Answer Placed) → checkRange bytes place ≡ a → refused 11 at ≡ (a andThen λ p. accepted (p .next))
-          → refused 11 at ≡ (checkRanges bytes m place (h .rest) andThen extentOf)
-      go zero m a r q = let b : ⊥ = omega arith in absurd b
-      go (suc m) n (refused k p) r q =
-          let a : k ≡ 11 = cc in
-          let b : p ≡ at = cc in
-          rw (r, a, b)
-      go (suc m) n (accepted p) r q = let f : _≡_ {A = ℕ} 0 1 = cc in let b : ⊥ = omega arith in absurd b
+  pub heading-breaks : (at : ℕ) → i < names → checkRange bytes place ≡ refused 11 at → checkRanges bytes names first (headerWith inputs) ≡ refused 11 at
+  heading-breaks at l e = let m : names - i ≡ suc (names - (i + 1)) = omega arith in h .goes ∙ rw (m, e)
 
   -- a range that fits
-  pub heading-goes : (next : ℕ) → i < names → next ≤ length bytes → accepted next ≡ behind bytes place → Heading bytes inputs names first (i + 1) next
-  heading-goes next l k e = go (names - i) refl (checkRange bytes place) refl e
-    where
-      go : (m : ℕ) → names - i ≡ m → (a : Answer Placed) → checkRange bytes place ≡ a → accepted next ≡ (a andThen λ p. accepted (p .next))
-          → Heading bytes inputs names first (i + 1) next
-      go zero n a r q = let b : ⊥ = omega arith in absurd b
-      go (suc m) n (refused x y) r q = let f : _≡_ {A = ℕ} 0 1 = cc in let b : ⊥ = omega arith in absurd b
-      go (suc m) n (accepted p) r q =
-          let j : names - (i + 1) ≡ m = omega arith in
-          let t : p .next ≡ next = cc in
-          let s : checkRanges bytes (suc m) place (h .rest) ≡ checkRanges bytes m next (λ ns to. h .rest (p .range ∷ ns) to) = rw (r, t) in
-          record {
-            among = omega arith;
-            inside = k;
-            rest = λ ns to. h .rest (p .range ∷ ns) to;
-            goes = h .goes ∙ rw (n, j) s;
-            ends = λ ns to. h .ends (p .range ∷ ns) to ∙ ap (λ (x : ℕ). accepted (record { inputs = inputs; names = x; place = to })) (omega arith);
-          }
-
-  -- all ranges are read
-  pub heading-ends : names ≤ i → accepted (record { inputs = inputs; names = names; place = place }) ≡ (checkRanges bytes names first (headerWith inputs) andThen extentOf)
-  heading-ends l =
-      let n : names - i ≡ 0 = omega arith in
-      let e : i + 0 ≡ names = omega (arith, h .among) in
-      rw (h .goes, n, h .ends [] place, e)
-
-pub heading-begins : (bytes : List ℕ) (inputs names first : ℕ) → first ≤ length bytes → Heading bytes inputs names first 0 first
-heading-begins bytes inputs names first l =
-    let n : names - 0 ≡ names = omega arith in
-    record { among = omega arith; inside = l; rest = headerWith inputs; goes = rw n; ends = λ ns next. let z : 0 + length ns ≡ length ns = omega arith in rw z }
-
--- ---- the ranges, filled in
-
--- what is read next is the first of what is left
-module _ (bytes : List ℕ) (at : ℕ) where
-  ranges-none : (m : ℕ) → m ≡ 0 → (rangesFrom bytes m at ≡ []) × (rangesEnd bytes m at ≡ at)
-  unfolding rangesFrom rangesEnd
-  ranges-none m e = rw e (refl, refl)
-
-  ranges-stop : (m : ℕ) → rangeHere bytes at ≡ nothing → (rangesFrom bytes m at ≡ []) × (rangesEnd bytes m at ≡ at)
-  unfolding rangesFrom rangesEnd
-  ranges-stop zero e = (refl, refl)
-  ranges-stop (suc m) e = (rw e, rw e)
-
-  ranges-next : (m : ℕ) (n : Range) (next : ℕ) → rangeHere bytes at ≡ got n next
-      → (rangesFrom bytes (suc m) at ≡ n ∷ rangesFrom bytes m next) × (rangesEnd bytes (suc m) at ≡ rangesEnd bytes m next)
-  unfolding rangesFrom rangesEnd
-  ranges-next m n next e = (rw e, rw e)
-
--- One number of each range (low, high or start) goes into a list. Of the ranges from a place on, i are read: what is left of them
--- makes the whole.
-pub record Filling (field : Range → ℤ) (bytes : List ℕ) (count at i place : ℕ) (whole part : List ℤ) : Type 0 where
-  pub end : rangesEnd bytes (count - i) place ≡ rangesEnd bytes count at
-  pub left : sets part i (map field (rangesFrom bytes (count - i) place)) ≡ sets whole 0 (map field (rangesFrom bytes count at))
-  pub same-length : length part ≡ length whole
-
-pub record Filled (field : Range → ℤ) (bytes : List ℕ) (count at place : ℕ) (whole part : List ℤ) : Type 0 where
-  pub end : place ≡ rangesEnd bytes count at
-  pub all : part ≡ sets whole 0 (map field (rangesFrom bytes count at))
-
-pub filling-begins : (field : Range → ℤ) (bytes : List ℕ) (count at : ℕ) (whole : List ℤ) → Filling field bytes count at 0 at whole whole
-filling-begins field bytes count at whole = let n : count - 0 ≡ count = omega arith in record { end = rw n; left = rw n; same-length = refl }
-
-module _ {field : Range → ℤ} {bytes : List ℕ} {count at i place : ℕ} {whole part : List ℤ} (f : Filling field bytes count at i place whole part) where
-  -- nothing is left
-  done : (rangesFrom bytes (count - i) place ≡ []) × (rangesEnd bytes (count - i) place ≡ place) → Filled field bytes count at place whole part
-  done e = record { end = sym (e .1) ∙ f .end; all = ap (λ (ns : List Range). sets part i (map field ns)) (sym (e .0)) ∙ f .left }
-
-  pub filling-ends : count ≤ i → Filled field bytes count at place whole part
-  filling-ends h = done (ranges-none bytes place (count - i) (omega arith))
-
-  pub filling-stops : rangeHere bytes place ≡ nothing → Filled field bytes count at place whole part
-  filling-stops e = done (ranges-stop bytes place (count - i) e)
-
-  -- one more
-  pub filling-goes : (n : Range) (next : ℕ) (more : List ℤ) → i < count → rangeHere bytes place ≡ got n next → more ≡ set part i (field n)
-      → Filling field bytes count at (i + 1) next whole more
-  filling-goes n next more l e q =
-      let m : count - i ≡ suc (count - (i + 1)) = omega arith in
-      let x = ranges-next bytes place (count - (i + 1)) n next e in
-      let from : rangesFrom bytes (count - i) place ≡ n ∷ rangesFrom bytes (count - (i + 1)) next = rw m (x .0) in
-      let to : rangesEnd bytes (count - i) place ≡ rangesEnd bytes (count - (i + 1)) next = rw m (x .1) in
+  pub heading-goes : (n : Range) (next : ℕ) (low₁ high₁ start₁ : List ℤ) → i < names → checkRange bytes place ≡ accepted (record { range = n; next = next }) → next ≤ length bytes
+      → low₁ ≡ set low i (n .low) → high₁ ≡ set high i (n .high) → start₁ ≡ set start i (n .start) → Heading bytes inputs names first (i + 1) next low₀ high₀ start₀ low₁ high₁ start₁
+  heading-goes n next low₁ high₁ start₁ l e k a b c =
+      let m : names - i ≡ suc (names - (i + 1)) = omega arith in
       record {
-        end = sym to ∙ f .end;
-        left = ap (λ (p : List ℤ). sets p (i + 1) (map field (rangesFrom bytes (count - (i + 1)) next))) q
-            ∙ ap (λ (k : ℕ). sets (set part i (field n)) k (map field (rangesFrom bytes (count - (i + 1)) next))) (add-one i)
-            ∙ ap (λ (ns : List Range). sets part i (map field ns)) (sym from)
-            ∙ f .left;
-        same-length = rw (q, length-set) (f .same-length);
+        among = omega arith;
+        inside = k;
+        ranges = h .ranges ++ n ∷ [];
+        many = length-append (h .ranges) (n ∷ []) ∙ omega (arith, h .many);
+        rest = λ ns to. h .rest (n ∷ ns) to;
+        goes = h .goes ∙ rw (m, e);
+        ends = λ ns to. h .ends (n ∷ ns) to ∙ ap (λ (x : List Range). headerWith inputs x to) (sym (append-assoc (h .ranges) (n ∷ []) ns));
+        lower = stored-next (λ r. r .low) (h .ranges) n i low₀ low low₁ (h .many) (h .lower) a;
+        upper = stored-next (λ r. r .high) (h .ranges) n i high₀ high high₁ (h .many) (h .upper) b;
+        starting = stored-next (λ r. r .start) (h .ranges) n i start₀ start start₁ (h .many) (h .starting) c;
       }
 
--- ---- what a header that is accepted has
+  -- the memory keeps its length
+  pub low-length : length low ≡ length low₀
+  low-length = rw (h .lower) (length-sets low₀ 0 (lows (h .ranges)))
 
-ranges-stand : (bytes : List ℕ) (ns : List Range) (at end : ℕ) → RangesAt bytes at ns end → (rangesFrom bytes (length ns) at ≡ ns) × (rangesEnd bytes (length ns) at ≡ end)
-unfolding rangesFrom rangesEnd rangeHere
-ranges-stand bytes [] at end r = (refl, r)
-ranges-stand bytes (n ∷ ns) at end r =
-    let x = ranges-stand bytes ns (r .2) end (r .6) in
-    (rw (r .3, r .4, r .5, x .0), rw (r .3, r .4, r .5, x .1))
+  pub high-length : length high ≡ length high₀
+  high-length = rw (h .upper) (length-sets high₀ 0 (highs (h .ranges)))
 
--- its counts, and its ranges as they are filled in
-pub record HeaderParts (bytes : List ℕ) (h : Header) : Type 0 where
-  pub counts : Counts
-  pub counted : checkCounts bytes ≡ accepted counts
-  pub inputs : h .inputs ≡ counts .inputs
-  pub names : length (h .ranges) ≡ counts .names
-  pub ranges : rangesFrom bytes (counts .names) (counts .place) ≡ h .ranges
-  pub place : rangesEnd bytes (counts .names) (counts .place) ≡ h .place
+  pub start-length : length start ≡ length start₀
+  start-length = rw (h .starting) (length-sets start₀ 0 (starts (h .ranges)))
 
-pub header-parts : (bytes : List ℕ) (h : Header) → checkHeader bytes ≡ accepted h → HeaderParts bytes h
-header-parts bytes h e =
-    let x = header-read bytes h e in
-    let s = ranges-stand bytes (h .ranges) (x .counts .place) (h .place) (x .stands) in
-    record {
-      counts = x .counts;
-      counted = x .counted;
-      inputs = x .inputs;
-      names = x .size;
-      ranges = ap (λ (n : ℕ). rangesFrom bytes n (x .counts .place)) (sym (x .size)) ∙ s .0;
-      place = ap (λ (n : ℕ). rangesEnd bytes n (x .counts .place)) (sym (x .size)) ∙ s .1;
-    }
+  -- all ranges are read
+  pub heading-ends : names ≤ i → inputs ≤ names → names ≤ 64 → HeaderStands (checkRanges bytes names first (headerWith inputs)) (length bytes) low₀ high₀ start₀ low high start inputs names place
+  heading-ends l k few =
+      let n : names - i ≡ 0 = omega arith in
+      record {
+        ranges = h .ranges;
+        read = h .goes ∙ rw (n, h .ends [] place, append-nil (h .ranges));
+        many = omega (arith, h .many, h .among);
+        extends = record { inputs-named = k; few = few; inside = h .inside };
+        lower = h .lower;
+        upper = h .upper;
+        starting = h .starting;
+      }
+
+pub heading-begins : (bytes : List ℕ) (inputs names first : ℕ) (low high start : List ℤ) → first ≤ length bytes → Heading bytes inputs names first 0 first low high start low high start
+heading-begins bytes inputs names first low high start l =
+    let n : names - 0 ≡ names = omega arith in
+    record { among = omega arith; inside = l; ranges = []; many = refl; rest = headerWith inputs; goes = rw n; ends = λ ns next. refl; lower = refl; upper = refl; starting = refl }

@@ -1,34 +1,62 @@
 -- The header of a sound image, as the running code reads it. Assumes nothing.
-use mathlib.Core.Path.{_≡_, sym, ap, _∙_}
-use mathlib.Core.List.{List, [], _∷_}
+use mathlib.Core.Path.{_≡_, sym, ap, subst, _∙_}
+use mathlib.Core.List.{List}
 use Prim.Native.Nat.{ℕ, _≤_}
 use native.Mathlib.Omega.{arith}
+use lib.IntN.{ℤ}
 use lib.ListN.{length}
-use Rattle.limits.specs.Answer.{accepted, refused}
-use Rattle.semantics.specs.Program.{Range}
-use Rattle.bytecode.specs.Check.{Counts, checkCounts, checkOf}
-use Rattle.bytecode.specs.Parts.{headerOf, rangesFrom, rangesEnd}
-use Rattle.bytecode.specs.Sound.{RangesAt}
-use Rattle.bytecode.specs.Results.{Extends}
+use lib.Seq.{sets}
+use Rattle.limits.specs.Answer.{Answer, accepted, refused}
+use Rattle.bytecode.specs.Check.{Counts, checkCounts, Header, checkHeader, checkOf}
+use Rattle.bytecode.specs.Parts.{headerOf, lows, highs, starts}
+use Rattle.bytecode.specs.Results.{Extends, HeaderStands, HeadedAs, HeadedBy}
+use Rattle.bytecode.specs.declared.Headed.{Headed}
+use Rattle.bytecode.specs.declared.Headed.the-variants as H
 use Rattle.bytecode.proofs.Walk.{SoundImage, header-read, check-sound}
-use Rattle.bytecode.proofs.Heading.{signed-within, header-parts}
 
 pub header-is : (image : List ℕ) (y : SoundImage image) → headerOf image ≡ y .header
 unfolding headerOf
 header-is image y = rw (y .read)
 
-pub record SoundCounts (image : List ℕ) (inputs names first : ℕ) : Type 0 where
+pub record SoundCounts (image : List ℕ) (inputs names : ℕ) : Type 0 where
   pub inputs-are : headerOf image .inputs ≡ inputs
   pub names-are : length (headerOf image .ranges) ≡ names
-  pub ranges-are : rangesFrom image names first ≡ headerOf image .ranges
-  pub place-is : rangesEnd image names first ≡ headerOf image .place
-  pub inside : rangesEnd image names first ≤ length image
   pub among : inputs ≤ names
   pub few : names ≤ 64
 
-ranges-inside : (bytes : List ℕ) (ns : List Range) (at end : ℕ) → RangesAt bytes at ns end → at ≤ length bytes → end ≤ length bytes
-ranges-inside bytes [] at end r h = omega arith
-ranges-inside bytes (n ∷ ns) at end r h = ranges-inside bytes ns (r .2) end (r .6) (signed-within bytes (r .1) (n .start) (r .2) (r .5) .inside)
+-- a header that was read is that of the image
+pub header-found : (image : List ℕ) (h : Header) → checkHeader image ≡ accepted h → headerOf image ≡ h
+unfolding headerOf
+header-found image h e = rw e
+
+-- ---- what the reader of a header answers
+
+module _ {a : Answer Header} {n : ℕ} {low₀ high₀ start₀ low high start : List ℤ} {r : Headed} (x : HeadedBy a n low₀ high₀ start₀ low high start r) where
+  pub headed-stands : {inputs names place : ℕ} → r ≡ H.Header inputs names place → HeaderStands a n low₀ high₀ start₀ low high start inputs names place
+  headed-stands e = subst (λ (q : Headed). HeadedAs a n low₀ high₀ start₀ low high start q) e (x .so)
+
+  pub headed-broken : {place : ℕ} → r ≡ H.Broken place → (a ≡ refused 11 place) × (place ≤ n)
+  headed-broken e = subst (λ (q : Headed). HeadedAs a n low₀ high₀ start₀ low high start q) e (x .so)
+
+module _ (image : List ℕ) {n : ℕ} {low₀ high₀ start₀ low high start : List ℤ} {inputs names place : ℕ} (x : HeaderStands (checkHeader image) n low₀ high₀ start₀ low high start inputs names place) where
+  pub header-counts : SoundCounts image inputs names
+  header-counts =
+      let e = header-found image _ (x .read) in
+      record { inputs-are = ap (λ (h : Header). h .inputs) e; names-are = ap (λ (h : Header). length (h .ranges)) e ∙ x .many; among = x .extends .inputs-named; few = x .extends .few }
+
+  pub header-place : place ≡ headerOf image .place
+  header-place = sym (ap (λ (h : Header). h .place) (header-found image _ (x .read)))
+
+  pub lows-stored : low ≡ sets low₀ 0 (lows (headerOf image .ranges))
+  lows-stored = rw (header-found image _ (x .read)) (x .lower)
+
+  pub highs-stored : high ≡ sets high₀ 0 (highs (headerOf image .ranges))
+  highs-stored = rw (header-found image _ (x .read)) (x .upper)
+
+  pub starts-stored : start ≡ sets start₀ 0 (starts (headerOf image .ranges))
+  starts-stored = rw (header-found image _ (x .read)) (x .starting)
+
+-- ---- a sound image
 
 module _ (image : List ℕ) (sound : checkOf image ≡ accepted tt) where
   pub counts-not-broken : {X : Type 0} (place : ℕ) → refused 11 place ≡ checkCounts image → X
@@ -39,26 +67,24 @@ module _ (image : List ℕ) (sound : checkOf image ≡ accepted tt) where
       let b : ⊥ = omega arith in
       absurd b
 
+  pub header-not-broken : {X : Type 0} (place : ℕ) → checkHeader image ≡ refused 11 place → X
+  header-not-broken place e =
+      let p = check-sound image sound .read in
+      let z : _≡_ {A = ℕ} 0 1 = cc in
+      let b : ⊥ = omega arith in
+      absurd b
+
   pub sound-counts : (inputs names first : ℕ) → accepted (record { inputs = inputs; names = names; place = first }) ≡ checkCounts image → Extends (length image) inputs names first
-      → SoundCounts image inputs names first
+      → SoundCounts image inputs names
   sound-counts inputs names first e x =
       let y = check-sound image sound in
       let h = y .header in
       let q : headerOf image ≡ h = header-is image y in
-      let p = header-parts image h (y .read) in
       let r = header-read image h (y .read) in
-      let c : record { inputs = inputs; names = names; place = first } ≡ p .counts = cc (p .counted) in
       let d : record { inputs = inputs; names = names; place = first } ≡ r .counts = cc (r .counted) in
-      let n : names ≡ p .counts .names = ap (λ (k : Counts). k .names) c in
-      let f : first ≡ p .counts .place = ap (λ (k : Counts). k .place) c in
-      let end : rangesEnd image names first ≡ h .place = rw (n, f) (p .place) in
-      let stands : RangesAt image first (h .ranges) (h .place) = rw (ap (λ (k : Counts). k .place) d) (r .stands) in
       record {
-        inputs-are = rw q (p .inputs ∙ sym (ap (λ (k : Counts). k .inputs) c));
-        names-are = rw q (p .names ∙ sym n);
-        ranges-are = rw (q, n, f) (p .ranges);
-        place-is = rw q end;
-        inside = rw end (ranges-inside image (h .ranges) first (h .place) stands (x .inside));
+        inputs-are = rw q (r .inputs ∙ sym (ap (λ (k : Counts). k .inputs) d));
+        names-are = rw q (r .size ∙ sym (ap (λ (k : Counts). k .names) d));
         among = x .inputs-named;
         few = x .few;
       }

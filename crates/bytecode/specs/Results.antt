@@ -1,5 +1,10 @@
 -- What the answers of this crate's functions stand for. Assumes nothing.
 use Prim.Native.Nat.{ℕ, _^_, _≤_, _<_}
+use mathlib.Core.Path.{_≡_}
+use mathlib.Core.List.{List}
+use lib.IntN.{ℤ}
+use lib.ListN.{length}
+use lib.Seq.{sets}
 use Rattle.semantics.specs.Program.{Range}
 use Rattle.leb128.specs.Numbers.{Read, got, nothing}
 use Rattle.bytecode.specs.declared.Fetched.{Fetched}
@@ -10,13 +15,11 @@ use Rattle.bytecode.specs.declared.Ranged.{Ranged}
 use Rattle.bytecode.specs.declared.Ranged.the-variants as R
 use Rattle.bytecode.specs.declared.Headed.{Headed}
 use Rattle.bytecode.specs.declared.Headed.the-variants as H
-use Rattle.bytecode.specs.declared.RangeRead.{RangeRead}
-use Rattle.bytecode.specs.declared.RangeRead.the-variants as N
 use Rattle.limits.specs.Limits.{brokenImage, nameLimit}
 use Rattle.limits.specs.Answer.{Answer, accepted, refused}
 use Rattle.bytecode.specs.Instructions.{Instruction, instructionOf, decoded}
-use Rattle.bytecode.specs.Check.{Counts}
-use Rattle.bytecode.specs.Parts.{Extent}
+use Rattle.bytecode.specs.Check.{Counts, checkRange, Header}
+use Rattle.bytecode.specs.Parts.{lows, highs, starts}
 
 -- ---- an instruction
 
@@ -41,19 +44,6 @@ abbrev pub countedAnswer : Counted → Answer Counts
 countedAnswer (C.Counts inputs names place) = accepted (record { inputs = inputs; names = names; place = place })
 countedAnswer (C.Broken place) = refused brokenImage place
 
--- the place behind a range that fits
-abbrev pub rangedAnswer : Ranged → Answer ℕ
-rangedAnswer (R.Fits next) = accepted next
-rangedAnswer (R.Broken place) = refused brokenImage place
-
-abbrev pub headedAnswer : Headed → Answer Extent
-headedAnswer (H.Header inputs names place) = accepted (record { inputs = inputs; names = names; place = place })
-headedAnswer (H.Broken place) = refused brokenImage place
-
-abbrev pub rangeRead : RangeRead → Read Range
-rangeRead (N.Range low high start next) = got (record { low = low; high = high; start = start }) next
-rangeRead N.Malformed = nothing
-
 -- The inputs are among the names, of which there are at most 64; a place is inside bytes of this length, or at their end.
 pub record Extends (length inputs names place : ℕ) : Type 0 where
   pub inputs-named : inputs ≤ names
@@ -64,10 +54,26 @@ abbrev pub CountedWithin : ℕ → Counted → Type 0
 CountedWithin length (C.Counts inputs names place) = Extends length inputs names place
 CountedWithin length (C.Broken place) = place ≤ length
 
-abbrev pub RangedWithin : ℕ → Ranged → Type 0
-RangedWithin length (R.Fits next) = next ≤ length
-RangedWithin length (R.Broken place) = place ≤ length
+-- a range that fits, and the place behind it
+abbrev pub RangedBy : List ℕ → ℕ → Ranged → Type 0
+RangedBy image at (R.Range low high start next) =
+    (checkRange image at ≡ accepted (record { range = record { low = low; high = high; start = start }; next = next })) × (next ≤ length image)
+RangedBy image at (R.Broken place) = (checkRange image at ≡ refused brokenImage place) × (place ≤ length image)
 
-abbrev pub HeadedWithin : ℕ → Headed → Type 0
-HeadedWithin length (H.Header inputs names place) = Extends length inputs names place
-HeadedWithin length (H.Broken place) = place ≤ length
+-- A header that was read from bytes of this length: its counts, the place where the code begins, and its ranges, which are stored at the front
+-- of the memory lent for lows, highs and starts, as far as there is room.
+pub record HeaderStands (a : Answer Header) (n : ℕ) (low₀ high₀ start₀ low high start : List ℤ) (inputs names place : ℕ) : Type 0 where
+  pub ranges : List Range
+  pub read : a ≡ accepted (record { inputs = inputs; ranges = ranges; place = place })
+  pub many : length ranges ≡ names
+  pub extends : Extends n inputs names place
+  pub lower : low ≡ sets low₀ 0 (lows ranges)
+  pub upper : high ≡ sets high₀ 0 (highs ranges)
+  pub starting : start ≡ sets start₀ 0 (starts ranges)
+
+abbrev pub HeadedAs : Answer Header → ℕ → List ℤ → List ℤ → List ℤ → List ℤ → List ℤ → List ℤ → Headed → Type 0
+HeadedAs a n low₀ high₀ start₀ low high start (H.Header inputs names place) = HeaderStands a n low₀ high₀ start₀ low high start inputs names place
+HeadedAs a n low₀ high₀ start₀ low high start (H.Broken place) = (a ≡ refused brokenImage place) × (place ≤ n)
+
+pub record HeadedBy (a : Answer Header) (n : ℕ) (low₀ high₀ start₀ low high start : List ℤ) (r : Headed) : Type 0 where
+  pub so : HeadedAs a n low₀ high₀ start₀ low high start r

@@ -102,7 +102,10 @@ pub fn check(image: &[u8]) -> Checked
     if limits::IMAGE_LIMIT < image.len() {
         return Checked::Refused(limits::TOO_LONG, 0);
     }
-    match bytecode::header(image) {
+    let mut low = [0i32; 1];
+    let mut high = [0i32; 1];
+    let mut start = [0i32; 1];
+    match bytecode::header(image, &mut low, &mut high, &mut start) {
         bytecode::Headed::Broken(place) => Checked::Refused(limits::BROKEN_IMAGE, place),
         bytecode::Headed::Header(inputs, names, place) => check_code(
             &image[place..],

@@ -11,7 +11,7 @@ use lib.Signed.{leZ, ≤ℤ-refl}
 use Rattle.arith.proofs.Basics.{T-true, and-left, and-right, and-T}
 use Rattle.semantics.specs.Program.{Range, within}
 use Rattle.semantics.specs.Formula.{State}
-use Rattle.semantics.specs.ReferenceScan.{allWithin}
+use Rattle.semantics.specs.Shape.{allWithin}
 use Rattle.bytecode.specs.Parts.{lows}
 use Rattle.machine.proofs.Ranges.{Within}
 use Rattle.closed.specs.Closed.{aboveZero, sizeBetween, sizeOf, productOfSizes, upwards, prefixed, combinations, withRows, paired}

@@ -16,12 +16,12 @@ use Rattle.arith.specs.Values.{Outcome, ok, refusal, isInt32}
 use Rattle.arith.proofs.Basics.{and-left, and-right, and-T}
 use Rattle.semantics.specs.Program.{Range, within}
 use Rattle.semantics.specs.Formula.{State}
-use Rattle.semantics.specs.ReferenceScan.{allWithin, withInputs}
-use Rattle.bytecode.specs.Check.{Header, checkOf}
-use Rattle.bytecode.specs.Parts.{headerOf, codeOf}
+use Rattle.semantics.specs.ReferenceScan.{withInputs}
+use Rattle.bytecode.specs.Check.{checkOf}
+use Rattle.bytecode.specs.Parts.{headerOf, codeOf, shapeIn}
 use Rattle.bytecode.specs.Translation.{RangesFit}
 use Rattle.bytecode.proofs.CheckNumbers.{CheckRefusal, too-long, broken, check-numbers}
-use Rattle.machine.specs.States.{stateLength}
+use Rattle.semantics.specs.Shape.{Shape, allWithin, stateLength}
 use Rattle.machine.specs.Step.{Machine, machine}
 use Rattle.machine.proofs.Refusals.{ByRules, RefusedByRules}
 use Rattle.machine.proofs.Ranges.{Within}
@@ -77,10 +77,10 @@ accepted-by everyAccepted state row e = refl
 accepted-by (refusedAt n c) state row e = let z : _≡_ {A = ℕ} 0 1 = cc in let b : ⊥ = omega arith in absurd b
 
 closed-accepted : (a : Answer (Unit {0})) (small : Bool) (image : List ℕ) (state row : List ℤ) → closedAs a small image state row .answer ≡ accepted tt
-    → (a ≡ accepted tt) × (small ≡ true) × (walked (scanning image) (combinationsOf (headerOf image)) 0 ≡ everyAccepted)
+    → (a ≡ accepted tt) × (small ≡ true) × (walked (scanning image) (combinationsOf (shapeIn image)) 0 ≡ everyAccepted)
 closed-accepted (refused number place) small image state row e = let z : _≡_ {A = ℕ} 0 1 = cc in let b : ⊥ = omega arith in absurd b
 closed-accepted (accepted u) false image state row e = let z : _≡_ {A = ℕ} 0 1 = cc in let b : ⊥ = omega arith in absurd b
-closed-accepted (accepted u) true image state row e = (refl, refl, accepted-by (walked (scanning image) (combinationsOf (headerOf image)) 0) state row e)
+closed-accepted (accepted u) true image state row e = (refl, refl, accepted-by (walked (scanning image) (combinationsOf (shapeIn image)) 0) state row e)
 
 refused-by : (w : Walked) (state row : List ℤ) (n : ℕ) → closedBy w state row .answer ≡ refused 27 n → (c : Combination) × (w ≡ refusedAt n c)
 refused-by everyAccepted state row n e = let z : _≡_ {A = ℕ} 0 1 = cc in let b : ⊥ = omega arith in absurd b
@@ -91,26 +91,26 @@ not-check number too-long e = omega arith
 not-check number broken e = omega arith
 
 closed-stopped : (a : Answer (Unit {0})) (small : Bool) (image : List ℕ) (state row : List ℤ) (n : ℕ) → ((number place : ℕ) → a ≡ refused number place → CheckRefusal number)
-    → closedAs a small image state row .answer ≡ refused 27 n → (a ≡ accepted tt) × (small ≡ true) × ((c : Combination) × (walked (scanning image) (combinationsOf (headerOf image)) 0 ≡ refusedAt n c))
+    → closedAs a small image state row .answer ≡ refused 27 n → (a ≡ accepted tt) × (small ≡ true) × ((c : Combination) × (walked (scanning image) (combinationsOf (shapeIn image)) 0 ≡ refusedAt n c))
 closed-stopped (refused number place) small image state row n h e = let q : number ≡ 27 = cc in absurd (not-check number (h number place refl) q)
 closed-stopped (accepted u) false image state row n h e = let q : _≡_ {A = ℕ} 26 27 = cc in let b : ⊥ = omega arith in absurd b
-closed-stopped (accepted u) true image state row n h e = (refl, refl, refused-by (walked (scanning image) (combinationsOf (headerOf image)) 0) state row n e)
+closed-stopped (accepted u) true image state row n h e = (refl, refl, refused-by (walked (scanning image) (combinationsOf (shapeIn image)) 0) state row n e)
 
 -- ---- exactly
 
-state-within : {h : Header} {s : List ℤ} → InRangeState h s → Within (h .ranges) s
+state-within : {h : Shape} {s : List ℤ} → InRangeState h s → Within (h .ranges) s
 state-within h = record { size = h .size; ranges = h .ranges }
 
-state-in-range : {h : Header} {s : List ℤ} → Within (h .ranges) s → InRangeState h s
+state-in-range : {h : Shape} {s : List ℤ} → Within (h .ranges) s → InRangeState h s
 state-in-range h = record { size = h .size; ranges = h .ranges }
 
 -- every in-range state with every in-range row is a combination
-combination-of : (image : List ℕ) → checkOf image ≡ accepted tt → (s : State) (row : List ℤ) → InRangeState (headerOf image) s → InRangeRow (headerOf image) row
-    → record { state = s; row = row } ∈ combinationsOf (headerOf image)
+combination-of : (image : List ℕ) → checkOf image ≡ accepted tt → (s : State) (row : List ℤ) → InRangeState (shapeIn image) s → InRangeRow (shapeIn image) row
+    → record { state = s; row = row } ∈ combinationsOf (shapeIn image)
 unfolding combinationsOf
 combination-of image sound s row w v =
-    in-paired s row (combinations (headerOf image .ranges)) (combinations (inputRanges (headerOf image))) (combinations-complete (headerOf image .ranges) s (state-within w))
-    (combinations-complete (inputRanges (headerOf image)) row (row-within (headerOf image) (inputs-among image sound) row v))
+    in-paired s row (combinations (headerOf image .ranges)) (combinations (inputRanges (shapeIn image))) (combinations-complete (headerOf image .ranges) s (state-within w))
+    (combinations-complete (inputRanges (shapeIn image)) row (row-within (shapeIn image) (inputs-among image sound) row v))
 
 pub closed-exactly : (image : List ℕ) → (closedOf image .answer ≡ accepted tt) ↔ Closed image
 unfolding closedOf closedIn isSmall
@@ -118,21 +118,21 @@ closed-exactly image = (forth, back)
   where
     forth : closedOf image .answer ≡ accepted tt → Closed image
     forth e =
-        let p = closed-accepted (checkOf image) (isSmall (headerOf image)) image _ _ e in
-        let all = walked-through (scanning image) (combinationsOf (headerOf image)) 0 (p .2) in
+        let p = closed-accepted (checkOf image) (isSmall (shapeIn image)) image _ _ e in
+        let all = walked-through (scanning image) (combinationsOf (shapeIn image)) 0 (p .2) in
         record {
           sound = p .0;
           small = leb-true _ 65536 (p .1);
-          accepts = λ s row w v. all-in (λ c. scanning image c ≡ accepted tt) (record { state = s; row = row }) (combinationsOf (headerOf image)) all (combination-of image (p .0) s row w v);
+          accepts = λ s row w v. all-in (λ c. scanning image c ≡ accepted tt) (record { state = s; row = row }) (combinationsOf (shapeIn image)) all (combination-of image (p .0) s row w v);
         }
 
     back : Closed image → closedOf image .answer ≡ accepted tt
     back k =
-        let small = le-leb (productOfSizes (headerOf image .ranges) * productOfSizes (inputRanges (headerOf image))) 65536 (k .small) in
+        let small = le-leb (productOfSizes (headerOf image .ranges) * productOfSizes (inputRanges (shapeIn image))) 65536 (k .small) in
         let all =
-        all-weaker (λ c. Within (headerOf image .ranges) (c .state) × Within (inputRanges (headerOf image)) (c .row)) (λ c. scanning image c ≡ accepted tt) (combinationsOf (headerOf image))
-        (λ c w. k .accepts (c .state) (c .row) (state-in-range (w .0)) (row-in-range (headerOf image) (inputs-among image (k .sound)) (c .row) (w .1))) (combinations-in image (k .sound)) in
-        rw (k .sound, small, walked-all (scanning image) (combinationsOf (headerOf image)) 0 all)
+        all-weaker (λ c. Within (headerOf image .ranges) (c .state) × Within (inputRanges (shapeIn image)) (c .row)) (λ c. scanning image c ≡ accepted tt) (combinationsOf (shapeIn image))
+        (λ c w. k .accepts (c .state) (c .row) (state-in-range (w .0)) (row-in-range (shapeIn image) (inputs-among image (k .sound)) (c .row) (w .1))) (combinations-in image (k .sound)) in
+        rw (k .sound, small, walked-all (scanning image) (combinationsOf (shapeIn image)) 0 all)
 
 -- ---- runs
 
@@ -145,12 +145,12 @@ starts-within (n ∷ ns) f =
     let b = and-right (isInt32 (n .start) && leZ (n .low) (n .start)) (leZ (n .start) (n .high)) t in
     and-T (within n (n .start)) (allWithin ns (map (λ m. m .start) ns)) (and-T (leZ (n .low) (n .start)) (leZ (n .start) (n .high)) (and-right (isInt32 (n .start)) (leZ (n .low) (n .start)) a) b) (starts-within ns (f .1))
 
-scans-accepted : (image : List ℕ) → Closed image → (rows : List (List ℤ)) (s : State) → Within (headerOf image .ranges) s → InRangeRows (headerOf image) rows → AllAccepted (scansOf image s rows)
+scans-accepted : (image : List ℕ) → Closed image → (rows : List (List ℤ)) (s : State) → Within (headerOf image .ranges) s → InRangeRows (shapeIn image) rows → AllAccepted (scansOf image s rows)
 scans-accepted image k [] s w h = tt
 scans-accepted image k (r ∷ rs) s w h = (k .accepts s r (state-in-range w) (h .0), scans-accepted image k rs (scanOf image s r .state) (scan-within image (k .sound) s r w) (h .1))
 
 -- No list of in-range rows from the fresh start ever meets a refusal.
-pub closed-runs : (image : List ℕ) → Closed image → (lent : State) → length lent ≡ stateLength (headerOf image) → (rows : List (List ℤ)) → InRangeRows (headerOf image) rows
+pub closed-runs : (image : List ℕ) → Closed image → (lent : State) → length lent ≡ stateLength (shapeIn image) → (rows : List (List ℤ)) → InRangeRows (shapeIn image) rows
     → AllAccepted (scansOf image (startOf image lent .state) rows)
 unfolding startOf
 closed-runs image k lent e rows h =
@@ -174,10 +174,10 @@ all-at P (x ∷ l) (suc n) a h e = all-at P l n a (h .1) e
 
 module _ (image : List ℕ) (sound : checkOf image ≡ accepted tt) where
   abbrev all : List Combination
-  all = combinationsOf (headerOf image)
+  all = combinationsOf (shapeIn image)
 
-  within-at : (n : ℕ) (c : Combination) → getElem? all n ≡ some c → Within (headerOf image .ranges) (c .state) × Within (inputRanges (headerOf image)) (c .row)
-  within-at n c e = all-at (λ c. Within (headerOf image .ranges) (c .state) × Within (inputRanges (headerOf image)) (c .row)) all n c (combinations-in image sound) e
+  within-at : (n : ℕ) (c : Combination) → getElem? all n ≡ some c → Within (headerOf image .ranges) (c .state) × Within (inputRanges (shapeIn image)) (c .row)
+  within-at n c e = all-at (λ c. Within (headerOf image .ranges) (c .state) × Within (inputRanges (shapeIn image)) (c .row)) all n c (combinations-in image sound) e
 
   -- a combination that is refused is refused by a rule at work
   combination-rules : (n : ℕ) (c : Combination) (number place : ℕ) → getElem? all n ≡ some c → scanning image c ≡ refused number place → ByRules number × (place ≡ 0)
@@ -188,9 +188,9 @@ module _ (image : List ℕ) (sound : checkOf image ≡ accepted tt) where
 
   all-rise : Rising valuesIn all
   unfolding combinationsOf
-  all-rise = paired-rise (combinations (headerOf image .ranges)) (combinations (inputRanges (headerOf image))) (combinations-rise (headerOf image .ranges)) (combinations-rise (inputRanges (headerOf image)))
+  all-rise = paired-rise (combinations (headerOf image .ranges)) (combinations (inputRanges (shapeIn image))) (combinations-rise (headerOf image .ranges)) (combinations-rise (inputRanges (shapeIn image)))
 
-  first-from : (n : ℕ) (c : Combination) → isSmall (headerOf image) ≡ true → walked (scanning image) all 0 ≡ refusedAt n c → FirstRefused image n
+  first-from : (n : ℕ) (c : Combination) → isSmall (shapeIn image) ≡ true → walked (scanning image) all 0 ≡ refusedAt n c → FirstRefused image n
   unfolding closedOf closedIn
   first-from n c small e =
       let s = walked-first (scanning image) all 0 n c e in
@@ -200,7 +200,7 @@ module _ (image : List ℕ) (sound : checkOf image ≡ accepted tt) where
       record {
         combination = c;
         state-in = state-in-range (w .0);
-        row-in = row-in-range (headerOf image) (inputs-among image sound) (c .row) (w .1);
+        row-in = row-in-range (shapeIn image) (inputs-among image sound) (c .row) (w .1);
         number = s .number;
         refuses = s .refuses ∙ ap (refused (s .number)) (r .1);
         before = λ t row u v l. earlier-accepted (scanning image) all 0 n c (record { state = t; row = row }) all-rise e (combination-of image sound t row u v) l;
@@ -209,9 +209,9 @@ module _ (image : List ℕ) (sound : checkOf image ≡ accepted tt) where
       }
 
 module _ (image : List ℕ) (n : ℕ) (e : closedOf image .answer ≡ refused 27 n) where
-  parts : (checkOf image ≡ accepted tt) × (isSmall (headerOf image) ≡ true) × ((c : Combination) × (walked (scanning image) (combinationsOf (headerOf image)) 0 ≡ refusedAt n c))
+  parts : (checkOf image ≡ accepted tt) × (isSmall (shapeIn image) ≡ true) × ((c : Combination) × (walked (scanning image) (combinationsOf (shapeIn image)) 0 ≡ refusedAt n c))
   unfolding closedOf closedIn
-  parts = closed-stopped (checkOf image) (isSmall (headerOf image)) image _ _ n (check-numbers image) e
+  parts = closed-stopped (checkOf image) (isSmall (shapeIn image)) image _ _ n (check-numbers image) e
 
   -- 27 names the first scan that is refused, by its place, its state and its row;
   pub closed-first : FirstRefused image n

@@ -14,7 +14,7 @@ use Rattle.limits.specs.Answer.{accepted, refused}
 use Rattle.semantics.specs.Program.{Range}
 use Rattle.semantics.specs.Formula.{State}
 use Rattle.bytecode.specs.Check.{checkOf}
-use Rattle.bytecode.specs.Parts.{headerOf, rangesFrom}
+use Rattle.bytecode.specs.Parts.{headerOf, shapeIn}
 use Rattle.bytecode.proofs.SoundHeader.{SoundCounts}
 use Rattle.closed.specs.Closed.{productOfSizes, inputRanges, isSmall, combinations, Combination, withRows, paired, combinationsOf, leaves, combined, combinedAs, combinationOf}
 use Rattle.closed.specs.Results.{afterClosing}
@@ -90,12 +90,12 @@ pub combination-refused : (image : List ℕ) (index : ℕ) (state row : List ℤ
 unfolding combinationOf
 combination-refused image index state row number place e = rw (← e)
 
-pub combination-from : (image : List ℕ) → checkOf image ≡ accepted tt → {inputs names first : ℕ} → SoundCounts image inputs names first → (index : ℕ) (state row : List ℤ)
-    → combinedRanges (rangesFrom image names first) inputs index state row ≡ combinationOf image index state row
+pub combination-from : (image : List ℕ) → checkOf image ≡ accepted tt → {inputs names : ℕ} → SoundCounts image inputs names → (index : ℕ) (state row : List ℤ)
+    → combinedRanges (headerOf image .ranges) inputs index state row ≡ combinationOf image index state row
 unfolding combinationOf isSmall combinationsOf
-combination-from image sound k index state row = rw (k .ranges-are, sound, ← (k .inputs-are)) (by (leb (productOfSizes (headerOf image .ranges) * productOfSizes (inputRanges (headerOf image))) 65536))
+combination-from image sound k index state row = rw (sound, ← (k .inputs-are)) (by (leb (productOfSizes (headerOf image .ranges) * productOfSizes (inputRanges (shapeIn image))) 65536))
   where
-    by : (b : Bool) → cond b (cond (eqb (length state) (length (headerOf image .ranges)) && eqb (length row) (headerOf image .inputs)) (combined (getElem? (paired (combinations (headerOf image .ranges)) (combinations (inputRanges (headerOf image)))) index) state row) (leaves (refused 12 0) state row)) (leaves (refused 26 0) state row)
-        ≡ combinedAs (accepted tt) b (headerOf image) index state row
+    by : (b : Bool) → cond b (cond (eqb (length state) (length (headerOf image .ranges)) && eqb (length row) (headerOf image .inputs)) (combined (getElem? (paired (combinations (headerOf image .ranges)) (combinations (inputRanges (shapeIn image)))) index) state row) (leaves (refused 12 0) state row)) (leaves (refused 26 0) state row)
+        ≡ combinedAs (accepted tt) b (shapeIn image) index state row
     by true = refl
     by false = refl

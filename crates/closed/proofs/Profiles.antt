@@ -74,18 +74,18 @@ module _ (ns : List Range) (inputs : ℕ) (code : List ℕ) (state row : List �
 
 -- ---- the lent memory, cut to the names and the inputs
 
-pub parts-walking : (low high s r p w : List ℤ) → length s ≤ length low → length s ≤ length high → length s ≤ length p → length s ≤ length w → length r ≤ length s
-    → Walking (take (length s) low) (take (length s) high) (take (length r) (take (length s) low)) (take (length r) (take (length s) high)) s r (take (length s) p) (take (length s) w)
-parts-walking low high s r p w a b c d e =
-    let l = length-take-le (length s) low a in
-    let h = length-take-le (length s) high b in
-    let i : length (take (length r) (take (length s) low)) ≡ length r = length-take-le (length r) (take (length s) low) (omega arith) in
+pub parts-walking : (low high s r p w : List ℤ) (names inputs : ℕ) → names ≤ length low → names ≤ length high → names ≤ length s → names ≤ length p → names ≤ length w → inputs ≤ names → inputs ≤ length r
+    → Walking (take names low) (take names high) (take inputs (take names low)) (take inputs (take names high)) (take names s) (take inputs r) (take names p) (take names w)
+parts-walking low high s r p w names inputs a b c d e f g =
+    let l = length-take-le names low a in
+    let h = length-take-le names high b in
+    let i : length (take inputs (take names low)) ≡ inputs = length-take-le inputs (take names low) (omega arith) in
     record {
       highs = h ∙ sym l;
-      states = sym l;
-      copies = length-take-le (length s) p c ∙ sym l;
-      works = length-take-le (length s) w d ∙ sym l;
-      row-highs = length-take-le (length r) (take (length s) high) (omega arith) ∙ sym i;
-      rows = sym i;
+      states = length-take-le names s c ∙ sym l;
+      copies = length-take-le names p d ∙ sym l;
+      works = length-take-le names w e ∙ sym l;
+      row-highs = length-take-le inputs (take names high) (omega arith) ∙ sym i;
+      rows = length-take-le inputs r g ∙ sym i;
       among = omega arith;
     }

@@ -15,9 +15,9 @@ use Rattle.arith.specs.Values.{isInt32}
 use Rattle.arith.proofs.Basics.{T-true, and-left, and-right, and-T}
 use Rattle.semantics.specs.Program.{Range, within}
 use Rattle.semantics.specs.Formula.{State}
-use Rattle.semantics.specs.ReferenceScan.{allWithin}
-use Rattle.bytecode.specs.Check.{Header, checkOf}
-use Rattle.bytecode.specs.Parts.{headerOf, codeOf}
+use Rattle.semantics.specs.Shape.{Shape, allWithin}
+use Rattle.bytecode.specs.Check.{checkOf}
+use Rattle.bytecode.specs.Parts.{headerOf, codeOf, shapeIn}
 use Rattle.bytecode.specs.Translation.{RangesFit}
 use Rattle.bytecode.proofs.Walk.{check-sound}
 use Rattle.bytecode.proofs.SoundHeader.{header-is}
@@ -62,7 +62,7 @@ all-within-taken (suc k) (n ∷ ns) (z ∷ zs) t =
     and-T (within n z) (allWithin (take k ns) zs) (and-left (within n z) (allWithin ns zs) t) (all-within-taken k ns zs (and-right (within n z) (allWithin ns zs) t))
 
 -- an in-range row is within the ranges of the inputs
-module _ (h : Header) (among : h .inputs ≤ length (h .ranges)) (row : List ℤ) where
+module _ (h : Shape) (among : h .inputs ≤ length (h .ranges)) (row : List ℤ) where
   pub row-within : InRangeRow h row → Within (inputRanges h) row
   row-within r = record { size = r .size ∙ sym (length-take-le (h .inputs) (h .ranges) among); ranges = all-within-taken (h .inputs) (h .ranges) row (r .ranges) }
 
@@ -76,20 +76,20 @@ module _ (image : List ℕ) (sound : checkOf image ≡ accepted tt) where
   pub header-fits : RangesFit (headerOf image .ranges)
   header-fits = let y = check-sound image sound in rw (header-is image y) (y .fits .fit)
 
-  pub combinations-in : All (λ c. Within (headerOf image .ranges) (c .state) × Within (inputRanges (headerOf image)) (c .row)) (combinationsOf (headerOf image))
+  pub combinations-in : All (λ c. Within (headerOf image .ranges) (c .state) × Within (inputRanges (shapeIn image)) (c .row)) (combinationsOf (shapeIn image))
   unfolding combinationsOf
   combinations-in =
       let ns = headerOf image .ranges in
       let u = fit-upright ns header-fits in
-      paired-all (Within ns) (Within (inputRanges (headerOf image))) (combinations ns) (combinations (inputRanges (headerOf image))) (combinations-within ns u)
-      (combinations-within (inputRanges (headerOf image)) (upright-take (headerOf image .inputs) ns u))
+      paired-all (Within ns) (Within (inputRanges (shapeIn image))) (combinations ns) (combinations (inputRanges (shapeIn image))) (combinations-within ns u)
+      (combinations-within (inputRanges (shapeIn image)) (upright-take (headerOf image .inputs) ns u))
 
   -- neither 12 nor 18 nor 13 comes before the code
-  pub scanning-is : (s : State) (row : List ℤ) → Within (headerOf image .ranges) s → Within (inputRanges (headerOf image)) row
+  pub scanning-is : (s : State) (row : List ℤ) → Within (headerOf image .ranges) s → Within (inputRanges (shapeIn image)) row
       → scanOf image s row .answer ≡ scannedCode (headerOf image .ranges) (codeOf image) s row .answer
   unfolding scanOf scanCode
   scanning-is s row w v =
-      let r = row-in-range (headerOf image) inputs-among row v in
+      let r = row-in-range (shapeIn image) inputs-among row v in
       let a = eq-eqb (length s) (length (headerOf image .ranges)) (w .size) in
       let b = eq-eqb (length row) (headerOf image .inputs) (r .size) in
       let d = T-true (allWithin (headerOf image .ranges) s) (w .ranges) in
@@ -114,7 +114,7 @@ walked-same : (f g : Combination → Answer (Unit {0})) (cs : List Combination) 
 walked-same f g [] n h = refl
 walked-same f g (c ∷ cs) n h = rw (h .0, walked-same f g cs (n + 1) (h .1))
 
-chosen : (b : Bool) (image : List ℕ) (state row : List ℤ) (x : AfterClosed) → x ≡ closedBy (walked (scanning image) (combinationsOf (headerOf image)) 0) state row
+chosen : (b : Bool) (image : List ℕ) (state row : List ℤ) (x : AfterClosed) → x ≡ closedBy (walked (scanning image) (combinationsOf (shapeIn image)) 0) state row
     → cond b x (leaves (refused 26 0) state row) ≡ closedAs (accepted tt) b image state row
 chosen true image state row x e = e
 chosen false image state row x e = refl
@@ -124,14 +124,14 @@ unfolding closedIn
 closed-refused image state row number place e = rw (← e)
 
 module _ (image : List ℕ) (sound : checkOf image ≡ accepted tt) where
-  walk-is : walked (scanning image) (combinationsOf (headerOf image)) 0 ≡ walked (working (headerOf image .ranges) (codeOf image)) (combinationsOf (headerOf image)) 0
+  walk-is : walked (scanning image) (combinationsOf (shapeIn image)) 0 ≡ walked (working (headerOf image .ranges) (codeOf image)) (combinationsOf (shapeIn image)) 0
   walk-is =
-      walked-same (scanning image) (working (headerOf image .ranges) (codeOf image)) (combinationsOf (headerOf image)) 0
-      (all-weaker (λ c. Within (headerOf image .ranges) (c .state) × Within (inputRanges (headerOf image)) (c .row)) (λ c. scanning image c ≡ working (headerOf image .ranges) (codeOf image) c)
-      (combinationsOf (headerOf image)) (λ c w. scanning-is image sound (c .state) (c .row) (w .0) (w .1)) (combinations-in image sound))
+      walked-same (scanning image) (working (headerOf image .ranges) (codeOf image)) (combinationsOf (shapeIn image)) 0
+      (all-weaker (λ c. Within (headerOf image .ranges) (c .state) × Within (inputRanges (shapeIn image)) (c .row)) (λ c. scanning image c ≡ working (headerOf image .ranges) (codeOf image) c)
+      (combinationsOf (shapeIn image)) (λ c w. scanning-is image sound (c .state) (c .row) (w .0) (w .1)) (combinations-in image sound))
 
   pub closed-from : (inputs : ℕ) (state row : List ℤ) → headerOf image .inputs ≡ inputs → closedWorking (headerOf image .ranges) inputs (codeOf image) state row ≡ closedIn image state row
   unfolding closedIn isSmall combinationsOf
   closed-from inputs state row e =
       rw (sound, ← e)
-      (chosen (leb (productOfSizes (headerOf image .ranges) * productOfSizes (inputRanges (headerOf image))) 65536) image state row _ (ap (λ w. closedBy w state row) (sym walk-is)))
+      (chosen (leb (productOfSizes (headerOf image .ranges) * productOfSizes (inputRanges (shapeIn image))) 65536) image state row _ (ap (λ w. closedBy w state row) (sym walk-is)))

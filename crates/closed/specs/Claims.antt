@@ -11,30 +11,30 @@ use lib.Signed.{_<ℤ_}
 use Rattle.limits.specs.Limits.{nameLimit, combinationLimit}
 use Rattle.limits.specs.Answer.{accepted, refused}
 use Rattle.semantics.specs.Formula.{State}
-use Rattle.bytecode.specs.Check.{Header, checkOf}
-use Rattle.bytecode.specs.Parts.{headerOf}
-use Rattle.machine.specs.States.{stateLength, rowLength, stateInRange, rowInRange}
+use Rattle.bytecode.specs.Check.{checkOf}
+use Rattle.bytecode.specs.Parts.{shapeIn}
+use Rattle.semantics.specs.Shape.{Shape, stateLength, rowLength, stateInRange, rowInRange}
 use Rattle.scan.specs.Services.{AfterScan, scanOf}
 use Rattle.closed.specs.Closed.{productOfSizes, inputRanges, Combination, combinationsOf, refusedAt, scanning, closedBy, closedOf}
 
 -- an in-range state: neither 12 nor 18
-pub record InRangeState (h : Header) (s : State) : Type 0 where
+pub record InRangeState (h : Shape) (s : State) : Type 0 where
   pub size : length s ≡ stateLength h
   pub ranges : T (stateInRange h s)
 
 -- an in-range row: neither 12 nor 13
-pub record InRangeRow (h : Header) (row : List ℤ) : Type 0 where
+pub record InRangeRow (h : Shape) (row : List ℤ) : Type 0 where
   pub size : length row ≡ rowLength h
   pub ranges : T (rowInRange h row)
 
 -- A set is accepted exactly if no such scan is refused (law `closed-exactly`).
 pub record Closed (image : List ℕ) : Type 0 where
   pub sound : checkOf image ≡ accepted tt
-  pub small : productOfSizes (headerOf image .ranges) * productOfSizes (inputRanges (headerOf image)) ≤ combinationLimit
-  pub accepts : (s : State) (row : List ℤ) → InRangeState (headerOf image) s → InRangeRow (headerOf image) row → scanOf image s row .answer ≡ accepted tt
+  pub small : productOfSizes (shapeIn image .ranges) * productOfSizes (inputRanges (shapeIn image)) ≤ combinationLimit
+  pub accepts : (s : State) (row : List ℤ) → InRangeState (shapeIn image) s → InRangeRow (shapeIn image) row → scanOf image s row .answer ≡ accepted tt
 
 -- Then no list of in-range rows from the fresh start ever meets 14 to 17 or 22 (law `closed-runs`): no refusal at all.
-abbrev pub InRangeRows : Header → List (List ℤ) → Type 0
+abbrev pub InRangeRows : Shape → List (List ℤ) → Type 0
 InRangeRows h [] = Unit {0}
 InRangeRows h (r ∷ rs) = InRangeRow h r × InRangeRows h rs
 
@@ -56,11 +56,11 @@ scannedValues s row = s ++ row
 -- one left.
 pub record FirstRefused (image : List ℕ) (n : ℕ) : Type 0 where
   pub combination : Combination
-  pub state-in : InRangeState (headerOf image) (combination .state)
-  pub row-in : InRangeRow (headerOf image) (combination .row)
+  pub state-in : InRangeState (shapeIn image) (combination .state)
+  pub row-in : InRangeRow (shapeIn image) (combination .row)
   pub number : ℕ
   pub refuses : scanning image combination ≡ refused number 0
-  pub before : (s : State) (row : List ℤ) → InRangeState (headerOf image) s → InRangeRow (headerOf image) row
+  pub before : (s : State) (row : List ℤ) → InRangeState (shapeIn image) s → InRangeRow (shapeIn image) row
       → Earlier (scannedValues s row) (scannedValues (combination .state) (combination .row)) → scanOf image s row .answer ≡ accepted tt
-  pub stands : getElem? (combinationsOf (headerOf image)) n ≡ some combination
+  pub stands : getElem? (combinationsOf (shapeIn image)) n ≡ some combination
   pub left : closedOf image ≡ closedBy (refusedAt n combination) (replicate nameLimit (pos 0)) (replicate nameLimit (pos 0))

@@ -11,9 +11,9 @@ use Rattle.limits.specs.Answer.{Answer, accepted, refused}
 use Rattle.semantics.specs.Program.{Range}
 use Rattle.semantics.specs.Formula.{State}
 use Rattle.semantics.specs.ReferenceScan.{withInputs}
-use Rattle.bytecode.specs.Check.{Header, checkOf}
-use Rattle.bytecode.specs.Parts.{headerOf}
-use Rattle.machine.specs.States.{stateLength, rowLength}
+use Rattle.bytecode.specs.Check.{checkOf}
+use Rattle.bytecode.specs.Parts.{shapeIn}
+use Rattle.semantics.specs.Shape.{Shape, stateLength, rowLength}
 use Rattle.scan.specs.Services.{scanOf}
 
 -- ---- sizes
@@ -33,11 +33,11 @@ abbrev pub productOfSizes : List Range → ℕ
 productOfSizes [] = 1
 productOfSizes (n ∷ ns) = sizeOf n * productOfSizes ns
 
-abbrev pub inputRanges : Header → List Range
+abbrev pub inputRanges : Shape → List Range
 inputRanges h = take (h .inputs) (h .ranges)
 
 -- The product of all range sizes times the product of the input range sizes must be at most 65,536.
-unfoldable pub isSmall : Header → Bool
+unfoldable pub isSmall : Shape → Bool
 isSmall h = leb (productOfSizes (h .ranges) * productOfSizes (inputRanges h)) combinationLimit
 
 -- ---- combinations
@@ -70,7 +70,7 @@ paired [] rows = []
 paired (s ∷ ss) rows = withRows s rows ++ paired ss rows
 
 -- every in-range state with every in-range row
-unfoldable pub combinationsOf : Header → List Combination
+unfoldable pub combinationsOf : Shape → List Combination
 combinationsOf h = paired (combinations (h .ranges)) (combinations (inputRanges h))
 
 -- ---- the walk
@@ -113,10 +113,10 @@ closedBy (refusedAt n c) state row = leaves (refused notClosed n) (withInputs st
 abbrev pub closedAs : Answer (Unit {0}) → Bool → List ℕ → List ℤ → List ℤ → AfterClosed
 closedAs (refused number place) small image state row = leaves (refused number place) state row
 closedAs (accepted u) false image state row = leaves (refused notSmall 0) state row
-closedAs (accepted u) true image state row = closedBy (walked (scanning image) (combinationsOf (headerOf image)) 0) state row
+closedAs (accepted u) true image state row = closedBy (walked (scanning image) (combinationsOf (shapeIn image)) 0) state row
 
 unfoldable pub closedIn : List ℕ → List ℤ → List ℤ → AfterClosed
-closedIn image state row = closedAs (checkOf image) (isSmall (headerOf image)) image state row
+closedIn image state row = closedAs (checkOf image) (isSmall (shapeIn image)) image state row
 
 -- the profile: of 64 numbers, those behind the state and the row are 0
 unfoldable pub closedOf : List ℕ → AfterClosed
@@ -130,7 +130,7 @@ combined none state row = leaves (refused wrongLength 0) state row
 combined (some c) state row = leaves (accepted tt) (c .state) (c .row)
 
 -- 9, 11, 26, then 12
-abbrev pub combinedAs : Answer (Unit {0}) → Bool → Header → ℕ → List ℤ → List ℤ → AfterClosed
+abbrev pub combinedAs : Answer (Unit {0}) → Bool → Shape → ℕ → List ℤ → List ℤ → AfterClosed
 combinedAs (refused number place) small h index state row = leaves (refused number place) state row
 combinedAs (accepted u) false h index state row = leaves (refused notSmall 0) state row
 combinedAs (accepted u) true h index state row =
@@ -139,4 +139,4 @@ combinedAs (accepted u) true h index state row =
     (leaves (refused wrongLength 0) state row)
 
 unfoldable pub combinationOf : List ℕ → ℕ → List ℤ → List ℤ → AfterClosed
-combinationOf image index state row = combinedAs (checkOf image) (isSmall (headerOf image)) (headerOf image) index state row
+combinationOf image index state row = combinedAs (checkOf image) (isSmall (shapeIn image)) (shapeIn image) index state row

@@ -1,5 +1,5 @@
 // The closed profile: every in-range state scanned with every in-range row.
-use bytecode::Counted;
+use bytecode::Headed;
 use checker::Checked;
 use machine::lists;
 use scan::Scanned;
@@ -9,10 +9,8 @@ ghost use Prim.Native.Nat.{_+_, _*_, _^_, _≤_, _<_, min};
 ghost use lib.ListN.{length, take};
 ghost use Rattle.limits.specs.Limits.{nameLimit, combinationLimit};
 ghost use Rattle.semantics.specs.Program.{Range};
-ghost use Rattle.bytecode.specs.Parts.{headerOf, codeOf};
 ghost use Rattle.machine.specs.Inner.Memory.{RangesIn};
 ghost use Rattle.scan.specs.Inner.Parts.{FittingMemory, scannedCode};
-ghost use Rattle.before.specs.Inner.Known.{Announced};
 ghost use Rattle.closed.specs.Closed.{sizeBetween, productOfSizes, combinations, paired, walked, closedIn, closedOf, combinationOf};
 ghost use Rattle.closed.specs.Results.{afterClosing, ClosingWithin, profileOf};
 ghost use Rattle.closed.specs.Inner.Parts.{nextOf, isRefused, working, Walking, visitedAs, VisitedWithin, closedWorking, ClosedRoom, combinedRanges, IsNth};
@@ -185,42 +183,7 @@ fn closed_ranges(
     Closing::Refused(limits::NOT_CLOSED, done)
 }
 
-// The ranges of as many names as the state has values, from a place of the image on; then the code behind them.
-fn closed_names(
-    image: &[u8],
-    first: usize,
-    low: &mut [i32],
-    high: &mut [i32],
-    at_state: &mut [i32],
-    at_row: &mut [i32],
-    copy: &mut [i32],
-    work: &mut [i32],
-    state: &mut [i32],
-    row: &mut [i32],
-) -> Closing
-    requires { ⌜ Announced (now image) first (now «at_state») (now «at_row») ⌝ }
-    requires { ⌜ ClosedRoom (now low) (now high) (now copy) (now work) (now state) (now row) ⌝ }
-    ensures { λ r. ⌜ afterClosing r (now (state .exit)) (now (row .exit))
-        ≡ closedWorking (headerOf (now (image .entry)) .ranges) (length (now («at_row» .entry))) (codeOf (now (image .entry))) (now (state .entry)) (now (row .entry)) ⌝ }
-    ensures { λ r. ⌜ ClosingWithin r ⌝ }
-{
-    let names = at_state.len();
-    let place = bytecode::ranges(image, first, names, low, high, work);
-    closed_ranges(
-        &image[place..],
-        at_row.len(),
-        &low[..names],
-        &high[..names],
-        at_state,
-        at_row,
-        &mut copy[..names],
-        &mut work[..names],
-        state,
-        row,
-    )
-}
-
-// 9, 11, 26, 27, in lent memory. A sound image always has its counts.
+// 9, 11, 26, 27, in lent memory. A sound image always has its header; the starts that `work` takes are not kept.
 fn closed_in(
     image: &[u8],
     low: &mut [i32],
@@ -241,19 +204,19 @@ fn closed_in(
     match checked {
         Checked::Refused(number, place) => Closing::Refused(number, place),
         Checked::Sound => {
-            let counted = bytecode::counts(image);
-            let Counted::Counts(inputs, names, first) = counted else {
+            let headed = bytecode::header(image, low, high, work);
+            let Headed::Header(inputs, names, place) = headed else {
                 return Closing::Refused(limits::BROKEN_IMAGE, 0);
             };
-            closed_names(
-                image,
-                first,
-                low,
-                high,
+            closed_ranges(
+                &image[place..],
+                inputs,
+                &low[..names],
+                &high[..names],
                 &mut at_state[..names],
                 &mut at_row[..inputs],
-                copy,
-                work,
+                &mut copy[..names],
+                &mut work[..names],
                 state,
                 row,
             )
@@ -362,11 +325,10 @@ fn combination_in(
     match checked {
         Checked::Refused(number, place) => Closing::Refused(number, place),
         Checked::Sound => {
-            let counted = bytecode::counts(image);
-            let Counted::Counts(inputs, names, first) = counted else {
+            let headed = bytecode::header(image, low, high, start);
+            let Headed::Header(inputs, names, _) = headed else {
                 return Closing::Refused(limits::BROKEN_IMAGE, 0);
             };
-            bytecode::ranges(image, first, names, low, high, start);
             combination_ranges(inputs, &low[..names], &high[..names], index, state, row)
         }
     }

@@ -13,7 +13,7 @@ use Rattle.semantics.specs.ReferenceScan.{referenceScan}
 use Rattle.semantics.specs.Rows.{Reply, reply, referenceReplies, startsOf, InRanges}
 use Rattle.semantics.proofs.Reference.{starts-in-range}
 use Rattle.bytecode.specs.Translation.{imageOf, Translatable}
-use Rattle.bytecode.specs.Parts.{headerOf}
+use Rattle.bytecode.specs.Parts.{shapeIn}
 use Rattle.bytecode.proofs.Soundness.{header-of}
 use Rattle.grammar.proofs.Accepted.{program-translatable}
 use Rattle.translate.specs.Services.{translationOf}
@@ -35,13 +35,13 @@ none-refused [] h = tt
 none-refused (a ∷ l) h = (ap verdictOf (h .0), none-refused l (h .1))
 
 module _ (p : Program) (t : Translatable p) (k : Closed (imageOf p)) where
-  state-in : (s : State) → InRanges p s → InRangeState (headerOf (imageOf p)) s
+  state-in : (s : State) → InRanges p s → InRangeState (shapeIn (imageOf p)) s
   state-in s g = rw (header-of p t) (record { size = g .size; ranges = g .ranges })
 
-  row-in : (row : List ℤ) → RowInRanges p row → InRangeRow (headerOf (imageOf p)) row
+  row-in : (row : List ℤ) → RowInRanges p row → InRangeRow (shapeIn (imageOf p)) row
   row-in row g = rw (header-of p t) (record { size = g .size; ranges = g .ranges })
 
-  rows-in : (rows : List (List ℤ)) → RowsInRanges p rows → InRangeRows (headerOf (imageOf p)) rows
+  rows-in : (rows : List (List ℤ)) → RowsInRanges p rows → InRangeRows (shapeIn (imageOf p)) rows
   rows-in [] g = tt
   rows-in (r ∷ rs) g = (row-in r (g .0), rows-in rs (g .1))
 

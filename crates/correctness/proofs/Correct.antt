@@ -6,13 +6,14 @@ use mathlib.Core.Bool.{Bool, true, false, _&&_}
 use mathlib.Core.List.{List, [], _∷_}
 use lib.Dec.{eqb}
 use lib.IntN.{ℤ}
-use lib.ListN.{length, length-map}
+use lib.ListN.{length}
 use borrow.Author.Tests.{eq-eqb}
 use Rattle.limits.specs.Answer.{Answer, accepted, refused}
 use Rattle.arith.specs.Values.{Outcome, ok, refusal, _>>=_, check}
 use Rattle.semantics.specs.Program.{Program, rangesOf, knownFirst}
 use Rattle.semantics.specs.Formula.{State, writtenOf, GX, All}
-use Rattle.semantics.specs.ReferenceScan.{allWithin, scanRules, withInputs, referenceScan}
+use Rattle.semantics.specs.Shape.{allWithin}
+use Rattle.semantics.specs.ReferenceScan.{scanRules, withInputs, referenceScan}
 use Rattle.semantics.specs.Rows.{Reply, reply, referenceReplies, startsOf, traceOf, InRanges, OnlyTrace}
 use Rattle.arith.proofs.Basics.{T-true, bind-assoc}
 use Rattle.semantics.proofs.Written.{written-trace}
@@ -23,7 +24,6 @@ use Rattle.bytecode.specs.Check.{checkOf}
 use Rattle.bytecode.specs.Parts.{headerOf, codeOf, instructionsIn}
 use Rattle.bytecode.proofs.Soundness.{header-of, code-of, translated-small, check-translated}
 use Rattle.machine.specs.Step.{Machine, machine}
-use Rattle.machine.specs.States.{stateLength, rowLength, stateInRange, rowInRange}
 use Rattle.machine.proofs.Ranges.{currentOf}
 use Rattle.machine.proofs.Translated.{exec-rules, run-exec}
 use Rattle.grammar.proofs.Accepted.{program-translatable}
@@ -141,5 +141,5 @@ trace-correct text buffer n e lent rows =
       program = x .program;
       parsed = x .parsed;
       spelled = accepted-exactly .accepted-spelled text (x .program) (x .parsed);
-      correct = λ l. rw (stored-image text buffer n x) (image-correct (x .program) (program-translatable text (x .program) (x .parsed)) lent (l ∙ sym (length-map (x .program .names) (λ n. n .range))) rows);
+      correct = λ l. rw (stored-image text buffer n x) (image-correct (x .program) (program-translatable text (x .program) (x .parsed)) lent l rows);
     }

@@ -7,16 +7,17 @@ use lib.IntN.{ℤ}
 use lib.ListN.{length}
 use Rattle.limits.specs.Answer.{accepted}
 use Rattle.arith.specs.Values.{ok}
-use Rattle.semantics.specs.Program.{Program, rangesOf}
+use Rattle.semantics.specs.Program.{Program}
 use Rattle.semantics.specs.Formula.{State}
-use Rattle.semantics.specs.ReferenceScan.{allWithin, referenceScan}
+use Rattle.semantics.specs.Shape.{shapeOf, rowLength, rowInRange}
+use Rattle.semantics.specs.ReferenceScan.{referenceScan}
 use Rattle.semantics.specs.Rows.{Reply, referenceReplies, startsOf, InRanges}
 use Rattle.grammar.specs.Parse.{programOf}
 
 -- a row that the plain scan answers neither 12 nor 13 for
 pub record RowInRanges (p : Program) (row : List ℤ) : Type 0 where
-  pub size : length row ≡ p .inputs
-  pub ranges : T (allWithin (rangesOf p) row)
+  pub size : length row ≡ rowLength (shapeOf p)
+  pub ranges : T (rowInRange (shapeOf p) row)
 
 abbrev pub RowsInRanges : Program → List (List ℤ) → Type 0
 RowsInRanges p [] = Unit {0}

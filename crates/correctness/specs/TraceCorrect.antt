@@ -8,6 +8,7 @@ use Rattle.limits.specs.Answer.{Answer, accepted, refused}
 use Rattle.arith.specs.Values.{Outcome, ok, refusal}
 use Rattle.semantics.specs.Program.{Program}
 use Rattle.semantics.specs.Formula.{State, Satisfies}
+use Rattle.semantics.specs.Shape.{shapeOf, stateLength}
 use Rattle.semantics.specs.Rows.{Reply, referenceReplies, startsOf, acceptedStates, acceptedRows, traceOf, finalState, lastPlace, Fits}
 use Rattle.bytecode.specs.Parts.{instructionsIn}
 use Rattle.grammar.specs.Parse.{programOf}
@@ -68,4 +69,4 @@ pub record Demand3 (text buffer : List ℕ) (n : ℕ) (lent : State) (rows : Lis
   pub parsed : programOf text ≡ accepted program
   -- its formulas are those that the text spells
   pub spelled : Spelled text program
-  pub correct : length lent ≡ length (program .names) → TraceCorrect program (take n (translationOf text buffer .buffer)) lent rows
+  pub correct : length lent ≡ stateLength (shapeOf program) → TraceCorrect program (take n (translationOf text buffer .buffer)) lent rows

@@ -21,8 +21,8 @@ use Rattle.machine.proofs.SoundRuns.{runOfImage, sound-by-rules}
 use Rattle.runs.proofs.Divided.{run-place, run-counts, run-exact, run-min, run-goes}
 use Rattle.runs.proofs.Sizes.{Sized, SizedIn, run-sized}
 use Rattle.scan.specs.Services.{AfterScan, finished, scanCode, scanOf}
-use Rattle.paused.specs.Memory.{startPlace, lowPlace, highPlace, slice, checkpointOf, shapeOf, waitingOf}
-use Rattle.lifecycle.specs.Calls.{shapeFor}
+use Rattle.paused.specs.Memory.{startPlace, lowPlace, highPlace, slice, checkpointOf, layoutOf, waitingOf}
+use Rattle.lifecycle.specs.Calls.{layoutFor}
 use Rattle.divided.specs.Expected.{Scan, whole, Played, Expected}
 use Rattle.divided.proofs.May.{Placed, placed, May}
 use Rattle.divided.proofs.Left.{Stands, Numbered}
@@ -37,7 +37,7 @@ codeLength o = length (codeOf (o .image))
 pub record Standing (image : List ℕ) (cells : List ℤ) (o : Scan) : Type 0 where
   pub same : image ≡ o .image
   pub may : May (o .image) (o .start) (o .row)
-  pub shape : shapeOf cells ≡ shapeFor (o .image) (o .start)
+  pub layout : layoutOf cells ≡ layoutFor (o .image) (o .start)
   pub start : slice startPlace (length (o .start)) cells ≡ o .start
   pub low : slice lowPlace (length (o .start)) cells ≡ lows (headerOf (o .image) .ranges)
   pub high : slice highPlace (length (o .start)) cells ≡ highs (headerOf (o .image) .ranges)

@@ -16,7 +16,7 @@ use Rattle.machine.specs.Step.{Machine, machine}
 use Rattle.scan.specs.Services.{finished as ended}
 use Rattle.paused.specs.declared.Checkpoint.{Checkpoint}
 use Rattle.paused.specs.declared.Response.the-variants as R
-use Rattle.paused.specs.Memory.{startPlace, currentPlace, slice, checkpointOf, shapeOf, waitingOf}
+use Rattle.paused.specs.Memory.{startPlace, currentPlace, slice, checkpointOf, layoutOf, waitingOf}
 use Rattle.lifecycle.specs.Calls.{sameValues, over, afterFinish, finishOf}
 use Rattle.divided.specs.Expected.{Scan, whole, leaves, played, finish, plays, expect, expects}
 use Rattle.divided.proofs.Left.{Stands}
@@ -57,7 +57,7 @@ module _ {image : List ℕ} {cells : List ℤ} {w : Option (List ℤ)} (o : Scan
             eq-eqb (length cells) pausedLength (x .long),
             g .progress,
             le-leb (codeLength o) (x .scan .reached .place) h,
-            x .scan .shape,
+            x .scan .layout,
             g .current,
             x .scan .start,
             a,

@@ -20,9 +20,9 @@ use Rattle.runs.proofs.Bounds.{Alike, run-ranges}
 use Rattle.runs.proofs.Sizes.{SizedIn}
 use Rattle.paused.specs.declared.Checkpoint.{Checkpoint}
 use Rattle.paused.specs.declared.Response.the-variants as R
-use Rattle.paused.specs.Memory.{startPlace, lowPlace, highPlace, slice, checkpointOf, shapeOf}
+use Rattle.paused.specs.Memory.{startPlace, lowPlace, highPlace, slice, checkpointOf, layoutOf}
 use Rattle.resumable.specs.Instalment.{afterCall, rangesIn, ranFrom, leftByRun, instalment, advanceOf}
-use Rattle.lifecycle.specs.Calls.{shapeFor}
+use Rattle.lifecycle.specs.Calls.{layoutFor}
 use Rattle.resumable.proofs.Running.{length-slice, ranges-between}
 use Rattle.resumable.proofs.Advancing.{advance-idle, advance-over, advance-zero, advance-goes}
 use Rattle.divided.specs.Expected.{Scan, whole, says, played, advance, plays, stepsNow, furtherBy, expect, expects}
@@ -50,11 +50,11 @@ module _ {image : List ℕ} {cells : List ℤ} {w : Option (List ℤ)} (o : Scan
         (run-ranges (rangesIn (length (o .start)) cells) (headerOf (o .image) .ranges) (record { low = r .lows ∙ x .scan .low; high = r .highs ∙ x .scan .high }) (o .start)
         (codeOf (o .image)) k (x .scan .reached .place) 0 (machine b c vs t))
 
-    now-is : (k : ℕ) → instalment (drop (shapeOf cells .base) image) k cells (checkpointOf cells) (shapeOf cells .size)
+    now-is : (k : ℕ) → instalment (drop (layoutOf cells .base) image) k cells (checkpointOf cells) (layoutOf cells .size)
         ≡ afterCall (R.Done (run (headerOf (o .image) .ranges) (o .start) (codeOf (o .image)) k (x .scan .reached .place) 0 (machine b c vs t) .steps))
         (leftByRun (o .done) (codeLength o) (run (headerOf (o .image) .ranges) (o .start) (codeOf (o .image)) k (x .scan .reached .place) 0 (machine b c vs t)) cells)
     unfolding codeOf
-    now-is k = rw (x .scan .shape, x .scan .same, now-ran k, ap (λ (p : Checkpoint). p .steps) (s .progress))
+    now-is k = rw (x .scan .layout, x .scan .same, now-ran k, ap (λ (p : Checkpoint). p .steps) (s .progress))
 
     -- the runs before and now are one
     joined : (k : ℕ) → goes o (o .done + k) ≡ later (x .scan .reached .steps) (run (headerOf (o .image) .ranges) (o .start) (codeOf (o .image)) k (x .scan .reached .place) 0 (machine b c vs t))
@@ -94,7 +94,7 @@ module _ {image : List ℕ} {cells : List ℤ} {w : Option (List ℤ)} (o : Scan
                 record {
                   same = x .scan .same;
                   may = y;
-                  shape = k .shape ∙ x .scan .shape;
+                  layout = k .layout ∙ x .scan .layout;
                   start = k .start (length (o .start)) few ∙ x .scan .start;
                   low = k .low (length (o .start)) ∙ x .scan .low;
                   high = k .high (length (o .start)) ∙ x .scan .high;
@@ -118,10 +118,10 @@ module _ {image : List ℕ} {cells : List ℤ} {w : Option (List ℤ)} (o : Scan
     under-way : x .scan .reached .place < codeLength o → (n ≡ 0 → ⊥) → Matches (plays (advance n) image cells) (expects (advance n) w (some o))
     under-way h given =
         let p : checkpointOf cells .phase ≡ 1 = ap (λ (p : Checkpoint). p .phase) (s .progress) ∙ rw (lt-leb (codeLength o) (x .scan .reached .place) h) in
-        let l : length image ≡ shapeOf cells .image = rw (x .scan .shape, x .scan .same) in
-        let within : checkpointOf cells .place < length image - shapeOf cells .base = rw (ap (λ (p : Checkpoint). p .place) (s .progress), x .scan .shape, x .scan .same) (omega (arith, h, code-length o)) in
+        let l : length image ≡ layoutOf cells .image = rw (x .scan .layout, x .scan .same) in
+        let within : checkpointOf cells .place < length image - layoutOf cells .base = rw (ap (λ (p : Checkpoint). p .place) (s .progress), x .scan .layout, x .scan .same) (omega (arith, h, code-length o)) in
         moved _ refl
-        (sym (advance-goes image n cells (x .long) (checkpointOf cells) refl (λ z. omega (arith, p, z)) p given (shapeOf cells) refl l within) ∙ now-is (min n imageLimit))
+        (sym (advance-goes image n cells (x .long) (checkpointOf cells) refl (λ z. omega (arith, p, z)) p given (layoutOf cells) refl l within) ∙ now-is (min n imageLimit))
 
     ended : codeLength o ≤ x .scan .reached .place → Matches (plays (advance n) image cells) (expects (advance n) w (some o))
     ended h =

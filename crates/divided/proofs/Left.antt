@@ -9,14 +9,14 @@ use lib.Dec.{leb}
 use lib.IntN.{ℤ, pos}
 use lib.ListN.{length, getD, take, drop, length-append, List·getD-append}
 use lib.Seq.{sets, length-sets, take-take, getD-take, getD-append-seam}
-use Rattle.machine.specs.States.{heldOf}
+use Rattle.machine.specs.Held.{heldOf}
 use Rattle.limits.specs.Limits.{imageLimit, nameLimit, stackLimit, pausedLength}
 use Rattle.arith.specs.Values.{Outcome, ok, refusal}
 use Rattle.machine.specs.Step.{Machine, machine}
 use Rattle.runs.proofs.Sizes.{SizedIn}
 use Rattle.paused.specs.declared.Checkpoint.{Checkpoint}
-use Rattle.paused.specs.Memory.{heldPlace, startPlace, currentPlace, lowPlace, highPlace, rowPlace, waitingPlace, slice, checkpointOf, shapeOf, waitingOf, checkpointCells, stacked}
-use Rattle.paused.proofs.ReadBack.{getD-sets-before, getD-sets-behind, slice-sets-before, slice-sets-behind, slice-sets-same, checkpoint-stored, shape-alike, waiting-alike}
+use Rattle.paused.specs.Memory.{heldPlace, startPlace, currentPlace, lowPlace, highPlace, rowPlace, waitingPlace, slice, checkpointOf, layoutOf, waitingOf, checkpointCells, stacked}
+use Rattle.paused.proofs.ReadBack.{getD-sets-before, getD-sets-behind, slice-sets-before, slice-sets-behind, slice-sets-same, checkpoint-stored, layout-alike, waiting-alike}
 use Rattle.resumable.specs.Instalment.{wentTo, stoppedAt, leftAfter}
 
 -- ---- the values held
@@ -47,7 +47,7 @@ held-take l (suc n) m h = rw (getD-take m l n (pos 0) h, held-take l n m (omega 
 
 pub record Kept (cells left : List ℤ) : Type 0 where
   pub long : length left ≡ length cells
-  pub shape : shapeOf left ≡ shapeOf cells
+  pub layout : layoutOf left ≡ layoutOf cells
   pub waits : waitingOf left ≡ waitingOf cells
   pub start : (n : ℕ) → n ≤ nameLimit → slice startPlace n left ≡ slice startPlace n cells
   pub low : (n : ℕ) → slice lowPlace n left ≡ slice lowPlace n cells
@@ -57,7 +57,7 @@ kept-progress : (p : Checkpoint) (cells : List ℤ) → Kept cells (sets cells 0
 kept-progress p cells =
     record {
       long = length-sets cells 0 (checkpointCells p);
-      shape = shape-alike _ _ λ j a b. getD-sets-behind (checkpointCells p) cells 0 j (omega arith);
+      layout = layout-alike _ _ λ j a b. getD-sets-behind (checkpointCells p) cells 0 j (omega arith);
       waits =
           waiting-alike _ _ (getD-sets-behind (checkpointCells p) cells 0 waitingPlace (omega arith))
           (λ n h. slice-sets-behind (checkpointCells p) cells 0 rowPlace n (omega arith));
@@ -70,7 +70,7 @@ kept-held : (vs cells : List ℤ) → length vs ≤ stackLimit → Kept cells (s
 kept-held vs cells h =
     record {
       long = length-sets cells heldPlace vs;
-      shape = shape-alike _ _ λ j a b. getD-sets-before vs cells heldPlace j (omega arith);
+      layout = layout-alike _ _ λ j a b. getD-sets-before vs cells heldPlace j (omega arith);
       waits = waiting-alike _ _ (getD-sets-before vs cells heldPlace waitingPlace (omega arith)) (λ n k. slice-sets-before vs cells heldPlace rowPlace n (omega arith));
       start = λ n k. slice-sets-behind vs cells heldPlace startPlace n (omega arith);
       low = λ n. slice-sets-behind vs cells heldPlace lowPlace n (omega arith);
@@ -81,7 +81,7 @@ kept-current : (t cells : List ℤ) → length t ≤ nameLimit → Kept cells (s
 kept-current t cells h =
     record {
       long = length-sets cells currentPlace t;
-      shape = shape-alike _ _ λ j a b. getD-sets-before t cells currentPlace j (omega arith);
+      layout = layout-alike _ _ λ j a b. getD-sets-before t cells currentPlace j (omega arith);
       waits = waiting-alike _ _ (getD-sets-before t cells currentPlace waitingPlace (omega arith)) (λ n k. slice-sets-before t cells currentPlace rowPlace n (omega arith));
       start = λ n k. slice-sets-before t cells currentPlace startPlace n (omega arith);
       low = λ n. slice-sets-behind t cells currentPlace lowPlace n (omega arith);
@@ -92,7 +92,7 @@ kept-both : {a b c : List ℤ} → Kept a b → Kept b c → Kept a c
 kept-both x y =
     record {
       long = y .long ∙ x .long;
-      shape = y .shape ∙ x .shape;
+      layout = y .layout ∙ x .layout;
       waits = y .waits ∙ x .waits;
       start = λ n h. y .start n h ∙ x .start n h;
       low = λ n. y .low n ∙ x .low n;

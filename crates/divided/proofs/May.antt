@@ -13,14 +13,14 @@ use Rattle.limits.specs.Limits.{imageLimit, nameLimit}
 use Rattle.limits.specs.Answer.{Answer, accepted, refused}
 use Rattle.semantics.specs.Program.{Range}
 use Rattle.semantics.specs.Formula.{State}
-use Rattle.bytecode.specs.Check.{Header, checkOf}
-use Rattle.bytecode.specs.Parts.{headerOf}
+use Rattle.bytecode.specs.Check.{checkOf}
+use Rattle.bytecode.specs.Parts.{headerOf, shapeIn}
 use Rattle.bytecode.specs.Sound.{RangesAt}
 use Rattle.bytecode.proofs.Walk.{refused≢accepted, check-sound}
 use Rattle.bytecode.proofs.Heading.{signed-within}
 use Rattle.bytecode.proofs.Fetching.{number-within}
 use Rattle.bytecode.proofs.SoundHeader.{header-is}
-use Rattle.machine.specs.States.{stateLength, rowLength, stateInRange, rowInRange}
+use Rattle.semantics.specs.Shape.{Shape, stateLength, rowLength, stateInRange, rowInRange}
 use Rattle.scan.specs.Services.{refusedScan, scanCode, scanOf}
 use Rattle.before.proofs.Scans.{scan-is}
 
@@ -61,8 +61,8 @@ module _ (image : List ℕ) (s : State) (row : List ℤ) where
   unfolding beforeCode
   may e = checked (checkOf image) refl e
     where
-      h : Header
-      h = headerOf image
+      h : Shape
+      h = shapeIn image
 
       lengths : (a b : Bool) → (a && b) ≡ true → (a ≡ true) × (b ≡ true)
       lengths true true q = (refl, refl)
@@ -87,7 +87,7 @@ module _ (image : List ℕ) (s : State) (row : List ℤ) where
       long k true t q = ranged k t (stateInRange h s) (rowInRange h row) refl refl q
       long k false t q = refused≢accepted tt 12 0 q
 
-      checked : (a : Answer (Unit {0})) → checkOf image ≡ a → mayScan a (headerOf image) s row ≡ accepted tt → May image s row
+      checked : (a : Answer (Unit {0})) → checkOf image ≡ a → mayScan a (shapeIn image) s row ≡ accepted tt → May image s row
       checked (accepted tt) k q = long k (eqb (length s) (stateLength h) && eqb (length row) (rowLength h)) refl q
       checked (refused n p) k q = refused≢accepted tt n p q
 

@@ -14,10 +14,10 @@ use Rattle.limits.specs.Limits.{nameLimit, stackLimit, pausedLength}
 use Rattle.limits.specs.Answer.{Answer, accepted, refused}
 use Rattle.arith.specs.Values.{Outcome, ok, refusal}
 use Rattle.bytecode.specs.Check.{checkOf}
-use Rattle.bytecode.specs.Parts.{headerOf}
+use Rattle.bytecode.specs.Parts.{shapeIn}
 use Rattle.bytecode.proofs.Walk.{refused≢accepted}
 use Rattle.machine.specs.Step.{Machine, machine}
-use Rattle.machine.specs.States.{rowLength}
+use Rattle.semantics.specs.Shape.{rowLength}
 use Rattle.paused.specs.declared.Response.the-variants as R
 use Rattle.paused.specs.Memory.{heldPlace, startPlace, currentPlace, lowPlace, highPlace, waitingOf}
 use Rattle.resumable.specs.Instalment.{afterCall}
@@ -43,7 +43,7 @@ standing-apart o a s =
     record {
       same = s .same;
       may = s .may;
-      shape = a .shape ∙ s .shape;
+      layout = a .layout ∙ s .layout;
       start = a .lists startPlace (length (o .start)) (omega arith) ∙ s .start;
       low = a .lists lowPlace (length (o .start)) (omega arith) ∙ s .low;
       high = a .lists highPlace (length (o .start)) (omega arith) ∙ s .high;
@@ -58,23 +58,23 @@ scan-apart image none a s = ap (λ p. p .phase) (a .progress) ∙ s
 scan-apart image (some o) a s = standing-apart o a s
 
 -- a row that is posted is short
-row-short : (image : List ℕ) (row : List ℤ) → mayPost (checkOf image) (headerOf image) row ≡ accepted tt → length row ≤ nameLimit
+row-short : (image : List ℕ) (row : List ℤ) → mayPost (checkOf image) (shapeIn image) row ≡ accepted tt → length row ≤ nameLimit
 row-short image row e = checked (checkOf image) refl e
   where
-    long : checkOf image ≡ accepted tt → (t : Bool) → eqb (length row) (rowLength (headerOf image)) ≡ t → testedBefore t 12 (accepted tt) ≡ accepted tt → length row ≤ nameLimit
-    long k true t q = omega (arith, placed image k .few, placed image k .inputs, eqb-true (length row) (rowLength (headerOf image)) t)
+    long : checkOf image ≡ accepted tt → (t : Bool) → eqb (length row) (rowLength (shapeIn image)) ≡ t → testedBefore t 12 (accepted tt) ≡ accepted tt → length row ≤ nameLimit
+    long k true t q = omega (arith, placed image k .few, placed image k .inputs, eqb-true (length row) (rowLength (shapeIn image)) t)
     long k false t q = refused≢accepted tt 12 0 q
 
-    checked : (a : Answer (Unit {0})) → checkOf image ≡ a → mayPost a (headerOf image) row ≡ accepted tt → length row ≤ nameLimit
-    checked (accepted tt) k q = long k (eqb (length row) (rowLength (headerOf image))) refl q
+    checked : (a : Answer (Unit {0})) → checkOf image ≡ a → mayPost a (shapeIn image) row ≡ accepted tt → length row ≤ nameLimit
+    checked (accepted tt) k q = long k (eqb (length row) (rowLength (shapeIn image))) refl q
     checked (refused n p) k q = refused≢accepted tt n p q
 
 module _ {image : List ℕ} {cells : List ℤ} {w : Option (List ℤ)} {o : Option Scan} (x : Agrees image cells w o) where
   pub post-agrees : (i : List ℕ) (row : List ℤ) → Matches (plays (post i row) image cells) (expects (post i row) w o)
   unfolding postOf
-  post-agrees i row = rw (eq-eqb (length cells) pausedLength (x .long)) (by (mayPost (checkOf i) (headerOf i) row) refl)
+  post-agrees i row = rw (eq-eqb (length cells) pausedLength (x .long)) (by (mayPost (checkOf i) (shapeIn i) row) refl)
     where
-      by : (a : Answer (Unit {0})) → mayPost (checkOf i) (headerOf i) row ≡ a
+      by : (a : Answer (Unit {0})) → mayPost (checkOf i) (shapeIn i) row ≡ a
           → Matches (played (says (orRefused a cells (afterCall (R.Done 0) (withRow row cells)) .reply)) image (orRefused a cells (afterCall (R.Done 0) (withRow row cells)) .cells)) (expectPost a row w o)
       by (refused n p) e = record { said = refl; agrees = x }
       by (accepted tt) e =

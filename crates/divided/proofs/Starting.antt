@@ -76,7 +76,7 @@ module _ (image : List ℕ) (cells : List ℤ) (i : List ℕ) (s : State) where
             record {
               same = refl;
               may = y;
-              shape = k .shape ∙ f .shape;
+              layout = k .layout ∙ f .layout;
               start = k .start (length s) (few-names o y) ∙ f .start;
               low = k .low (length s) ∙ f .low;
               high = k .high (length s) ∙ f .high;

@@ -12,9 +12,9 @@ use Rattle.limits.specs.Limits.{imageLimit, nameLimit, pausedLength}
 use Rattle.semantics.specs.Program.{Range}
 use Rattle.semantics.specs.Formula.{State}
 use Rattle.bytecode.specs.Parts.{headerOf, lows, highs}
-use Rattle.paused.specs.Memory.{shapePlace, startPlace, lowPlace, highPlace, rowPlace, waitingPlace, slice, clipped, checkpointOf, shapeOf, shapeCells, waitingLength, waitingIn, waitingOf}
-use Rattle.paused.proofs.ReadBack.{getD-sets-before, getD-sets-behind, getD-sets-same, slice-sets-before, slice-sets-behind, slice-sets-same, clipped-is, clipped-alike, shape-alike, shape-stored, waiting-alike}
-use Rattle.lifecycle.specs.Calls.{shapeFor, formed, taken, withRow, over}
+use Rattle.paused.specs.Memory.{layoutPlace, startPlace, lowPlace, highPlace, rowPlace, waitingPlace, slice, clipped, checkpointOf, layoutOf, layoutCells, waitingLength, waitingIn, waitingOf}
+use Rattle.paused.proofs.ReadBack.{getD-sets-before, getD-sets-behind, getD-sets-same, slice-sets-before, slice-sets-behind, slice-sets-same, clipped-is, clipped-alike, layout-alike, layout-stored, waiting-alike}
+use Rattle.lifecycle.specs.Calls.{layoutFor, formed, taken, withRow, over}
 use Rattle.divided.proofs.May.{Placed}
 
 checkpoint-alike : (l m : List ℤ) → ((j : ℕ) → j < 7 → getD l j (pos 0) ≡ getD m j (pos 0)) → checkpointOf l ≡ checkpointOf m
@@ -36,7 +36,7 @@ checkpoint-alike l m e =
 pub record Apart (cells left : List ℤ) : Type 0 where
   pub long : length left ≡ length cells
   pub progress : checkpointOf left ≡ checkpointOf cells
-  pub shape : shapeOf left ≡ shapeOf cells
+  pub layout : layoutOf left ≡ layoutOf cells
   pub lists : (at n : ℕ) → 80 ≤ at → slice at n left ≡ slice at n cells
 
 apart-sets : (vs cells : List ℤ) (i : ℕ) → 11 ≤ i → i + length vs ≤ 80 → Apart cells (sets cells i vs)
@@ -44,7 +44,7 @@ apart-sets vs cells i a b =
     record {
       long = length-sets cells i vs;
       progress = checkpoint-alike _ _ λ j h. getD-sets-before vs cells i j (omega arith);
-      shape = shape-alike _ _ λ j h k. getD-sets-before vs cells i j (omega arith);
+      layout = layout-alike _ _ λ j h k. getD-sets-before vs cells i j (omega arith);
       lists = λ at n h. slice-sets-behind vs cells i at n (omega arith);
     }
 
@@ -55,7 +55,7 @@ apart-row row cells h =
     record {
       long = y .long ∙ x .long;
       progress = y .progress ∙ x .progress;
-      shape = y .shape ∙ x .shape;
+      layout = y .layout ∙ x .layout;
       lists = λ at n k. y .lists at n k ∙ x .lists at n k;
     }
 
@@ -90,7 +90,7 @@ waits-over cells =
 
 pub record Formed (image : List ℕ) (s : State) (cells : List ℤ) : Type 0 where
   pub long : length (formed image s cells) ≡ pausedLength
-  pub shape : shapeOf (formed image s cells) ≡ shapeFor image s
+  pub layout : layoutOf (formed image s cells) ≡ layoutFor image s
   pub waits : waitingOf (formed image s cells) ≡ waitingOf cells
   pub start : slice startPlace (length s) (formed image s cells) ≡ s
   pub low : slice lowPlace (length s) (formed image s cells) ≡ lows (headerOf image .ranges)
@@ -105,25 +105,25 @@ forms image s cells l y e =
     let a = sets cells lowPlace (lows ns) in
     let b = sets a highPlace (highs ns) in
     let c = sets b startPlace s in
-    let f = shapeCells (shapeFor image s) in
+    let f = layoutCells (layoutFor image s) in
     let la : length a ≡ 640 = length-sets cells lowPlace (lows ns) ∙ l in
     let lb : length b ≡ 640 = length-sets a highPlace (highs ns) ∙ la in
     let lc : length c ≡ 640 = length-sets b startPlace s ∙ lb in
     record {
-      long = length-sets c shapePlace f ∙ lc;
-      shape = shape-stored c (shapeFor image s) (omega arith) (y .short) (y .inside) few;
+      long = length-sets c layoutPlace f ∙ lc;
+      layout = layout-stored c (layoutFor image s) (omega arith) (y .short) (y .inside) few;
       waits =
           waiting-alike _ _
-          (getD-sets-behind f c shapePlace waitingPlace (omega arith) ∙ getD-sets-before s b startPlace waitingPlace (omega arith) ∙ getD-sets-before (highs ns) a highPlace waitingPlace (omega arith)
+          (getD-sets-behind f c layoutPlace waitingPlace (omega arith) ∙ getD-sets-before s b startPlace waitingPlace (omega arith) ∙ getD-sets-before (highs ns) a highPlace waitingPlace (omega arith)
           ∙ getD-sets-before (lows ns) cells lowPlace waitingPlace (omega arith))
           (λ n h.
-          slice-sets-behind f c shapePlace rowPlace n (omega arith) ∙ slice-sets-before s b startPlace rowPlace n (omega arith) ∙ slice-sets-before (highs ns) a highPlace rowPlace n (omega arith)
+          slice-sets-behind f c layoutPlace rowPlace n (omega arith) ∙ slice-sets-before s b startPlace rowPlace n (omega arith) ∙ slice-sets-before (highs ns) a highPlace rowPlace n (omega arith)
           ∙ slice-sets-before (lows ns) cells lowPlace rowPlace n (omega arith));
-      start = slice-sets-behind f c shapePlace startPlace (length s) (omega arith) ∙ slice-sets-same s b startPlace (omega arith);
+      start = slice-sets-behind f c layoutPlace startPlace (length s) (omega arith) ∙ slice-sets-same s b startPlace (omega arith);
       low =
-          slice-sets-behind f c shapePlace lowPlace (length s) (omega arith) ∙ slice-sets-behind s b startPlace lowPlace (length s) (omega arith)
+          slice-sets-behind f c layoutPlace lowPlace (length s) (omega arith) ∙ slice-sets-behind s b startPlace lowPlace (length s) (omega arith)
           ∙ slice-sets-before (highs ns) a highPlace lowPlace (length s) (omega arith) ∙ (rw ll at (slice-sets-same (lows ns) cells lowPlace (omega arith)));
       high =
-          slice-sets-behind f c shapePlace highPlace (length s) (omega arith) ∙ slice-sets-behind s b startPlace highPlace (length s) (omega arith)
+          slice-sets-behind f c layoutPlace highPlace (length s) (omega arith) ∙ slice-sets-behind s b startPlace highPlace (length s) (omega arith)
           ∙ (rw lh at (slice-sets-same (highs ns) a highPlace (omega arith)));
     }

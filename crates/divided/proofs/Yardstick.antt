@@ -12,7 +12,7 @@ use Rattle.limits.specs.Answer.{Answer, accepted, refused}
 use Rattle.arith.specs.Values.{Outcome, ok, refusal}
 use Rattle.arith.proofs.Basics.{eqZ-self}
 use Rattle.semantics.specs.Formula.{State}
-use Rattle.bytecode.specs.Parts.{countFrom, headerOf}
+use Rattle.bytecode.specs.Parts.{countFrom, shapeIn}
 use Rattle.bytecode.specs.Check.{checkOf}
 use Rattle.bytecode.proofs.Walk.{refused≢accepted}
 use Rattle.machine.specs.Step.{Machine, machine}
@@ -57,7 +57,7 @@ posted-scan (accepted u) row w o = refl
 pub expected-total : (cs : List Call) → AllBetween cs → (w : Option (List ℤ)) (o : Scan) → doneIn (expectedSaid cs w (some o)) ≡ min (givenIn cs) (whole o .steps - o .done)
 expected-total [] h w o = omega arith
 expected-total (post i row ∷ cs) h w o =
-    let a = mayPost (checkOf i) (headerOf i) row in
+    let a = mayPost (checkOf i) (shapeIn i) row in
     let e = expected-total cs (h .1) (expectPost a row w (some o) .waiting) o in
     rw (posted-steps a row w (some o), posted-scan a row w (some o)) (omega (arith, e))
 expected-total (advance n ∷ cs) h w o =

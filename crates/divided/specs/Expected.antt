@@ -9,7 +9,7 @@ use Rattle.limits.specs.Limits.{stateDiffers}
 use Rattle.limits.specs.Answer.{Answer, accepted, refused}
 use Rattle.semantics.specs.Formula.{State}
 use Rattle.bytecode.specs.Check.{checkOf}
-use Rattle.bytecode.specs.Parts.{headerOf}
+use Rattle.bytecode.specs.Parts.{shapeIn}
 use Rattle.scan.specs.Services.{AfterScan, scanOf}
 use Rattle.paused.specs.declared.Response.{Response}
 use Rattle.paused.specs.declared.Response.the-variants as R
@@ -107,7 +107,7 @@ expectEnd s o w (accepted u) =
     cond (sameValues s (o .start)) (expect (leaves (R.Done (whole o .steps)) (whole o .state)) w none) (expect (leaves (R.Refused stateDiffers 0 0) s) w (some o))
 
 abbrev pub expects : Call → Option (List ℤ) → Option Scan → Expected
-expects (post image row) w o = expectPost (mayPost (checkOf image) (headerOf image) row) row w o
+expects (post image row) w o = expectPost (mayPost (checkOf image) (shapeIn image) row) row w o
 expects (begin image s) w (some o) = expect (says (R.Unfinished 0)) w (some o)
 expects (begin image s) none none = expect (says R.Idle) none none
 expects (begin image s) (some row) none = expectBegin image s row (scanOf image s row .answer) (scanOf image s row .steps)

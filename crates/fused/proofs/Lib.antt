@@ -1,5 +1,4 @@
 pub mod Joining
 pub mod Passing
 pub mod Fusing
-pub mod Ranged
 pub mod Leaping

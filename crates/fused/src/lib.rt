@@ -20,7 +20,6 @@ ghost use Rattle.machine.specs.Inner.Memory.{OneEach};
 ghost use Rattle.fused.specs.Inner.Passes.{passedOver, movedOf, PassesBy, Ready, MovesBy, RefusedBy, RunBy};
 
 pub mod ahead;
-pub mod header;
 
 // The walk before an instruction, and the place of that instruction; whether the variable at hand was picked, and whether
 // instructions are passed over. As many values are held as the walk knows of, none while instructions are passed over.

@@ -13,7 +13,7 @@ use Rattle.limits.specs.Answer.{Answer, accepted, refused}
 use Rattle.semantics.specs.Formula.{State}
 use Rattle.semantics.specs.ReferenceScan.{withInputs}
 use Rattle.bytecode.specs.Check.{checkOf}
-use Rattle.bytecode.specs.Parts.{headerOf, codeOf}
+use Rattle.bytecode.specs.Parts.{headerOf, codeOf, shapeIn}
 use Rattle.bytecode.proofs.Walk.{check-sound}
 use Rattle.paused.specs.declared.Checkpoint.{Checkpoint}
 use Rattle.paused.specs.declared.Response.the-variants as R
@@ -34,7 +34,7 @@ pub image-short : (image : List ℕ) (s : State) (row : List ℤ) → accepted t
 unfolding beforeCode
 image-short image s row e = check-sound image (checked (checkOf image) refl (sym e)) .short
   where
-    checked : (a : Answer (Unit {0})) → checkOf image ≡ a → mayScan a (headerOf image) s row ≡ accepted tt → checkOf image ≡ accepted tt
+    checked : (a : Answer (Unit {0})) → checkOf image ≡ a → mayScan a (shapeIn image) s row ≡ accepted tt → checkOf image ≡ accepted tt
     checked (accepted tt) k q = k
     checked (refused n p) k q = absurd (let z : _≡_ {A = ℕ} 0 1 = cc in omega arith)
 

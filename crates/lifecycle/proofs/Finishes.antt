@@ -12,9 +12,9 @@ use Rattle.semantics.specs.Formula.{State}
 use Rattle.semantics.specs.ReferenceScan.{withInputs}
 use Rattle.machine.proofs.Copies.{over-all}
 use Rattle.paused.specs.declared.Checkpoint.{Checkpoint}
-use Rattle.paused.specs.declared.Shape.{Shape}
+use Rattle.paused.specs.declared.Layout.{Layout}
 use Rattle.paused.specs.declared.Response.the-variants as R
-use Rattle.paused.specs.Memory.{startPlace, currentPlace, slice, checkpointOf, shapeOf}
+use Rattle.paused.specs.Memory.{startPlace, currentPlace, slice, checkpointOf, layoutOf}
 use Rattle.lifecycle.specs.Calls.{sameValues, afterFinish, over, finishOf}
 use Rattle.resumable.proofs.Running.{length-slice}
 use Rattle.lifecycle.specs.Inner.Parts.{finishEnded}
@@ -39,7 +39,7 @@ module _ (s : State) (cells : List ℤ) where
       finish-early z = rw (eq-eqb (length cells) pausedLength l, ← e, ne-eqb (p .phase) 0 n, eq-eqb (p .phase) 1 z)
 
       module _ (m : p .phase ≡ 1 → ⊥) where
-        pub finish-end : p .phase ≡ 2 → (f : Shape) → f ≡ shapeOf cells → finishEnded (p .steps) (f .size) s cells ≡ finishOf s cells
+        pub finish-end : p .phase ≡ 2 → (f : Layout) → f ≡ layoutOf cells → finishEnded (p .steps) (f .size) s cells ≡ finishOf s cells
         unfolding finishOf
         finish-end z f g = rw (eq-eqb (length cells) pausedLength l, ← e, ← g, ne-eqb (p .phase) 0 n, ne-eqb (p .phase) 1 m, eq-eqb (p .phase) 2 z)
 

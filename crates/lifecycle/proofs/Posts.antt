@@ -11,9 +11,9 @@ use Rattle.before.specs.Before.{testedBefore}
 use Rattle.limits.specs.Limits.{wrongLength, pausedLength}
 use Rattle.limits.specs.Answer.{accepted, refused}
 use Rattle.bytecode.specs.Check.{checkOf}
-use Rattle.bytecode.specs.Parts.{headerOf}
+use Rattle.bytecode.specs.Parts.{shapeIn}
 use Rattle.bytecode.proofs.SoundHeader.{SoundCounts}
-use Rattle.machine.specs.States.{rowLength}
+use Rattle.semantics.specs.Shape.{rowLength}
 use Rattle.paused.specs.declared.Response.the-variants as R
 use Rattle.paused.specs.Memory.{rowPlace, waitingPlace}
 use Rattle.resumable.specs.Instalment.{AfterCall, afterCall}
@@ -21,7 +21,7 @@ use Rattle.lifecycle.specs.Calls.{orRefused, withRow, postOf}
 
 -- 12, or the row
 abbrev pub postSound : List ℕ → List ℤ → List ℤ → AfterCall
-postSound image row cells = orRefused (testedBefore (eqb (length row) (rowLength (headerOf image))) wrongLength (accepted tt)) cells (afterCall (R.Done 0) (withRow row cells))
+postSound image row cells = orRefused (testedBefore (eqb (length row) (rowLength (shapeIn image))) wrongLength (accepted tt)) cells (afterCall (R.Done 0) (withRow row cells))
 
 module _ (image : List ℕ) (row cells : List ℤ) where
   pub post-elsewhere : (length cells ≡ pausedLength → ⊥) → afterCall R.Idle cells ≡ postOf image row cells
@@ -36,7 +36,7 @@ module _ (image : List ℕ) (row cells : List ℤ) where
   unfolding postOf
   post-sound l e = rw (eq-eqb (length cells) pausedLength l, e)
 
-  module _ {inputs names first : ℕ} (k : SoundCounts image inputs names first) where
+  module _ {inputs names : ℕ} (k : SoundCounts image inputs names) where
     pub post-wrong : (length row ≡ inputs → ⊥) → afterCall (R.Refused 12 0 0) cells ≡ postSound image row cells
     post-wrong h = rw (k .inputs-are, ne-eqb (length row) inputs h)
 

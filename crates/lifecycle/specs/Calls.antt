@@ -12,16 +12,16 @@ use Rattle.limits.specs.Answer.{Answer, accepted, refused}
 use Rattle.arith.specs.Values.{ok, eqZ}
 use Rattle.semantics.specs.Formula.{State}
 use Rattle.semantics.specs.ReferenceScan.{withInputs}
-use Rattle.bytecode.specs.Check.{Header, checkOf}
-use Rattle.bytecode.specs.Parts.{headerOf, codeOf, lows, highs}
+use Rattle.bytecode.specs.Check.{checkOf}
+use Rattle.bytecode.specs.Parts.{headerOf, codeOf, shapeIn, lows, highs}
 use Rattle.machine.specs.Step.{machine}
-use Rattle.machine.specs.States.{rowLength}
+use Rattle.semantics.specs.Shape.{Shape, rowLength}
 use Rattle.before.specs.Before.{testedBefore, beforeCode}
 use Rattle.paused.specs.declared.Checkpoint.{Checkpoint}
-use Rattle.paused.specs.declared.Shape.{Shape}
+use Rattle.paused.specs.declared.Layout.{Layout}
 use Rattle.paused.specs.declared.Response.{Response}
 use Rattle.paused.specs.declared.Response.the-variants as R
-use Rattle.paused.specs.Memory.{shapePlace, waitingPlace, rowPlace, startPlace, currentPlace, lowPlace, highPlace, slice, checkpointOf, shapeOf, shapeCells, waitingOf}
+use Rattle.paused.specs.Memory.{layoutPlace, waitingPlace, rowPlace, startPlace, currentPlace, lowPlace, highPlace, slice, checkpointOf, layoutOf, layoutCells, waitingOf}
 use Rattle.resumable.specs.Instalment.{AfterCall, afterCall, sized, leftAfter}
 
 -- ---- finish
@@ -59,17 +59,17 @@ finishWith p size s cells =
     (afterFinish (R.Refused (p .number) 0 (p .steps)) (over cells) s)))
 
 unfoldable pub finishOf : State → List ℤ → AfterFinish
-finishOf s cells = cond (eqb (length cells) pausedLength) (finishWith (checkpointOf cells) (shapeOf cells .size) s cells) (afterFinish R.Idle cells s)
+finishOf s cells = cond (eqb (length cells) pausedLength) (finishWith (checkpointOf cells) (layoutOf cells .size) s cells) (afterFinish R.Idle cells s)
 
 -- ---- start
 
 -- what instalments ask of an image and a state
-abbrev pub shapeFor : List ℕ → State → Shape
-shapeFor image s = record { image = length image; base = headerOf image .place; size = length s }
+abbrev pub layoutFor : List ℕ → State → Layout
+layoutFor image s = record { image = length image; base = headerOf image .place; size = length s }
 
 abbrev pub formed : List ℕ → State → List ℤ → List ℤ
 formed image s cells =
-    sets (sets (sets (sets cells lowPlace (lows (headerOf image .ranges))) highPlace (highs (headerOf image .ranges))) startPlace s) shapePlace (shapeCells (shapeFor image s))
+    sets (sets (sets (sets cells lowPlace (lows (headerOf image .ranges))) highPlace (highs (headerOf image .ranges))) startPlace s) layoutPlace (layoutCells (layoutFor image s))
 
 -- before the first instruction; an empty code is at its end
 abbrev pub startedIn : List ℕ → State → List ℤ → List ℤ → List ℤ
@@ -100,10 +100,10 @@ abbrev pub withRow : List ℤ → List ℤ → List ℤ
 withRow row cells = set (sets cells rowPlace row) waitingPlace (pos (length row + 1))
 
 -- Posting is lent the image and tests 9, 11, then 12 for the row;
-abbrev pub mayPost : Answer (Unit {0}) → Header → List ℤ → Answer (Unit {0})
-mayPost (refused number place) h row = refused number place
-mayPost (accepted u) h row = testedBefore (eqb (length row) (rowLength h)) wrongLength (accepted tt)
+abbrev pub mayPost : Answer (Unit {0}) → Shape → List ℤ → Answer (Unit {0})
+mayPost (refused number place) k row = refused number place
+mayPost (accepted u) k row = testedBefore (eqb (length row) (rowLength k)) wrongLength (accepted tt)
 
 -- a refused one replaces nothing.
 unfoldable pub postOf : List ℕ → List ℤ → List ℤ → AfterCall
-postOf image row cells = sized cells (orRefused (mayPost (checkOf image) (headerOf image) row) cells (afterCall (R.Done 0) (withRow row cells)))
+postOf image row cells = sized cells (orRefused (mayPost (checkOf image) (shapeIn image) row) cells (afterCall (R.Done 0) (withRow row cells)))

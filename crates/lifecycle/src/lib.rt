@@ -4,8 +4,8 @@ use bytecode::Counted;
 use checker::Checked;
 use machine::lists;
 use paused::Checkpoint;
+use paused::Layout;
 use paused::Response;
-use paused::Shape;
 ghost use mathlib.Core.Path.{_≡_};
 ghost use Prim.Native.Nat.{_≤_, _<_, _^_};
 ghost use lib.Dec.{eqb};
@@ -16,8 +16,8 @@ ghost use Rattle.before.specs.Before.{testedBefore};
 ghost use Rattle.limits.specs.Limits.{imageLimit, nameLimit, wrongLength, pausedLength};
 ghost use Rattle.limits.specs.Answer.{accepted};
 ghost use Rattle.bytecode.specs.Check.{checkOf};
-ghost use Rattle.bytecode.specs.Parts.{headerOf};
-ghost use Rattle.machine.specs.States.{rowLength};
+ghost use Rattle.bytecode.specs.Parts.{shapeIn};
+ghost use Rattle.semantics.specs.Shape.{rowLength};
 ghost use Rattle.resumable.specs.Instalment.{afterCall};
 ghost use Rattle.lifecycle.specs.Calls.{sameValues, afterFinish, finishOf, orRefused, beginOf, withRow, postOf};
 ghost use Rattle.lifecycle.specs.Inner.Parts.{finishEnded, keptStart, StartKeepable, Beginning, FullScratch};
@@ -79,32 +79,32 @@ pub fn finish(paused: &mut [i32], state: &mut [i32]) -> Response
         return Response::Unfinished(0);
     }
     if phase == 2 {
-        let shape = paused::shape_in(paused);
-        return finish_ended(paused, state, shape.size, p.steps);
+        let layout = paused::layout_in(paused);
+        return finish_ended(paused, state, layout.size, p.steps);
     }
     put(paused, 0, 0);
     Response::Refused(p.number, 0, p.steps)
 }
 
-// What a start keeps: ranges, the state, the image's shape, the current values, and no step done.
+// What a start keeps: ranges, the state, the image's layout, the current values, and no step done.
 fn keep_start(
     memory: &mut [i32],
-    shape: Shape,
+    layout: Layout,
     state: &[i32],
     low: &[i32],
     high: &[i32],
     cur: &[i32],
 )
-    requires { ⌜ StartKeepable (now memory) shape (now state) (now low) (now high) (now cur) ⌝ }
-    ensures { λ _. ⌜ now (memory .exit) ≡ keptStart shape (now (state .entry)) (now (low .entry)) (now (high .entry)) (now (cur .entry)) (now (memory .entry)) ⌝ }
+    requires { ⌜ StartKeepable (now memory) layout (now state) (now low) (now high) (now cur) ⌝ }
+    ensures { λ _. ⌜ now (memory .exit) ≡ keptStart layout (now (state .entry)) (now (low .entry)) (now (high .entry)) (now (cur .entry)) (now (memory .entry)) ⌝ }
 {
-    let image = shape.image;
-    let base = shape.base;
+    let image = layout.image;
+    let base = layout.base;
     let code = image - base;
     lists::store(memory, paused::LOW, low);
     lists::store(memory, paused::HIGH, high);
     lists::store(memory, paused::START, state);
-    paused::store_shape(memory, shape);
+    paused::store_layout(memory, layout);
     lists::store(memory, paused::CURRENT, cur);
     let p = Checkpoint {
         phase: resumable::phase_at(code, 0),
@@ -133,14 +133,14 @@ fn begin_code(
         (take (length (now (state .entry))) (now (low .entry))) (take (length (now (state .entry))) (now (high .entry))) (take (length (now (state .entry))) (now (work .entry))) (now (memory .entry))) ⌝ }
 {
     let size = state.len();
-    let shape = Shape {
+    let layout = Layout {
         image: len,
         base: place,
         size,
     };
     keep_start(
         memory,
-        shape,
+        layout,
         state,
         &low[..size],
         &high[..size],
@@ -198,7 +198,7 @@ pub fn begin(paused: &mut [i32], image: &[u8], state: &[i32]) -> Response
 fn post_sound(memory: &mut [i32], image: &[u8], row: &[i32]) -> Response
     requires { ⌜ (length (now memory) ≡ pausedLength) × (checkOf (now image) ≡ accepted tt) ⌝ }
     ensures { λ r. ⌜ afterCall r (now (memory .exit))
-        ≡ orRefused (testedBefore (eqb (length (now (row .entry))) (rowLength (headerOf (now (image .entry))))) wrongLength (accepted tt)) (now (memory .entry))
+        ≡ orRefused (testedBefore (eqb (length (now (row .entry))) (rowLength (shapeIn (now (image .entry))))) wrongLength (accepted tt)) (now (memory .entry))
         (afterCall (Response.Done 0) (withRow (now (row .entry)) (now (memory .entry)))) ⌝ }
     ensures { λ r. ⌜ ResponseWithin imageLimit r ⌝ }
 {

@@ -6,7 +6,8 @@ ghost use Prim.Native.Nat.{_+_, _≤_, min};
 ghost use lib.ListN.{length, drop};
 ghost use lib.Seq.{sets};
 ghost use Rattle.semantics.specs.Program.{Range};
-ghost use Rattle.semantics.specs.ReferenceScan.{allWithin, withInputs};
+ghost use Rattle.semantics.specs.Shape.{allWithin};
+ghost use Rattle.semantics.specs.ReferenceScan.{withInputs};
 ghost use Rattle.machine.specs.Inner.Memory.{RangesIn};
 
 // `from`, written over the front of `to`.

@@ -5,8 +5,8 @@ use mathlib.Core.List.{List}
 use lib.IntN.{ℤ}
 use Rattle.limits.specs.Limits.{imageLimit, nameLimit, stackLimit}
 use Rattle.paused.specs.declared.Checkpoint.{Checkpoint}
-use Rattle.paused.specs.declared.Shape.{Shape}
-use Rattle.paused.specs.Memory.{clipped, checkpointOf, shapeOf}
+use Rattle.paused.specs.declared.Layout.{Layout}
+use Rattle.paused.specs.Memory.{clipped, checkpointOf, layoutOf}
 
 pub clipped-most : (cells : List ℤ) (i most : ℕ) → clipped cells i most ≤ most
 unfolding clipped
@@ -23,11 +23,11 @@ unfolding checkpointOf
 checkpoint-within cells =
     record { phases = clipped-most cells 0 3; places = clipped-most cells 2 imageLimit; counts = clipped-most cells 3 imageLimit; stack = clipped-most cells 4 stackLimit }
 
-pub record ShapeWithin (f : Shape) : Type 0 where
+pub record LayoutWithin (f : Layout) : Type 0 where
   pub images : f .image ≤ imageLimit
   pub bases : f .base ≤ f .image
   pub sizes : f .size ≤ nameLimit
 
-pub shape-within : (cells : List ℤ) → ShapeWithin (shapeOf cells)
-unfolding shapeOf
-shape-within cells = record { images = clipped-most cells 8 imageLimit; bases = clipped-most cells 9 (clipped cells 8 imageLimit); sizes = clipped-most cells 10 nameLimit }
+pub layout-within : (cells : List ℤ) → LayoutWithin (layoutOf cells)
+unfolding layoutOf
+layout-within cells = record { images = clipped-most cells 8 imageLimit; bases = clipped-most cells 9 (clipped cells 8 imageLimit); sizes = clipped-most cells 10 nameLimit }

@@ -13,9 +13,9 @@ use Rattle.arith.specs.Values.{count}
 use Rattle.limits.specs.Limits.{imageLimit, nameLimit, stackLimit}
 use Rattle.leb128.proofs.Stores.{sets-front}
 use Rattle.paused.specs.declared.Checkpoint.{Checkpoint}
-use Rattle.paused.specs.declared.Shape.{Shape}
+use Rattle.paused.specs.declared.Layout.{Layout}
 use Rattle.paused.proofs.Clipped.{clipped-most}
-use Rattle.paused.specs.Memory.{largestNumber, clipped, slice, checkpointOf, shapeOf, waitingLength, waitingIn, waitingOf, flagOf, checkpointCells, shapeCells, rowPlace, waitingPlace}
+use Rattle.paused.specs.Memory.{largestNumber, clipped, slice, checkpointOf, layoutOf, waitingLength, waitingIn, waitingOf, flagOf, checkpointCells, layoutCells, rowPlace, waitingPlace}
 
 -- ---- one number
 
@@ -90,22 +90,22 @@ checkpoint-stored l p h r =
       flag-is (checkpointCells p ++ drop 7 l) 6 (p .passing) refl,
     )
 
-pub shape-alike : (l m : List ℤ) → ((j : ℕ) → 8 ≤ j → j < 11 → getD l j (pos 0) ≡ getD m j (pos 0)) → shapeOf l ≡ shapeOf m
-unfolding shapeOf
-shape-alike l m e =
+pub layout-alike : (l m : List ℤ) → ((j : ℕ) → 8 ≤ j → j < 11 → getD l j (pos 0) ≡ getD m j (pos 0)) → layoutOf l ≡ layoutOf m
+unfolding layoutOf
+layout-alike l m e =
     rw (
       clipped-alike l m 8 imageLimit (e 8 (omega arith) (omega arith)),
       clipped-alike l m 9 (clipped m 8 imageLimit) (e 9 (omega arith) (omega arith)),
       clipped-alike l m 10 nameLimit (e 10 (omega arith) (omega arith)),
     )
 
-pub shape-stored : (l : List ℤ) (f : Shape) → 11 ≤ length l → f .image ≤ imageLimit → f .base ≤ f .image → f .size ≤ nameLimit → shapeOf (sets l 8 (shapeCells f)) ≡ f
-unfolding shapeOf
-shape-stored l f h a b s =
+pub layout-stored : (l : List ℤ) (f : Layout) → 11 ≤ length l → f .image ≤ imageLimit → f .base ≤ f .image → f .size ≤ nameLimit → layoutOf (sets l 8 (layoutCells f)) ≡ f
+unfolding layoutOf
+layout-stored l f h a b s =
     rw (
-      clipped-is (sets l 8 (shapeCells f)) 8 (f .image) imageLimit (getD-sets-same (shapeCells f) l 8 0 h (omega arith)) a,
-      clipped-is (sets l 8 (shapeCells f)) 9 (f .base) (f .image) (getD-sets-same (shapeCells f) l 8 1 h (omega arith)) b,
-      clipped-is (sets l 8 (shapeCells f)) 10 (f .size) nameLimit (getD-sets-same (shapeCells f) l 8 2 h (omega arith)) s,
+      clipped-is (sets l 8 (layoutCells f)) 8 (f .image) imageLimit (getD-sets-same (layoutCells f) l 8 0 h (omega arith)) a,
+      clipped-is (sets l 8 (layoutCells f)) 9 (f .base) (f .image) (getD-sets-same (layoutCells f) l 8 1 h (omega arith)) b,
+      clipped-is (sets l 8 (layoutCells f)) 10 (f .size) nameLimit (getD-sets-same (layoutCells f) l 8 2 h (omega arith)) s,
     )
 
 pub waiting-alike : (l m : List ℤ) → getD l waitingPlace (pos 0) ≡ getD m waitingPlace (pos 0) → ((n : ℕ) → n ≤ nameLimit → slice rowPlace n l ≡ slice rowPlace n m) → waitingOf l ≡ waitingOf m

@@ -10,15 +10,15 @@ use lib.ListN.{length, getD, take, drop}
 use Rattle.limits.specs.Limits.{imageLimit, nameLimit, stackLimit}
 use Rattle.arith.specs.Values.{count}
 use Rattle.paused.specs.declared.Checkpoint.{Checkpoint}
-use Rattle.paused.specs.declared.Shape.{Shape}
+use Rattle.paused.specs.declared.Layout.{Layout}
 
 -- ---- the places
 
 abbrev pub checkpointPlace : ℕ
 checkpointPlace = 0
 
-abbrev pub shapePlace : ℕ
-shapePlace = 8
+abbrev pub layoutPlace : ℕ
+layoutPlace = 8
 
 -- 0, or 1 + the length of the row that waits
 abbrev pub waitingPlace : ℕ
@@ -70,8 +70,8 @@ checkpointOf cells =
     }
 
 -- the length of the image, the place of its code, the values of a state
-unfoldable pub shapeOf : List ℤ → Shape
-shapeOf cells = record { image = clipped cells 8 imageLimit; base = clipped cells 9 (clipped cells 8 imageLimit); size = clipped cells 10 nameLimit }
+unfoldable pub layoutOf : List ℤ → Layout
+layoutOf cells = record { image = clipped cells 8 imageLimit; base = clipped cells 9 (clipped cells 8 imageLimit); size = clipped cells 10 nameLimit }
 
 unfoldable pub waitingLength : List ℤ → ℕ
 waitingLength cells = clipped cells waitingPlace (nameLimit + 1)
@@ -94,8 +94,8 @@ abbrev pub checkpointCells : Checkpoint → List ℤ
 checkpointCells p =
     pos (p .phase) ∷ pos (p .number) ∷ pos (p .place) ∷ pos (p .steps) ∷ pos (p .held) ∷ pos (flagOf (p .picked)) ∷ pos (flagOf (p .passing)) ∷ []
 
-abbrev pub shapeCells : Shape → List ℤ
-shapeCells s = pos (s .image) ∷ pos (s .base) ∷ pos (s .size) ∷ []
+abbrev pub layoutCells : Layout → List ℤ
+layoutCells s = pos (s .image) ∷ pos (s .base) ∷ pos (s .size) ∷ []
 
 -- the values held, the first at the front
 abbrev pub stacked : List ℤ → List ℤ

@@ -6,9 +6,9 @@ ghost use lib.IntN.{pos};
 ghost use lib.ListN.{length};
 ghost use lib.Seq.{sets};
 ghost use Rattle.limits.specs.Limits.{imageLimit, pausedLength};
-ghost use Rattle.paused.specs.Memory.{clipped, waitingLength, checkpointOf, shapeOf, checkpointCells, shapeCells, flagOf};
+ghost use Rattle.paused.specs.Memory.{clipped, waitingLength, checkpointOf, layoutOf, checkpointCells, layoutCells, flagOf};
 ghost use Rattle.paused.specs.Responses.{packed, packedResponse, ResponseWithin};
-ghost use Rattle.paused.specs.Inner.Small.{SmallCheckpoint, SmallShape};
+ghost use Rattle.paused.specs.Inner.Small.{SmallCheckpoint, SmallLayout};
 
 // Places of the memory: what a scan has done, its image and names, the row that waits, and lists.
 pub const CHECKPOINT: usize = 0;
@@ -44,7 +44,7 @@ pub struct Checkpoint {
 }
 
 // The length of the image, the place of its code, the values of a state.
-pub struct Shape {
+pub struct Layout {
     pub image: usize,
     pub base: usize,
     pub size: usize,
@@ -111,12 +111,12 @@ pub fn checkpoint_in(memory: &[i32]) -> Checkpoint
     }
 }
 
-pub fn shape_in(memory: &[i32]) -> Shape
+pub fn layout_in(memory: &[i32]) -> Layout
     requires { ⌜ length (now memory) ≡ pausedLength ⌝ }
-    ensures { λ r. ⌜ r ≡ shapeOf (now (memory .entry)) ⌝ }
+    ensures { λ r. ⌜ r ≡ layoutOf (now (memory .entry)) ⌝ }
 {
     let image = cell(memory, 8, limits::IMAGE_LIMIT);
-    Shape {
+    Layout {
         image,
         base: cell(memory, 9, image),
         size: cell(memory, 10, limits::NAME_LIMIT),
@@ -162,10 +162,10 @@ pub fn store_checkpoint(memory: &mut [i32], p: Checkpoint)
     lists::store(memory, CHECKPOINT, &cells);
 }
 
-pub fn store_shape(memory: &mut [i32], s: Shape)
+pub fn store_layout(memory: &mut [i32], s: Layout)
     requires { ⌜ length (now memory) ≡ pausedLength ⌝ }
-    requires { ⌜ SmallShape s ⌝ }
-    ensures { λ _. ⌜ now (memory .exit) ≡ sets (now (memory .entry)) 8 (shapeCells s) ⌝ }
+    requires { ⌜ SmallLayout s ⌝ }
+    ensures { λ _. ⌜ now (memory .exit) ≡ sets (now (memory .entry)) 8 (layoutCells s) ⌝ }
 {
     let cells = [number(s.image), number(s.base), number(s.size)];
     lists::store(memory, SHAPE, &cells);

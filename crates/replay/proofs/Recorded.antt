@@ -13,8 +13,8 @@ use Rattle.limits.specs.Answer.{Answer, accepted, refused}
 use Rattle.semantics.specs.Formula.{State}
 use Rattle.semantics.specs.Rows.{ifAccepted, acceptedStates, finalState}
 use Rattle.bytecode.specs.Check.{checkOf}
-use Rattle.bytecode.specs.Parts.{headerOf}
-use Rattle.machine.specs.States.{stateLength, startingState}
+use Rattle.bytecode.specs.Parts.{shapeIn}
+use Rattle.semantics.specs.Shape.{stateLength, startingState}
 use Rattle.leb128.proofs.RoundTrip.{sets-join}
 use Rattle.scan.specs.declared.Started.the-variants as S
 use Rattle.scan.specs.Services.{AfterStart, started, startOf, scanOf, scansOf}
@@ -22,7 +22,8 @@ use Rattle.scan.specs.Results.{afterStart}
 use Rattle.correctness.specs.TraceCorrect.{verdictOf, replyOf}
 use Rattle.leb128.proofs.Stores.{sets-clip}
 use Rattle.replay.specs.declared.Replayed.the-variants as R
-use Rattle.replay.specs.Replay.{answerNumber, stepsOf, valuesOf, replayRows}
+use Rattle.semantics.specs.Shape.{valuesOf}
+use Rattle.replay.specs.Replay.{answerNumber, stepsOf, replayRows}
 use Rattle.replay.specs.Results.{lent, afterReplay}
 use Rattle.replay.specs.Inner.Records.{Records, records, addedBy, recordScan, scanRows}
 
@@ -66,14 +67,14 @@ start-keeps : (image : List ℕ) (s : State) (number place : ℕ) → startOf im
 unfolding startOf
 start-keeps image s number place = go (checkOf image)
   where
-    by : (t : Bool) → cond {A = AfterStart} t (record { answer = accepted tt; state = startingState (headerOf image) }) (record { answer = refused 12 0; state = s }) .answer ≡ refused number place
-        → cond {A = AfterStart} t (record { answer = accepted tt; state = startingState (headerOf image) }) (record { answer = refused 12 0; state = s }) .state ≡ s
+    by : (t : Bool) → cond {A = AfterStart} t (record { answer = accepted tt; state = startingState (shapeIn image) }) (record { answer = refused 12 0; state = s }) .answer ≡ refused number place
+        → cond {A = AfterStart} t (record { answer = accepted tt; state = startingState (shapeIn image) }) (record { answer = refused 12 0; state = s }) .state ≡ s
     by true e = let z : _≡_ {A = ℕ} 0 1 = cc in let f : ⊥ = omega arith in absurd f
     by false e = refl
 
-    go : (a : Answer (Unit {0})) → started a (headerOf image) s .answer ≡ refused number place → started a (headerOf image) s .state ≡ s
+    go : (a : Answer (Unit {0})) → started a (shapeIn image) s .answer ≡ refused number place → started a (shapeIn image) s .state ≡ s
     go (refused k at) e = refl
-    go (accepted u) e = by (eqb (length s) (stateLength (headerOf image))) e
+    go (accepted u) e = by (eqb (length s) (stateLength (shapeIn image))) e
 
 module _ (image buffer : List ℕ) (rows : List (List ℤ)) (s s₁ : State) (numbers steps : List ℕ) (trace : List ℤ) where
   pub replay-refused : (n number place : ℕ) → afterStart (S.Refused number place) s₁ ≡ startOf image s

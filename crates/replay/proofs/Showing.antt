@@ -10,11 +10,11 @@ use lib.ListN.{length, take, drop, length-map}
 use lib.Seq.{sets, sets-eq, take-append-seam, length-sets}
 use borrow.Author.Tests.{eqb-true}
 use Rattle.limits.specs.Answer.{Answer, accepted, refused}
-use Rattle.semantics.specs.Program.{Program, Name}
+use Rattle.semantics.specs.Program.{Program, Range, rangesOf}
 use Rattle.semantics.specs.Formula.{State}
+use Rattle.semantics.specs.Shape.{shapeOf, stateLength, startingState}
 use Rattle.bytecode.specs.Check.{checkOf}
-use Rattle.bytecode.specs.Parts.{headerOf}
-use Rattle.machine.specs.States.{stateLength, startingState}
+use Rattle.bytecode.specs.Parts.{shapeIn}
 use Rattle.grammar.specs.Parse.{programOf}
 use Rattle.translate.specs.Services.{AfterTranslation, translationOf}
 use Rattle.scan.specs.Services.{AfterStart, started, startOf, scansOf}
@@ -32,19 +32,19 @@ stand l values left e h =
     rw (e, sets-eq values l 0 (omega arith)) (take-append-seam values (drop (0 + length values) l))
 
 -- a start is accepted for a state of one length only
-start-sized : (image : List ℕ) (s : State) → startOf image s .answer ≡ accepted tt → length s ≡ stateLength (headerOf image)
+start-sized : (image : List ℕ) (s : State) → startOf image s .answer ≡ accepted tt → length s ≡ stateLength (shapeIn image)
 unfolding startOf
 start-sized image s = go (checkOf image)
   where
-    by : (t : Bool) → (t ≡ true → length s ≡ stateLength (headerOf image))
-        → cond {A = AfterStart} t (record { answer = accepted tt; state = startingState (headerOf image) }) (record { answer = refused 12 0; state = s }) .answer ≡ accepted tt
-        → length s ≡ stateLength (headerOf image)
+    by : (t : Bool) → (t ≡ true → length s ≡ stateLength (shapeIn image))
+        → cond {A = AfterStart} t (record { answer = accepted tt; state = startingState (shapeIn image) }) (record { answer = refused 12 0; state = s }) .answer ≡ accepted tt
+        → length s ≡ stateLength (shapeIn image)
     by true y e = y refl
     by false y e = let z : _≡_ {A = ℕ} 0 1 = cc in let f : ⊥ = omega arith in absurd f
 
-    go : (a : Answer (Unit {0})) → started a (headerOf image) s .answer ≡ accepted tt → length s ≡ stateLength (headerOf image)
+    go : (a : Answer (Unit {0})) → started a (shapeIn image) s .answer ≡ accepted tt → length s ≡ stateLength (shapeIn image)
     go (refused k at) e = let z : _≡_ {A = ℕ} 0 1 = cc in let f : ⊥ = omega arith in absurd f
-    go (accepted u) e = by (eqb (length s) (stateLength (headerOf image))) (eqb-true (length s) (stateLength (headerOf image))) e
+    go (accepted u) e = by (eqb (length s) (stateLength (shapeIn image))) (eqb-true (length s) (stateLength (shapeIn image))) e
 
 module _ (text : List ℕ) (cells : List ℤ) (lengths : List ℕ) (m : Lent) where
   -- translation and start answered no refusal
@@ -87,12 +87,12 @@ module _ (text : List ℕ) (cells : List ℤ) (lengths : List ℕ) (m : Lent) wh
 
   -- start takes a state as long as the program's names only
   right-length : (buffer : List ℕ) (n : ℕ) → translationOf text (m .image) ≡ record { answer = accepted n; buffer = buffer } → startOf (take n buffer) (m .state) .answer ≡ accepted tt
-      → (p : Program) → programOf text ≡ accepted p → length (m .state) ≡ length (p .names)
+      → (p : Program) → programOf text ≡ accepted p → length (m .state) ≡ stateLength (shapeOf p)
   right-length buffer n t b p h =
-      let other = map (λ (x : Name). pos 0) (p .names) in
+      let other = map (λ (x : Range). pos 0) (rangesOf p) in
       let d = trace-correct text (m .image) n (ap {A = AfterTranslation} (λ r. r .answer) t) other [] in
       let q : d .program ≡ p = cc (d .parsed) in
-      let o : length other ≡ length (p .names) = length-map (p .names) (λ (x : Name). pos 0) in
+      let o : length other ≡ stateLength (shapeOf p) = length-map (rangesOf p) (λ (x : Range). pos 0) in
       let c = d .correct (rw q o) in
       let e = start-sized _ other (ap {A = AfterStart} (λ r. r .answer) (c .started)) in
       start-sized (take n buffer) (m .state) b ∙ sym (rw t at e) ∙ o

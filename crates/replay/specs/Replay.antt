@@ -2,13 +2,14 @@
 -- there. Document 01, "The plain scan and the list of rows". Assumes nothing.
 use Prim.Native.Nat.{ℕ, _≤_}
 use mathlib.Core.Path.{_≡_}
-use mathlib.Core.List.{List, [], _∷_, _++_, map}
+use mathlib.Core.List.{List, [], _∷_, map}
 use lib.IntN.{ℤ}
 use lib.ListN.{length, take, drop}
 use lib.Seq.{sets}
 use Rattle.limits.specs.Answer.{Answer, accepted, refused}
 use Rattle.semantics.specs.Program.{Program}
-use Rattle.semantics.specs.Formula.{State, Trace}
+use Rattle.semantics.specs.Formula.{State}
+use Rattle.semantics.specs.Shape.{shapeOf, stateLength, valuesOf}
 use Rattle.semantics.specs.Rows.{traceOf, finalState}
 use Rattle.grammar.specs.Parse.{programOf}
 use Rattle.grammar.specs.Spelled.{Spelled}
@@ -47,10 +48,6 @@ answerNumber a = go (a .answer)
 
 abbrev pub stepsOf : AfterScan → ℕ
 stepsOf a = a .steps
-
-abbrev pub valuesOf : Trace → List ℤ
-valuesOf [] = []
-valuesOf (s ∷ ss) = s ++ valuesOf ss
 
 -- The trace found is the state after start, then that after each accepted scan.
 abbrev pub recorded : Lent → State → List AfterScan → Lent
@@ -104,6 +101,6 @@ pub record Shown (text : List ℕ) (cells : List ℤ) (lengths : List ℕ) (befo
   pub parsed : programOf text ≡ accepted program
   pub spelled : Spelled text program
   pub translated : translationOf text (before .image) ≡ record { answer = accepted n; buffer = after .image }
-  pub sized : length (before .state) ≡ length (program .names)
+  pub sized : length (before .state) ≡ stateLength (shapeOf program)
   pub correct : TraceCorrect program (take n (after .image)) (before .state) (rowsOf cells lengths)
   pub stands : Standing (take n (after .image)) (before .state) (rowsOf cells lengths) after

@@ -10,9 +10,9 @@ use lib.Seq.{take-all}
 use borrow.Author.Tests.{eq-eqb, ne-eqb, lt-ltb, le-ltb}
 use Rattle.limits.specs.Limits.{imageLimit, pausedLength}
 use Rattle.paused.specs.declared.Checkpoint.{Checkpoint}
-use Rattle.paused.specs.declared.Shape.{Shape}
+use Rattle.paused.specs.declared.Layout.{Layout}
 use Rattle.paused.specs.declared.Response.the-variants as R
-use Rattle.paused.specs.Memory.{checkpointOf, shapeOf}
+use Rattle.paused.specs.Memory.{checkpointOf, layoutOf}
 use Rattle.resumable.specs.Instalment.{afterCall, instalment, advanced, advanceOf}
 
 module _ (image : List ℕ) (n : ℕ) (cells : List ℤ) where
@@ -34,7 +34,7 @@ module _ (image : List ℕ) (n : ℕ) (cells : List ℤ) where
       unfolding advanceOf
       advance-zero h = rw (eq-eqb (length cells) pausedLength l, ← e, ne-eqb (p .phase) 0 y, eq-eqb (p .phase) 1 z, le-ltb 0 n (omega arith))
 
-      module _ (some : n ≡ 0 → ⊥) (f : Shape) (g : f ≡ shapeOf cells) where
+      module _ (some : n ≡ 0 → ⊥) (f : Layout) (g : f ≡ layoutOf cells) where
         some-steps : (k : ℕ) → (k ≡ 0 → ⊥) → 0 < k
         some-steps zero h = absurd (h refl)
         some-steps (suc k) h = omega arith

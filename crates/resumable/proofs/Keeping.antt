@@ -8,7 +8,7 @@ use lib.Dec.{leb}
 use lib.IntN.{ℤ, pos}
 use lib.ListN.{length, take}
 use lib.Seq.{take-suc, sets, length-sets, length-take-le}
-use Rattle.machine.specs.States.{heldOf}
+use Rattle.machine.specs.Held.{heldOf}
 use Rattle.arith.specs.Values.{ok, refusal}
 use Rattle.machine.proofs.Stack.{length-held}
 use Rattle.machine.specs.Inner.Memory.{machineOf}

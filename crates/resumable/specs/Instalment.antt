@@ -6,17 +6,17 @@ use lib.Dec.{eqb, ltb, leb}
 use lib.IntN.{ℤ, pos}
 use lib.ListN.{length, drop}
 use lib.Seq.{sets}
-use Rattle.machine.specs.States.{heldOf}
+use Rattle.machine.specs.Held.{heldOf}
 use Rattle.limits.specs.Limits.{imageLimit, nameLimit, stackLimit, pausedLength}
 use Rattle.arith.specs.Values.{Outcome, ok, refusal}
 use Rattle.semantics.specs.Program.{Range}
 use Rattle.machine.specs.Step.{Machine, machine}
 use Rattle.machine.specs.Runs.{Ran, run}
 use Rattle.paused.specs.declared.Checkpoint.{Checkpoint}
-use Rattle.paused.specs.declared.Shape.{Shape}
+use Rattle.paused.specs.declared.Layout.{Layout}
 use Rattle.paused.specs.declared.Response.{Response}
 use Rattle.paused.specs.declared.Response.the-variants as R
-use Rattle.paused.specs.Memory.{heldPlace, startPlace, currentPlace, lowPlace, highPlace, slice, checkpointOf, shapeOf, checkpointCells, stacked}
+use Rattle.paused.specs.Memory.{heldPlace, startPlace, currentPlace, lowPlace, highPlace, slice, checkpointOf, layoutOf, checkpointCells, stacked}
 
 -- ---- what every call answers and leaves
 
@@ -73,7 +73,7 @@ abbrev pub instalment : List ℕ → ℕ → List ℤ → Checkpoint → ℕ →
 instalment code n cells p size = afterCall (R.Done (ranFrom code n p size cells .steps)) (leftByRun (p .steps) (length code) (ranFrom code n p size cells) cells)
 
 -- A caller gives a number of steps; the scan does that many, or fewer if it finishes or is refused, and reports how many.
-abbrev pub advanced : List ℕ → ℕ → List ℤ → Checkpoint → Shape → AfterCall
+abbrev pub advanced : List ℕ → ℕ → List ℤ → Checkpoint → Layout → AfterCall
 advanced image n cells p f =
     cond (eqb (p .phase) 0) (afterCall R.Idle cells)
     (cond (eqb (p .phase) 1 && (ltb 0 n && (eqb (length image) (f .image) && ltb (p .place) (length image - f .base))))
@@ -83,4 +83,4 @@ advanced image n cells p f =
 -- An instalment without a scan answers idle; then nothing moves. At the end of the code, after a refusal, with 0 steps, or lent an image of
 -- another length, it does 0 steps; with 0 steps nothing moves.
 unfoldable pub advanceOf : List ℕ → ℕ → List ℤ → AfterCall
-advanceOf image n cells = sized cells (advanced image n cells (checkpointOf cells) (shapeOf cells))
+advanceOf image n cells = sized cells (advanced image n cells (checkpointOf cells) (layoutOf cells))

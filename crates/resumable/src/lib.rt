@@ -181,10 +181,10 @@ fn advance_in(
     if steps == 0 {
         return Response::Done(0);
     }
-    let shape = paused::shape_in(paused);
-    let base = shape.base;
-    let size = shape.size;
-    if image.len() != shape.image {
+    let layout = paused::layout_in(paused);
+    let base = layout.base;
+    let size = layout.size;
+    if image.len() != layout.image {
         return Response::Done(0);
     }
     if image.len() - base <= place {

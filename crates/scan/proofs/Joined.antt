@@ -4,17 +4,18 @@ use mathlib.Core.Bool.{true, false}
 use mathlib.Core.List.{List, []}
 use mathlib.Core.Option.{none}
 use Prim.Native.Nat.{ℕ, _+_, _≤_}
+use native.Mathlib.Omega.{arith}
 use lib.IntN.{ℤ}
 use lib.ListN.{length, drop}
-use Rattle.limits.specs.Answer.{Answer, accepted, refused, _andThen_}
+use Rattle.limits.specs.Answer.{Answer, accepted, refused}
 use Rattle.semantics.specs.Program.{Range, knownFirst}
 use Rattle.semantics.specs.Formula.{State}
-use Rattle.semantics.specs.ReferenceScan.{allWithin, withInputs}
-use Rattle.bytecode.specs.Check.{known, checkCounts, checkRanges, headerWith as withCounted, checkHeader, checkCode, checkOf}
-use Rattle.bytecode.specs.Parts.{extentOf, rangesFrom, rangesEnd}
-use Rattle.bytecode.specs.Results.{Extends}
-use Rattle.bytecode.proofs.SoundHeader.{sound-counts}
-use Rattle.checker.proofs.Checking.{broken-header, whole-header}
+use Rattle.semantics.specs.Shape.{allWithin}
+use Rattle.semantics.specs.ReferenceScan.{withInputs}
+use Rattle.bytecode.specs.Check.{known, checkHeader, checkCode, checkOf}
+use Rattle.bytecode.specs.Results.{HeaderStands}
+use Rattle.bytecode.proofs.SoundHeader.{SoundCounts, header-found}
+use Rattle.checker.proofs.Checking.{broken-header, walked-header}
 use Rattle.machine.specs.Step.{machine}
 use Rattle.machine.specs.Runs.{ran, run}
 use Rattle.machine.specs.Inner.Memory.{RangesIn}
@@ -25,7 +26,7 @@ use Rattle.fused.specs.Inner.Passes.{Succeeds, Fails, BrokenCode, RunBy}
 use Rattle.scan.specs.declared.Scanned.the-variants as R
 use Rattle.scan.specs.Services.{AfterScan, refusedScan, scanOf}
 use Rattle.scan.specs.Results.{afterScan}
-use Rattle.scan.specs.Inner.Parts.{ranOn, scannedCode, scannedIn, scannedBy, scannedAt, KnownHeader, KnownCounts}
+use Rattle.scan.specs.Inner.Parts.{ranOn, scannedCode, scannedIn, scannedBy, scannedAt, KnownHeader}
 use Rattle.scan.proofs.Images.{scan-refused, scan-wrong-state, scan-wrong-row, scan-from}
 
 -- ---- the code
@@ -71,23 +72,18 @@ module _ (code : List ℕ) (low high found row w ws : List ℤ) (r : Ended) (wen
 
 pub values-joined : (image : List ℕ) (place : ℕ) (found : State) (row : List ℤ) → KnownHeader image place (length row) (length found) → (ns : List Range) → allWithin ns found ≡ true → allWithin ns row ≡ true
     → scannedAt place ns (drop place image) found row ≡ scannedBy (checkOf image) found (scannedIn ns (drop place image) found row)
-values-joined image place found row k ns a b = rw (whole-header image (k .short) (length row) (length found) place (k .headed), a, b)
+values-joined image place found row k ns a b = rw (walked-header image (k .short) (length row) (length found) place (k .ranges) (k .read) (k .many), a, b)
 
 -- ---- the header
 
-module _ (image : List ℕ) (first inputs names : ℕ) (k : KnownCounts image first inputs names) where
-  pub header-known : (place : ℕ) → accepted (record { inputs = inputs; names = names; place = place }) ≡ (checkRanges image names first (withCounted inputs) andThen extentOf) → place ≤ length image
-      → KnownHeader image place inputs names
-  unfolding checkHeader
-  header-known place f i = record { short = k .short; headed = rw (← (k .counted)) f; inside = i; few = k .extends .few }
+pub header-broken : (image : List ℕ) (found : State) (row : List ℤ) (at : ℕ) → length image ≤ 65536 → checkHeader image ≡ refused 11 at → afterScan (R.Refused 11 at 0) found ≡ scanOf image found row
+header-broken image found row at l e = scan-refused image found row 11 at (broken-header image l at e)
 
-  pub ranges-broken : (found : State) (row : List ℤ) (at : ℕ) → refused 11 at ≡ (checkRanges image names first (withCounted inputs) andThen extentOf) → afterScan (R.Refused 11 at 0) found ≡ scanOf image found row
-  unfolding checkHeader
-  ranges-broken found row at f = scan-refused image found row 11 at (broken-header image (k .short) at (rw (← (k .counted)) f))
-
-pub counts-broken : (image : List ℕ) (found : State) (row : List ℤ) (at : ℕ) → length image ≤ 65536 → refused 11 at ≡ checkCounts image → afterScan (R.Refused 11 at 0) found ≡ scanOf image found row
-unfolding checkHeader
-counts-broken image found row at l e = scan-refused image found row 11 at (broken-header image l at (rw (← e)))
+pub header-known : (image : List ℕ) (found : State) (row : List ℤ) {n : ℕ} {low₀ high₀ start₀ low high start : List ℤ} {inputs names place : ℕ} → length image ≤ 65536
+    → HeaderStands (checkHeader image) n low₀ high₀ start₀ low high start inputs names place → n ≡ length image → length found ≡ names → length row ≡ inputs
+    → KnownHeader image place (length row) (length found)
+header-known image found row l h e m i =
+    record { short = l; ranges = h .ranges; read = h .read ∙ rw i; many = h .many ∙ sym m; inside = omega (arith, h .extends .inside); few = omega (arith, h .extends .few) }
 
 -- ---- what the check answers comes first
 
@@ -98,14 +94,15 @@ by-check image found row x h = go (checkOf image) refl
     go (refused number place) e = scan-refused image found row number place (sym e)
     go (accepted u) e = h e
 
-module _ (image : List ℕ) (found : State) (row : List ℤ) {first inputs names : ℕ} (k : KnownCounts image first inputs names) where
+module _ (image : List ℕ) (found : State) (row : List ℤ) {inputs names : ℕ} (k : SoundCounts image inputs names) where
   pub state-length : (length found ≡ names → ⊥) → scannedBy (checkOf image) found (refusedScan 12 0 0 found) ≡ scanOf image found row
-  state-length h = by-check image found row _ λ sound. scan-wrong-state image found row sound (sound-counts image sound inputs names first (k .counted) (k .extends)) h
+  state-length h = by-check image found row _ λ sound. scan-wrong-state image found row sound k h
 
   pub row-length : length found ≡ names → (length row ≡ inputs → ⊥) → scannedBy (checkOf image) found (refusedScan 12 0 0 found) ≡ scanOf image found row
-  row-length h n = by-check image found row _ λ sound. scan-wrong-row image found row sound (sound-counts image sound inputs names first (k .counted) (k .extends)) h n
+  row-length h n = by-check image found row _ λ sound. scan-wrong-row image found row sound k h n
 
-pub names-joined : (image : List ℕ) (found : State) (row : List ℤ) (first place : ℕ) → KnownCounts image first (length row) (length found) → place ≡ rangesEnd image (length found) first
-    → scannedBy (checkOf image) found (scannedIn (rangesFrom image (length found) first) (drop place image) found row) ≡ scanOf image found row
-names-joined image found row first place k e =
-    rw e (by-check image found row _ λ sound. scan-from image found row sound (sound-counts image sound (length row) (length found) first (k .counted) (k .extends)) refl refl)
+pub names-joined : (image : List ℕ) (found : State) (row : List ℤ) {inputs names place : ℕ} (ns : List Range) → checkHeader image ≡ accepted (record { inputs = inputs; ranges = ns; place = place })
+    → length ns ≡ names → length found ≡ names → length row ≡ inputs
+    → scannedBy (checkOf image) found (scannedIn ns (drop place image) found row) ≡ scanOf image found row
+names-joined image found row {place = place} ns e m h n =
+    by-check image found row _ λ sound. scan-from image found row sound ns place (header-found image _ e ∙ rw n) (h ∙ sym m)

@@ -16,10 +16,10 @@ use Rattle.semantics.specs.Formula.{State}
 use Rattle.semantics.specs.ReferenceScan.{withInputs}
 use Rattle.semantics.proofs.Unique.{allWithin-inputs}
 use Rattle.bytecode.specs.Check.{checkOf}
-use Rattle.bytecode.specs.Parts.{headerOf, codeOf}
+use Rattle.bytecode.specs.Parts.{headerOf, codeOf, shapeIn}
 use Rattle.bytecode.proofs.Walk.{check-sound}
 use Rattle.machine.specs.Step.{Machine, machine}
-use Rattle.machine.specs.States.{stateLength, rowLength, stateInRange, rowInRange}
+use Rattle.semantics.specs.Shape.{stateLength, rowLength, stateInRange, rowInRange}
 use Rattle.machine.proofs.Refusals.{at-work, turned, RefusedByRules}
 use Rattle.machine.proofs.Ranges.{Within, AllWithin}
 use Rattle.bytecode.proofs.SoundHeader.{header-is}
@@ -50,11 +50,11 @@ code-caller image e found row = finished-caller found _ (runOf image found row .
 pub sound-scan : (image : List ℕ) → checkOf image ≡ accepted tt → (found : State) (row : List ℤ) → OfCaller (scanOf image found row .answer)
 unfolding scanOf
 sound-scan image e found row =
-    let h = headerOf image in
+    let k = shapeIn image in
     rw e
-    (tested-caller (eqb (length found) (stateLength h) && eqb (length row) (rowLength h)) 12 found _ (omega arith) (omega arith)
-    (tested-caller (stateInRange h found) 18 found _ (omega arith) (omega arith)
-    (tested-caller (rowInRange h row) 13 found _ (omega arith) (omega arith) (code-caller image e found row))))
+    (tested-caller (eqb (length found) (stateLength k) && eqb (length row) (rowLength k)) 12 found _ (omega arith) (omega arith)
+    (tested-caller (stateInRange k found) 18 found _ (omega arith) (omega arith)
+    (tested-caller (rowInRange k row) 13 found _ (omega arith) (omega arith) (code-caller image e found row))))
 
 -- ---- ranges
 
@@ -77,14 +77,14 @@ pub scan-within : (image : List ℕ) → checkOf image ≡ accepted tt → (foun
     → Within (headerOf image .ranges) (scanOf image found row .state)
 unfolding scanOf
 scan-within image e found row w =
-    let h = headerOf image in
+    let k = shapeIn image in
     let y = check-sound image e in
     let fit : headerOf image .inputs ≤ length (headerOf image .ranges) = rw (header-is image y) (omega (arith, y .fits .size)) in
     let size : length found ≡ length (headerOf image .ranges) = w .size in
     rw e
-    (tested-within (h .ranges) (eqb (length found) (stateLength h) && eqb (length row) (rowLength h)) 12 found _ w λ a.
-    tested-within (h .ranges) (stateInRange h found) 18 found _ w λ b.
-    tested-within (h .ranges) (rowInRange h row) 13 found _ w λ c.
-    let l : length row ≡ headerOf image .inputs = eqb→eq (length row) (headerOf image .inputs) (and-right (eqb (length found) (stateLength h)) _ a) in
+    (tested-within (k .ranges) (eqb (length found) (stateLength k) && eqb (length row) (rowLength k)) 12 found _ w λ a.
+    tested-within (k .ranges) (stateInRange k found) 18 found _ w λ b.
+    tested-within (k .ranges) (rowInRange k row) 13 found _ w λ c.
+    let l : length row ≡ headerOf image .inputs = eqb→eq (length row) (headerOf image .inputs) (and-right (eqb (length found) (stateLength k)) _ a) in
     let n : length (withInputs found row) ≡ length (headerOf image .ranges) = simp (length-append, length-drop) (omega arith) in
-    code-within image found row w (record { size = n; ranges = allWithin-inputs (h .ranges) row found c (w .ranges) }))
+    code-within image found row w (record { size = n; ranges = allWithin-inputs (k .ranges) row found c (w .ranges) }))

@@ -12,10 +12,10 @@ use Rattle.arith.specs.Values.{Outcome, ok, refusal}
 use Rattle.semantics.specs.Formula.{State}
 use Rattle.semantics.specs.ReferenceScan.{withInputs}
 use Rattle.bytecode.specs.Check.{checkOf}
-use Rattle.bytecode.specs.Parts.{headerOf, codeOf, instructionsIn}
+use Rattle.bytecode.specs.Parts.{headerOf, codeOf, instructionsIn, shapeIn}
 use Rattle.bytecode.proofs.Walk.{refused≢accepted}
 use Rattle.machine.specs.Step.{Machine, machine}
-use Rattle.machine.specs.States.{stateLength, rowLength, stateInRange, rowInRange}
+use Rattle.semantics.specs.Shape.{stateLength, rowLength, stateInRange, rowInRange}
 use Rattle.machine.proofs.Laws.{run-steps}
 use Rattle.scan.specs.Services.{AfterScan, finished, runOf, scanCode, testedScan, scanned, scanOf}
 
@@ -40,9 +40,9 @@ pub scan-steps : (image : List ℕ) (s : State) (row : List ℤ) → scanOf imag
 unfolding scanOf
 scan-steps image s row = go (checkOf image)
   where
-    go : (a : Answer (Unit {0})) → StepsIf (instructionsIn image) (scanned a (headerOf image) image s row)
+    go : (a : Answer (Unit {0})) → StepsIf (instructionsIn image) (scanned a (shapeIn image) image s row)
     go (refused number place) = refused≢accepted tt number place
     go (accepted u) =
-        steps-tested _ (eqb (length s) (stateLength (headerOf image)) && eqb (length row) (rowLength (headerOf image))) 12 s _
-        (steps-tested _ (stateInRange (headerOf image) s) 18 s _
-        (steps-tested _ (rowInRange (headerOf image) row) 13 s _ (code-steps image s row)))
+        steps-tested _ (eqb (length s) (stateLength (shapeIn image)) && eqb (length row) (rowLength (shapeIn image))) 12 s _
+        (steps-tested _ (stateInRange (shapeIn image) s) 18 s _
+        (steps-tested _ (rowInRange (shapeIn image) row) 13 s _ (code-steps image s row)))

@@ -10,12 +10,12 @@ use Rattle.limits.specs.Limits.{wrongLength, stateOutOfRange, inputOutOfRange}
 use Rattle.limits.specs.Answer.{Answer, accepted, refused}
 use Rattle.arith.specs.Values.{Outcome, ok, refusal}
 use Rattle.semantics.specs.Formula.{State}
+use Rattle.semantics.specs.Shape.{Shape, stateLength, rowLength, startingState, stateInRange, rowInRange}
 use Rattle.semantics.specs.ReferenceScan.{withInputs}
-use Rattle.bytecode.specs.Check.{Header, checkOf}
-use Rattle.bytecode.specs.Parts.{headerOf, codeOf}
+use Rattle.bytecode.specs.Check.{checkOf}
+use Rattle.bytecode.specs.Parts.{headerOf, shapeIn, codeOf}
 use Rattle.machine.specs.Step.{Machine, machine}
 use Rattle.machine.specs.Runs.{Ran, run}
-use Rattle.machine.specs.States.{stateLength, rowLength, startingState, stateInRange, rowInRange}
 
 -- ---- start
 
@@ -25,15 +25,15 @@ pub record AfterStart : Type 0 where
   pub state : State
 
 -- Start tests 9, then 11, then 12 (place 0); its success writes the declared starts. Every refusal leaves the state as found.
-abbrev pub started : Answer (Unit {0}) → Header → State → AfterStart
-started (refused number place) h found = record { answer = refused number place; state = found }
-started (accepted u) h found =
-    cond (eqb (length found) (stateLength h))
-    (record { answer = accepted tt; state = startingState h })
+abbrev pub started : Answer (Unit {0}) → Shape → State → AfterStart
+started (refused number place) k found = record { answer = refused number place; state = found }
+started (accepted u) k found =
+    cond (eqb (length found) (stateLength k))
+    (record { answer = accepted tt; state = startingState k })
     (record { answer = refused wrongLength 0; state = found })
 
 unfoldable pub startOf : List ℕ → State → AfterStart
-startOf image found = started (checkOf image) (headerOf image) found
+startOf image found = started (checkOf image) (shapeIn image) found
 
 -- ---- scan
 
@@ -65,16 +65,16 @@ testedScan true k found r = r
 testedScan false k found r = refusedScan k 0 0 found
 
 -- Check, start and scan test 9, then 11. Start and scan then test 12; scan goes on with 18, 13, then the code.
-abbrev pub scanned : Answer (Unit {0}) → Header → List ℕ → State → List ℤ → AfterScan
-scanned (refused number place) h image found row = refusedScan number place 0 found
-scanned (accepted u) h image found row =
-    testedScan (eqb (length found) (stateLength h) && eqb (length row) (rowLength h)) wrongLength found
-    (testedScan (stateInRange h found) stateOutOfRange found
-    (testedScan (rowInRange h row) inputOutOfRange found
+abbrev pub scanned : Answer (Unit {0}) → Shape → List ℕ → State → List ℤ → AfterScan
+scanned (refused number place) k image found row = refusedScan number place 0 found
+scanned (accepted u) k image found row =
+    testedScan (eqb (length found) (stateLength k) && eqb (length row) (rowLength k)) wrongLength found
+    (testedScan (stateInRange k found) stateOutOfRange found
+    (testedScan (rowInRange k row) inputOutOfRange found
     (scanCode image found row)))
 
 unfoldable pub scanOf : List ℕ → State → List ℤ → AfterScan
-scanOf image found row = scanned (checkOf image) (headerOf image) image found row
+scanOf image found row = scanned (checkOf image) (shapeIn image) image found row
 
 -- Scan is called once for each row, with the image written and the state as start or the scan before left it.
 abbrev pub scansOf : List ℕ → State → List (List ℤ) → List AfterScan

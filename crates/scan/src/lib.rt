@@ -1,8 +1,8 @@
 // Starting and scanning an image: the services start and scan.
 use bytecode::Counted;
+use bytecode::Headed;
 use checker::Checked;
 use fused::Ended;
-use fused::header::Placed;
 use machine::Registers;
 use machine::Stepped;
 use machine::lists;
@@ -17,7 +17,7 @@ ghost use Rattle.bytecode.specs.Check.{checkOf};
 ghost use Rattle.machine.specs.Inner.Memory.{RangesIn};
 ghost use Rattle.scan.specs.Services.{startOf, refusedScan, scanOf};
 ghost use Rattle.scan.specs.Results.{afterStart, StartedWithin, afterScan, ScannedWithin};
-ghost use Rattle.scan.specs.Inner.Parts.{FittingMemory, scannedCode, scannedIn, scannedBy, scannedAt, KnownHeader, KnownCounts, Scratch};
+ghost use Rattle.scan.specs.Inner.Parts.{FittingMemory, scannedCode, scannedIn, scannedBy, scannedAt, KnownHeader, KnownImage, Scratch};
 
 // Done, or the number of a refusal and its place.
 pub enum Started {
@@ -80,6 +80,34 @@ pub fn scan_sound(
 {
     let mut vals = [0i32; limits::STACK_LIMIT];
     scan_sound_in(code, state, row, low, high, work, &mut vals)
+}
+
+// The scan of an image known to be sound, whose header was read: 12, 18, 13, then the code, which begins at `place`.
+pub fn scan_known(
+    image: &[u8],
+    place: usize,
+    inputs: usize,
+    state: &mut [i32],
+    row: &[i32],
+    low: &[i32],
+    high: &[i32],
+    work: &mut [i32],
+) -> Scanned
+    requires { ⌜ KnownImage (now image) place inputs (length (now state)) (now low) (now high) ⌝ }
+    requires { ⌜ length (now work) ≡ length (now state) ⌝ }
+    ensures { λ r. ⌜ afterScan r (now (state .exit)) ≡ scanOf (now (image .entry)) (now (state .entry)) (now (row .entry)) ⌝ }
+    ensures { λ r. ⌜ ScannedWithin imageLimit r ⌝ }
+{
+    if row.len() != inputs {
+        return Scanned::Refused(limits::WRONG_LENGTH, 0, 0);
+    }
+    if !lists::all_in_range(low, high, state) {
+        return Scanned::Refused(limits::STATE_OUT_OF_RANGE, 0, 0);
+    }
+    if !lists::all_in_range(low, high, row) {
+        return Scanned::Refused(limits::INPUT_OUT_OF_RANGE, 0, 0);
+    }
+    scan_sound(&image[place..], state, row, low, high, work)
 }
 
 // What the check of the image answers; where it is sound, this refusal.
@@ -147,37 +175,7 @@ fn scan_values(
     scan_code(&image[place..], place, state, row, low, high, copy)
 }
 
-// The ranges of as many names as the state has values, from a place of the image on; then the values and the code behind them.
-fn scan_names(
-    image: &[u8],
-    first: usize,
-    state: &mut [i32],
-    row: &[i32],
-    low: &mut [i32],
-    high: &mut [i32],
-    work: &mut [i32],
-) -> Scanned
-    requires { ⌜ KnownCounts (now image) first (length (now row)) (length (now state)) ⌝ }
-    requires { ⌜ Scratch (now state) (now low) (now high) (now work) ⌝ }
-    ensures { λ r. ⌜ afterScan r (now (state .exit)) ≡ scanOf (now (image .entry)) (now (state .entry)) (now (row .entry)) ⌝ }
-    ensures { λ r. ⌜ ScannedWithin imageLimit r ⌝ }
-{
-    let names = state.len();
-    match fused::header::ranges(image, first, names, low, high) {
-        Placed::Broken(place) => Scanned::Refused(limits::BROKEN_IMAGE, place, 0),
-        Placed::Code(place) => scan_values(
-            image,
-            place,
-            state,
-            row,
-            &low[..names],
-            &high[..names],
-            &mut work[..names],
-        ),
-    }
-}
-
-// 9, then the counts and the lengths: a wrong length is told after the check of the image.
+// 9, then the header and the lengths: a wrong length is told after the check of the image. The starts that `work` takes are not kept.
 fn scan_in(
     image: &[u8],
     state: &mut [i32],
@@ -193,17 +191,24 @@ fn scan_in(
     if limits::IMAGE_LIMIT < image.len() {
         return Scanned::Refused(limits::TOO_LONG, 0, 0);
     }
-    let counted = bytecode::counts(image);
-    match counted {
-        Counted::Broken(place) => Scanned::Refused(limits::BROKEN_IMAGE, place, 0),
-        Counted::Counts(inputs, names, first) => {
+    match bytecode::header(image, low, high, work) {
+        Headed::Broken(place) => Scanned::Refused(limits::BROKEN_IMAGE, place, 0),
+        Headed::Header(inputs, names, place) => {
             if state.len() != names {
                 return after_check(image, limits::WRONG_LENGTH);
             }
             if row.len() != inputs {
                 return after_check(image, limits::WRONG_LENGTH);
             }
-            scan_names(image, first, state, row, low, high, work)
+            scan_values(
+                image,
+                place,
+                state,
+                row,
+                &low[..names],
+                &high[..names],
+                &mut work[..names],
+            )
         }
     }
 }
@@ -251,13 +256,15 @@ fn start_in(image: &[u8], state: &mut [i32], low: &mut [i32], high: &mut [i32]) 
         Checked::Refused(number, place) => Started::Refused(number, place),
         Checked::Sound => {
             let counted = bytecode::counts(image);
-            let Counted::Counts(_, count, first) = counted else {
+            let Counted::Counts(_, count, _) = counted else {
                 return Started::Refused(limits::BROKEN_IMAGE, 0);
             };
             if state.len() != count {
                 return Started::Refused(limits::WRONG_LENGTH, 0);
             }
-            bytecode::ranges(image, first, count, low, high, state);
+            let Headed::Header(_, _, _) = bytecode::header(image, low, high, state) else {
+                return Started::Refused(limits::BROKEN_IMAGE, 0);
+            };
             Started::Done
         }
     }

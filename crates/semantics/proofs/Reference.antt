@@ -12,7 +12,8 @@ use lib.Seq.{getD-take, ext-getD, length-take-le}
 use Rattle.arith.specs.Values.{Outcome, ok, refusal, check}
 use Rattle.semantics.specs.Program.{Program, Range, Rule, Condition, both, either, rangesOf, WellFormed, StartsWithin, knownFirst, within}
 use Rattle.semantics.specs.Formula.{State, at, evalC, Formula, formulasOfRule, formulasOfRules, formulasOf, Holds, GX, All, Satisfies}
-use Rattle.semantics.specs.ReferenceScan.{allWithin, scanRules, withInputs, referenceScan}
+use Rattle.semantics.specs.Shape.{allWithin}
+use Rattle.semantics.specs.ReferenceScan.{scanRules, withInputs, referenceScan}
 use Rattle.semantics.specs.Rows.{Reply, reply, referenceReplies, startsOf, acceptedStates, acceptedRows, traceOf, Fits, InRanges, AllInRanges, OnlyTrace}
 use Rattle.arith.proofs.Basics.{and-T, ok≢refusal}
 use Rattle.semantics.proofs.Unique.{Agree, HoldsRule, HoldsAll, NewAll, scan-new, new-holds, scan-value, scan-within, allWithin-inputs}

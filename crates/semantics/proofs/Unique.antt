@@ -16,7 +16,8 @@ use lib.Seq.{drop-nil, getD-set-same, getD-set-other, ext-getD}
 use Rattle.arith.specs.Values.{ok, _>>=_, require, eqZ}
 use Rattle.semantics.specs.Program.{Range, Expression, constant, current, previous, operation, negate, Condition, comparison, negated, both, either, Side, changing, rising, falling, Case, Rule, function, change, target, UsableE, UsableC, UsableK, UsableR, OrderedRules, AgreesR, AgreesAll, allTrue, within}
 use Rattle.semantics.specs.Formula.{State, at, evalE, evalC, anyCase, anyCondition, changeFormula, noChangeFormula, functionFormula, formulasOfRule, Holds, All}
-use Rattle.semantics.specs.ReferenceScan.{noRange, allWithin, rangeAt, ranged, moves, stays, picked, tryCase, tryCases, orPrevious, newValue, scanRules}
+use Rattle.semantics.specs.Shape.{allWithin}
+use Rattle.semantics.specs.ReferenceScan.{noRange, rangeAt, ranged, moves, stays, picked, tryCase, tryCases, orPrevious, newValue, scanRules}
 use borrow.Author.Tests.{not-true}
 use Rattle.arith.proofs.Basics.{and-left, and-right, and-T, T-true, eqZ-self, eqZ-true, ok≢refusal, ok-inj, Bound, bound, unbind, passed, bind-cong, bind-assoc, or-true, or-false, or-second, T-not-false}
 

@@ -8,8 +8,9 @@ use Rattle.limits.specs.Limits.{imageLimit, nameLimit, stateOutOfRange, inputOu
 use Rattle.limits.specs.Answer.{Answer, accepted, refused}
 use Rattle.semantics.specs.Program.{Range}
 use Rattle.semantics.specs.Formula.{State}
-use Rattle.semantics.specs.ReferenceScan.{allWithin, withInputs}
-use Rattle.bytecode.specs.Parts.{headerOf, lows, highs, rangesFrom, rangesEnd}
+use Rattle.semantics.specs.Shape.{allWithin, stateLength}
+use Rattle.semantics.specs.ReferenceScan.{withInputs}
+use Rattle.bytecode.specs.Parts.{headerOf, shapeIn, lows, highs}
 use Rattle.before.specs.declared.Before.{Before}
 use Rattle.before.specs.declared.Before.the-variants as T
 use Rattle.before.specs.Before.{testedBefore}
@@ -28,7 +29,7 @@ CopiedBy at s row work (T.Refused number place) = place ≡ 0
 
 -- what a scan has before its code: the code's place, the ranges and the current values at the front of lent memory
 pub record Begun (image : List ℕ) (s : State) (row : List ℤ) (low high work : List ℤ) (place : ℕ) : Type 0 where
-  pub names : length s ≡ length (headerOf image .ranges)
+  pub names : length s ≡ stateLength (shapeIn image)
   pub few : length s ≤ nameLimit
   pub code : place ≡ headerOf image .place
   pub inside : place ≤ length image
@@ -40,12 +41,3 @@ pub record Begun (image : List ℕ) (s : State) (row : List ℤ) (low high work 
 abbrev pub BegunBy : List ℕ → State → List ℤ → List ℤ → List ℤ → List ℤ → Before → Type 0
 BegunBy image s row low high work (T.Code place) = Begun image s row low high work place
 BegunBy image s row low high work (T.Refused number place) = place ≤ imageLimit
-
--- there are as many ranges, at most 64, and no fewer names than inputs
-pub record Announced (image : List ℕ) (first : ℕ) (state row : List ℤ) : Type 0 where
-  pub few : length state ≤ nameLimit
-  pub rows : length row ≤ length state
-  pub ranges : rangesFrom image (length state) first ≡ headerOf image .ranges
-  pub names : length (headerOf image .ranges) ≡ length state
-  pub place : rangesEnd image (length state) first ≡ headerOf image .place
-  pub inside : headerOf image .place ≤ length image

@@ -2,7 +2,7 @@
 use mathlib.Core.Path.{_≡_, sym, ap, subst, _∙_}
 use native.Mathlib.Omega.{arith}
 use borrow.Author.Needs.{needs}
-use Rattle.paused.proofs.Clipped.{CheckpointWithin, checkpoint-within, ShapeWithin, shape-within}
+use Rattle.paused.proofs.Clipped.{CheckpointWithin, checkpoint-within, LayoutWithin, layout-within}
 use Rattle.lifecycle.proofs.Finishes.{finish-elsewhere, finish-idle, finish-early, finish-end, finish-refused}
 use Rattle.lifecycle.proofs.finish.Statement.{statement}
 use Rattle.lifecycle.proofs.finish.Tie as tie
@@ -20,14 +20,14 @@ returns-3 c =
 finish-ended-requires : tie.Need-finish-ended-requires
 finish-ended-requires c κs =
     let v = subst CheckpointWithin (sym (c .before .before .before .before .before .before .before .checkpoint-in .ensures)) (checkpoint-within (c .before .before .before .before .before .before .before .before .before .before .args .paused .now)) in
-    let w = subst ShapeWithin (sym (c .before .before .shape-in .ensures)) (shape-within (c .before .before .before .before .before .before .before .before .before .before .args .paused .now)) in
+    let w = subst LayoutWithin (sym (c .before .before .layout-in .ensures)) (layout-within (c .before .before .before .before .before .before .before .before .before .before .args .paused .now)) in
     ((c .before .before .before .before .before .before .before .before .before .if1 .left, w .sizes), v .counts)
 
 returns-4 : tie.Need-returns-4
 returns-4 c =
     let p = c .before .before .before .before .before .before .before .before .before .before .checkpoint-in in (
       c .before .before .finish-ended .ensures .0
-          ∙ finish-end (c .before .before .before .before .before .before .before .before .before .before .before .before .before .args .state .now) (c .before .before .before .before .before .before .before .before .before .before .before .before .before .args .paused .now) (c .before .before .before .before .before .before .before .before .before .before .before .before .if1 .left) (p .result) (p .ensures) (c .before .before .before .before .before .before .before .before .before .if2 .left) (c .before .before .before .before .before .before .before .before .if3 .left) (c .before .before .before .before .before .before .before .if4 .taken) (c .before .before .before .before .before .shape-in .result) (c .before .before .before .before .before .shape-in .ensures),
+          ∙ finish-end (c .before .before .before .before .before .before .before .before .before .before .before .before .before .args .state .now) (c .before .before .before .before .before .before .before .before .before .before .before .before .before .args .paused .now) (c .before .before .before .before .before .before .before .before .before .before .before .before .if1 .left) (p .result) (p .ensures) (c .before .before .before .before .before .before .before .before .before .if2 .left) (c .before .before .before .before .before .before .before .before .if3 .left) (c .before .before .before .before .before .before .before .if4 .taken) (c .before .before .before .before .before .layout-in .result) (c .before .before .before .before .before .layout-in .ensures),
       c .before .before .finish-ended .ensures .1,
     )
 

@@ -10,13 +10,13 @@ use Rattle.lifecycle.proofs.keep_start.Tie as tie
 store-checkpoint-requires : tie.Need-store-checkpoint-requires
 store-checkpoint-requires c κs = (
   search needs,
-  record { phase = phase-small (c .before .before .before .before .before .before .before .before .before .before .before .before .before .before .before .before .before .args .shape .image - c .before .before .before .before .before .before .before .before .before .before .before .before .before .before .before .before .before .args .shape .base) 0 (c .before .phase-at .ensures); place = omega arith; steps = omega arith; held = omega arith },
+  record { phase = phase-small (c .before .before .before .before .before .before .before .before .before .before .before .before .before .before .before .before .before .args .layout .image - c .before .before .before .before .before .before .before .before .before .before .before .before .before .before .before .before .before .args .layout .base) 0 (c .before .phase-at .ensures); place = omega arith; steps = omega arith; held = omega arith },
 )
 
 returns : tie.Need-returns
 returns c =
     c .before .store-checkpoint .ensures
-    ∙ rw (c .before .before .before .before .before .store4 .ensures .1, c .before .before .before .before .before .before .before .before .store-shape .ensures, c .before .before .before .before .before .before .before .before .before .before .before .store3 .ensures .1, c .before .before .before .before .before .before .before .before .before .before .before .before .before .before .store2 .ensures .1, c .before .before .before .before .before .before .before .before .before .before .before .before .before .before .before .before .before .store .ensures .1, c .before .before .before .phase-at .ensures)
+    ∙ rw (c .before .before .before .before .before .store4 .ensures .1, c .before .before .before .before .before .before .before .before .store-layout .ensures, c .before .before .before .before .before .before .before .before .before .before .before .store3 .ensures .1, c .before .before .before .before .before .before .before .before .before .before .before .before .before .before .store2 .ensures .1, c .before .before .before .before .before .before .before .before .before .before .before .before .before .before .before .before .before .store .ensures .1, c .before .before .before .phase-at .ensures)
 
 pub keep-start-spec : {M : Type 1} → statement M
 keep-start-spec =

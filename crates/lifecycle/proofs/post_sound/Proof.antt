@@ -16,7 +16,7 @@ returns c =
     counts-not-broken (c .before .before .before .before .args .image .now) (c .before .before .before .before .pre .1) (k .0 .0) (sym (ap countedAnswer (k .1)) ∙ c .before .before .counts .ensures .0)
 
 -- the counts that were read
-counted : (c : tie.After-known-told) → SoundCounts (c .before .before .before .before .before .args .image .now) (c .before .counted .given .0 .0) (c .before .counted .given .0 .1 .0) (c .before .counted .given .0 .1 .1 .0)
+counted : (c : tie.After-known-told) → SoundCounts (c .before .before .before .before .before .args .image .now) (c .before .counted .given .0 .0) (c .before .counted .given .0 .1 .0)
 counted c =
     let k = c .before .counted .given in
     sound-counts (c .before .before .before .before .before .args .image .now) (c .before .before .before .before .before .pre .1) (k .0 .0) (k .0 .1 .0) (k .0 .1 .1 .0) (sym (ap countedAnswer (k .1)) ∙ c .before .before .before .counts .ensures .0)

@@ -9,9 +9,9 @@ use lib.ListN.{length}
 use lib.Seq.{sets}
 use Rattle.limits.specs.Limits.{imageLimit, nameLimit, pausedLength, stateDiffers}
 use Rattle.semantics.specs.Formula.{State}
-use Rattle.paused.specs.declared.Shape.{Shape}
+use Rattle.paused.specs.declared.Layout.{Layout}
 use Rattle.paused.specs.declared.Response.the-variants as R
-use Rattle.paused.specs.Memory.{shapePlace, startPlace, currentPlace, lowPlace, highPlace, slice, shapeCells, checkpointCells}
+use Rattle.paused.specs.Memory.{layoutPlace, startPlace, currentPlace, lowPlace, highPlace, slice, layoutCells, checkpointCells}
 use Rattle.lifecycle.specs.Calls.{sameValues, AfterFinish, afterFinish, over}
 
 -- a finish at the end of the code
@@ -22,13 +22,13 @@ finishEnded steps size s cells =
     (afterFinish (R.Refused stateDiffers 0 0) cells s)
 
 -- a start, stored list by list
-abbrev pub keptStart : Shape → State → List ℤ → List ℤ → List ℤ → List ℤ → List ℤ
+abbrev pub keptStart : Layout → State → List ℤ → List ℤ → List ℤ → List ℤ → List ℤ
 keptStart f s low high cur cells =
-    sets (sets (sets (sets (sets (sets cells lowPlace low) highPlace high) startPlace s) shapePlace (shapeCells f)) currentPlace cur) 0
+    sets (sets (sets (sets (sets (sets cells lowPlace low) highPlace high) startPlace s) layoutPlace (layoutCells f)) currentPlace cur) 0
     (checkpointCells (record { phase = cond (leb (f .image - f .base) 0) 2 1; number = 0; place = 0; steps = 0; held = 0; picked = false; passing = false }))
 
 -- what a start keeps fits the memory
-pub record StartKeepable (memory : List ℤ) (f : Shape) (s low high cur : List ℤ) : Type 0 where
+pub record StartKeepable (memory : List ℤ) (f : Layout) (s low high cur : List ℤ) : Type 0 where
   pub cells : length memory ≡ pausedLength
   pub images : f .image ≤ imageLimit
   pub bases : f .base ≤ f .image

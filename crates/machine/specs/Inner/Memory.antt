@@ -16,7 +16,7 @@ use Rattle.machine.specs.declared.Stepped.the-variants.{Next, Refused}
 use Rattle.machine.specs.declared.Executed.{Executed}
 use Rattle.machine.specs.Step.{Machine, machine, step}
 use Rattle.machine.specs.Runs.{Ran, ran}
-unfoldable pub use Rattle.machine.specs.States.{heldOf}
+unfoldable pub use Rattle.machine.specs.Held.{heldOf}
 
 -- the machine that registers, values held and current values stand for
 abbrev pub machineOf : Registers → List ℤ → State → Machine

@@ -1,13 +1,14 @@
--- `scan::scan_in` meets its contract: 9, the counts, the lengths, then the names. Assumes nothing.
-use Prim.Native.Nat.{ℕ}
-use mathlib.Core.Path.{sym, ap, subst, _∙_}
+-- `scan::scan_in` meets its contract: 9, the header, the lengths, then the values. The ranges stand at the front of the lent memory. Assumes nothing.
+use Prim.Native.Nat.{_≤_}
+use mathlib.Core.Path.{_≡_, refl, sym, _∙_}
 use native.Mathlib.Omega.{arith}
 use lib.ListN.{length}
-use Rattle.bytecode.specs.Results.{countedAnswer, CountedWithin}
+use lib.Seq.{length-take-le}
+use Rattle.limits.specs.Limits.{nameLimit}
+use Rattle.bytecode.proofs.SoundHeader.{headed-stands, headed-broken, header-counts}
 use Rattle.checker.proofs.Checking.{too-long}
-use Rattle.scan.specs.Inner.Parts.{KnownCounts}
-use Rattle.scan.proofs.Images.{scan-refused}
-use Rattle.scan.proofs.Joined.{counts-broken, state-length, row-length}
+use Rattle.scan.proofs.Images.{scan-refused, ranges-stored}
+use Rattle.scan.proofs.Joined.{header-broken, header-known, state-length, row-length, names-joined}
 use borrow.Author.Needs.{needs}
 use Rattle.scan.proofs.scan_in.Statement.{statement}
 use Rattle.scan.proofs.scan_in.Tie as tie
@@ -15,33 +16,77 @@ use Rattle.scan.proofs.scan_in.Tie as tie
 returns : tie.Need-returns
 returns c = (scan-refused (c .before .before .args .image .now) (c .before .before .args .state .now) (c .before .before .args .row .now) 9 0 (too-long _ (c .if1 .taken)), (omega arith, omega arith))
 
--- the counts that were read
-counted : (c : tie.After-known-told2) → KnownCounts (c .before .before .before .before .before .before .args .image .now) (c .before .counted2 .given .0 .1 .1 .0) (c .before .counted2 .given .0 .0) (c .before .counted2 .given .0 .1 .0)
-counted c =
-    let k = c .before .counted2 .given in
-    record { short = c .before .before .before .before .if1 .left; counted = sym (ap countedAnswer (k .1)) ∙ c .before .before .before .counts .ensures .0; extends = subst (CountedWithin (length (c .before .before .before .before .before .before .args .image .now))) (k .1) (c .before .before .before .counts .ensures .1) }
-
 returns-2 : tie.Need-returns-2
-returns-2 c = (c .after-check .ensures .0 (c .before .before .before .before .before .before .before .before .args .state .now) ∙ state-length (c .before .before .before .before .before .before .before .before .args .image .now) (c .before .before .before .before .before .before .before .before .args .state .now) (c .before .before .before .before .before .before .before .before .args .row .now) (counted (c .before .before)) (c .before .if2 .taken), c .after-check .ensures .1)
+returns-2 c =
+    let h = headed-stands (c .before .before .before .before .before .before .before .before .header .ensures) (c .before .before .before .inputs .given .1) in
+    (c .after-check .ensures .0 (c .before .before .before .before .before .before .before .before .before .before .before .before .before .before .args .state .now) ∙ state-length (c .before .before .before .before .before .before .before .before .before .before .before .before .before .before .args .image .now) (c .before .before .before .before .before .before .before .before .before .before .before .before .before .before .args .state .now) (c .before .before .before .before .before .before .before .before .before .before .before .before .before .before .args .row .now) (header-counts (c .before .before .before .before .before .before .before .before .before .before .before .before .before .before .args .image .now) h) (c .before .if2 .taken), c .after-check .ensures .1)
 
 returns-3 : tie.Need-returns-3
-returns-3 c = (c .after-check2 .ensures .0 (c .before .before .before .before .before .before .before .before .before .args .state .now) ∙ row-length (c .before .before .before .before .before .before .before .before .before .args .image .now) (c .before .before .before .before .before .before .before .before .before .args .state .now) (c .before .before .before .before .before .before .before .before .before .args .row .now) (counted (c .before .before .before)) (c .before .before .if2 .left) (c .before .if3 .taken), c .after-check2 .ensures .1)
+returns-3 c =
+    let h = headed-stands (c .before .before .before .before .before .before .before .before .before .header .ensures) (c .before .before .before .before .inputs .given .1) in
+    (c .after-check2 .ensures .0 (c .before .before .before .before .before .before .before .before .before .before .before .before .before .before .before .args .state .now) ∙ row-length (c .before .before .before .before .before .before .before .before .before .before .before .before .before .before .before .args .image .now) (c .before .before .before .before .before .before .before .before .before .before .before .before .before .before .before .args .state .now) (c .before .before .before .before .before .before .before .before .before .before .before .before .before .before .before .args .row .now) (header-counts (c .before .before .before .before .before .before .before .before .before .before .before .before .before .before .before .args .image .now) h) (c .before .before .if2 .left) (c .before .if3 .taken), c .after-check2 .ensures .1)
 
-scan-names-requires : tie.Need-scan-names-requires
-scan-names-requires c κs =
-    let image = c .before .before .before .before .before .before .before .before .before .before .before .before .args .image .now in
-    let k = counted (c .before .before .before .before .before .before) in
-    let n = c .before .before .before .before .before .before .before .counted2 .given .0 in
-    (subst (λ (m : ℕ). KnownCounts image (n .1 .1 .0) m (length (c .before .before .before .before .before .before .before .before .before .before .before .before .args .state .now))) (sym (c .before .before .before .before .if3 .left)) (subst (λ (m : ℕ). KnownCounts image (n .1 .1 .0) (n .0) m) (sym (c .before .before .before .before .before .if2 .left)) k), c .before .before .before .before .before .before .before .before .before .before .before .before .pre)
+-- as many names as the state has values, and there is room for them
+few : (c : tie.Else3) → length (c .before .before .before .before .before .before .before .before .before .before .before .before .before .before .args .state .now) ≤ nameLimit
+few c = omega (arith, c .before .if2 .left, headed-stands (c .before .before .before .before .before .before .before .before .header .ensures) (c .before .before .before .inputs .given .1) .extends .few)
+
+low-room : (c : tie.Else3) → c .before .before .before .inputs .given .0 .1 .0 ≤ length (c .before .before .before .before .before .before .before .before .header .last .1 .0)
+low-room c = omega (arith, c .before .if2 .left, c .before .before .before .before .before .before .before .before .before .before .before .before .before .before .pre .lows (few c), c .before .before .before .before .before .before .before .before .header .kept .1 .0)
+
+high-room : (c : tie.Else3) → c .before .before .before .inputs .given .0 .1 .0 ≤ length (c .before .before .before .before .before .before .before .before .header .last .1 .1 .0)
+high-room c = omega (arith, c .before .if2 .left, c .before .before .before .before .before .before .before .before .before .before .before .before .before .before .pre .highs (few c), c .before .before .before .before .before .before .before .before .header .kept .1 .1 .0)
+
+work-room : (c : tie.Else3) → c .before .before .before .inputs .given .0 .1 .0 ≤ length (c .before .before .before .before .before .before .before .before .header .last .1 .1 .1 .0)
+work-room c = omega (arith, c .before .if2 .left, c .before .before .before .before .before .before .before .before .before .before .before .before .before .before .pre .copies (few c), c .before .before .before .before .before .before .before .before .header .kept .1 .1 .1 .0)
+
+slice-reshare-prefix-scan-values : tie.Need-slice-reshare-prefix-scan-values
+slice-reshare-prefix-scan-values c = low-room (c .before)
+
+slice-reshare-prefix-scan-values-2 : tie.Need-slice-reshare-prefix-scan-values-2
+slice-reshare-prefix-scan-values-2 c = high-room (c .before .before)
+
+slice-relend-prefix-scan-values : tie.Need-slice-relend-prefix-scan-values
+slice-relend-prefix-scan-values c = work-room (c .before .before .before)
+
+slice-aggregate-scan-values : tie.Need-slice-aggregate-scan-values
+slice-aggregate-scan-values c = sym (length-take-le _ _ (low-room (c .before .before)))
+
+slice-aggregate-scan-values-2 : tie.Need-slice-aggregate-scan-values-2
+slice-aggregate-scan-values-2 c = sym (length-take-le _ _ (high-room (c .before .before .before)))
+
+slice-aggregate-scan-values-3 : tie.Need-slice-aggregate-scan-values-3
+slice-aggregate-scan-values-3 c = sym (length-take-le _ _ (work-room (c .before .before .before .before)))
+
+scan-values-requires : tie.Need-scan-values-requires
+scan-values-requires c κs =
+    let h = headed-stands (c .before .before .before .before .before .before .before .before .before .before .before .before .header .ensures) (c .before .before .before .before .before .before .before .inputs .given .1) in (
+      record {
+        rows = omega (arith, c .before .before .before .before .before .if2 .left, c .before .before .before .before .if3 .left, h .extends .inputs-named);
+        lows = length-take-le _ _ (low-room (c .before .before .before .before)) ∙ sym (c .before .before .before .before .before .if2 .left);
+        highs = length-take-le _ _ (high-room (c .before .before .before .before)) ∙ sym (c .before .before .before .before .before .if2 .left);
+        copies = length-take-le _ _ (work-room (c .before .before .before .before)) ∙ sym (c .before .before .before .before .before .if2 .left);
+      },
+      header-known (c .before .before .before .before .before .before .before .before .before .before .before .before .before .before .before .before .before .before .args .image .now) (c .before .before .before .before .before .before .before .before .before .before .before .before .before .before .before .before .before .before .args .state .now) (c .before .before .before .before .before .before .before .before .before .before .before .before .before .before .before .before .before .before .args .row .now) (c .before .before .before .before .before .before .before .before .before .before .before .before .before .before .before .before .if1 .left) h refl (c .before .before .before .before .before .if2 .left) (c .before .before .before .before .if3 .left),
+    )
 
 returns-4 : tie.Need-returns-4
-returns-4 c = (
-  counts-broken (c .before .before .before .before .before .before .args .image .now) (c .before .before .before .before .before .before .args .state .now) (c .before .before .before .before .before .before .args .row .now) _ (c .before .before .before .before .if1 .left) (sym (ap countedAnswer (c .before .counted .given .1)) ∙ c .before .before .before .counts .ensures .0),
-  (omega (arith, c .before .before .before .before .if1 .left, subst (CountedWithin (length (c .before .before .before .before .before .before .args .image .now))) (c .before .counted .given .1) (c .before .before .before .counts .ensures .1)), omega arith),
-)
+returns-4 c =
+    let b = headed-broken (c .before .before .before .before .before .before .header .ensures) (c .before .place .given .1) in
+    (header-broken (c .before .before .before .before .before .before .before .before .before .before .before .before .args .image .now) (c .before .before .before .before .before .before .before .before .before .before .before .before .args .state .now) (c .before .before .before .before .before .before .before .before .before .before .before .before .args .row .now) _ (c .before .before .before .before .before .before .before .before .before .before .if1 .left) (b .0), (omega (arith, b .1, c .before .before .before .before .before .before .before .before .before .before .if1 .left), omega arith))
+
+returns-5 : tie.Need-returns-5
+returns-5 c =
+    let h = headed-stands (c .before .before .before .before .before .before .before .before .before .before .before .before .before .before .before .header .ensures) (c .before .before .before .before .before .before .before .before .before .before .inputs .given .1) in
+    let l = c .before .before .before .before .before .before .before .before .before .before .before .before .before .before .before .before .before .before .before .before .before .pre .lows (few (c .before .before .before .before .before .before .before)) in
+    let u = c .before .before .before .before .before .before .before .before .before .before .before .before .before .before .before .before .before .before .before .before .before .pre .highs (few (c .before .before .before .before .before .before .before)) in
+    let q = ranges-stored (h .ranges) (c .before .before .before .before .before .before .before .before .before .before .inputs .given .0 .1 .0) (c .before .before .before .before .before .before .before .before .before .before .before .before .before .before .before .before .before .before .before .before .before .args .low .now) (c .before .before .before .before .before .before .before .before .before .before .before .before .before .before .before .header .last .1 .0) (c .before .before .before .before .before .before .before .before .before .before .before .before .before .before .before .before .before .before .before .before .before .args .high .now) (c .before .before .before .before .before .before .before .before .before .before .before .before .before .before .before .header .last .1 .1 .0) (h .many) (omega (arith, c .before .before .before .before .before .before .before .before .if2 .left, l)) (omega (arith, c .before .before .before .before .before .before .before .before .if2 .left, u)) (h .lower) (h .upper) in
+    (c .before .before .scan-values .ensures .0 (h .ranges) q ∙ names-joined (c .before .before .before .before .before .before .before .before .before .before .before .before .before .before .before .before .before .before .before .before .before .args .image .now) (c .before .before .before .before .before .before .before .before .before .before .before .before .before .before .before .before .before .before .before .before .before .args .state .now) (c .before .before .before .before .before .before .before .before .before .before .before .before .before .before .before .before .before .before .before .before .before .args .row .now) (h .ranges) (h .read) (h .many) (c .before .before .before .before .before .before .before .before .if2 .left) (c .before .before .before .before .before .before .before .if3 .left), c .before .before .scan-values .ensures .1)
 
 pub scan-in-spec : {M : Type 1} → statement M
 scan-in-spec =
     tie.close
-    (tie.spec returns (λ c κs. search needs) (λ c. search needs) (λ c. search needs) (λ c κs. search needs) returns-2 (λ c κs. search needs) returns-3
-    scan-names-requires returns-4 (λ c. search needs) (λ c. search needs) (λ c. search needs) (λ c. search needs) (λ c. search needs))
+    (tie.spec returns (λ c κs. search needs) (λ c. search needs) (λ c. search needs) (λ c κs. search needs) (λ c. search needs) (λ c. search needs)
+    (λ c. search needs) returns-2 (λ c κs. search needs) (λ c. search needs) (λ c. search needs) (λ c. search needs) returns-3
+    slice-reshare-prefix-scan-values slice-aggregate-scan-values slice-reshare-prefix-scan-values-2 slice-aggregate-scan-values-2
+    slice-relend-prefix-scan-values slice-aggregate-scan-values-3 scan-values-requires (λ c. search needs) (λ c. search needs) (λ c. search needs)
+    returns-4 (λ c. search needs) (λ c. search needs) (λ c. search needs) (λ c. search needs) returns-5)

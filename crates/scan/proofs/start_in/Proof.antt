@@ -4,7 +4,7 @@ use native.Mathlib.Omega.{arith}
 use borrow.Author.Needs.{needs}
 use lib.ListN.{length}
 use Rattle.checker.specs.Results.{CheckedWithin, checkedAnswer}
-use Rattle.bytecode.proofs.SoundHeader.{counts-not-broken, SoundCounts, sound-counts}
+use Rattle.bytecode.proofs.SoundHeader.{counts-not-broken, header-not-broken, SoundCounts, sound-counts, headed-stands, headed-broken, starts-stored}
 use Rattle.scan.proofs.Images.{start-refused, start-wrong-length, start-done}
 use Rattle.bytecode.specs.Results.{countedAnswer, CountedWithin}
 use Rattle.bytecode.specs.Check.{checkOf}
@@ -17,8 +17,7 @@ sound : (c : tie.After-enum-told) → checkOf (c .before .before .before .before
 sound c = sym (c .before .before .check .ensures .0) ∙ ap checkedAnswer (c .enum-told .given .1)
 
 -- its counts were read
-counted : (c : tie.After-known-told2)
-    → SoundCounts (c .before .before .before .before .before .before .before .before .args .image .now) (c .before .counted .given .0 .0) (c .before .counted .given .0 .1 .0) (c .before .counted .given .0 .1 .1 .0)
+counted : (c : tie.After-known-told2) → SoundCounts (c .before .before .before .before .before .before .before .before .args .image .now) (c .before .counted .given .0 .0) (c .before .counted .given .0 .1 .0)
 counted c =
     let k = c .before .counted .given in
     let r = c .before .before .before .counts .ensures in
@@ -32,27 +31,24 @@ returns c =
 
 returns-2 : tie.Need-returns-2
 returns-2 c =
-    let a = c .before .before .before .before .before .before .before .before .before .args in
-    (start-wrong-length (a .image .now) (a .state .now) (sound (c .before .before .before .before .before)) (counted (c .before)) (c .if1 .taken), omega arith)
+    (start-wrong-length (c .before .before .before .before .before .before .before .before .before .args .image .now) (c .before .before .before .before .before .before .before .before .before .args .state .now) (sound (c .before .before .before .before .before)) (counted (c .before)) (c .if1 .taken), omega arith)
 
 returns-3 : tie.Need-returns-3
-returns-3 c =
-    let a = c .before .before .before .before .before .args in
-    let k = c .before .checked .given in
-    let r = c .before .before .before .check .ensures in
-    (start-refused (a .image .now) (a .state .now) (k .0 .0) (k .0 .1 .0) (sym (ap checkedAnswer (k .1)) ∙ r .0), subst CheckedWithin (k .1) (r .1))
+returns-3 c = header-not-broken _ (sound (c .before .before .before .before .before .before .before .before .before .before .before .before .before .before)) _ (headed-broken (c .before .before .before .before .before .header .ensures) (c .enum-told4 .given .1) .0)
 
 returns-4 : tie.Need-returns-4
 returns-4 c =
-    let e = c .before .before .before .before .before .before .before in
-    let start = e .before .before .before .before .before .before .before .before .before in
-    let a = start .args in
-    let r = c .before .before .before .ranges in
-    let s = sound (c .before .before .before .before .before .before .before .before .before .before .before .before) in
-    (start-done (a .image .now) (a .state .now) s (counted (c .before .before .before .before .before .before .before .before)) (r .last .1 .1 .1 .1 .1 .0) (e .if1 .left) (r .ensures .1 .1 .1), tt)
+    let k = c .before .checked .given in
+    let r = c .before .before .before .check .ensures in
+    (start-refused (c .before .before .before .before .before .args .image .now) (c .before .before .before .before .before .args .state .now) (k .0 .0) (k .0 .1 .0) (sym (ap checkedAnswer (k .1)) ∙ r .0), subst CheckedWithin (k .1) (r .1))
+
+returns-5 : tie.Need-returns-5
+returns-5 c =
+    (start-done (c .before .before .before .before .before .before .before .before .before .before .before .before .before .before .before .before .before .before .args .image .now) (c .before .before .before .before .before .before .before .before .before .before .before .before .before .before .before .before .before .before .args .state .now) (sound (c .before .before .before .before .before .before .before .before .before .before .before .before .before .before)) (counted (c .before .before .before .before .before .before .before .before .before .before)) (c .before .before .before .before .before .header .last .1 .1 .1 .0) (c .before .before .before .before .before .before .before .before .before .if1 .left) (starts-stored (c .before .before .before .before .before .before .before .before .before .before .before .before .before .before .before .before .before .before .args .image .now) (headed-stands (c .before .before .before .before .before .header .ensures) (c .enum-told3 .given .1))), tt)
 
 pub start-in-spec : {M : Type 1} → statement M
 start-in-spec =
     tie.close
-    (tie.spec (λ c κs. search needs) (λ c. search needs) (λ c. search needs) (λ c κs. search needs) (λ c. search needs) (λ c. search needs)
-    returns returns-2 (λ c κs. search needs) returns-3 (λ c. search needs) (λ c. search needs) (λ c. search needs) returns-4)
+    (tie.spec (λ c κs. search needs) (λ c. search needs) (λ c. search needs) (λ c κs. search needs) (λ c. search needs) (λ c. search needs) returns
+    returns-2 (λ c κs. search needs) (λ c. search needs) (λ c. search needs) (λ c. search needs) (λ c. search needs) (λ c. search needs) returns-3
+    returns-4 (λ c. search needs) (λ c. search needs) (λ c. search needs) returns-5)

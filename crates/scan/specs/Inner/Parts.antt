@@ -5,15 +5,15 @@ use mathlib.Core.List.{List, []}
 use mathlib.Core.Option.{none}
 use Prim.Native.Nat.{ℕ, _≤_}
 use lib.IntN.{ℤ}
-use lib.ListN.{length, drop}
+use lib.ListN.{length}
 use Rattle.limits.specs.Limits.{nameLimit, imageLimit, stateOutOfRange, inputOutOfRange}
-use Rattle.limits.specs.Answer.{Answer, accepted, refused, _andThen_}
+use Rattle.limits.specs.Answer.{Answer, accepted, refused}
 use Rattle.semantics.specs.Program.{Range, knownFirst}
 use Rattle.semantics.specs.Formula.{State}
-use Rattle.semantics.specs.ReferenceScan.{allWithin, withInputs}
-use Rattle.bytecode.specs.Check.{known, checkCounts, checkHeader, checkCode}
-use Rattle.bytecode.specs.Parts.{extentOf, rangesFrom, rangesEnd}
-use Rattle.bytecode.specs.Results.{Extends}
+use Rattle.semantics.specs.Shape.{allWithin}
+use Rattle.semantics.specs.ReferenceScan.{withInputs}
+use Rattle.bytecode.specs.Check.{known, checkHeader, checkCode, checkOf}
+use Rattle.bytecode.specs.Parts.{lows, highs}
 use Rattle.machine.specs.Step.{machine}
 use Rattle.machine.specs.Runs.{Ran, run}
 use Rattle.scan.specs.Services.{AfterScan, refusedScan, finished, testedScan}
@@ -57,22 +57,25 @@ abbrev pub scannedAt : ℕ → List Range → List ℕ → State → List ℤ �
 scannedAt base ns code found row =
     scannedBy (checkCode base code (length code) 0 (known [] false none (knownFirst (length row) (length found)))) found (scannedCode ns code found row)
 
--- the ranges of as many names as the state has values, from a place on; behind them the code
-abbrev pub scannedFrom : List ℕ → ℕ → State → List ℤ → AfterScan
-scannedFrom image first found row =
-    scannedIn (rangesFrom image (length found) first) (drop (rangesEnd image (length found) first) image) found row
-
 -- ---- the header
-
--- so many inputs and names were read, and the place behind the counts
-pub record KnownCounts (image : List ℕ) (first inputs names : ℕ) : Type 0 where
-  pub short : length image ≤ imageLimit
-  pub counted : accepted (record { inputs = inputs; names = names; place = first }) ≡ checkCounts image
-  pub extends : Extends (length image) inputs names first
 
 -- the whole header was read, and the code begins at a place
 pub record KnownHeader (image : List ℕ) (place inputs names : ℕ) : Type 0 where
   pub short : length image ≤ imageLimit
-  pub headed : accepted (record { inputs = inputs; names = names; place = place }) ≡ (checkHeader image andThen extentOf)
+  pub ranges : List Range
+  pub read : checkHeader image ≡ accepted (record { inputs = inputs; ranges = ranges; place = place })
+  pub many : length ranges ≡ names
   pub inside : place ≤ length image
   pub few : names ≤ nameLimit
+
+-- an image known to be sound, the parts of its header, and lows and highs of its names
+pub record KnownImage (image : List ℕ) (place inputs names : ℕ) (low high : List ℤ) : Type 0 where
+  pub sound : checkOf image ≡ accepted tt
+  pub ranges : List Range
+  pub read : checkHeader image ≡ accepted (record { inputs = inputs; ranges = ranges; place = place })
+  pub many : length ranges ≡ names
+  pub among : inputs ≤ names
+  pub few : names ≤ nameLimit
+  pub inside : place ≤ length image
+  pub lowest : low ≡ lows ranges
+  pub highest : high ≡ highs ranges
