@@ -19,10 +19,10 @@ use Rattle.bytecode.specs.Parts.{codeOf}
 use Rattle.machine.specs.Step.{Machine, machine}
 use Rattle.before.specs.Before.{beforeCode}
 use Rattle.paused.specs.declared.Checkpoint.{Checkpoint}
-use Rattle.paused.specs.declared.Shape.{Shape}
+use Rattle.paused.specs.declared.Layout.{Layout}
 use Rattle.paused.specs.declared.Response.{Response}
 use Rattle.paused.specs.declared.Response.the-variants as R
-use Rattle.paused.specs.Memory.{startPlace, currentPlace, slice, checkpointOf, shapeOf, waitingOf}
+use Rattle.paused.specs.Memory.{startPlace, currentPlace, slice, checkpointOf, layoutOf, waitingOf}
 use Rattle.paused.proofs.Clipped.{shape-within}
 use Rattle.resumable.specs.Instalment.{AfterCall, afterCall, ranFrom, leftAfter, instalment, advanced, advanceOf}
 use Rattle.resumable.proofs.Running.{length-slice}
@@ -40,7 +40,7 @@ left-long : (before len n place : ℕ) (o : Outcome Machine) (cells : List ℤ) 
 left-long before len n place (ok (machine b c vs t)) cells = simp length-sets
 left-long before len n place (refusal k) cells = simp length-sets
 
-advanced-long : (image : List ℕ) (n : ℕ) (cells : List ℤ) (p : Checkpoint) (f : Shape) → length (advanced image n cells p f .cells) ≡ length cells
+advanced-long : (image : List ℕ) (n : ℕ) (cells : List ℤ) (p : Checkpoint) (f : Layout) → length (advanced image n cells p f .cells) ≡ length cells
 advanced-long image n cells p f =
     let code = drop (f .base) image in
     let d = ranFrom code (min n imageLimit) p (f .size) cells in
@@ -52,8 +52,8 @@ advanced-long image n cells p f =
 advance-long : (image : List ℕ) (n : ℕ) (cells : List ℤ) → length (advanceOf image n cells .cells) ≡ length cells
 unfolding advanceOf
 advance-long image n cells =
-    cond-long (eqb (length cells) pausedLength) (advanced image n cells (checkpointOf cells) (shapeOf cells)) (afterCall R.Idle cells) (length cells)
-    (advanced-long image n cells (checkpointOf cells) (shapeOf cells)) refl
+    cond-long (eqb (length cells) pausedLength) (advanced image n cells (checkpointOf cells) (layoutOf cells)) (afterCall R.Idle cells) (length cells)
+    (advanced-long image n cells (checkpointOf cells) (layoutOf cells)) refl
 
 begin-long : (image : List ℕ) (s : State) (cells : List ℤ) → length (beginOf image s cells .cells) ≡ length cells
 unfolding beginOf
@@ -86,15 +86,15 @@ finish-same s cells =
     cond-same (eqb (length cells) pausedLength) _ _
     (λ l. cond-same (eqb (checkpointOf cells .phase) 0) _ _ (λ e. still)
     (cond-same (eqb (checkpointOf cells .phase) 1) _ _ (λ e. still)
-    (cond-same (eqb (checkpointOf cells .phase) 2) _ _ (λ e. cond-same (sameValues s (slice startPlace (shapeOf cells .size) cells)) _ _ (λ q. done (eqb-true (length cells) pausedLength l) q) still) (record { memory = length-set cells 0 (pos 0); values = refl }))))
+    (cond-same (eqb (checkpointOf cells .phase) 2) _ _ (λ e. cond-same (sameValues s (slice startPlace (layoutOf cells .size) cells)) _ _ (λ q. done (eqb-true (length cells) pausedLength l) q) still) (record { memory = length-set cells 0 (pos 0); values = refl }))))
     still
   where
     still : {r : Response} → SameLengths cells s (afterFinish r cells s)
     still = record { memory = refl; values = refl }
 
-    done : {r : Response} → length cells ≡ pausedLength → sameValues s (slice startPlace (shapeOf cells .size) cells) ≡ true → SameLengths cells s (afterFinish r (over cells) (slice currentPlace (shapeOf cells .size) cells))
+    done : {r : Response} → length cells ≡ pausedLength → sameValues s (slice startPlace (layoutOf cells .size) cells) ≡ true → SameLengths cells s (afterFinish r (over cells) (slice currentPlace (layoutOf cells .size) cells))
     done l q =
-        let n = shapeOf cells .size in
+        let n = layoutOf cells .size in
         let few = shape-within cells .sizes in
         record {
           memory = length-set cells 0 (pos 0);
