@@ -12,7 +12,7 @@ use Rattle.paused.specs.Responses.{stepsIn}
 use Rattle.limits.specs.Answer.{Answer, accepted, refused}
 use Rattle.semantics.specs.Formula.{State}
 use Rattle.bytecode.specs.Check.{checkOf}
-use Rattle.bytecode.specs.Parts.{headerOf}
+use Rattle.bytecode.specs.Parts.{shapeIn}
 use Rattle.scan.specs.Services.{AfterScan, scanOf}
 use Rattle.paused.specs.declared.Response.{Response}
 use Rattle.paused.specs.declared.Response.the-variants as R
@@ -45,7 +45,7 @@ posting-keeps image (p ∷ ps) cells o x =
       waiting = expects (post (p .image) (p .row)) (x .waiting) o .waiting;
       agrees =
           subst (Agrees image (postOf (p .image) (p .row) cells .cells) (expects (post (p .image) (p .row)) (x .waiting) o .waiting))
-          (posted-scan (mayPost (checkOf (p .image)) (headerOf (p .image)) (p .row)) (p .row) (x .waiting) o)
+          (posted-scan (mayPost (checkOf (p .image)) (shapeIn (p .image)) (p .row)) (p .row) (x .waiting) o)
           (m .agrees);
     })
 

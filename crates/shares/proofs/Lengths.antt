@@ -23,7 +23,7 @@ use Rattle.paused.specs.declared.Layout.{Layout}
 use Rattle.paused.specs.declared.Response.{Response}
 use Rattle.paused.specs.declared.Response.the-variants as R
 use Rattle.paused.specs.Memory.{startPlace, currentPlace, slice, checkpointOf, layoutOf, waitingOf}
-use Rattle.paused.proofs.Clipped.{shape-within}
+use Rattle.paused.proofs.Clipped.{layout-within}
 use Rattle.resumable.specs.Instalment.{AfterCall, afterCall, ranFrom, leftAfter, instalment, advanced, advanceOf}
 use Rattle.resumable.proofs.Running.{length-slice}
 use Rattle.lifecycle.specs.Calls.{AfterFinish, afterFinish, over, sameValues, finishOf, taken, orRefused, formed, startedIn, startWith, beginOf}
@@ -95,7 +95,7 @@ finish-same s cells =
     done : {r : Response} → length cells ≡ pausedLength → sameValues s (slice startPlace (layoutOf cells .size) cells) ≡ true → SameLengths cells s (afterFinish r (over cells) (slice currentPlace (layoutOf cells .size) cells))
     done l q =
         let n = layoutOf cells .size in
-        let few = shape-within cells .sizes in
+        let few = layout-within cells .sizes in
         record {
           memory = length-set cells 0 (pos 0);
           values = length-slice currentPlace n cells (omega (arith, l, few)) ∙ sym (same-long s (slice startPlace n cells) q ∙ length-slice startPlace n cells (omega (arith, l, few)));
