@@ -20,6 +20,7 @@ use Rattle.grammar.specs.Spelled.{SpellsZ, positive, negative, SpellsStart, abs
 use Rattle.grammar.specs.Spelled as S
 use Rattle.grammar.proofs.Bytes.{heads, tails}
 use Rattle.grammar.proofs.Normal.{normal-length, name-seen, other-seen, normal-spelled}
+use Rattle.grammar.proofs.Standing.{spells-append, normally}
 use Rattle.grammar.proofs.ConverseText.{accepted-exactly}
 use Rattle.lettercase.specs.Lettercase.{Recased, SameProgram, CaseIgnored}
 
@@ -55,9 +56,12 @@ seen-written text a b (t ∷ ts) g =
       spelt = ((st .kind, st .is-token .spells), r .spelt);
     }
 
-spells-recased : (text other : List ℕ) → Recased text other → (a b : ℕ) (ts : Tokens) → Spells normal text a b ts → Spells normal other a b ts
-spells-recased text other c a b [] g = g
-spells-recased text other c a b (t ∷ ts) g = (g .0, c .same-token a (g .0) t (g .1), spells-recased text other c (g .0) b ts (g .2))
+-- tokens behind those before them
+spells-recased : (text other : List ℕ) → Recased text other → (before : Tokens) (a b : ℕ) (ts : Tokens) → Spells normal text 0 a before → Spells normal text a b ts → Spells normal other a b ts
+spells-recased text other c before a b [] h g = g
+spells-recased text other c before a b (t ∷ ts) h g =
+    let next : Spells normal text 0 (g .0) (before ++ t ∷ []) = spells-append normally text 0 a (g .0) before (t ∷ []) h (g .0, g .1, refl) in
+    (g .0, c .same-token before a (g .0) t h (g .1), spells-recased text other c (before ++ t ∷ []) (g .0) b ts next (g .2))
 
 -- ---- tokens that are seen as one
 
@@ -254,7 +258,9 @@ record SpelledToo (other : List ℕ) (p : Program) : Type 0 where
 spelled-too : (text other : List ℕ) (p : Program) → Recased text other → Spelled text p → SpelledToo other p
 spelled-too text other p c s =
     let front = s .input-tokens ++ s .variable-tokens in
-    let w = seen-written other 0 (s .rules-from) (normals front) (spells-recased text other c 0 (s .rules-from) (normals front) (written-seen text 0 (s .rules-from) front (s .spells-declarations))) in
+    let declared : Spells normal text 0 (s .rules-from) (normals front) = written-seen text 0 (s .rules-from) front (s .spells-declarations) in
+    let whole : Spells normal text 0 (s .end) (normals front ++ s .rule-tokens) = spells-append normally text 0 (s .rules-from) (s .end) (normals front) (s .rule-tokens) declared (s .spells-tokens) in
+    let w = seen-written other 0 (s .rules-from) (normals front) (spells-recased text other c [] 0 (s .rules-from) (normals front) refl declared) in
     let t = parted inputWord input-plain (w .tokens) (s .input-tokens) (s .variable-tokens) (w .spelt) (w .seen) in
     let i = all-too inputWord input-plain (s .input-tokens) (s .inputs) (s .declares-inputs) (t .front) (t .spelt-front) (t .seen-front) in
     let v = all-too varWord variable-plain (s .variable-tokens) (s .variables) (s .declares-variables) (t .back) (t .spelt-back) (t .seen-back) in
@@ -278,8 +284,8 @@ spelled-too text other p c s =
         rules-from = s .rules-from;
         end = s .end;
         spells-declarations = subst (Spells asWritten other 0 (s .rules-from)) (t .whole) (w .spells);
-        spells-tokens = spells-recased text other c (s .rules-from) (s .end) (s .rule-tokens) (s .spells-tokens);
-        ends = subst (Separated other (s .end)) (sym long) (c .same-space (s .end) (length text) (s .ends));
+        spells-tokens = spells-recased text other c (normals front) (s .rules-from) (s .end) (s .rule-tokens) declared (s .spells-tokens);
+        ends = subst (Separated other (s .end)) (sym long) (c .same-space (normals front ++ s .rule-tokens) (s .end) (length text) whole (s .ends));
         inputs = i .others;
         variables = v .others;
         declares-inputs = i .declared;

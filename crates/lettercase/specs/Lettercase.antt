@@ -7,16 +7,16 @@ use Rattle.limits.specs.Answer.{accepted}
 use Rattle.semantics.specs.Program.{Program, rangesOf}
 use Rattle.lexer.specs.Spelling.{Separated}
 use Rattle.bytecode.specs.Translation.{imageOf}
-use Rattle.grammar.specs.Derivation.{normal, normals, Stands}
+use Rattle.grammar.specs.Derivation.{Tokens, normal, normals, Stands, Spells}
 use Rattle.grammar.specs.Parse.{programOf}
 use Rattle.grammar.specs.Spelled.{namesOf}
 
--- A text with letters of its names in other cases: where a token stands in the one, a token that the rule forms know as the same stands in the
--- other, and where only space stands, only space stands there too.
+-- A text with letters of its names in other cases: where a token stands behind tokens in the one, a token that the rule forms know as the same
+-- stands in the other, and where only space stands behind them, only space stands there too.
 pub record Recased (text other : List ℕ) : Type 0 where
   pub as-long : length other ≡ length text
-  pub same-token : (a n : ℕ) (w : List ℕ) → Stands normal text a n w → Stands normal other a n w
-  pub same-space : (a s : ℕ) → Separated text a s → Separated other a s
+  pub same-token : (before : Tokens) (a n : ℕ) (w : List ℕ) → Spells normal text 0 a before → Stands normal text a n w → Stands normal other a n w
+  pub same-space : (before : Tokens) (a s : ℕ) → Spells normal text 0 a before → Separated text a s → Separated other a s
 
 -- programs that differ in nothing but the letter case of their names
 pub record SameProgram (p q : Program) : Type 0 where
