@@ -55,7 +55,7 @@ module _ (ns : List Range) (s : State) where
 
   module _ (ids : List Bool) (size : length ids ≡ length ns) where
     -- an expression pushes its value
-    exec-E : (e : Expression) (c : Bool) (vs : List ℤ) (t : State) → UsableE ids e → depthE e + length vs ≤ 40
+    pub exec-E : (e : Expression) (c : Bool) (vs : List ℤ) (t : State) → UsableE ids e → depthE e + length vs ≤ 40
         → exec ns s (codeE e) (machine false c vs t) ≡ (evalE s t e >>= λ z. ok (machine false c (z ∷ vs) t))
     exec-E (P.constant z) c vs t u d = rw (push-ok z c vs t (omega arith))
     exec-E (P.current i) c vs t u d = rw (lt-ltb i (length ns) (omega (arith, known-inside ids i u)), push-ok (at t i) c vs t (omega arith))
@@ -69,7 +69,7 @@ module _ (ns : List Range) (s : State) where
     exec-E (P.negate a) c vs t u d = simp (exec-append, exec-E a c vs t u d, bind-assoc)
 
     -- a condition pushes its bit
-    exec-C : (x : Condition) (c : Bool) (vs : List ℤ) (t : State) → UsableC ids x → depthC x + length vs ≤ 40
+    pub exec-C : (x : Condition) (c : Bool) (vs : List ℤ) (t : State) → UsableC ids x → depthC x + length vs ≤ 40
         → exec ns s (codeC x) (machine false c vs t) ≡ (evalC s t x >>= λ z. ok (machine false c (bit z ∷ vs) t))
     exec-C (P.comparison o a b) c vs t u d =
         let ua : UsableE ids a = u .0 in

@@ -1,5 +1,5 @@
 -- What states and rows are held to: their lengths, the starts, what is in range, and the states of a lent trace. The plain scan and the services
--- cite these alike, by the shape of a program or of an image. Document 01, "Values and formulas" and "Who can cause which refusal"; document 02, A.12. Assumes nothing.
+-- cite these alike, by the shape of a program or of an image. Document 01, "Values and formulas" and "Who can cause which refusal"; document 02, A.12 and A.13. Assumes nothing.
 use Prim.Native.Nat.{ℕ, zero, suc, _/_, _%_}
 use mathlib.Core.Bool.{Bool, true, _&&_, cond}
 use mathlib.Core.List.{List, [], _∷_, _++_, map}
@@ -51,12 +51,16 @@ abbrev pub statesOf : ℕ → ℕ → List ℤ → Trace
 statesOf zero names cells = []
 statesOf (suc n) names cells = take names cells ∷ statesOf n names (drop names cells)
 
-abbrev pub tracedStates : ℕ → List ℤ → Trace
-tracedStates names cells = statesOf (length cells / names) names cells
-
 -- 12 a trace without its start or with a cut state (without names, nothing lent is the start alone)
 unfoldable pub isTrace : ℕ → List ℤ → Bool
 isTrace names cells = cond (eqb names 0) (eqb (length cells) 0) (ltb 0 (length cells) && eqb (length cells % names) 0)
+
+-- how many states: without names the start alone
+unfoldable pub placesIn : ℕ → List ℤ → ℕ
+placesIn names cells = cond (eqb names 0) 1 (length cells / names)
+
+abbrev pub tracedStates : ℕ → List ℤ → Trace
+tracedStates names cells = statesOf (placesIn names cells) names cells
 
 -- the cells of a trace, its states one behind the other
 abbrev pub valuesOf : Trace → List ℤ

@@ -1,0 +1,1 @@
+// What a watch formula reports of a trace. Definitions and laws only.
