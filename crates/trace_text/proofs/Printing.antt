@@ -61,12 +61,12 @@ digit-is : (d : ℕ) → d < 10 → isDigit (48 + d) ≡ true
 unfolding isDigit
 digit-is d h = rw (le-leb 48 (48 + d) (omega arith), lt-ltb (48 + d) 58 (omega arith))
 
-record Reads (n : ℕ) : Type 0 where
-  digits : allDigits (unsignedDecimal n) ≡ true
-  value : valueOf (unsignedDecimal n) ≡ n
-  some-digits : 1 ≤ length (unsignedDecimal n)
+pub record Reads (n : ℕ) : Type 0 where
+  pub digits : allDigits (unsignedDecimal n) ≡ true
+  pub value : valueOf (unsignedDecimal n) ≡ n
+  pub some-digits : 1 ≤ length (unsignedDecimal n)
 
-reads : (n : ℕ) → Reads n
+pub reads : (n : ℕ) → Reads n
 unfolding valueOf valueOn
 reads = by-digits Reads
     (λ n h. let e = decimal-small n h in record { digits = rw (e, digit-is n h); value = rw e (omega arith); some-digits = rw e (omega arith) })
