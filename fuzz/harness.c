@@ -5,11 +5,14 @@
  *   L  a text, a line `#`, a line of a variable's id, the threshold and the two rates, one of minutes, one of a trace's numbers
  *   S  a text, a line `#`, then calls of a scan in instalments (instalments.c)
  *   P  a text, a line `#`, then a length, calls, and the memory of a paused scan
+ *   R  a text, a line `#`, then events of a controller with several sets of these rules (rounds.c)
+ *   Q  a text, a line `#`, then lengths, the table of a round, and the memory of paused scans
  *   I  a count k, k bytes that stand for numbers of states and rows, then an image
  * A byte of lower case does the same with lent memory at the start of its pages and not at their end. */
 #include "blocks.h"
 #include "instalments.h"
 #include "rolvenko.h"
+#include "rounds.h"
 #include "services.h"
 
 #include <ctype.h>
@@ -33,6 +36,7 @@ int LLVMFuzzerInitialize(int *argc, char ***argv) {
     snprintf(file, sizeof file, "%s.blocks", (*argv)[0]);
     services_begin();
     instalments_begin();
+    rounds_begin();
     blocks_watch(file);
     return 0;
 }
@@ -219,6 +223,7 @@ int LLVMFuzzerTestOneInput(const uint8_t *data, size_t size) {
         return 0;
     services_side(isupper(data[0]) != 0);
     instalments_side(isupper(data[0]) != 0);
+    rounds_side(isupper(data[0]) != 0);
     size_t after, length;
     switch (toupper(data[0])) {
     case 'T':
@@ -246,6 +251,14 @@ int LLVMFuzzerTestOneInput(const uint8_t *data, size_t size) {
             call_list(image, length, data + 1 + after, data + size);
         else if (length > 0)
             any_memory(image, length, data + 1 + after, data + size);
+        return 0;
+    case 'R':
+    case 'Q':
+        length = translated(data + 1, before_mark(data + 1, size - 1, &after));
+        if (length > 0 && toupper(data[0]) == 'R')
+            event_list(image, length, data + 1 + after, data + size);
+        else if (length > 0)
+            any_round(image, length, data + 1 + after, data + size);
         return 0;
     case 'I':
         any_image(data + 1, size - 1);

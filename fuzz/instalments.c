@@ -91,15 +91,6 @@ static struct parts call(struct call *c, int32_t *paused, size_t cells) {
     return p;
 }
 
-/* What the calls so far have come to, by the undivided scan: the row that waits, and the scan that is not over. */
-struct expected {
-    int waits, runs;
-    int32_t row[CELLS_MOST], start[CELLS_MOST], end[CELLS_MOST];
-    size_t inputs, names;
-    struct parts whole;
-    uint32_t done;
-};
-
 static struct parts only(unsigned number) { return (struct parts){number, 0, 0}; }
 
 static struct parts expect_begin(struct expected *e, const struct call *c) {
@@ -159,6 +150,27 @@ static struct parts expect(struct expected *e, struct call *c) {
     default:
         return expect_finish(e, c);
     }
+}
+
+struct parts expect_post(struct expected *e, const uint8_t *image, size_t length, const int32_t *row, size_t inputs) {
+    struct call c = {.kind = POST, .image = image, .length = length, .count = inputs};
+    memcpy(c.numbers, row, inputs * sizeof *row);
+    return expect(e, &c);
+}
+
+struct parts expect_visit(struct expected *e, const uint8_t *image, size_t length, int32_t *state, size_t names, size_t share) {
+    struct call c = {.kind = BEGIN, .image = image, .length = length, .count = names, .steps = share};
+    memcpy(c.numbers, state, CELLS_MOST * sizeof *state);
+    struct parts p = expect(e, &c);
+    if (p.number != 0 && p.number != ROLVENKO_UNFINISHED)
+        return p;
+    c.kind = ADVANCE;
+    uint32_t steps = expect(e, &c).count;
+    c.kind = FINISH;
+    p = expect(e, &c);
+    memcpy(state, c.numbers, CELLS_MOST * sizeof *state);
+    p.count = steps;
+    return p;
 }
 
 static size_t steps_of(uint8_t byte) { return byte < 250 ? byte : byte < 253 ? (size_t)65533 + (byte - 250) * 2 : SIZE_MAX - (255 - byte); }

@@ -1,5 +1,5 @@
-/* Rolvenko: launch rules translated, checked, started and scanned, also in instalments, rows filled with the local time, the licence
- * charge of a trace, and whether rules can ever stop in service, as C functions.
+/* Rolvenko: launch rules translated, checked, started and scanned, also in instalments and by shares for several rule sets, rows filled
+ * with the local time, the licence charge of a trace, and whether rules can ever stop in service, as C functions.
  *
  * Link target/staticlib/librolvenko.a, which `rt staticlib rolvenko` writes, or what ./install puts down of it (-lrolvenko; pkg-config
  * rolvenko). It is for x86-64 Linux, needs memcpy and memset, allocates nothing and keeps nothing between calls, so calls from several
@@ -7,18 +7,19 @@
  *
  * The answer. Each function answers one 64-bit number, number * 2^56 + place * 2^24 + count:
  *
- *     number   0 for a success, else the refusal, 1 to 20, 22, 24 or 26 to 29; of the calls of a scan in instalments also 254 and 255
+ *     number   0 for a success, else the refusal, 1 to 20, 22 or 24 to 29; of the calls of a scan in instalments also 254 and 255
  *     place    the byte place of a refusal in the text or image; of 27 the scans before the refused one; 0 for a success and for the
- *              refusals 9, 12 to 20, 22, 24, 26, 28 and 29
- *     count    of a success of rolvenko_translate the image's length, of rolvenko_scan, rolvenko_advance and rolvenko_finish (refused or
- *              not) the steps; else 0
+ *              refusals 9, 12 to 20, 22, 24 to 26, 28 and 29
+ *     count    of a success of rolvenko_translate the image's length, of rolvenko_scan, rolvenko_advance, rolvenko_finish and
+ *              rolvenko_visit (refused or not) the steps; else 0
  *
  * But a success of rolvenko_charge is its sum; see there.
  *
  * Memory. What is lent as const is only read. A refusal leaves all lent memory as it was, but for `paused`: a refused rolvenko_begin has taken the
- * waiting row, and the refusal of a scan that rolvenko_finish tells ends it. What a success writes stands at each function.
+ * waiting row, and the refusal of a scan that rolvenko_finish tells ends it; a rolvenko_visit may meet either. What a success writes stands at
+ * each function.
  * Nothing outside the lengths given is touched. The caller owes what C cannot say: each pointer has its length's elements behind it,
- * int32_t and int64_t ones are aligned, and what is written overlaps nothing else that is lent to the same call. With a length of 0 nothing is read
+ * numbers of more than a byte are aligned, and what is written overlaps nothing else that is lent to the same call. With a length of 0 nothing is read
  * or written: pass any pointer that is not NULL. (NULL with 0 works in the archive as compiled, and the tests try it, but the proofs
  * are about slices and do not speak of it.) Every length and every content is allowed; nothing else is asked of the caller.
  */
@@ -169,6 +170,40 @@ uint64_t rolvenko_advance(int32_t *paused, size_t paused_len, const uint8_t *ima
  *   24        the state differs, in length too, from the one at the start; count 0, and the scan still awaits its finish
  */
 uint64_t rolvenko_finish(int32_t *paused, size_t paused_len, int32_t *state, size_t state_len);
+
+/* Several rule sets on one controller, each with its own image, state, paused memory and share. A visit starts a waiting row if no scan is
+ * unfinished, gives that scan `share` steps and asks for its finish; what is left over is not carried. With the same image at every visit and a
+ * state that only the visits write, a scan of c > 0 instructions that meets no refusal succeeds in exactly c divided by share, rounded up, visits.
+ * The answer has the steps of this visit and the finish's number:
+ *   0         `state` became the next state; a row that waits is for the next visit
+ *   254, 255  the scan is unfinished, its share is done; neither scan nor row
+ *   9, 11, 12, 18, 13   a refused start, as rolvenko_begin; no steps
+ *   14 to 17, 22, 24    as rolvenko_finish
+ *   25        share is outside 1 to 65,536; nothing moves
+ */
+#define ROLVENKO_SETS 8            /* rule sets of a round */
+#define ROLVENKO_SHARE_LIMIT 65536 /* steps of a share */
+
+uint64_t rolvenko_visit(int32_t *paused, size_t paused_len, const uint8_t *image, size_t image_len, int32_t *state, size_t state_len,
+                        size_t share);
+
+/* A round: visits of 1 to 8 sets in order, over memory that is lent for all of them together. What happens in one set changes no other. Each
+ * part stands behind that of the set before:
+ *   sets      three numbers a set: bytes of its image, numbers of its state, its share (a struct rolvenko_set); sets_len counts the numbers
+ *   images    the images
+ *   states    the states
+ *   paused    ROLVENKO_PAUSED numbers a set: set i's, for rolvenko_post, begin at paused + i * ROLVENKO_PAUSED
+ *   answers   one number a set, written: the answer of its visit, as rolvenko_visit gives it
+ * Where images, states or paused are shorter than the table says, a set gets what is left; answers are written as far as there is room. 0 as a
+ * whole, or
+ *   25        sets_len is not three numbers for each of 1 to 8 sets, or a share is outside 1 to 65,536; before any visit, and nothing moves
+ */
+struct rolvenko_set {
+    size_t image_len, state_len, share;
+};
+
+uint64_t rolvenko_round(int32_t *paused, size_t paused_len, const uint8_t *images, size_t images_len, int32_t *states, size_t states_len,
+                        const size_t *sets, size_t sets_len, uint64_t *answers, size_t answers_len);
 
 #ifdef __cplusplus
 }

@@ -4,6 +4,7 @@
 //!
 //!     bench [--rounds N]                            the tables
 //!     bench --once WHO SERVICE INPUT CALLS          just so many calls, for bench/instructions
+//!     bench --shares                                the table of rounds of eight rule sets alone
 //!     bench --closed [NAME CALLS]                   the table of closed profiles alone, or so many calls of one
 
 mod closed;
@@ -12,6 +13,7 @@ mod instalments;
 mod native;
 mod once;
 mod refused;
+mod rounds;
 mod timing;
 
 use input::{inputs, Input};
@@ -37,11 +39,12 @@ fn main() {
     match words[..] {
         [] => tables(30),
         ["--rounds", rounds] => tables(rounds.parse().expect("a number of rounds")),
+        ["--shares"] => rounds::table(&inputs(), 30),
         ["--closed"] => closed::table(30),
         ["--closed", name, calls] => closed::run(name, calls.parse().expect("a number of calls")),
         ["--once", who, service, input, calls] => once::run(who, service, input, calls.parse().expect("a number of calls")),
         _ => {
-            eprintln!("usage: bench [--rounds N] | --once WHO SERVICE INPUT CALLS | --closed [NAME CALLS]");
+            eprintln!("usage: bench [--rounds N] | --shares | --once WHO SERVICE INPUT CALLS | --closed [NAME CALLS]");
             std::process::exit(2);
         }
     }
@@ -66,6 +69,7 @@ fn tables(rounds: u32) {
     lines.iter().for_each(Line::print);
     growth(&lines);
     instalments::table(&inputs, rounds);
+    rounds::table(&inputs, rounds);
     refused::table(inputs.iter().find(|input| input.name == "lock").expect("the lock"), rounds);
     closed::table(rounds);
 }

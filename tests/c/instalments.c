@@ -23,6 +23,13 @@ static void holds(const char *what, int fact) {
 /* L2 of document 01, 7 instructions; a = _a + 1, b = 6 / d, 8 instructions, refused by 14 at the seventh for d = 0. */
 static const uint8_t L2[17] = {0, 1, 0, 2, 0, 3, 0, 1, 0, 10, 19, 1, 2, 20, 0, 22, 0};
 static const uint8_t DIVISION[25] = {1, 2, 0, 4, 0, 0, 18, 0, 0, 18, 0, 3, 1, 1, 2, 4, 21, 1, 1, 12, 2, 0, 7, 21, 2};
+/* No names and no code; document 01's launch latch, 21 instructions; two cases of which both hold for 0, 13 instructions, refused by 15 at the
+ * tenth; a case with the previous value, 7 instructions, refused by 16 at the sixth for 1. */
+static const uint8_t L1[2] = {0, 0};
+static const uint8_t LAUNCH[42] = {1,  1, 0, 2, 0,  0, 2, 0, 3, 1, 1, 0, 10, 2, 0, 1, 2,  10, 17, 19, 1,
+                                   2, 20, 1, 3, 1, 1, 2, 10, 2, 0, 1, 0, 10, 17, 19, 1, 0, 20, 1, 22, 1};
+static const uint8_t TWO_CASES[27] = {0, 1, 0, 4, 0, 3, 0, 1, 0, 10, 19, 1, 2, 20, 0, 3, 0, 1, 2, 12, 19, 1, 2, 20, 0, 22, 0};
+static const uint8_t SAME_VALUE[20] = {1, 1, 0, 2, 0, 0, 2, 0, 2, 0, 1, 2, 10, 19, 3, 1, 20, 1, 22, 1};
 
 enum { UNFINISHED = ROLVENKO_UNFINISHED, IDLE = ROLVENKO_IDLE };
 static int32_t paused[ROLVENKO_PAUSED], before[ROLVENKO_PAUSED];
@@ -94,6 +101,53 @@ static void refused(void) {
     expect("start with a short state", begin(DIVISION, 25, state, 2), 12, 0, 0);
 }
 
+/* An image, and calls on it with what they answer, from a memory of zeros. A list of a row or state is `count` of `numbers`. */
+enum kind { POST, BEGIN, ADVANCE, FINISH };
+struct call {
+    enum kind kind;
+    size_t count; /* of numbers; of an instalment the steps */
+    int32_t numbers[2];
+    unsigned number;
+    uint32_t steps;
+};
+
+static void calls(const char *what, const uint8_t *image, size_t length, const struct call *list, size_t count) {
+    memset(paused, 0, sizeof paused);
+    for (size_t i = 0; i < count; i++) {
+        struct call c = list[i];
+        uint64_t answer = c.kind == POST      ? post(image, length, c.numbers, c.count)
+                          : c.kind == BEGIN   ? begin(image, length, c.numbers, c.count)
+                          : c.kind == ADVANCE ? advance(image, length, c.count)
+                                              : finish(c.numbers, c.count);
+        char named[64];
+        snprintf(named, sizeof named, "%s, call %zu", what, i);
+        expect(named, answer, c.number, 0, c.steps);
+    }
+}
+
+#define CALLS(image, list) calls(#list, image, sizeof image, list, sizeof list / sizeof *list)
+
+/* Pauses inside what is passed over, between a pick and its settle, before and behind a refusal; an empty code; nothing of a refused scan stays. */
+static void directed(void) {
+    static const struct call empty[] = {{POST, 0, {0}, 0, 0}, {BEGIN, 0, {0}, 0, 0}, {FINISH, 1, {0}, 24, 0}, {FINISH, 0, {0}, 0, 0}, {FINISH, 0, {0}, IDLE, 0}};
+    static const struct call passed_over[] = {{POST, 1, {0}, 0, 0},    {BEGIN, 2, {0, 0}, 0, 0}, {ADVANCE, 8, {0}, 0, 8}, {ADVANCE, 3, {0}, 0, 3},
+                                              {ADVANCE, 2, {0}, 0, 2}, {ADVANCE, 99, {0}, 0, 8}, {FINISH, 2, {0, 0}, 0, 21}};
+    static const struct call two_cases[] = {{POST, 0, {0}, 0, 0},    {BEGIN, 1, {0}, 0, 0},   {ADVANCE, 5, {0}, 0, 5}, {ADVANCE, 1, {0}, 0, 1},
+                                            {ADVANCE, 3, {0}, 0, 3}, {ADVANCE, 1, {0}, 0, 1}, {ADVANCE, 1, {0}, 0, 0}, {FINISH, 1, {0}, 15, 10}};
+    static const struct call then_another[] = {{POST, 0, {0}, 0, 0},     {BEGIN, 1, {0}, 0, 0},   {POST, 0, {0}, 0, 0},  {ADVANCE, 6, {0}, 0, 6},
+                                               {ADVANCE, 99, {0}, 0, 4}, {FINISH, 1, {0}, 15, 10}, {BEGIN, 1, {1}, 0, 0}, {ADVANCE, 5, {0}, 0, 5},
+                                               {ADVANCE, 99, {0}, 0, 8}, {FINISH, 1, {1}, 0, 13}};
+    static const struct call same_value[] = {{POST, 1, {1}, 0, 0},    {BEGIN, 2, {0, 0}, 0, 0},    {ADVANCE, 6, {0}, 0, 6},      {ADVANCE, 1, {0}, 0, 0},
+                                             {FINISH, 2, {0, 0}, 16, 6}, {BEGIN, 2, {0, 0}, IDLE, 0}, {FINISH, 2, {0, 0}, IDLE, 0}};
+    CALLS(L1, empty);
+    CALLS(LAUNCH, passed_over);
+    CALLS(TWO_CASES, two_cases);
+    CALLS(TWO_CASES, then_another);
+    CALLS(SAME_VALUE, same_value);
+    static const uint8_t zeros[65537] = {0};
+    expect("post of too long an image", post(zeros, sizeof zeros, none, 0), 9, 0, 0);
+}
+
 /* Another length than ROLVENKO_PAUSED, 0 among them. */
 static void lengths(void) {
     int32_t state[1] = {0};
@@ -110,6 +164,7 @@ static void lengths(void) {
 int main(void) {
     latch();
     refused();
+    directed();
     lengths();
     printf("instalments: %d failures\n", failures);
     return failures != 0;

@@ -62,6 +62,56 @@ static void *combination(void *p) {
     return p;
 }
 
+/* A scan in instalments, and the same image for all the sets of a round. */
+static int32_t paused[ROLVENKO_SETS * ROLVENKO_PAUSED], states[ROLVENKO_SETS * 64];
+static uint8_t images[ROLVENKO_SETS * 2048];
+static size_t sets[ROLVENKO_SETS * 3];
+
+static void *post(void *p) {
+    for (int i = 0; i < ROLVENKO_SETS && answer == 0; i++)
+        answer = rolvenko_post(paused + i * ROLVENKO_PAUSED, ROLVENKO_PAUSED, image, image_len, row, names - 1);
+    return p;
+}
+
+static void *begin(void *p) {
+    answer = rolvenko_begin(paused, ROLVENKO_PAUSED, image, image_len, state, names);
+    return p;
+}
+
+static void *advance(void *p) {
+    answer = rolvenko_advance(paused, ROLVENKO_PAUSED, image, image_len, 65536);
+    return p;
+}
+
+static void *finish(void *p) {
+    answer = rolvenko_finish(paused, ROLVENKO_PAUSED, state, names);
+    return p;
+}
+
+static void *visit(void *p) {
+    answer = rolvenko_visit(paused, ROLVENKO_PAUSED, image, image_len, state, names, 65536);
+    return p;
+}
+
+static void *eight(void *p) {
+    uint64_t answers[ROLVENKO_SETS];
+    answer = rolvenko_round(paused, ROLVENKO_SETS * ROLVENKO_PAUSED, images, ROLVENKO_SETS * image_len, states, ROLVENKO_SETS * names, sets,
+                            ROLVENKO_SETS * 3, answers, ROLVENKO_SETS);
+    for (int i = 0; i < ROLVENKO_SETS && answer == 0; i++)
+        answer = rolvenko_number(answers[i]);
+    return p;
+}
+
+static void join(void) {
+    for (size_t i = 0; i < ROLVENKO_SETS; i++) {
+        memcpy(images + i * image_len, image, image_len);
+        memcpy(states + i * names, state, names * sizeof *state);
+        sets[3 * i] = image_len;
+        sets[3 * i + 1] = names;
+        sets[3 * i + 2] = 65536;
+    }
+}
+
 /* Inputs 0..0 and a variable 0..1 that keeps its value. */
 static void hold(void) {
     memset(held, 0, sizeof held);
@@ -118,18 +168,54 @@ static void lengthen(size_t length) {
     text_len = length;
 }
 
-static void measure(const char *name, void *(*call)(void *), size_t idle, size_t *most) {
-    size_t bytes = used(call) - idle;
+enum { TRANSLATE, CHECK, START, SCAN, CLOCK, CHARGE, CLOSED, COMBINATION, POST, BEGIN, ADVANCE, FINISH, VISIT, ROUND, SERVICES };
+
+static const struct {
+    const char *name;
+    void *(*call)(void *);
+} services[SERVICES] = {{"translate", translate}, {"check", check},     {"start", start},     {"scan", scan},
+                        {"clock", local_hour},    {"charge", charge},   {"closed", profile},  {"combination", combination},
+                        {"post", post},           {"begin", begin},     {"advance", advance}, {"finish", finish},
+                        {"visit", visit},         {"round", eight}};
+static size_t idle, most[SERVICES];
+
+static void measure(int service) {
+    answer = 0;
+    size_t bytes = used(services[service].call) - idle;
     if (rolvenko_number(answer) != 0) {
-        printf("%s: refused %u at %u\n", name, rolvenko_number(answer), rolvenko_place(answer));
+        printf("%s: refused %u at %u\n", services[service].name, rolvenko_number(answer), rolvenko_place(answer));
         exit(1);
     }
-    if (bytes > *most)
-        *most = bytes;
+    if (bytes > most[service])
+        most[service] = bytes;
+}
+
+/* Every service on the text and its image. */
+static void measure_all(void) {
+    measure(TRANSLATE);
+    image_len = rolvenko_count(answer);
+    measure(CLOCK);
+    lengthen(2048);
+    measure(TRANSLATE);
+    measure(CLOCK);
+    lengthen(8193);
+    for (int service = TRANSLATE; service <= CHARGE; service++)
+        measure(service);
+    hold();
+    measure(CLOSED);
+    measure(COMBINATION);
+    measure(START);
+    for (int service = POST; service <= FINISH; service++)
+        measure(service);
+    join();
+    measure(POST);
+    measure(VISIT);
+    measure(POST);
+    measure(ROUND);
 }
 
 int main(void) {
-    size_t idle = used(nothing), most[8] = {0};
+    idle = used(nothing);
     for (int i = 0; i < 32; i++) {
         table[2 * i] = 1000 * i;
         table[2 * i + 1] = i % 2 ? 60 : 120;
@@ -137,27 +223,14 @@ int main(void) {
     for (int square = 0; square <= 16; square++)
         for (size_t declared = 2; declared <= 64; declared += 62) {
             nested(square, declared);
-            measure("translate", translate, idle, &most[0]);
-            image_len = rolvenko_count(answer);
-            measure("clock", local_hour, idle, &most[4]);
-            lengthen(2048);
-            measure("translate", translate, idle, &most[0]);
-            measure("clock", local_hour, idle, &most[4]);
-            lengthen(8193);
-            measure("translate", translate, idle, &most[0]);
-            measure("clock", local_hour, idle, &most[4]);
-            measure("check", check, idle, &most[1]);
-            measure("start", start, idle, &most[2]);
-            measure("scan", scan, idle, &most[3]);
-            measure("charge", charge, idle, &most[5]);
-            hold();
-            measure("closed", profile, idle, &most[6]);
-            measure("combination", combination, idle, &most[7]);
+            measure_all();
         }
-    printf("stack, bytes at most: translate %zu, check %zu, start %zu, scan %zu, clock %zu, charge %zu, closed %zu, combination %zu\n", most[0],
-           most[1], most[2], most[3], most[4], most[5], most[6], most[7]);
-    for (int i = 0; i < 8; i++)
-        if (most[i] > BOUND)
-            return 1;
-    return 0;
+    printf("stack, bytes at most:");
+    int over = 0;
+    for (int i = 0; i < SERVICES; i++) {
+        printf("%s %s %zu", i ? "," : "", services[i].name, most[i]);
+        over |= most[i] > BOUND;
+    }
+    printf("\n");
+    return over;
 }

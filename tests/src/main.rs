@@ -2,8 +2,8 @@
 //!
 //!     rolvenko-tests [--seed N] [--seconds S] [--least N] [--program PATH] [SERVICE ..]
 //!
-//! Services: translate, check, scan (and start), trace (lists of rows), clock, charge, closed (and combination), instalments, and program, a
-//! trace program at PATH; all by default, S seconds and at least N calls each. Prints how often each answer was met. A difference is shrunk to a small input and
+//! Services: translate, check, scan (and start), trace (lists of rows), clock, charge, closed (and combination), instalments, rounds, and
+//! program, a trace program at PATH; all by default, S seconds and at least N calls each. Prints how often each answer was met. A difference is shrunk to a small input and
 //! printed, and the exit status is 1.
 
 mod charge;
@@ -13,6 +13,7 @@ mod closed;
 mod compare;
 mod instalments;
 mod program;
+mod rounds;
 mod scan;
 mod shrink;
 mod trace;
@@ -32,7 +33,7 @@ fn main() -> ExitCode {
             return ExitCode::from(2);
         }
     };
-    let runs: [Run; 9] = [
+    let runs: [Run; 10] = [
         translate::run,
         check::run,
         scan::run,
@@ -41,6 +42,7 @@ fn main() -> ExitCode {
         charge::run,
         closed::run,
         instalments::run,
+        rounds::run,
         program::run,
     ];
     for (name, run) in SERVICES.into_iter().zip(runs) {

@@ -2,6 +2,7 @@
 //! (include/rolvenko.h), whose contract is proved for every input, so nothing is asked of the caller.
 
 pub mod instalments;
+pub mod rounds;
 
 pub use instalments::{Paused, Response};
 
@@ -86,6 +87,7 @@ pub fn meaning(number: u8) -> &'static str {
         20 => "the UTC minute is below 0 or over 2,147,483,647",
         22 => "a rising pick at or below the previous value, or a falling one at or above it",
         24 => "the state at the finish is not the one at the start",
+        25 => "not 1 to 8 rule sets, or a share outside 1 to 65,536",
         26 => "the states and rows to scan are more than 65,536",
         27 => "an in-range state and row whose scan is refused",
         28 => "no variable whose low and traced values are 0 or above, or a threshold, rate or minutes out of limit or not one a row",

@@ -5,9 +5,11 @@ ghost use Rattle.scan.specs.Services.{startOf, scanOf};
 ghost use Rattle.clock.specs.Services.{fillOf};
 ghost use Rattle.charge.specs.Charge.{chargeOf};
 ghost use Rattle.closed.specs.Closed.{closedOf, combinationOf};
-ghost use Rattle.paused.specs.Responses.{packedResponse};
+ghost use Rattle.paused.specs.Responses.{packed, packedResponse};
 ghost use Rattle.resumable.specs.Instalment.{advanceOf};
 ghost use Rattle.lifecycle.specs.Calls.{finishOf, beginOf, postOf};
+ghost use Rattle.rounds.specs.Visits.{visitOf};
+ghost use Rattle.rounds.specs.Together.{together, callOf};
 ghost use Rattle.rolvenko.specs.Packed.{packedTranslation, packedCheck, packedScan, packedCharge};
 ghost use Rattle.translate.specs.Services.{translationOf};
 
@@ -147,4 +149,35 @@ pub extern "C" fn rolvenko_finish(paused: &mut [i32], state: &mut [i32]) -> u64
 {
     let response = lifecycle::finish(paused, state);
     paused::pack_response(response)
+}
+
+#[no_mangle]
+pub extern "C" fn rolvenko_visit(
+    paused: &mut [i32],
+    image: &[u8],
+    state: &mut [i32],
+    share: usize,
+) -> u64
+    ensures { λ r. ⌜ r ≡ packedResponse (visitOf (now (image .entry)) share (now (paused .entry)) (now (state .entry)) .reply) ⌝ }
+    ensures { λ _. ⌜ now (paused .exit) ≡ visitOf (now (image .entry)) share (now (paused .entry)) (now (state .entry)) .cells ⌝ }
+    ensures { λ _. ⌜ now (state .exit) ≡ visitOf (now (image .entry)) share (now (paused .entry)) (now (state .entry)) .state ⌝ }
+{
+    let response = rounds::visit(paused, image, state, share);
+    paused::pack_response(response)
+}
+
+#[no_mangle]
+pub extern "C" fn rolvenko_round(
+    paused: &mut [i32],
+    images: &[u8],
+    states: &mut [i32],
+    sets: &[usize],
+    answers: &mut [u64],
+) -> u64
+    ensures { λ r. ⌜ r ≡ packed (callOf (now (sets .entry)) (now (images .entry)) (together (now (paused .entry)) (now (states .entry)) (now (answers .entry))) .number) 0 0 ⌝ }
+    ensures { λ _. ⌜ together (now (paused .exit)) (now (states .exit)) (now (answers .exit))
+        ≡ callOf (now (sets .entry)) (now (images .entry)) (together (now (paused .entry)) (now (states .entry)) (now (answers .entry))) .left ⌝ }
+{
+    let number = rounds::round(paused, images, states, sets, answers);
+    paused::pack(number, 0, 0)
 }

@@ -8,13 +8,23 @@ use lib.Dec.{ltb, leb}
 use lib.IntN.{ℤ}
 use lib.ListN.{length, getD, take, drop, length-drop}
 use lib.Seq.{take-all}
-use borrow.Author.Tests.{lt-ltb, le-ltb, le-leb, lt-leb}
+use borrow.Author.Tests.{lt-ltb, le-ltb}
 use Rattle.limits.specs.Limits.{shareLimit}
 use Rattle.rounds.specs.Visits.{shareInLimit, setsInLimit, roundOf}
 use Rattle.rounds.specs.Together.{Together, rounded, visitsOf, callOf}
 
 never : {X : Type 0} → _≡_ {A = Bool} false true → X
 never e = let z : _≡_ {A = ℕ} 0 1 = cc in absurd (omega arith)
+
+-- a share
+
+pub share-low : (share : ℕ) → share < 1 → false ≡ shareInLimit share
+share-low share h = rw (le-ltb 0 share (omega arith))
+
+pub share-most : (share : ℕ) → 1 ≤ share → leb share 65536 ≡ shareInLimit share
+share-most share h = rw (lt-ltb 0 share h)
+
+-- a table
 
 pub limit-end : (most : ℕ) (table : List ℕ) → length table < 1 → true ≡ setsInLimit most table
 limit-end zero [] h = refl
@@ -33,31 +43,24 @@ limit-cut (suc most) (x ∷ (y ∷ [])) h m = refl
 limit-cut (suc most) (x ∷ (y ∷ (z ∷ table))) h m = let f : ⊥ = omega arith in absurd f
 limit-cut most [] h m = let f : ⊥ = omega arith in absurd f
 
-pub limit-low : (most : ℕ) (table : List ℕ) → 1 ≤ most → 3 ≤ length table → getD table 2 0 < 1 → false ≡ setsInLimit most table
-limit-low zero table a h m = let f : ⊥ = omega arith in absurd f
-limit-low (suc most) (x ∷ (y ∷ (z ∷ table))) a h m = rw (le-ltb 0 z (omega arith))
-limit-low (suc most) [] a h m = let f : ⊥ = omega arith in absurd f
-limit-low (suc most) (x ∷ []) a h m = let f : ⊥ = omega arith in absurd f
-limit-low (suc most) (x ∷ (y ∷ [])) a h m = let f : ⊥ = omega arith in absurd f
+pub limit-out : (most : ℕ) (table : List ℕ) → 1 ≤ most → 3 ≤ length table → false ≡ shareInLimit (getD table 2 0) → false ≡ setsInLimit most table
+limit-out zero table a h m = let f : ⊥ = omega arith in absurd f
+limit-out (suc most) (x ∷ (y ∷ (z ∷ table))) a h m = rw (← m)
+limit-out (suc most) [] a h m = let f : ⊥ = omega arith in absurd f
+limit-out (suc most) (x ∷ []) a h m = let f : ⊥ = omega arith in absurd f
+limit-out (suc most) (x ∷ (y ∷ [])) a h m = let f : ⊥ = omega arith in absurd f
 
-pub limit-high : (most : ℕ) (table : List ℕ) → 1 ≤ most → 3 ≤ length table → 65536 < getD table 2 0 → false ≡ setsInLimit most table
-limit-high zero table a h m = let f : ⊥ = omega arith in absurd f
-limit-high (suc most) (x ∷ (y ∷ (z ∷ table))) a h m = rw (lt-ltb 0 z (omega arith), lt-leb z 65536 m)
-limit-high (suc most) [] a h m = let f : ⊥ = omega arith in absurd f
-limit-high (suc most) (x ∷ []) a h m = let f : ⊥ = omega arith in absurd f
-limit-high (suc most) (x ∷ (y ∷ [])) a h m = let f : ⊥ = omega arith in absurd f
+limit-on : (most : ℕ) (table : List ℕ) → 3 ≤ length table → true ≡ shareInLimit (getD table 2 0) → setsInLimit most (drop 3 table) ≡ setsInLimit (suc most) table
+limit-on most (x ∷ (y ∷ (z ∷ table))) h a = rw (← a)
+limit-on most [] h a = let f : ⊥ = omega arith in absurd f
+limit-on most (x ∷ []) h a = let f : ⊥ = omega arith in absurd f
+limit-on most (x ∷ (y ∷ [])) h a = let f : ⊥ = omega arith in absurd f
 
-limit-on : (most : ℕ) (table : List ℕ) → 3 ≤ length table → 1 ≤ getD table 2 0 → getD table 2 0 ≤ 65536 → setsInLimit most (drop 3 table) ≡ setsInLimit (suc most) table
-limit-on most (x ∷ (y ∷ (z ∷ table))) h a b = rw (lt-ltb 0 z a, le-leb z 65536 b)
-limit-on most [] h a b = let f : ⊥ = omega arith in absurd f
-limit-on most (x ∷ []) h a b = let f : ⊥ = omega arith in absurd f
-limit-on most (x ∷ (y ∷ [])) h a b = let f : ⊥ = omega arith in absurd f
-
-pub limit-next : (most : ℕ) (table : List ℕ) → 1 ≤ most → 3 ≤ length table → 1 ≤ getD table 2 0 → getD table 2 0 ≤ 65536 → (r : Bool)
+pub limit-next : (most : ℕ) (table : List ℕ) → 1 ≤ most → 3 ≤ length table → true ≡ shareInLimit (getD table 2 0) → (r : Bool)
     → r ≡ setsInLimit (most - 1) (take (length table - 3) (drop 3 table)) → r ≡ setsInLimit most table
-limit-next most table m h a b r e =
+limit-next most table m h a r e =
     let q : most ≡ suc (most - 1) = omega arith in
-    e ∙ ap (λ (l : List ℕ). setsInLimit (most - 1) l) (take-all (length table - 3) (drop 3 table) (simp length-drop (omega arith))) ∙ limit-on (most - 1) table h a b ∙ ap (λ (n : ℕ). setsInLimit n table) (sym q)
+    e ∙ ap (λ (l : List ℕ). setsInLimit (most - 1) l) (take-all (length table - 3) (drop 3 table) (simp length-drop (omega arith))) ∙ limit-on (most - 1) table h a ∙ ap (λ (n : ℕ). setsInLimit n table) (sym q)
 
 -- ---- the round
 

@@ -8,8 +8,18 @@ ghost use lib.ListN.{length, set};
 ghost use Rattle.limits.specs.Limits.{imageLimit};
 ghost use Rattle.paused.specs.Responses.{packedResponse, stepsIn, ResponseWithin};
 ghost use Rattle.lifecycle.specs.Calls.{afterFinish};
-ghost use Rattle.rounds.specs.Visits.{withSteps, given, visitOf, setsInLimit};
+ghost use Rattle.rounds.specs.Visits.{shareInLimit, withSteps, given, visitOf, setsInLimit};
 ghost use Rattle.rounds.specs.Together.{together, visitsOf, rounded, callOf};
+
+// A share of 1 to 65,536 steps.
+fn share_fits(share: usize) -> bool
+    ensures { λ r. ⌜ r ≡ shareInLimit share ⌝ }
+{
+    if share < 1 {
+        return false;
+    }
+    share <= limits::SHARE_LIMIT
+}
 
 // How many steps an instalment did.
 fn steps_in(response: Response) -> usize
@@ -54,10 +64,8 @@ pub fn visit(paused: &mut [i32], image: &[u8], state: &mut [i32], share: usize) 
     ensures { λ r. ⌜ afterFinish r (now (paused .exit)) (now (state .exit)) ≡ visitOf (now (image .entry)) share (now (paused .entry)) (now (state .entry)) ⌝ }
     ensures { λ r. ⌜ ResponseWithin imageLimit r ⌝ }
 {
-    if share < 1 {
-        return Response::Refused(limits::OUT_OF_SHARE, 0, 0);
-    }
-    if share > limits::SHARE_LIMIT {
+    let fits = share_fits(share);
+    if !fits {
         return Response::Refused(limits::OUT_OF_SHARE, 0, 0);
     }
     let begun = lifecycle::begin(paused, image, state);
@@ -136,11 +144,8 @@ fn in_limit(most: usize, table: &[usize]) -> bool
     if table.len() < 3 {
         return false;
     }
-    let share = table[2];
-    if share < 1 {
-        return false;
-    }
-    if share > limits::SHARE_LIMIT {
+    let fits = share_fits(table[2]);
+    if !fits {
         return false;
     }
     in_limit(most - 1, &table[3..])

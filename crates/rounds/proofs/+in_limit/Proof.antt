@@ -1,13 +1,16 @@
 -- `rounds::in_limit` meets its contract, by the numbers left in the table (Limits). Assumes nothing.
+use mathlib.Core.Path.{_≡_, sym, _∙_}
 use lib.ListN.{length}
+use borrow.Author.Tests.{not-true, not-false}
 use borrow.Author.Needs.{needs}
-use Rattle.rounds.proofs.Limits.{limit-end, limit-many, limit-cut, limit-low, limit-high, limit-next}
+use Rattle.rounds.proofs.Limits.{limit-end, limit-many, limit-cut, limit-out, limit-next}
 use Prim.Native.Nat.{ℕ, _<_}
 use borrow.Fn.Kinds.{In}
 use borrow.Fn.PlainCycle.{Measures, is, falls, and}
 use Rattle.rounds.proofs.in_limit.Reads as in-limit
 use Rattle.rounds.proofs.in_limit.Kinds as in-limit-kinds
 use Rattle.rounds.proofs.+in_limit.Lts-in_limit as in-limit-lts
+use Rattle.rounds.proofs.share_fits.Reads as share-fits-reads
 use Rattle.rounds.proofs.+in_limit.{statement}
 use Rattle.rounds.proofs.+in_limit.Tie.{close}
 
@@ -21,81 +24,58 @@ abbrev in-limit-below : ℕ → In 1 in-limit-kinds.ps
 in-limit-below t =
     and 1 in-limit-kinds.ps (falls 1 in-limit-kinds.ps _<_ μ-in-limit t) in-limit.Pre
 
-in-limit-returns :
-    (t : ℕ) →
-    in-limit-lts.Need-returns (in-limit-below t, in-limit.Post) (in-limit-at t) in-limit.Post
+abbrev claims : ℕ → in-limit-lts.Claims
+claims t = (share-fits-reads.Asked, share-fits-reads.Learnt, in-limit-below t, in-limit.Post)
+
+in-limit-returns : (t : ℕ) → in-limit-lts.Need-returns (claims t) (in-limit-at t) in-limit.Post
 in-limit-returns t c = limit-end (c .before .before .args .most) (c .before .before .args .table .now) (c .if1 .taken)
 
-in-limit-returns-2 :
-    (t : ℕ) →
-    in-limit-lts.Need-returns-2 (in-limit-below t, in-limit.Post) (in-limit-at t) in-limit.Post
+in-limit-returns-2 : (t : ℕ) → in-limit-lts.Need-returns-2 (claims t) (in-limit-at t) in-limit.Post
 in-limit-returns-2 t c = limit-many (c .before .before .before .args .most) (c .before .before .before .args .table .now) (c .before .if1 .left) (c .if2 .taken)
 
-in-limit-returns-3 :
-    (t : ℕ) →
-    in-limit-lts.Need-returns-3 (in-limit-below t, in-limit.Post) (in-limit-at t) in-limit.Post
+in-limit-returns-3 : (t : ℕ) → in-limit-lts.Need-returns-3 (claims t) (in-limit-at t) in-limit.Post
 in-limit-returns-3 t c = limit-cut (c .before .before .before .before .args .most) (c .before .before .before .before .args .table .now) (c .before .before .if1 .left) (c .if3 .taken)
 
-in-limit-shared-slice-read-share : (t : ℕ) → in-limit-lts.Need-shared-slice-read-share (
-  in-limit-below t,
-  in-limit.Post,
-) (in-limit-at t) in-limit.Post
-in-limit-shared-slice-read-share t c = search needs
+in-limit-shared-slice-read-share-fits : (t : ℕ) → in-limit-lts.Need-shared-slice-read-share-fits (claims t) (in-limit-at t) in-limit.Post
+in-limit-shared-slice-read-share-fits t c = search needs
 
-in-limit-returns-4 :
-    (t : ℕ) →
-    in-limit-lts.Need-returns-4 (in-limit-below t, in-limit.Post) (in-limit-at t) in-limit.Post
-in-limit-returns-4 t c = limit-low (c .before .before .before .before .before .before .args .most) (c .before .before .before .before .before .before .args .table .now) (c .before .before .before .if2 .left) (c .before .before .if3 .left) (c .if4 .taken)
+in-limit-share-fits-requires : (t : ℕ) → in-limit-lts.Need-share-fits-requires (claims t) (in-limit-at t) in-limit.Post
+in-limit-share-fits-requires t c κs = search needs
 
-in-limit-returns-5 :
-    (t : ℕ) →
-    in-limit-lts.Need-returns-5 (in-limit-below t, in-limit.Post) (in-limit-at t) in-limit.Post
-in-limit-returns-5 t c = limit-high (c .before .before .before .before .before .before .before .args .most) (c .before .before .before .before .before .before .before .args .table .now) (c .before .before .before .before .if2 .left) (c .before .before .before .if3 .left) (c .if5 .taken)
+in-limit-returns-4 : (t : ℕ) → in-limit-lts.Need-returns-4 (claims t) (in-limit-at t) in-limit.Post
+in-limit-returns-4 t c = limit-out (c .before .before .before .before .before .before .before .args .most) (c .before .before .before .before .before .before .before .args .table .now) (c .before .before .before .before .if2 .left) (c .before .before .before .if3 .left) (sym (not-true _ (c .if4 .taken)) ∙ c .before .share-fits .ensures)
 
-in-limit-sub-in-limit :
-    (t : ℕ) →
-    in-limit-lts.Need-sub-in-limit (in-limit-below t, in-limit.Post) (in-limit-at t) in-limit.Post
+in-limit-sub-in-limit : (t : ℕ) → in-limit-lts.Need-sub-in-limit (claims t) (in-limit-at t) in-limit.Post
 in-limit-sub-in-limit t c = search needs
 
-in-limit-part-in-limit-start : (t : ℕ) → in-limit-lts.Need-part-in-limit-start (
-  in-limit-below t,
-  in-limit.Post,
-) (in-limit-at t) in-limit.Post
+in-limit-part-in-limit-start : (t : ℕ) → in-limit-lts.Need-part-in-limit-start (claims t) (in-limit-at t) in-limit.Post
 in-limit-part-in-limit-start t c = search needs
 
-in-limit-part-in-limit-end : (t : ℕ) → in-limit-lts.Need-part-in-limit-end (
-  in-limit-below t,
-  in-limit.Post,
-) (in-limit-at t) in-limit.Post
+in-limit-part-in-limit-end : (t : ℕ) → in-limit-lts.Need-part-in-limit-end (claims t) (in-limit-at t) in-limit.Post
 in-limit-part-in-limit-end t c = search needs
 
-in-limit-in-limit-requires : (t : ℕ) → in-limit-lts.Need-in-limit-requires (
-  in-limit-below t,
-  in-limit.Post,
-) (in-limit-at t) in-limit.Post
+in-limit-in-limit-requires : (t : ℕ) → in-limit-lts.Need-in-limit-requires (claims t) (in-limit-at t) in-limit.Post
 in-limit-in-limit-requires t c κs = search needs
 
-in-limit-returns-6 :
-    (t : ℕ) →
-    in-limit-lts.Need-returns-6 (in-limit-below t, in-limit.Post) (in-limit-at t) in-limit.Post
-in-limit-returns-6 t c = limit-next (c .before .before .before .before .before .before .before .before .before .args .most) (c .before .before .before .before .before .before .before .before .before .args .table .now) (c .before .before .before .before .before .before .if2 .left) (c .before .before .before .before .before .if3 .left) (c .before .before .before .if4 .left) (c .before .before .if5 .left) (c .in-limit .result) (c .in-limit .ensures)
+in-limit-returns-5 : (t : ℕ) → in-limit-lts.Need-returns-5 (claims t) (in-limit-at t) in-limit.Post
+in-limit-returns-5 t c = limit-next (c .before .before .before .before .before .before .before .before .before .args .most) (c .before .before .before .before .before .before .before .before .before .args .table .now) (c .before .before .before .before .before .before .if2 .left) (c .before .before .before .before .before .if3 .left) (sym (not-false _ (c .before .before .if4 .left)) ∙ c .before .before .before .share-fits .ensures) (c .in-limit .result) (c .in-limit .ensures)
 
 pub +in-limit-spec : {M : Type 1} → statement M
 +in-limit-spec =
     close
     μ-in-limit
     λ t. in-limit-lts.spec
-    (in-limit-below t, in-limit.Post)
+    (claims t)
     (in-limit-at t)
     in-limit.Post
     (in-limit-returns t)
     (in-limit-returns-2 t)
     (in-limit-returns-3 t)
-    (in-limit-shared-slice-read-share t)
+    (in-limit-shared-slice-read-share-fits t)
+    (in-limit-share-fits-requires t)
     (in-limit-returns-4 t)
-    (in-limit-returns-5 t)
     (in-limit-sub-in-limit t)
     (in-limit-part-in-limit-start t)
     (in-limit-part-in-limit-end t)
     (in-limit-in-limit-requires t)
-    (in-limit-returns-6 t)
+    (in-limit-returns-5 t)
