@@ -55,7 +55,7 @@ digit-part : (b : ℕ) → isDigit b ≡ true → isPart b ≡ true
 unfolding isDigit
 digit-part b e = part-digit (leb 97 b && ltb b 123) (leb 65 b && ltb b 91) (leb 48 b && ltb b 58) (eqb b 95) e
 
-letter-part : (b : ℕ) → isLetter b ≡ true → isPart b ≡ true
+pub letter-part : (b : ℕ) → isLetter b ≡ true → isPart b ≡ true
 unfolding isLetter
 letter-part b e = by (leb 65 b && ltb b 91) refl e where
   by : (t : Bool) → (leb 65 b && ltb b 91) ≡ t → cond t true (leb 97 b && ltb b 123) ≡ true → isPart b ≡ true

@@ -181,3 +181,9 @@ cycleLeaves lazy text names state row =
     programRead text andIf λ p. holdingAll names state (freshStore p) andIf λ σ. holdingAll (map previousName names) state σ andIf λ σ.
     withRow row σ andIf λ σ. runStatements lazy (p .body) σ andIf λ σ.
     valuesIn σ names andIf λ a. valuesIn σ (map previousName names) andIf λ b. some (record { names = a; previous = b })
+
+-- Cycle after cycle, nothing given from outside but the rows: the values of the names after each.
+unfoldable pub cycleStates : Bool → StProgram → List Identifier → Store → List (List ℤ) → Option (List (List ℤ))
+cycleStates lazy p names σ [] = some []
+cycleStates lazy p names σ (row ∷ rows) =
+    withRow row σ andIf λ τ. runStatements lazy (p .body) τ andIf λ υ. valuesIn υ names andIf λ z. cycleStates lazy p names υ rows andIf λ zs. some (z ∷ zs)

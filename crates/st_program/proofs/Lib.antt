@@ -1,0 +1,10 @@
+pub mod Stores
+pub mod Values
+pub mod Cases
+pub mod Rules
+pub mod FirstStore
+pub mod Cycle
+pub mod Trace
+pub mod Reserved
+pub mod Printable
+pub mod Literals

@@ -1,0 +1,1 @@
+// The Structured Text of a text. Definitions and laws; the service is to come.
