@@ -1,12 +1,11 @@
 //! A rule text with its image: names, ranges, and scans in turn.
 
-use crate::advice::advice;
 use crate::explain;
 use crate::image::{Image, Range};
 use crate::source::Rules;
 use crate::stop::{tell, Stop};
 use crate::text::declared;
-use rolvenko::{check, clock, meaning, scan, start, translate, ScanRefusal, IMAGE_ROOM};
+use rolvenko::{check, scan, start, translate, ScanRefusal, IMAGE_ROOM};
 use std::path::PathBuf;
 
 pub struct Farm {
@@ -44,13 +43,5 @@ impl Farm {
     pub fn scan(&mut self, row: Option<&[i32]>) -> Result<u32, ScanRefusal> {
         let none = vec![0; self.read.inputs + 1];
         scan(&self.image, &mut self.state, row.unwrap_or(&none))
-    }
-
-    /// Fills `day`, `minute` and `again` of a row of the right length.
-    pub fn fill(&self, table: &[i64], utc: i64, row: &mut [i32]) -> Result<(), Stop> {
-        clock(&self.text, table, utc, row).map_err(|refusal| {
-            tell(&format!("refused {}: {}\n  {}\n", refusal.number, meaning(refusal.number), advice(refusal.number)));
-            Stop::Refused
-        })
     }
 }

@@ -65,6 +65,11 @@ pub fn declared(text: &[u8]) -> Vec<Declared> {
         .collect()
 }
 
+/// So many of something, in words.
+pub fn count(n: usize, what: &str) -> String {
+    format!("{n} {what}{}", if n == 1 { "" } else { "s" })
+}
+
 /// Line and column of a place, from 1; columns count characters.
 pub fn line_column(text: &[u8], place: usize) -> (usize, usize) {
     let before = &text[..place.min(text.len())];
