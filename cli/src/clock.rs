@@ -12,7 +12,7 @@ use std::path::{Path, PathBuf};
 
 /// A farm table, the UTC minute of the first row, and the minutes from row to row.
 pub struct Clock {
-    path: PathBuf,
+    pub path: PathBuf,
     table: Vec<i64>,
     first: i64,
     every: i64,

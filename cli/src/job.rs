@@ -8,7 +8,7 @@ use crate::refused_row::row_refused;
 use crate::source::{row, Row, Rows, Rules};
 use crate::stop::{tell, Stop};
 use std::collections::BTreeSet;
-use std::path::Path;
+use std::path::{Path, PathBuf};
 
 /// Rows in turn: from the rule file, another file, or so many of zeros.
 enum Given {
@@ -39,20 +39,23 @@ impl Given {
         }
     }
 
-    /// The next row, or why a line is none, and where it stands.
-    fn next(&mut self) -> Result<Option<(Row, Option<String>)>, Stop> {
+    /// The next row, or why a line is none.
+    fn next(&mut self) -> Result<Option<Row>, Stop> {
         match self {
-            Given::Lines(rows) => {
-                let Some(line) = rows.next()? else {
-                    return Ok(None);
-                };
-                Ok(Some((row(&line), Some(format!("{}:{}", rows.path.display(), rows.line)))))
-            }
+            Given::Lines(rows) => Ok(rows.next()?.map(|line| row(&line))),
             Given::Zeros { left, inputs } if *left > 0 => {
                 *left -= 1;
-                Ok(Some((Ok(vec![0; *inputs]), None)))
+                Ok(Some(Ok(vec![0; *inputs])))
             }
             _ => Ok(None),
+        }
+    }
+
+    /// Where the row stands that came last, which has this number.
+    fn place(&self, number: u64) -> String {
+        match self {
+            Given::Lines(rows) => format!("{}:{}", rows.path.display(), rows.line),
+            _ => format!("row {number}"),
         }
     }
 }
@@ -80,17 +83,20 @@ pub struct Job {
     clock: Option<Clock>,
     /// refusals whose advice was given
     advised: BTreeSet<u8>,
+    /// the files that it reads
+    pub reads: Vec<PathBuf>,
 }
 
 impl Job {
     pub fn new(mut rules: Rules, rows: Option<&Path>, zeros: Option<u64>, clock: Option<Clock>) -> Result<Job, Stop> {
         let farm = Farm::new(&rules)?;
+        let reads = [Some(rules.path.as_path()), rows, clock.as_ref().map(|c| c.path.as_path())].into_iter().flatten().map(Path::to_owned).collect();
         let given = Given::of(&mut rules, rows, zeros, farm.read.inputs)?;
         if let Some(clock) = &clock {
             // 19 and 20 come before any row
             clock.fill(&farm, 0, &mut vec![0; farm.read.inputs])?;
         }
-        Ok(Job { farm, given, clock, advised: BTreeSet::new() })
+        Ok(Job { farm, given, clock, advised: BTreeSet::new(), reads })
     }
 
     /// Scans the rows in turn and hands each over, the start first as number 0; refused ones are told.
@@ -99,17 +105,17 @@ impl Job {
         let mut progress = Progress::new(results_on_output);
         let count = self.given.count();
         let (mut number, mut refused) = (0, 0);
-        while let Some((values, at)) = self.given.next()? {
+        while let Some(row) = self.given.next()? {
             number += 1;
             progress.row(number, count);
-            let scanned = self.scan(number, values, at)?;
+            let scanned = self.scan(number, row)?;
             refused += u64::from(scanned.result != 0);
             each(&self.farm, scanned)?;
         }
         Ok(Refused(refused))
     }
 
-    fn scan(&mut self, number: u64, mut row: Row, at: Option<String>) -> Result<Scanned, Stop> {
+    fn scan(&mut self, number: u64, mut row: Row) -> Result<Scanned, Stop> {
         if let (Some(clock), Ok(values)) = (&self.clock, row.as_mut()) {
             if values.len() == self.farm.read.inputs {
                 clock.fill(&self.farm, number, values)?;
@@ -118,8 +124,7 @@ impl Job {
         match self.farm.scan(row.as_deref().ok()) {
             Ok(steps) => Ok(Scanned { number, result: 0, steps }),
             Err(refusal) => {
-                let place = at.unwrap_or_else(|| format!("row {number}"));
-                tell(&format!("{place}: {}\n", row_refused(&self.farm, row.as_deref(), refusal)));
+                tell(&format!("{}: {}\n", self.given.place(number), row_refused(&self.farm, row.as_deref(), refusal)));
                 if self.advised.insert(refusal.number) {
                     tell(&format!("  {}\n", advice(refusal.number)));
                 }

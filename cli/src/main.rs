@@ -187,7 +187,7 @@ fn translate(path: &Path, output: Option<&Path>) -> Result<(), Stop> {
     let farm = farm::Farm::new(&Rules::read(path)?)?;
     match output {
         Some(to) => {
-            let mut image = Output::open(to, path)?;
+            let mut image = Output::open(to, &[path.to_owned()])?;
             image.put(&farm.image)?;
             image.end()
         }

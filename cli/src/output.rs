@@ -11,12 +11,12 @@ pub struct Output {
 }
 
 impl Output {
-    /// Opens a file that is not the one that is being read.
-    pub fn open(path: &Path, read: &Path) -> Result<Output, Stop> {
+    /// Opens a file that is not among those being read.
+    pub fn open(path: &Path, reads: &[PathBuf]) -> Result<Output, Stop> {
         let to: Box<dyn Write> = if path == Path::new("-") {
             Box::new(io::stdout())
-        } else if is_same(path, read) {
-            return Err(Stop::file(path, "is the file that is read; it would be written over"));
+        } else if reads.iter().any(|read| is_same(path, read)) {
+            return Err(Stop::file(path, "this file is read; it would be written over"));
         } else {
             Box::new(File::create(path).map_err(|e| Stop::file(path, e))?)
         };

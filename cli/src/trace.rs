@@ -31,7 +31,7 @@ fn lines(mut job: Job, csv: bool) -> Result<(), Stop> {
 
 fn waveform(mut job: Job, path: &Path) -> Result<(), Stop> {
     let ranges: Vec<_> = (0..job.farm.read.names()).map(|id| job.farm.range(id)).collect();
-    let mut to = Output::open(path, &job.farm.path)?;
+    let mut to = Output::open(path, &job.reads)?;
     let mut wave = Waveform::new("rules", &job.farm.names, &ranges);
     let refused = job.scans(false, |farm, row| {
         wave.at(row.number, &farm.state, row.result);

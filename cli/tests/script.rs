@@ -20,7 +20,8 @@ check)
     second) echo \"rt: second proved (70 s)\" ;;
     *) echo \"rt: $crate proved (3 s)\" ;;
     esac
-  done ;;
+  done
+  echo 'rt: ok, 3 crates proved' ;;
 staticlib)
   echo 'rt: first proved (unchanged since it was last proved)' >&2
   [ ! -e broken ] || { echo 'src/lib.rt:3:1: error: it does not follow'; exit 1; }
@@ -56,7 +57,7 @@ fn repository(name: &str) -> PathBuf {
 }
 
 fn run(at: &Path) -> Output {
-    let path = format!("{}:{}", at.join("bin").display(), std::env::var("PATH").unwrap());
+    let path = format!("{}:/usr/bin:/bin", at.join("bin").display());
     Command::new("./rolvenko").arg("help").current_dir(at).env("PATH", path).output().unwrap()
 }
 
@@ -70,7 +71,8 @@ fn it_proves_and_builds_what_is_missing_with_a_line_a_crate() {
     // the first is not proved again; nothing was timed yet to tell how long the rest takes
     assert!(lines[1].starts_with("  2 of 4  second         0 min 0") && lines[1].ends_with(" left"), "{said}");
     assert!(lines[2].starts_with("  3 of 4  third "), "{said}");
-    assert!(lines[3].starts_with("  4 of 4  rolvenko ") && lines[3].ends_with(", about 0 min 00 s left"), "{said}");
+    assert_eq!(lines[3], "  3 of 4  are proved; now the archive, about 30 s");
+    assert!(lines[4].starts_with("  4 of 4  rolvenko ") && lines[4].ends_with(", about 0 min 00 s left"), "{said}");
     assert_eq!(fs::read_to_string(at.join("target/log/seconds")).unwrap(), "second 70\nthird 3\n");
     // nothing is missing now
     let o = run(&at);
@@ -84,4 +86,12 @@ fn a_proof_that_fails_is_told() {
     let o = run(&at);
     assert_eq!((status(&o), out(&o).as_str()), (2, ""));
     assert!(told(&o).ends_with("src/lib.rt:3:1: error: it does not follow\nthe archive was not built; target/log has what rt said\n"), "{}", told(&o));
+}
+
+#[test]
+fn a_program_that_is_missing_is_named() {
+    let at = repository("script-missing");
+    fs::remove_file(at.join("bin/rt")).unwrap();
+    let o = run(&at);
+    assert_eq!((status(&o), told(&o).as_str()), (2, "rolvenko: no rt on the path (the prover of Rattle, which builds the archive)\n"));
 }
