@@ -32,7 +32,7 @@ mod tests {
         for number in 1..=u8::MAX {
             let known = meaning(number) != meaning(u8::MAX);
             assert_eq!(told(number).is_some(), known, "{number}");
-            assert!(told(number).map_or(true, |advice| advice.len() > 10), "{number}");
+            assert!(told(number).is_none_or(|advice| advice.len() > 10), "{number}");
         }
     }
 }

@@ -5,8 +5,11 @@ use crate::image::{Image, Range};
 use crate::source::Rules;
 use crate::stop::{tell, Stop};
 use crate::text::declared;
-use rolvenko::{check, scan, start, translate, ScanRefusal, IMAGE_ROOM};
+use rolvenko::{check, scan, start, translate, ScanRefusal, IMAGE_ROOM, NAMES};
 use std::path::PathBuf;
+
+/// More numbers than any row has.
+const NO_ROW: [i32; 2 * NAMES] = [0; 2 * NAMES];
 
 pub struct Farm {
     pub path: PathBuf,
@@ -41,7 +44,6 @@ impl Farm {
 
     /// Scans a row, or a line that is none: that counts as a row of wrong length.
     pub fn scan(&mut self, row: Option<&[i32]>) -> Result<u32, ScanRefusal> {
-        let none = vec![0; self.read.inputs + 1];
-        scan(&self.image, &mut self.state, row.unwrap_or(&none))
+        scan(&self.image, &mut self.state, row.unwrap_or(&NO_ROW))
     }
 }

@@ -92,7 +92,7 @@ impl Rows {
 /// Leading zeros say nothing and are dropped. Without them no row of 64 numbers is over the limit, so what is cut there is no row, or has too
 /// many numbers.
 fn keep(line: &mut Vec<u8>, byte: u8) {
-    let leads = line.last() == Some(&b'0') && !line.iter().rev().nth(1).map_or(false, u8::is_ascii_digit);
+    let leads = line.last() == Some(&b'0') && !line.iter().rev().nth(1).is_some_and(u8::is_ascii_digit);
     if byte.is_ascii_digit() && leads {
         line.pop();
     }

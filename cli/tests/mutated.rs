@@ -51,7 +51,7 @@ fn text_of(bytes: &[u8]) -> &[u8] {
 fn refused_as_the_archive_answers_and_never_otherwise() {
     let folders = ["../examples", "../examples/trace", "../cases"];
     let mut stored: Vec<_> = folders.iter().flat_map(|f| fs::read_dir(f).unwrap()).map(|e| e.unwrap().path()).collect();
-    stored.retain(|p| p.extension().map_or(false, |e| e == "in" || e == "txt") && fs::metadata(p).unwrap().len() < 4000);
+    stored.retain(|p| p.extension().is_some_and(|e| e == "in" || e == "txt") && fs::metadata(p).unwrap().len() < 4000);
     stored.sort();
     let mut numbers = Numbers(0x2545_F491_4F6C_DD1D);
     let mut refused = 0;

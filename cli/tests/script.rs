@@ -71,7 +71,7 @@ fn it_proves_and_builds_what_is_missing_with_a_line_a_crate() {
     // the first is not proved again; nothing was timed yet to tell how long the rest takes
     assert!(lines[1].starts_with("  2 of 4  second         0 min 0") && lines[1].ends_with(" left"), "{said}");
     assert!(lines[2].starts_with("  3 of 4  third "), "{said}");
-    assert_eq!(lines[3], "  3 of 4  are proved; now the archive, about 30 s");
+    assert!(lines[3].starts_with("  3 of 4  are proved; now the archive, about "), "{said}");
     assert!(lines[4].starts_with("  4 of 4  rolvenko ") && lines[4].ends_with(", about 0 min 00 s left"), "{said}");
     assert_eq!(fs::read_to_string(at.join("target/log/seconds")).unwrap(), "second 70\nthird 3\n");
     // nothing is missing now

@@ -173,7 +173,7 @@ fn a_closed_pipe_is_no_failure() {
 #[test]
 fn lines_of_any_length_are_rows() {
     let rules = file("zeros.txt", b"input i 0..9; var v 0..9; v: GX(v = (i));\n");
-    let row = [&vec![b'0'; 70_000][..], b"7\n-", &vec![b'0'; 9], b"\n", &vec![b'1'; 70_000][..], b"\n"].concat();
+    let row = [&vec![b'0'; 70_000][..], b"7\n-", &[b'0'; 9], b"\n", &vec![b'1'; 70_000][..], b"\n"].concat();
     assert_eq!(out(&fed(&["trace", word(&rules), "-"], &row)), "scan i v result\n0 0 0 0\n1 7 7 0\n2 0 0 0\n3 0 0 12\n");
 }
 

@@ -49,7 +49,7 @@ fn compare(at: &Path, from: &Path, steps: Vec<Step>) {
     assert!(!steps.is_empty(), "{}", from.display());
     for Step { command, mut wanted } in steps {
         // an empty line stands before the next command
-        while wanted.last().map_or(false, String::is_empty) {
+        while wanted.last().is_some_and(String::is_empty) {
             wanted.pop();
         }
         let found = ran(at, &command);
@@ -73,7 +73,7 @@ fn place(name: &str) -> PathBuf {
 #[test]
 fn stored_runs_print_what_they_printed() {
     let mut files: Vec<PathBuf> = fs::read_dir("tests/stored").unwrap().map(|e| e.unwrap().path()).collect();
-    files.retain(|p| p.extension().map_or(false, |e| e == "run"));
+    files.retain(|p| p.extension().is_some_and(|e| e == "run"));
     files.sort();
     assert!(files.len() >= 8);
     for path in files {
