@@ -63,6 +63,9 @@ pub fn wanted(text: &[u8], refusal: Refusal) -> Vec<String> {
         found.push("a number".to_owned());
     }
     found.extend(SIGNS.iter().filter(|s| takes(text, place, s.as_bytes())).map(|s| format!("`{s}`")));
+    if translate(&text[..place], &mut vec![0; IMAGE_ROOM]).is_ok() {
+        found.push("the end".to_owned());
+    }
     found
 }
 

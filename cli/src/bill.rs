@@ -1,13 +1,11 @@
 //! `charge`: what a project owes for the licences that a trace shows (document 02, A.12).
 
-use crate::advice::advice;
-use crate::farm::Farm;
-use crate::source::Rules;
+use crate::advice::refused;
+use crate::job::Job;
 use crate::stop::{tell, Stop};
-use crate::trace::{scans, Clock, Given};
+use crate::text::count;
 use rolvenko::{charge, meaning};
 use std::io::Write;
-use std::path::Path;
 
 /// Rates in cents per licence-hour; licences above the threshold go at the second.
 pub struct Rates {
@@ -18,30 +16,51 @@ pub struct Rates {
     pub minutes: i32,
 }
 
-pub fn bill(mut rules: Rules, rows: Option<&Path>, zeros: Option<u64>, clock: Option<Clock>, of: &str, rates: &Rates) -> Result<(), Stop> {
-    let mut farm = Farm::new(&rules)?;
-    let Some(id) = farm.names.iter().position(|n| n.eq_ignore_ascii_case(of)) else {
-        return Err(Stop::Failed(format!("{}: no name {of}", farm.path.display())));
+/// Numbers that a trace is kept in at most: a mistyped count of rows ends here and not in all of the memory.
+const KEPT: usize = 1 << 28;
+
+pub fn bill(mut job: Job, of: &str, rates: &Rates) -> Result<(), Stop> {
+    let Some(id) = job.farm.names.iter().position(|n| n.eq_ignore_ascii_case(of)) else {
+        return Err(Stop::Failed(format!("{}: no name {of}; it declares {}", job.farm.path.display(), job.farm.names.join(" "))));
     };
-    let inputs = farm.read.inputs;
-    let mut given = Given::of(&mut rules, rows, zeros, inputs)?;
     let mut trace = Vec::new();
     let mut minutes = Vec::new();
-    let refused = scans(&mut farm, &mut given, clock.as_ref(), |farm, row| {
+    let scanned = job.scans(false, |farm, row| {
         if row.result == 0 {
             trace.extend(&farm.state);
             if row.number > 0 {
                 minutes.push(rates.minutes);
             }
         }
-        Ok(())
+        match trace.len().max(minutes.len()) <= KEPT {
+            true => Ok(()),
+            false => Err(Stop::Failed(format!("over {KEPT} numbers in the trace; bill fewer rows at a time"))),
+        }
     })?;
-    match charge(&farm.image, id, &trace, &minutes, rates.threshold, rates.rate, rates.above) {
-        Ok(sum) => writeln!(std::io::stdout(), "{of}: {} {}/60 cents over {} rows, {refused} refused", sum.cents, sum.sixtieths, minutes.len())?,
+    match charge(&job.farm.image, id, &trace, &minutes, rates.threshold, rates.rate, rates.above) {
+        Ok(sum) => writeln!(std::io::stdout(), "{}: {} {}/60 cents over {}, {} refused", job.farm.names[id], sum.cents, sum.sixtieths, count(minutes.len(), "row"), scanned.0)?,
         Err(refusal) => {
-            tell(&format!("{}: refused {}: {}\n  {}\n", farm.path.display(), refusal.number, meaning(refusal.number), advice(refusal.number)));
+            let number = refusal.number;
+            let what = if number == 28 { out_of_limit(&job, id, rates) } else { Vec::new() };
+            let what = if what.is_empty() { meaning(number).to_owned() } else { what.join("; ") };
+            tell(&refused(&job.farm.path.display().to_string(), number, &what));
             return Err(Stop::Refused);
         }
     }
-    if refused > 0 { Err(Stop::Refused) } else { Ok(()) }
+    scanned.verdict()
+}
+
+/// What of a charge that is refused 28 looks wrong, in words.
+fn out_of_limit(job: &Job, id: usize, rates: &Rates) -> Vec<String> {
+    let (name, range) = (&job.farm.names[id], job.farm.range(id));
+    let rate = |z: i32| !(0..=1_000_000).contains(&z);
+    let seen = [
+        (id < job.farm.read.inputs, format!("{name} is an input, and licences held are a variable")),
+        (range.low < 0, format!("{name} can be negative: its range is {}..{}", range.low, range.high)),
+        (rates.threshold < 0, format!("--threshold {} is negative", rates.threshold)),
+        (rate(rates.rate), format!("--rate {} is outside 0..1000000", rates.rate)),
+        (rate(rates.above), format!("--rate-above {} is outside 0..1000000", rates.above)),
+        (!(0..=1440).contains(&rates.minutes), format!("{} minutes a row are outside 0..1440", rates.minutes)),
+    ];
+    seen.into_iter().filter(|(wrong, _)| *wrong).map(|(_, words)| words).collect()
 }

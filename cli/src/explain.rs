@@ -1,59 +1,47 @@
 //! A refused text, told as compilers tell: a first line of gcc's form, so that editors jump there, then the source line with the token marked,
 //! what was wanted, and what to do.
 
+use crate::about::about;
 use crate::advice::advice;
-use crate::ask;
-use crate::text::{declared, line_column, token_end};
+use crate::text::{line_column, token_end};
 use codespan_reporting::diagnostic::{Diagnostic, Label};
 use codespan_reporting::files::SimpleFile;
 use codespan_reporting::term::{self, termcolor::NoColor};
 use rolvenko::{meaning, Refusal};
 use std::path::Path;
 
+/// Longer lines are shown in part.
+const LINE: usize = 240;
+/// Bytes shown before and behind the token of such a line.
+const AROUND: usize = 80;
+
 /// The text with a replacement character for each run of bytes that is no UTF-8, and where each place of the text stands in it.
 fn readable(text: &[u8]) -> (String, impl Fn(usize) -> usize + '_) {
-    // control characters are not for a terminal
-    let hide = |c: char| if c.is_ascii_control() && !matches!(c, '\n' | '\t') { '?' } else { c };
-    let shown = String::from_utf8_lossy(text).chars().map(hide).collect();
+    // characters that steer a terminal or are not seen become others of the same length
+    let seen = |c: char| match c {
+        '\n' | '\t' => c,
+        _ if c.is_ascii_control() => '?',
+        _ if c.is_control() => '\u{bf}',
+        '\u{200b}'..='\u{200f}' | '\u{2028}'..='\u{202e}' | '\u{2060}'..='\u{206f}' | '\u{feff}' => '\u{fffd}',
+        _ => c,
+    };
+    let shown = String::from_utf8_lossy(text).chars().map(seen).collect();
     let place = move |at: usize| String::from_utf8_lossy(&text[..at.min(text.len())]).len();
     (shown, place)
 }
 
-/// What there is to say of the token, and other places that it has to do with.
-struct Told {
-    token: String,
-    elsewhere: Option<(usize, usize, String)>,
-    notes: Vec<String>,
-}
-
-fn told(text: &[u8], refusal: Refusal) -> Told {
-    let place = refusal.place.min(text.len());
-    let spelled = String::from_utf8_lossy(&text[place..token_end(text, place)]).into_owned();
-    let mut told = Told { token: String::new(), elsewhere: None, notes: Vec::new() };
-    let earlier = declared(&text[..place]).into_iter().find(|d| d.name.eq_ignore_ascii_case(&spelled));
-    match (refusal.number, earlier) {
-        (2 | 7, _) => {
-            let wanted = ask::wanted(text, refusal);
-            if !wanted.is_empty() {
-                told.token = format!("wanted: {}", wanted.join(", "));
-            }
-        }
-        (4, Some(first)) => {
-            told.token = "declared twice".to_owned();
-            told.elsewhere = Some((first.at, first.at + first.name.len(), "first here".to_owned()));
-        }
-        (4, None) => told.token = ask::nearest(&text[..place], &spelled).map_or("not declared".to_owned(), |n| format!("not declared; is `{n}` meant?")),
-        (5, _) => told.token = "its rule does not stand before this one".to_owned(),
-        (6, _) if place == text.len() => {
-            let missing = ask::without_rule(text);
-            told.token = if missing.is_empty() { "a variable has no rule".to_owned() } else { format!("no rule for {}", missing.join(", ")) };
-        }
-        (6, Some(name)) if name.input => told.token = "an input".to_owned(),
-        (6, _) => told.token = "has a rule already".to_owned(),
-        _ => (),
+/// The text with a long line around the token cut down, and the token's place in it.
+fn cut_down(text: &[u8], at: usize, end: usize) -> (Vec<u8>, usize) {
+    let start = text[..at].iter().rposition(|b| *b == b'\n').map_or(0, |p| p + 1);
+    let stop = text[end..].iter().position(|b| *b == b'\n').map_or(text.len(), |p| end + p);
+    if stop - start <= LINE {
+        return (text.to_vec(), at);
     }
-    told.notes.push(advice(refusal.number).to_owned());
-    told
+    let (from, to) = (start.max(at.saturating_sub(AROUND)), stop.min(end.min(at + AROUND) + AROUND));
+    let front = if from > start { &b".. "[..] } else { b"" };
+    let back = if to < stop { &b" .."[..] } else { b"" };
+    let shown = [&text[..start], front, &text[from..to], back, &text[stop..]].concat();
+    (shown, start + front.len() + at - from)
 }
 
 /// The whole message of a refused text.
@@ -64,12 +52,13 @@ pub fn text_refused(path: &Path, text: &[u8], refusal: Refusal) -> String {
     if refusal.number == 9 {
         return format!("{first}  {}\n", advice(9));
     }
-    let (shown, place) = readable(text);
-    let told = told(text, refusal);
+    let told = about(text, refusal);
     let at = refusal.place.min(text.len());
     let end = token_end(text, at);
-    let mut labels = vec![Label::primary((), place(at)..place(end)).with_message(told.token)];
-    if let Some((from, to, message)) = told.elsewhere {
+    let (part, at) = cut_down(text, at, end);
+    let (shown, place) = readable(&part);
+    let mut labels = vec![Label::primary((), place(at)..place(token_end(&part, at))).with_message(told.token)];
+    if let Some((from, to, message)) = told.elsewhere.filter(|_| part.len() == text.len()) {
         labels.push(Label::secondary((), place(from)..place(to)).with_message(message));
     }
     let diagnostic = Diagnostic::error().with_message("").with_labels(labels).with_notes(told.notes);
@@ -78,10 +67,9 @@ pub fn text_refused(path: &Path, text: &[u8], refusal: Refusal) -> String {
     if term::emit(&mut written, &config, &SimpleFile::new(name, shown), &diagnostic).is_err() {
         return first;
     }
-    // the first line of the snippet is codespan's own heading
+    // codespan's own heading and place say again what the first line says
     let snippet = String::from_utf8_lossy(&written.into_inner()).into_owned();
-    let rest = snippet.split_once('\n').map_or("", |(_, rest)| rest);
-    let lines = rest.lines().map(str::trim_end).filter(|l| !l.is_empty());
+    let lines = snippet.lines().skip(2).map(str::trim_end).filter(|l| !l.is_empty());
     lines.fold(first, |all, line| all + line + "\n")
 }
 

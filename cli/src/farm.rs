@@ -1,13 +1,15 @@
 //! A rule text with its image: names, ranges, and scans in turn.
 
-use crate::advice::advice;
 use crate::explain;
 use crate::image::{Image, Range};
 use crate::source::Rules;
 use crate::stop::{tell, Stop};
 use crate::text::declared;
-use rolvenko::{check, clock, meaning, scan, start, translate, ScanRefusal, IMAGE_ROOM};
+use rolvenko::{check, scan, start, translate, ScanRefusal, IMAGE_ROOM, NAMES};
 use std::path::PathBuf;
+
+/// More numbers than any row has.
+const NO_ROW: [i32; 2 * NAMES] = [0; 2 * NAMES];
 
 pub struct Farm {
     pub path: PathBuf,
@@ -42,15 +44,6 @@ impl Farm {
 
     /// Scans a row, or a line that is none: that counts as a row of wrong length.
     pub fn scan(&mut self, row: Option<&[i32]>) -> Result<u32, ScanRefusal> {
-        let none = vec![0; self.read.inputs + 1];
-        scan(&self.image, &mut self.state, row.unwrap_or(&none))
-    }
-
-    /// Fills `day`, `minute` and `again` of a row of the right length.
-    pub fn fill(&self, table: &[i64], utc: i64, row: &mut [i32]) -> Result<(), Stop> {
-        clock(&self.text, table, utc, row).map_err(|refusal| {
-            tell(&format!("refused {}: {}\n  {}\n", refusal.number, meaning(refusal.number), advice(refusal.number)));
-            Stop::Refused
-        })
+        scan(&self.image, &mut self.state, row.unwrap_or(&NO_ROW))
     }
 }

@@ -125,6 +125,12 @@ impl Image {
         self.ranges.len()
     }
 
+    /// The scans of a closed profile: the product of all range sizes, and once more of the inputs'.
+    pub fn scans(&self) -> u128 {
+        let sizes = self.ranges.iter().map(|(_, r)| (i64::from(r.high) - i64::from(r.low) + 1) as u128);
+        sizes.clone().chain(sizes.take(self.inputs)).fold(1, u128::saturating_mul)
+    }
+
     /// The variable that the instruction `index` works for: that of the next let or settle.
     pub fn variable_at(&self, index: usize) -> Option<usize> {
         let end = self.code.get(index..)?.iter().find(|i| matches!(i.code, 21 | 22))?;

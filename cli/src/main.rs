@@ -1,15 +1,23 @@
 //! The tool of those who plan with launch rules. It reads files, asks the proved services and prints: what rules mean is theirs to say.
 //! Exit status: 0 fine, 1 refused, 2 wrong usage or a file that cannot be read or written.
 
+mod about;
 mod advice;
 mod ask;
 mod bill;
+mod calendar;
+mod clock;
+mod columns;
 mod explain;
 mod farm;
 mod image;
+mod job;
+mod output;
 mod posix;
 mod profile;
+mod progress;
 mod refused_row;
+mod replay;
 mod show;
 mod source;
 mod stop;
@@ -19,17 +27,28 @@ mod trace;
 mod vcd;
 
 use clap::{Args, Parser, Subcommand};
+use clock::Clock;
+use job::Job;
+use output::Output;
 use source::{Rules, Taken};
-use std::fs;
-use std::io::{Read, Write};
+use std::io::Write;
 use std::path::{Path, PathBuf};
 use std::process::ExitCode;
 use stop::Stop;
-use trace::{Clock, Form};
+use text::count;
+use trace::Form;
 
-/// Launch rules: translate, check, show, trace, bill.
+const HINTS: &str = "\
+Exit status: 0 fine; 1 a text, image, row or charge is refused; 2 wrong usage, or a file that cannot be read or written.
+`-` is standard input where a file is read, and standard output where one is written.
+
+  rolvenko check rules.txt                 are these rules accepted?
+  rolvenko trace rules.txt rows.txt        what do they do, row by row?
+  rolvenko trace rules.txt rows.txt --vcd rows.vcd && gtkwave rows.vcd";
+
+/// Launch rules: translate, check, show, trace, replay, bill.
 #[derive(Parser)]
-#[command(name = "rolvenko", version)]
+#[command(name = "rolvenko", version, after_help = HINTS)]
 struct Tool {
     #[command(subcommand)]
     command: Command,
@@ -65,6 +84,14 @@ enum Command {
         #[arg(long, value_name = "FILE")]
         vcd: Option<PathBuf>,
     },
+    /// Print the trace found: the start, and the state after each accepted row with its steps
+    Replay {
+        #[command(flatten)]
+        run: Run,
+        /// comma-separated values
+        #[arg(long)]
+        csv: bool,
+    },
     /// Bill the licences that a variable counts
     Charge {
         #[command(flatten)]
@@ -73,15 +100,16 @@ enum Command {
         #[arg(long, value_name = "NAME")]
         of: String,
         /// cents per licence-hour
-        #[arg(long)]
+        #[arg(long, value_name = "CENTS", allow_hyphen_values = true)]
         rate: i32,
         /// licences that go at this rate; those above it go at --rate-above
-        #[arg(long, default_value_t = i32::MAX)]
+        #[arg(long, value_name = "COUNT", default_value_t = i32::MAX, allow_hyphen_values = true, hide_default_value = true)]
         threshold: i32,
-        #[arg(long, default_value_t = 0)]
+        /// cents per licence-hour above the threshold
+        #[arg(long, value_name = "CENTS", default_value_t = 0, allow_hyphen_values = true)]
         rate_above: i32,
         /// minutes of each row; those of --every with a farm table, else 1
-        #[arg(long)]
+        #[arg(long, allow_hyphen_values = true)]
         minutes: Option<i32>,
     },
     /// Say whether rules can ever stop in service
@@ -90,10 +118,10 @@ enum Command {
     Table {
         zone: String,
         /// first year; this one by default
-        #[arg(long, value_name = "YEAR")]
+        #[arg(long, value_name = "YEAR", allow_hyphen_values = true)]
         from: Option<i64>,
         /// last year; the one after the first by default
-        #[arg(long, value_name = "YEAR")]
+        #[arg(long, value_name = "YEAR", allow_hyphen_values = true)]
         to: Option<i64>,
     },
 }
@@ -129,41 +157,41 @@ struct Run {
     #[arg(conflicts_with = "zeros")]
     rows: Option<PathBuf>,
     /// so many rows of zeros, for rules whose inputs the clock fills
-    #[arg(long, value_name = "COUNT")]
+    #[arg(long, value_name = "COUNT", allow_hyphen_values = true)]
     zeros: Option<u64>,
     /// a farm table: `day`, `minute` and `again` of each row are filled from it
     #[arg(long, value_name = "FILE", requires = "start")]
     table: Option<PathBuf>,
-    /// the UTC minute of the first row, from 1 January 1970
-    #[arg(long, value_name = "MINUTE", requires = "table")]
+    /// the UTC minute of the first row, from 1 January 1970, or its time, as 2026-10-24T23:00Z
+    #[arg(long, value_name = "MINUTE", requires = "table", allow_hyphen_values = true, value_parser = calendar::minute)]
     start: Option<i64>,
     /// minutes from row to row
-    #[arg(long, value_name = "MINUTES", default_value_t = 1)]
+    #[arg(long, value_name = "MINUTES", default_value_t = 1, allow_hyphen_values = true, value_parser = clap::value_parser!(i64).range(1..=i64::from(i32::MAX)))]
     every: i64,
 }
 
 impl Run {
+    fn job(&self) -> Result<Job, Stop> {
+        Job::new(Rules::read(&self.rules)?, self.rows.as_deref(), self.zeros, self.clock()?)
+    }
+
     fn clock(&self) -> Result<Option<Clock>, Stop> {
-        let (Some(path), Some(first)) = (&self.table, self.start) else {
-            return Ok(None);
-        };
-        let mut text = String::new();
-        let most = 1 << 16;
-        let read = fs::File::open(path).and_then(|f| f.take(most).read_to_string(&mut text)).map_err(|e| Stop::file(path, e))?;
-        if read as u64 == most {
-            return Err(Stop::file(path, "too long for a farm table"));
+        match (&self.table, self.start) {
+            (Some(path), Some(first)) => Clock::read(path, first, self.every).map(Some),
+            _ => Ok(None),
         }
-        let words = text.lines().map(|l| l.split('#').next().unwrap_or("")).flat_map(str::split_whitespace);
-        let table = words.map(|w| w.parse().map_err(|_| Stop::file(path, format!("`{w}` is no number")))).collect::<Result<_, _>>()?;
-        Ok(Some(Clock { table, first, every: self.every }))
     }
 }
 
 fn translate(path: &Path, output: Option<&Path>) -> Result<(), Stop> {
     let farm = farm::Farm::new(&Rules::read(path)?)?;
     match output {
-        Some(to) => fs::write(to, &farm.image).map_err(|e| Stop::file(to, e)),
-        None => Ok(writeln!(std::io::stdout(), "{}: {} bytes, {} instructions", path.display(), farm.image.len(), farm.read.code.len())?),
+        Some(to) => {
+            let mut image = Output::open(to, &[path.to_owned()])?;
+            image.put(&farm.image)?;
+            image.end()
+        }
+        None => Ok(writeln!(std::io::stdout(), "{}: {}, {}", path.display(), count(farm.image.len(), "byte"), count(farm.read.code.len(), "instruction"))?),
     }
 }
 
@@ -174,16 +202,17 @@ fn run(command: Command) -> Result<(), Stop> {
         Command::Show { file } => show::show(&file.file, file.taken()),
         Command::Trace { run, csv, vcd } => {
             let form = vcd.map_or(if csv { Form::Csv } else { Form::Plain }, Form::Vcd);
-            trace::trace(Rules::read(&run.rules)?, run.rows.as_deref(), run.zeros, run.clock()?, form)
+            trace::trace(run.job()?, form)
         }
         Command::Charge { run, of, rate, threshold, rate_above, minutes } => {
             let row = run.table.as_ref().map_or(1, |_| i32::try_from(run.every).unwrap_or(i32::MAX));
             let rates = bill::Rates { threshold, rate, above: rate_above, minutes: minutes.unwrap_or(row) };
-            bill::bill(Rules::read(&run.rules)?, run.rows.as_deref(), run.zeros, run.clock()?, &of, &rates)
+            bill::bill(run.job()?, &of, &rates)
         }
+        Command::Replay { run, csv } => replay::replay(run.job()?, csv),
         Command::Closed { rules } => profile::profile(&Rules::read(&rules)?),
         Command::Table { zone, from, to } => {
-            let from = from.unwrap_or_else(table::this_year);
+            let from = from.unwrap_or_else(calendar::this_year);
             table::print(&zone, from, to.unwrap_or(from.saturating_add(1)))
         }
     }

@@ -1,13 +1,6 @@
 //! The rule at the end of a TZif file for times after its last change, as POSIX TZ spells it: `CET-1CEST,M3.5.0,M10.5.0/3`.
 
-/// Days from 1 January 1970 to a day of the Gregorian calendar.
-pub fn days(year: i64, month: i64, day: i64) -> i64 {
-    let y = if month <= 2 { year - 1 } else { year };
-    let era = y.div_euclid(400);
-    let of_era = y.rem_euclid(400);
-    let of_year = (153 * ((month + 9) % 12) + 2) / 5 + day - 1;
-    era * 146_097 + of_era * 365 + of_era / 4 - of_era / 100 + of_year - 719_468
-}
+use crate::calendar::days;
 
 fn is_leap(year: i64) -> bool {
     days(year + 1, 1, 1) - days(year, 1, 1) == 366

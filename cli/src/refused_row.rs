@@ -1,9 +1,8 @@
 //! A refused row in words: which name and which values, and for 15 the two cases that held.
 
-use crate::advice::advice;
 use crate::farm::Farm;
 use crate::image::Instruction;
-use crate::text::{cases, line_column};
+use crate::text::{cases, count, line_column};
 use rolvenko::{meaning, scan, ScanRefusal};
 
 const PREVIOUS: u8 = 3;
@@ -14,43 +13,33 @@ const LET: u8 = 21;
 const SETTLE: u8 = 22;
 
 /// What was wrong with a row, of a farm whose state is as before it.
-pub fn row_refused(farm: &Farm, row: Option<&[i32]>, refusal: ScanRefusal) -> String {
+pub fn row_refused(farm: &Farm, row: Result<&[i32], &String>, refusal: ScanRefusal) -> String {
     let what = match (refusal.number, row) {
-        (12, None) => format!("the line is no row: {}", inputs_wanted(farm)),
-        (12, Some(row)) => format!("the row has {}: {}", numbers(row.len()), inputs_wanted(farm)),
-        (13, Some(row)) => input_outside(farm, row),
-        (18, _) => state_outside(farm),
-        (14..=17 | 22, Some(row)) => at_work(farm, row, refusal),
+        (12, Err(why)) => format!("the line is no row: {why}; {}", inputs_wanted(farm)),
+        (12, Ok(row)) => format!("the row has {}; {}", count(row.len(), "number"), inputs_wanted(farm)),
+        (13, Ok(row)) => outside(farm, row),
+        (18, _) => outside(farm, &farm.state),
+        (14..=17 | 22, Ok(row)) => at_work(farm, row, refusal),
         _ => meaning(refusal.number).to_owned(),
     };
-    format!("refused {}: {what}\n  {}\n", refusal.number, advice(refusal.number))
-}
-
-fn numbers(n: usize) -> String {
-    format!("{n} number{}", if n == 1 { "" } else { "s" })
+    format!("refused {}: {what}", refusal.number)
 }
 
 fn inputs_wanted(farm: &Farm) -> String {
     match farm.read.inputs {
         0 => "a row of no numbers is wanted".to_owned(),
-        n => format!("{} wanted, {}", numbers(n), farm.names[..n].join(" ")),
+        n => format!("{} wanted, {}", count(n, "number"), farm.names[..n].join(" ")),
     }
 }
 
-fn outside(farm: &Farm, id: usize, value: i32) -> Option<String> {
-    let range = farm.range(id);
-    let within = (range.low..=range.high).contains(&value);
-    (!within).then(|| format!("{} is {value}, outside {}..{}", farm.names[id], range.low, range.high))
-}
-
-fn input_outside(farm: &Farm, row: &[i32]) -> String {
-    let found: Vec<String> = row.iter().enumerate().filter_map(|(id, value)| outside(farm, id, *value)).collect();
-    found.join("; ")
-}
-
-fn state_outside(farm: &Farm) -> String {
-    let found: Vec<String> = farm.state.iter().enumerate().filter_map(|(id, value)| outside(farm, id, *value)).collect();
-    found.join("; ")
+/// Which values are outside the ranges of their names.
+fn outside(farm: &Farm, values: &[i32]) -> String {
+    let told = |(id, value): (usize, &i32)| {
+        let range = farm.range(id);
+        let within = (range.low..=range.high).contains(value);
+        (!within).then(|| format!("{} is {value}, outside {}..{}", farm.names[id], range.low, range.high))
+    };
+    values.iter().enumerate().filter_map(told).collect::<Vec<_>>().join("; ")
 }
 
 /// The instructions of the rule that the refusing one belongs to.

@@ -5,6 +5,7 @@ use crate::farm::Farm;
 use crate::image::{Image, Instruction};
 use crate::source::{content, Content, Taken};
 use crate::stop::{tell, Stop};
+use crate::text::count;
 use rolvenko::Refusal;
 use std::io::{BufWriter, Write};
 use std::path::Path;
@@ -37,10 +38,25 @@ fn refused(path: &Path, shown: &Shown, answer: Result<(), Refusal>) -> Result<()
         return Ok(());
     };
     let image = Image::read(&shown.bytes);
-    let there = image.code.iter().find(|i| i.at == refusal.place).map(|i| i.words(&shown.names));
-    let there = there.or_else(|| (refusal.number == 11 && refusal.place == shown.bytes.len()).then(|| "the end".to_owned()));
+    let there = if refusal.number == 11 { stands_at(&image, refusal.place, shown) } else { None };
     tell(&explain::image_refused(path, refusal, there.as_deref()));
     Err(Stop::Refused)
+}
+
+/// What a reader finds at a place of an image.
+fn stands_at(image: &Image, place: usize, shown: &Shown) -> Option<String> {
+    if place == shown.bytes.len() {
+        return Some("the end: something is missing".to_owned());
+    }
+    if let Some(instruction) = image.code.iter().find(|i| i.at == place) {
+        return Some(instruction.words(&shown.names));
+    }
+    let in_code = image.code_at > 0 && place >= image.code_at;
+    match image.ranges.iter().rposition(|(at, _)| *at <= place) {
+        _ if in_code => Some("no whole instruction".to_owned()),
+        Some(id) if image.code_at > 0 => Some(format!("in the range of name {id}")),
+        _ => Some("in the header".to_owned()),
+    }
 }
 
 fn hex(bytes: &[u8]) -> String {
@@ -55,7 +71,8 @@ pub fn show(path: &Path, taken: Option<Taken>) -> Result<(), Stop> {
     let shown = open(path, taken)?;
     let image = Image::read(&shown.bytes);
     let mut out = BufWriter::new(std::io::stdout().lock());
-    writeln!(out, "{} bytes, {} inputs, {} variables, {} instructions from place {}", shown.bytes.len(), image.inputs, image.variables, image.code.len(), image.code_at)?;
+    let counts = [(shown.bytes.len(), "byte"), (image.inputs, "input"), (image.variables, "variable"), (image.code.len(), "instruction")];
+    writeln!(out, "{} from place {}", counts.map(|(n, what)| count(n, what)).join(", "), image.code_at)?;
     for (id, (at, range)) in image.ranges.iter().enumerate() {
         let kind = if id < image.inputs { "input" } else { "var" };
         let name = shown.names.get(id).map_or(String::new(), |n| format!(" {n}"));
@@ -65,7 +82,7 @@ pub fn show(path: &Path, taken: Option<Taken>) -> Result<(), Stop> {
         let bytes = &shown.bytes[instruction.at..end_of(&image, n, &shown.bytes)];
         writeln!(out, "{:>6}  {:<15} {}", instruction.at, hex(bytes), instruction.words(&shown.names))?;
     }
-    if let Some(at) = image.broken {
+    if let Some(at) = image.broken.filter(|at| *at < shown.bytes.len()) {
         writeln!(out, "{at:>6}  {}", hex(&shown.bytes[at..shown.bytes.len().min(at + 8)]))?;
     }
     out.flush()?;

@@ -92,7 +92,7 @@ impl Rows {
 /// Leading zeros say nothing and are dropped. Without them no row of 64 numbers is over the limit, so what is cut there is no row, or has too
 /// many numbers.
 fn keep(line: &mut Vec<u8>, byte: u8) {
-    let leads = line.last() == Some(&b'0') && !line.iter().rev().nth(1).map_or(false, u8::is_ascii_digit);
+    let leads = line.last() == Some(&b'0') && !line.iter().rev().nth(1).is_some_and(u8::is_ascii_digit);
     if byte.is_ascii_digit() && leads {
         line.pop();
     }
@@ -101,24 +101,49 @@ fn keep(line: &mut Vec<u8>, byte: u8) {
     }
 }
 
+/// A row's numbers, or why a line is none.
+pub type Row = Result<Vec<i32>, String>;
+
 /// Decimals with single spaces, `-` allowed; an empty line is a row of no numbers. Anything else is no row.
-pub fn row(line: &[u8]) -> Option<Vec<i32>> {
+pub fn row(line: &[u8]) -> Row {
     if line.is_empty() {
-        return Some(Vec::new());
+        return Ok(Vec::new());
     }
-    line.split(|b| *b == b' ')
-        .map(|part| {
-            let digits = part.strip_prefix(b"-").unwrap_or(part);
-            if digits.is_empty() || !digits.iter().all(u8::is_ascii_digit) {
-                return None;
-            }
-            std::str::from_utf8(part).ok()?.parse().ok()
-        })
-        .collect()
+    if line.ends_with(b"\r") {
+        return Err("it ends with a carriage return".to_owned());
+    }
+    if let Some(other) = line.iter().find(|b| !b.is_ascii_digit() && !matches!(b, b'-' | b' ')) {
+        return Err(format!("{} stands in it", printed(*other)));
+    }
+    line.split(|b| *b == b' ').map(decimal).collect()
 }
 
-/// What a file holds, where the command line does not say: an image if a byte below 32 but tab, LF and CR stands before a `#` line. Every sound
-/// image has a byte 0, 21 or 22, and no accepted text has one.
+fn decimal(part: &[u8]) -> Result<i32, String> {
+    let spelled = String::from_utf8_lossy(part);
+    let digits = part.strip_prefix(b"-").unwrap_or(part);
+    match digits {
+        [] if part.is_empty() => Err("single spaces stand between numbers, and nowhere else".to_owned()),
+        _ if digits.is_empty() || digits.contains(&b'-') => Err(format!("`{}` is no number", shortened(&spelled))),
+        _ => spelled.parse().map_err(|_| format!("{} is outside 32 bits", shortened(&spelled))),
+    }
+}
+
+fn shortened(text: &str) -> String {
+    if text.len() <= 24 { text.to_owned() } else { format!("{}..", &text[..20]) }
+}
+
+/// A byte as one can read it.
+pub fn printed(byte: u8) -> String {
+    if byte.is_ascii_graphic() { format!("`{}`", byte as char) } else { format!("a byte {byte:02x} (hex)") }
+}
+
+/// Whether bytes are those of an image rather than of a text: a byte below 32 but tab, LF and CR stands among them. Every sound image has a byte
+/// 0, 21 or 22, and no accepted text has one.
+pub fn is_image(bytes: &[u8]) -> bool {
+    bytes.iter().any(|b| *b < 32 && !matches!(b, b'\t' | b'\n' | b'\r'))
+}
+
+/// What a file holds; where the command line does not say, it goes by the bytes before a `#` line.
 #[derive(Clone, Copy)]
 pub enum Taken {
     Image,
@@ -134,8 +159,7 @@ pub fn content(path: &Path, taken: Option<Taken>) -> Result<Content, Stop> {
     let mut bytes = Vec::new();
     open(path)?.take(IMAGE_LIMIT as u64 + 1).read_to_end(&mut bytes).map_err(|e| Stop::file(path, e))?;
     let rows = bytes.windows(3).position(|w| w == b"\n#\n").unwrap_or(bytes.len());
-    let unprintable = bytes[..rows].iter().any(|b| *b < 32 && !matches!(b, b'\t' | b'\n' | b'\r'));
-    Ok(match taken.unwrap_or(if unprintable { Taken::Image } else { Taken::Rules }) {
+    Ok(match taken.unwrap_or(if is_image(&bytes[..rows]) { Taken::Image } else { Taken::Rules }) {
         Taken::Image => Content::Image(bytes),
         Taken::Rules => Content::Text(Rules::from(path, BufReader::new(Box::new(Cursor::new(bytes))))?),
     })

@@ -1,11 +1,13 @@
 //! Why a run ends early, and the status that it ends with.
 
+use crate::progress;
 use std::fmt::Display;
 use std::io::{self, Write};
 use std::path::Path;
 
 /// Says something on standard error; if nobody reads it, so be it.
 pub fn tell(text: &str) {
+    progress::clear();
     let _ = io::stderr().write_all(text.as_bytes());
 }
 
@@ -21,8 +23,14 @@ pub enum Stop {
 
 impl Stop {
     pub fn file(path: &Path, error: impl Display) -> Stop {
-        Stop::Failed(format!("{}: {error}", path.display()))
+        Stop::Failed(format!("{}: {}", path.display(), words(error)))
     }
+}
+
+/// The system's words for an error; its number says nothing more.
+fn words(error: impl Display) -> String {
+    let all = error.to_string();
+    all.split(" (os error").next().unwrap_or(&all).to_owned()
 }
 
 /// Errors of standard output.
@@ -30,7 +38,7 @@ impl From<io::Error> for Stop {
     fn from(error: io::Error) -> Stop {
         match error.kind() {
             io::ErrorKind::BrokenPipe => Stop::Closed,
-            _ => Stop::Failed(format!("standard output: {error}")),
+            _ => Stop::Failed(format!("standard output: {}", words(error))),
         }
     }
 }

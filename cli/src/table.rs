@@ -1,15 +1,18 @@
 //! Farm tables (document 02, A.1) from the system's zone database: TZif files (RFC 8536), their part of 64-bit times.
 
+use crate::calendar::{days, stamp};
 use crate::posix;
 use crate::stop::Stop;
 use std::io::Write;
 use std::path::{Path, PathBuf};
 
+const DATABASE: &str = "/usr/share/zoneinfo";
+
 /// 1 to 32 entries: the UTC minute from which an offset holds, and the offset in minutes.
 pub const ENTRIES: usize = 32;
-const LOWEST_OFFSET: i64 = -720;
-const HIGHEST_OFFSET: i64 = 840;
-const LAST_MINUTE: i64 = 2_147_483_647;
+pub const LOWEST_OFFSET: i64 = -720;
+pub const HIGHEST_OFFSET: i64 = 840;
+pub const LAST_MINUTE: i64 = 2_147_483_647;
 
 #[derive(Clone, Copy, Debug, PartialEq, Eq)]
 pub struct Entry {
@@ -32,7 +35,27 @@ pub fn zone_file(zone: &str) -> Option<PathBuf> {
     if parts.iter().any(|p| p.is_empty() || *p == "." || *p == "..") {
         return None;
     }
-    Some(Path::new("/usr/share/zoneinfo").join(zone))
+    Some(Path::new(DATABASE).join(zone))
+}
+
+/// A zone of the database whose name, or last part of it, is the same in another letter case.
+fn alike(zone: &str) -> Option<String> {
+    let mut folders = vec![String::new()];
+    let mut found = Vec::new();
+    while let Some(folder) = folders.pop() {
+        for entry in std::fs::read_dir(Path::new(DATABASE).join(&folder)).into_iter().flatten().flatten() {
+            let name = format!("{folder}{}", entry.file_name().to_string_lossy());
+            match entry.path().is_dir() {
+                true if folder.is_empty() && matches!(name.as_str(), "posix" | "right") => (),
+                true => folders.push(name + "/"),
+                false => found.push(name),
+            }
+        }
+    }
+    found.sort();
+    let last = |name: &str| name.rsplit('/').next().unwrap_or("").replace('_', " ");
+    let whole = found.iter().find(|n| n.eq_ignore_ascii_case(zone));
+    whole.or_else(|| found.iter().find(|n| last(n).eq_ignore_ascii_case(&last(zone)))).cloned()
 }
 
 fn long(bytes: &[u8], at: usize) -> Option<usize> {
@@ -93,8 +116,8 @@ pub enum NoTable {
 impl Zone {
     /// The entries for the years from `first` to `last`: the offset that holds as they begin, and each change of offset in them.
     pub fn table(&self, first: i64, last: i64) -> Result<Vec<Entry>, NoTable> {
-        let begin = posix::days(first, 1, 1) * 86_400;
-        let end = posix::days(last + 1, 1, 1) * 86_400;
+        let begin = days(first, 1, 1) * 86_400;
+        let end = days(last + 1, 1, 1) * 86_400;
         let known = self.changes.last().map_or(i64::MIN, |c| c.0);
         let mut changes = self.changes.clone();
         if end > known && !self.rule.is_empty() {
@@ -132,7 +155,10 @@ fn entry(second: i64, offset: i64) -> Result<Entry, NoTable> {
 
 /// `table`: an entry a line, with its UTC time behind a `#`.
 pub fn print(zone: &str, from: i64, to: i64) -> Result<(), Stop> {
-    let unknown = || Stop::Failed(format!("no zone {zone} in the zone database"));
+    let unknown = || {
+        let meant = alike(zone).map_or(String::new(), |z| format!("; is {z} meant?"));
+        Stop::Failed(format!("no zone {zone} in the zone database ({DATABASE}){meant}"))
+    };
     let path = zone_file(zone).ok_or_else(unknown)?;
     let bytes = std::fs::read(&path).map_err(|_| unknown())?;
     let read = Zone::read(&bytes).ok_or_else(|| Stop::Failed(format!("{}: no TZif file of version 2 or later", path.display())))?;
@@ -156,23 +182,4 @@ fn words(why: &NoTable) -> String {
         NoTable::Minute(second) => format!("the change at {} is no minute of a farm table", stamp(*second)),
         NoTable::Rule(rule) => format!("the rule `{rule}` for later years is not understood"),
     }
-}
-
-/// The year of a UTC day.
-fn year_of(day: i64) -> i64 {
-    (1970 + day.div_euclid(366)..).find(|y| posix::days(y + 1, 1, 1) > day).unwrap_or(1970)
-}
-
-pub fn this_year() -> i64 {
-    let now = std::time::SystemTime::now().duration_since(std::time::UNIX_EPOCH);
-    now.map_or(1970, |since| year_of(since.as_secs() as i64 / 86_400))
-}
-
-/// A UTC second as date and time.
-fn stamp(second: i64) -> String {
-    let day = second.div_euclid(86_400);
-    let year = year_of(day);
-    let month = (1..=12).rev().find(|m| posix::days(year, *m, 1) <= day).unwrap_or(1);
-    let rest = second.rem_euclid(86_400);
-    format!("{year}-{month:02}-{:02} {:02}:{:02}Z", day - posix::days(year, month, 1) + 1, rest / 3600, rest / 60 % 60)
 }

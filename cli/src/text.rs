@@ -65,6 +65,11 @@ pub fn declared(text: &[u8]) -> Vec<Declared> {
         .collect()
 }
 
+/// So many of something, in words.
+pub fn count(n: usize, what: &str) -> String {
+    format!("{n} {what}{}", if n == 1 { "" } else { "s" })
+}
+
 /// Line and column of a place, from 1; columns count characters.
 pub fn line_column(text: &[u8], place: usize) -> (usize, usize) {
     let before = &text[..place.min(text.len())];
@@ -73,27 +78,25 @@ pub fn line_column(text: &[u8], place: usize) -> (usize, usize) {
     (line, String::from_utf8_lossy(&before[start..]).chars().count() + 1)
 }
 
-/// The parts of an accepted text that spell the cases of `variable`, each from its `[` to the `)` that ends it.
+/// The parts of an accepted text that spell the cases of `variable`, each from its `[` to the `)` that ends it; of a pair, the rising ones first.
 pub fn cases(text: &[u8], variable: &str) -> Vec<Token> {
     let all = tokens(text);
     let spelled = |i: usize| all.get(i).map_or(&b""[..], |t| t.of(text));
-    let opening = |i: usize| {
-        spelled(i).eq_ignore_ascii_case(variable.as_bytes()) && spelled(i + 1) == b":" && spelled(i + 4) == b"~" && spelled(i + 5) == b"("
-    };
-    let Some(rule) = (0..all.len()).find(|i| opening(*i)) else {
-        return Vec::new();
+    let is_rule = |i: usize| {
+        let sign = usize::from(matches!(spelled(i + 1), b"+" | b"-"));
+        spelled(i).eq_ignore_ascii_case(variable.as_bytes()) && spelled(i + 1 + sign) == b":"
     };
     let mut found = Vec::new();
-    let mut i = (rule..all.len()).find(|i| spelled(*i) == b"->").map_or(all.len(), |i| i + 1);
-    while spelled(i) == b"[" {
-        let first = all[i].at;
-        let behind = closing(text, &all, i);
-        // `&`, the variable and `=` stand before the bracket of the new value
-        let last = closing(text, &all, behind + 4);
-        found.push(Token { at: first, end: all[last.min(all.len() - 1)].end });
-        i = last + 1;
-        if spelled(i) == b"|" {
-            i += 1;
+    for rule in (0..all.len()).filter(|i| is_rule(*i)) {
+        // the list stands behind the arrow; a no-change formula has `~` there, a function no arrow
+        let mut i = (rule..all.len()).find(|i| matches!(spelled(*i), b"->" | b";")).map_or(all.len(), |i| i + 1);
+        while spelled(i) == b"[" {
+            let first = all[i].at;
+            let behind = closing(text, &all, i);
+            // `&`, the variable and `=` stand before the bracket of the new value
+            let last = closing(text, &all, behind + 4);
+            found.push(Token { at: first, end: all[last.min(all.len() - 1)].end });
+            i = last + 1 + usize::from(spelled(last + 1) == b"|");
         }
     }
     found
@@ -111,4 +114,22 @@ fn closing(text: &[u8], all: &[Token], open: usize) -> usize {
         }
     }
     all.len()
+}
+
+#[cfg(test)]
+mod tests {
+    use super::*;
+
+    fn spelled(text: &str) -> Vec<&str> {
+        cases(text.as_bytes(), "v").iter().map(|t| &text[t.at..t.end]).collect()
+    }
+
+    #[test]
+    fn cases_are_found_in_every_form_of_a_rule() {
+        let change = "w: GX(w = (1)); V: GX(~(v = _v) -> [[a = 1]] & v = ((1)) | [_v = 0] & v = (2)); v: GX(v = _v -> ~([[a = 1]] | [_v = 0]));";
+        assert_eq!(spelled(change), ["[[a = 1]] & v = ((1))", "[_v = 0] & v = (2)"]);
+        let pair = "v+: GX(v > _v -> [a = 1] & v = (_v + 1)); v-: GX(v < _v -> [a = 0] & v = (_v - 1) | [a = 2] & v = (0));";
+        assert_eq!(spelled(pair), ["[a = 1] & v = (_v + 1)", "[a = 0] & v = (_v - 1)", "[a = 2] & v = (0)"]);
+        assert_eq!(spelled("v: GX(v = (1)); w: GX(~(w = _w) -> [a = 1] & w = (1)); w: GX(w = _w -> ~([a = 1]));"), [""; 0]);
+    }
 }

@@ -29,7 +29,8 @@ fn identifier(mut n: usize) -> String {
 pub struct Waveform {
     wires: Vec<u32>,
     last: Vec<Option<i32>>,
-    pub text: String,
+    /// what was not taken yet
+    text: String,
 }
 
 /// The range of the wire `_result`, which tells a row's refusal; no declared name begins so.
@@ -48,6 +49,11 @@ impl Waveform {
         }
         text.push_str("$upscope $end\n$enddefinitions $end\n");
         Waveform { last: vec![None; wires.len()], wires, text }
+    }
+
+    /// What has come since the last call.
+    pub fn taken(&mut self) -> String {
+        std::mem::take(&mut self.text)
     }
 
     /// The values after row `time`, 0 being the start, and its result; only changes are written.

@@ -1,47 +1,15 @@
 //! The tool from outside: outputs, refusals in words, exit status, and inputs that are not what they should be.
 
+mod common;
+
+use common::{fed, file, out, status, told, tool, word, TOOL};
 use std::fs;
 use std::io::Write;
-use std::path::{Path, PathBuf};
-use std::process::{Command, Output, Stdio};
+use std::process::{Command, Stdio};
 
-const TOOL: &str = env!("CARGO_BIN_EXE_rolvenko");
 const LATCH: &str = "../examples/launch_latch.txt";
 /// Two cases that can hold at once.
 const TWO_CASES: &str = "input a 0..1;\nvar v 0..3;\nv: GX(~(v = _v) -> [a = 1] & v = (1) | [_v = 0] & v = (2));\nv: GX(v = _v -> ~([a = 1] | [_v = 0]));\n";
-
-fn tool(words: &[&str]) -> Output {
-    Command::new(TOOL).args(words).stdin(Stdio::null()).output().unwrap()
-}
-
-fn fed(words: &[&str], input: &[u8]) -> Output {
-    let mut child = Command::new(TOOL).args(words).stdin(Stdio::piped()).stdout(Stdio::piped()).stderr(Stdio::piped()).spawn().unwrap();
-    child.stdin.take().unwrap().write_all(input).unwrap();
-    child.wait_with_output().unwrap()
-}
-
-fn out(o: &Output) -> String {
-    String::from_utf8_lossy(&o.stdout).into_owned()
-}
-
-fn told(o: &Output) -> String {
-    String::from_utf8_lossy(&o.stderr).into_owned()
-}
-
-fn status(o: &Output) -> i32 {
-    o.status.code().unwrap()
-}
-
-/// A file of its own for each test.
-fn file(name: &str, bytes: &[u8]) -> PathBuf {
-    let path = Path::new(env!("CARGO_TARGET_TMPDIR")).join(name);
-    fs::write(&path, bytes).unwrap();
-    path
-}
-
-fn word(path: &Path) -> &str {
-    path.to_str().unwrap()
-}
 
 #[test]
 fn translates_into_the_image_that_the_service_writes() {
@@ -128,8 +96,8 @@ fn refused_rows_name_values_and_cases() {
     for wanted in [
         ":6: refused 15: two cases of v hold: case 1 (line 3) [a = 1] & v = (1) and case 2 (line 3) [_v = 0] & v = (2); a is 1, _v is 0",
         ":8: refused 13: a is 3, outside 0..1",
-        ":9: refused 12: the row has 2 numbers: 1 number wanted, a",
-        ":10: refused 12: the line is no row: 1 number wanted, a",
+        ":9: refused 12: the row has 2 numbers; 1 number wanted, a",
+        ":10: refused 12: the line is no row: `x` stands in it; 1 number wanted, a",
     ] {
         assert!(answer.contains(wanted), "{wanted}\n{answer}");
     }
@@ -147,7 +115,7 @@ fn values_out_of_range_name_the_variable() {
 fn an_image_shows_its_instructions_and_where_it_breaks() {
     let path = file("small.image", &[0, 1, 0, 2, 0, 1, 0, 21, 0]);
     let shown = out(&tool(&["show", word(&path)]));
-    assert_eq!(shown, "9 bytes, 0 inputs, 1 variables, 2 instructions from place 5\n     2  var 0 0..1 init 0\n     5  01 00           constant 0\n     7  15 00           let 0\n");
+    assert_eq!(shown, "9 bytes, 0 inputs, 1 variable, 2 instructions from place 5\n     2  var 0 0..1 init 0\n     5  01 00           constant 0\n     7  15 00           let 0\n");
     let broken = file("broken.image", &[0, 1, 0, 2, 0, 1, 0, 22, 0]);
     let checked = tool(&["check", word(&broken)]);
     assert_eq!(status(&checked), 1);
@@ -205,7 +173,7 @@ fn a_closed_pipe_is_no_failure() {
 #[test]
 fn lines_of_any_length_are_rows() {
     let rules = file("zeros.txt", b"input i 0..9; var v 0..9; v: GX(v = (i));\n");
-    let row = [&vec![b'0'; 70_000][..], b"7\n-", &vec![b'0'; 9], b"\n", &vec![b'1'; 70_000][..], b"\n"].concat();
+    let row = [&vec![b'0'; 70_000][..], b"7\n-", &[b'0'; 9], b"\n", &vec![b'1'; 70_000][..], b"\n"].concat();
     assert_eq!(out(&fed(&["trace", word(&rules), "-"], &row)), "scan i v result\n0 0 0 0\n1 7 7 0\n2 0 0 0\n3 0 0 12\n");
 }
 
@@ -232,7 +200,7 @@ fn a_broken_farm_table_is_refused_before_any_row() {
     let rules = file("clock.txt", b"input day 0..99999;\n");
     let table = file("falling.table", b"10 60\n5 0\n");
     let traced = tool(&["trace", word(&rules), "--table", word(&table), "--start", "1"]);
-    assert_eq!((status(&traced), told(&traced).starts_with("refused 19: ")), (1, true));
+    assert_eq!((status(&traced), told(&traced).contains("falling.table: refused 19: entry 2: minute 5 does not come after 10")), (1, true));
     let endless = tool(&["trace", word(&rules), "--table", "/dev/zero", "--start", "1"]);
     assert_eq!(status(&endless), 2);
 }

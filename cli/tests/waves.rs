@@ -1,11 +1,11 @@
 //! Waveforms through the converters of GTKWave: what comes back has the trace's values at the same times.
 
+mod common;
+
+use common::{file, out, status, told, tool, word};
 use std::collections::BTreeMap;
 use std::fs;
-use std::path::Path;
 use std::process::Command;
-
-const TOOL: &str = env!("CARGO_BIN_EXE_rolvenko");
 
 /// Name → time → value as a number, of a value change dump.
 fn values(dump: &str) -> BTreeMap<String, BTreeMap<u64, i64>> {
@@ -37,20 +37,48 @@ fn values(dump: &str) -> BTreeMap<String, BTreeMap<u64, i64>> {
     found
 }
 
+/// Through `vcd2fst` and back.
+fn converted(name: &str, dump: &str) -> String {
+    let wave = file(&format!("{name}.vcd"), dump.as_bytes());
+    let fst = wave.with_extension("fst");
+    let there = Command::new("vcd2fst").arg(&wave).arg(&fst).output().expect("Debian's package gtkwave is wanted");
+    assert!(there.status.success(), "{}", told(&there));
+    let back = Command::new("fst2vcd").arg(&fst).output().unwrap();
+    assert!(back.status.success(), "{}", told(&back));
+    out(&back)
+}
+
 #[test]
 fn a_waveform_goes_through_gtkwave_and_back() {
-    let folder = Path::new(env!("CARGO_TARGET_TMPDIR"));
-    let (rules, wave, fst) = (folder.join("wave.txt"), folder.join("wave.vcd"), folder.join("wave.fst"));
-    fs::write(&rules, "input i 0..1;\nvar low -5..3;\nvar up 0..300;\nlow: GX(low = (_low - i));\nup: GX(up = (_up + 100));\n#\n1\n1\n0\n7\n1\n0\n").unwrap();
-    let o = Command::new(TOOL).arg("trace").arg(&rules).arg("--vcd").arg(&wave).output().unwrap();
-    assert_eq!(o.status.code(), Some(1), "{}", String::from_utf8_lossy(&o.stderr));
+    let rules = file("wave.txt", b"input i 0..1;\nvar low -5..3;\nvar up 0..300;\nlow: GX(low = (_low - i));\nup: GX(up = (_up + 100));\n#\n1\n1\n0\n7\n1\n0\n");
+    let wave = rules.with_extension("vcd");
+    let o = tool(&["trace", word(&rules), "--vcd", word(&wave)]);
+    assert_eq!(status(&o), 1, "{}", told(&o));
     let written = fs::read_to_string(&wave).unwrap();
     let own = values(&written);
     assert_eq!(own["low"], BTreeMap::from([(0, 0), (1, -1), (2, -2)]));
     assert_eq!(own["up"], BTreeMap::from([(0, 0), (1, 100), (2, 200), (3, 300)]));
     assert_eq!(own["_result"], BTreeMap::from([(0, 0), (4, 13), (5, 17)]));
-    let converted = Command::new("vcd2fst").arg(&wave).arg(&fst).output().expect("Debian's package gtkwave is wanted");
-    assert!(converted.status.success());
-    let back = Command::new("fst2vcd").arg(&fst).output().unwrap();
-    assert_eq!(values(&String::from_utf8(back.stdout).unwrap()), own);
+    assert_eq!(values(&converted("wave", &written)), own);
+    assert_eq!(out(&tool(&["trace", word(&rules), "--vcd", "-"])), written);
+}
+
+/// 64 names, with ranges of every width from 1 to 32 bits, above and below 0.
+#[test]
+fn wires_of_every_width_go_through_gtkwave() {
+    let high = |n: u32| (1u64 << (n % 31 + 1)) - 1;
+    let range = |n: u32| if n < 31 { format!("w{n} 0..{}", high(n)) } else { format!("low{n} -{}..{}", high(n) + 1, high(n)) };
+    let names: Vec<u32> = (0..62).collect();
+    let declared: String = names.iter().map(|n| format!("var {};\n", range(*n))).collect();
+    let name = |n: u32| if n < 31 { format!("w{n}") } else { format!("low{n}") };
+    let last = |n: u32| if n < 31 { high(n) as i64 } else { -(high(n) as i64) - 1 };
+    let value = |n: u32| if n < 31 { format!("{}", last(n)) } else { format!("-{} - 1", high(n)) };
+    let rules: String = names.iter().map(|n| format!("{0}: GX({0} = ({1}));\n", name(*n), value(*n))).collect();
+    let path = file("widths.txt", format!("{declared}{rules}#\n\n").as_bytes());
+    let o = tool(&["trace", word(&path), "--vcd", "-"]);
+    assert_eq!(status(&o), 0, "{}", told(&o));
+    let found = values(&converted("widths", &out(&o)));
+    for n in names {
+        assert_eq!(found[&name(n)], BTreeMap::from([(0, 0), (1, last(n))]), "{}", range(n));
+    }
 }

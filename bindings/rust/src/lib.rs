@@ -73,7 +73,7 @@ pub fn meaning(number: u8) -> &'static str {
         6 => "a rule for an input, a second rule, or a variable without rule",
         7 => "the no-change formula has another list of conditions",
         8 => "over 16 brackets, 32 cases, 64 names or 16 bytes of a name",
-        9 => "the text or image is over its limit",
+        9 => "the text is over 32,768 bytes, or the image over 65,536",
         10 => "the image buffer is too short",
         11 => "the image is not sound",
         12 => "the state, row or trace has the wrong length",
