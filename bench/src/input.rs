@@ -58,7 +58,7 @@ fn rows_of(seed: u64) -> Vec<Vec<i32>> {
 
 /// A rule text of the papers with the rows of its trace.
 fn case(name: &str) -> Input {
-    let path = format!("{}/../cases/{name}.in", env!("CARGO_MANIFEST_DIR"));
+    let path = format!("{}/../rulebooks/{name}.in", env!("CARGO_MANIFEST_DIR"));
     let whole = std::fs::read_to_string(&path).unwrap_or_else(|e| panic!("{path}: {e}"));
     let (text, rows) = whole.split_once("\n#\n").expect("a line #");
     let row = |line: &str| line.split_terminator(' ').map(|field| field.parse().expect("a number")).collect();

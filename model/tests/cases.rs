@@ -6,7 +6,7 @@ use std::process::Command;
 
 #[test]
 fn every_case() {
-    let folder = Path::new(env!("CARGO_MANIFEST_DIR")).join("../cases");
+    let folder = Path::new(env!("CARGO_MANIFEST_DIR")).join("../rulebooks");
     let mut names = Vec::new();
     for entry in fs::read_dir(&folder).expect("folder of cases") {
         let path = entry.expect("entry").path();

@@ -157,7 +157,7 @@ fn scan_from_any_state_in_force() {
 /// The cases of the folder, with random rows.
 #[test]
 fn cases_with_random_rows() {
-    let folder = concat!(env!("CARGO_MANIFEST_DIR"), "/../cases");
+    let folder = concat!(env!("CARGO_MANIFEST_DIR"), "/../rulebooks");
     let mut met = [0; 40];
     for name in [
         "lock",

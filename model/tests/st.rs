@@ -343,7 +343,7 @@ fn letter_case() {
 /// The cases of the folder, rows in turn from the start.
 #[test]
 fn cases_with_random_rows() {
-    let folder = concat!(env!("CARGO_MANIFEST_DIR"), "/../cases");
+    let folder = concat!(env!("CARGO_MANIFEST_DIR"), "/../rulebooks");
     let mut accepted = 0;
     for name in [
         "latch",
