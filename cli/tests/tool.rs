@@ -27,7 +27,7 @@ fn translates_into_the_image_that_the_service_writes() {
 #[test]
 fn traces_as_document_01_prints() {
     let mut compared = 0;
-    for entry in ["../cases", "../examples"].iter().flat_map(|folder| fs::read_dir(folder).unwrap()) {
+    for entry in ["../rulebooks", "../examples"].iter().flat_map(|folder| fs::read_dir(folder).unwrap()) {
         let stored = entry.unwrap().path();
         let given = [stored.with_extension("in"), stored.with_extension("txt")].into_iter().find(|p| p.exists());
         let (Some("out"), Some(given)) = (stored.extension().and_then(|e| e.to_str()), given) else {

@@ -38,16 +38,6 @@ fn every_example() {
     }
 }
 
-/// README's worked example: its first block of text is an input, its second the trace.
-#[test]
-fn readme() {
-    let path = Path::new(env!("CARGO_MANIFEST_DIR")).join("../README.md");
-    let page = fs::read_to_string(path).expect("README.md");
-    let mut blocks = page.split("```text\n").skip(1).map(|rest| rest.split("```").next().expect("a block"));
-    let (input, wanted) = (blocks.next().expect("an input"), blocks.next().expect("a trace"));
-    assert_eq!(String::from_utf8_lossy(&rolvenko_model::trace(input.as_bytes())), wanted);
-}
-
 /// The number of a refused text, or the last field of each line after the head.
 fn answers(output: &str) -> Vec<u8> {
     if let Some(rest) = output.strip_prefix("refused ") {
