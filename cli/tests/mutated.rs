@@ -49,7 +49,7 @@ fn text_of(bytes: &[u8]) -> &[u8] {
 
 #[test]
 fn refused_as_the_archive_answers_and_never_otherwise() {
-    let folders = ["../examples", "../examples/trace", "../cases"];
+    let folders = ["../examples", "../examples/trace", "../rulebooks"];
     let mut stored: Vec<_> = folders.iter().flat_map(|f| fs::read_dir(f).unwrap()).map(|e| e.unwrap().path()).collect();
     stored.retain(|p| p.extension().is_some_and(|e| e == "in" || e == "txt") && fs::metadata(p).unwrap().len() < 4000);
     stored.sort();
