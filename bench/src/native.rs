@@ -1,5 +1,5 @@
 //! The ceiling: each rule text as a C function of its own, compiled by `gcc -O2` and loaded. It tests what scan must test of a state
-//! and a row (18, 13) and of the rules at work (14 to 17), but has no image to check, no lengths and no steps.
+//! and a row (18, 13) and of the rules at work (14 to 17, 22), but has no image to check, no lengths and no steps.
 
 use rolvenko_model::program::{Atom, Body, Case, Condition, Expression, Factor, Operand, Product, Relation, Sum, Term};
 use rolvenko_model::Program;
@@ -64,7 +64,7 @@ impl Writer {
                     self.line(&outside(&value));
                     self.line(&format!("c[{}] = (int32_t){value};", rule.variable));
                 }
-                Body::Change { cases, .. } => self.change(rule.variable, cases, &outside),
+                Body::Change { cases, .. } => self.change(rule.variable, cases, rule.rising, &outside),
             }
         }
         self.line(&format!("for (int i = 0; i < {count}; i++) s[i] = c[i];\n    return 0;"));
@@ -76,15 +76,21 @@ impl Writer {
         writeln!(self.code, "    {text}").expect("a string takes it");
     }
 
-    fn change(&mut self, variable: usize, cases: &[Case], outside: &dyn Fn(&str) -> String) {
+    /// Cases; those of a pair have its count of rising ones.
+    fn change(&mut self, variable: usize, cases: &[Case], rising: Option<usize>, outside: &dyn Fn(&str) -> String) {
         self.values += 1;
         let picked = format!("p{}", self.values);
         self.line(&format!("int {picked} = 0; c[{variable}] = s[{variable}];"));
-        for case in cases {
+        for (index, case) in cases.iter().enumerate() {
+            let (wrong, number) = match rising {
+                None => ("==", 16),
+                Some(count) if index < count => ("<=", 22),
+                Some(_) => (">=", 22),
+            };
             let condition = self.condition(&case.condition);
             self.line(&format!("if ({condition}) {{ if ({picked}) return 15; {picked} = 1;"));
             let value = self.expression(&case.expression);
-            self.line(&format!("if ({value} == s[{variable}]) return 16;"));
+            self.line(&format!("if ({value} {wrong} s[{variable}]) return {number};"));
             self.line(&outside(&value));
             self.line(&format!("c[{variable}] = (int32_t){value}; }}"));
         }

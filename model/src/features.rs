@@ -25,7 +25,7 @@ impl Features {
     pub const LANDED: Features = Features {
         names_without_case: true,
         pair_images: true,
-        pairs: false,
+        pairs: true,
         timers: false,
         watches: false,
     };

@@ -11,6 +11,7 @@ struct walk {
     uint64_t sorts;  /* of the values held, the last one lowest: 1 for yes-no, 0 for a number */
     uint64_t usable; /* a bit for each input, and for each variable settled or let */
     uint32_t picked; /* the variable whose picks wait for their settle */
+    uint8_t last;    /* the code of the last of these picks */
     bool gated;      /* a gate waits for its pick */
 };
 
@@ -132,13 +133,22 @@ static bool gate(struct walk *w)
     return take_last(w, true);
 }
 
-static bool pick(struct walk *w)
+/* The picks before one settle are all 20, or some 24 and then some 25. */
+static inline bool in_order(const struct walk *w, uint8_t code)
+{
+    if (w->picked == NOBODY)
+        return code != FALL;
+    return w->last == code || (w->last == RISE && code == FALL);
+}
+
+static bool pick(struct walk *w, uint8_t code)
 {
     uint32_t id;
-    if (!w->gated || !read_open(w, &id) || (w->picked != NOBODY && w->picked != id))
+    if (!w->gated || !read_open(w, &id) || (w->picked != NOBODY && w->picked != id) || !in_order(w, code))
         return false;
     w->gated = false;
     w->picked = id;
+    w->last = code;
     return take_last(w, false);
 }
 
@@ -154,7 +164,7 @@ static bool let(struct walk *w)
 static bool settle(struct walk *w)
 {
     uint32_t id;
-    if (!read_id(w, &id) || w->picked != id)
+    if (!read_id(w, &id) || w->picked != id || w->last == RISE)
         return false;
     w->usable |= (uint64_t)1 << id;
     w->picked = NOBODY;
@@ -176,7 +186,7 @@ static bool value(struct walk *w, bool current)
 static inline bool instruction(struct walk *w)
 {
     uint8_t code = *w->at++;
-    if (w->gated && code > NEGATE && code != PICK)
+    if (w->gated && code > NEGATE && !is_pick(code))
         return false;
     switch (code) {
     case CONSTANT:
@@ -198,7 +208,9 @@ static inline bool instruction(struct walk *w)
     case GATE:
         return gate(w);
     case PICK:
-        return pick(w);
+    case RISE:
+    case FALL:
+        return pick(w, code);
     case LET:
         return let(w);
     case SETTLE:

@@ -35,6 +35,8 @@ enum code {
     PICK,
     LET,
     SETTLE,
+    RISE = 24, /* picks of a rising and of a falling value (document 02, A.6) */
+    FALL,
 };
 
 struct range {
@@ -54,6 +56,11 @@ struct answer check_image(const uint8_t *image, size_t length, struct header *he
 static inline struct answer refused(uint32_t number, uint32_t place)
 {
     return (struct answer){number, place, 0};
+}
+
+static inline bool is_pick(uint8_t code)
+{
+    return code == PICK || code == RISE || code == FALL;
 }
 
 static inline int32_t to_signed(uint32_t number)

@@ -1,8 +1,8 @@
-/* Rules: functions, and change formulas with their no-change formulas. */
+/* Rules: functions, change formulas with their no-change formulas, and pairs of a rising and a falling formula. */
 #include "parser.h"
 #include <string.h>
 
-/* The conditions of a change formula, each from its `[` to its `]`. */
+/* The conditions of a rule, each from its `[` to its `]`. */
 struct list {
     uint32_t count;
     struct part {
@@ -46,10 +46,10 @@ static bool case_condition(struct parser *p, struct part *part)
     return expect(p, ']');
 }
 
-/* `[c] & v = (e) | ..` */
-static bool cases(struct parser *p, uint32_t id, struct list *list)
+/* `[c] & v = (e) | ..`, picked by a code; they come behind those in the list */
+static bool cases(struct parser *p, uint32_t id, uint8_t code, struct list *list)
 {
-    for (list->count = 0;; advance(p)) {
+    for (;; advance(p)) {
         if (p->token.kind == '[' && list->count == CASES)
             return refuse(p, 8);
         if (!case_condition(p, &list->part[list->count]))
@@ -57,7 +57,7 @@ static bool cases(struct parser *p, uint32_t id, struct list *list)
         emit(p, GATE);
         if (!expect(p, '&') || !new_value(p, id))
             return false;
-        emit(p, PICK);
+        emit(p, code);
         emit_number(p, id);
         list->count++;
         if (p->token.kind != '|')
@@ -135,10 +135,11 @@ static bool same_conditions(struct parser *p, const struct list *list)
 static bool change(struct parser *p, uint32_t id)
 {
     struct list list;
+    list.count = 0;
     advance(p);
     if (!expect(p, '(') || !unchanged(p, id) || !expect(p, ')') || !expect(p, ARROW))
         return false;
-    if (!cases(p, id, &list) || !expect(p, ')') || !expect(p, ';'))
+    if (!cases(p, id, PICK, &list) || !expect(p, ')') || !expect(p, ';'))
         return false;
     emit(p, SETTLE);
     emit_number(p, id);
@@ -149,6 +150,31 @@ static bool change(struct parser *p, uint32_t id)
     return same_conditions(p, &list) && expect(p, ')') && expect(p, ';');
 }
 
+/* `: GX(v > _v -> cases);`, or with `<` */
+static bool turned(struct parser *p, uint32_t id, int sign, uint8_t code, struct list *list)
+{
+    if (!expect(p, ':') || !expect(p, GX) || !expect(p, '('))
+        return false;
+    if (!repeated(p, NAME, id) || !expect(p, sign) || !repeated(p, OLD_NAME, id) || !expect(p, ARROW))
+        return false;
+    return cases(p, id, code, list) && expect(p, ')') && expect(p, ';');
+}
+
+/* `+: GX(v > _v -> cases);` and `v-: GX(v < _v -> cases);` */
+static bool pair(struct parser *p, uint32_t id)
+{
+    struct list list;
+    list.count = 0;
+    advance(p);
+    if (!turned(p, id, '>', RISE, &list) || !repeated(p, NAME, id) || !expect(p, '-'))
+        return false;
+    if (!turned(p, id, '<', FALL, &list))
+        return false;
+    emit(p, SETTLE);
+    emit_number(p, id);
+    return true;
+}
+
 /* `v = (e));` */
 static bool function(struct parser *p, uint32_t id)
 {
@@ -157,6 +183,14 @@ static bool function(struct parser *p, uint32_t id)
     emit(p, LET);
     emit_number(p, id);
     return true;
+}
+
+/* `: GX(` and a change formula or a function */
+static bool formula(struct parser *p, uint32_t id)
+{
+    if (!expect(p, ':') || !expect(p, GX) || !expect(p, '('))
+        return false;
+    return p->token.kind == '~' ? change(p, id) : function(p, id);
 }
 
 static bool rule(struct parser *p)
@@ -172,9 +206,7 @@ static bool rule(struct parser *p)
     if (p->name[id].usable)
         return refuse(p, 6);
     advance(p);
-    if (!expect(p, ':') || !expect(p, GX) || !expect(p, '('))
-        return false;
-    if (!(p->token.kind == '~' ? change(p, id) : function(p, id)))
+    if (!(p->token.kind == '+' ? pair(p, id) : formula(p, id)))
         return false;
     p->name[id].usable = true;
     return true;

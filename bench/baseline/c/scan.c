@@ -64,9 +64,9 @@ static struct place skip(struct place p)
     do {
         code = *p.at++;
         p.steps++;
-        if (code <= PREVIOUS || code == PICK)
+        if (code <= PREVIOUS || is_pick(code))
             operand(&p);
-    } while (code != PICK);
+    } while (!is_pick(code));
     return p;
 }
 
@@ -75,6 +75,8 @@ static uint32_t assign(struct machine *m, uint8_t code, uint32_t id, int32_t val
 {
     if (code == PICK && value == m->previous[id])
         return 16;
+    if ((code == RISE && value <= m->previous[id]) || (code == FALL && value >= m->previous[id]))
+        return 22;
     if (value < m->range[id].low || value > m->range[id].high)
         return 17;
     m->now[id] = value;
@@ -93,7 +95,7 @@ static inline uint32_t control(struct machine *m, uint8_t code, int32_t value, b
     if (code == SETTLE && !*picked)
         m->now[id] = m->previous[id];
     if (code != LET)
-        *picked = code == PICK;
+        *picked = is_pick(code);
     return code == SETTLE ? 0 : assign(m, code, id, value);
 }
 

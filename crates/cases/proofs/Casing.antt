@@ -18,7 +18,7 @@ use Rattle.grammar.specs.Parsed.{Parsed, accepted, refused, phrase, followed}
 use Rattle.grammar.specs.Expressions.{Scope, wholeExpression}
 use Rattle.grammar.specs.Conditions.{listed}
 use Rattle.grammar.specs.Rules.{Span, Spanned, caseAt, casesFrom}
-use Rattle.grammar.specs.Inner.Bytes.{bytesC, bytesK}
+use Rattle.grammar.specs.Inner.Bytes.{bytesC, bytesPicked}
 use Rattle.grammar.proofs.Combine.{then-prop, apart, same-value}
 use Rattle.grammar.proofs.Growth.{Grown, listed-grown}
 use Rattle.grammar.proofs.Size.{Pays, case-pays}
@@ -51,10 +51,10 @@ spans-append (d ∷ cs) c = ap (λ (l : List Span). d .span ∷ l) (spans-append
 
 -- ---- code
 
-code-append : (v : ℕ) (cs : List Spanned) (c : Spanned) → codeOfCases v (cs ++ (c ∷ [])) ≡ codeOfCases v cs ++ codeOfCase v c
-unfolding bytesK
-code-append v [] c = refl
-code-append v (d ∷ cs) c = rw (code-append v cs c) (simp append-assoc)
+code-append : (pick v : ℕ) (cs : List Spanned) (c : Spanned) → codeOfCases pick v (cs ++ (c ∷ [])) ≡ codeOfCases pick v cs ++ codeOfCase pick v c
+unfolding bytesPicked
+code-append pick v [] c = refl
+code-append pick v (d ∷ cs) c = rw (code-append pick v cs c) (simp append-assoc)
 
 -- ---- a case's condition begins where the case does, and ends within the text
 
@@ -132,32 +132,34 @@ before-or j n h = go (ltb j n) (ltb-true j n) (ltb-false j n)
     go false y z = let l = z refl in inr (omega arith)
 
 -- what was read and written so far
-pub record Casing (sc : Scope) (w : List ℕ) (v at to : ℕ) (out₀ from upto out : List ℕ) (a t count : ℕ) : Type 0 where
+pub record Casing (sc : Scope) (w : List ℕ) (limit pick v at to : ℕ) (out₀ from upto out : List ℕ) (a t count : ℕ) : Type 0 where
   pub done : List Spanned
   pub counted : length done ≡ count
-  pub few : count ≤ caseLimit
-  pub same : casesFrom caseLimit sc w [] at ≡ casesFrom (caseLimit - count) sc w done a
+  pub few : count ≤ limit
+  pub small : limit ≤ caseLimit
+  pub same : casesFrom limit sc w [] at ≡ casesFrom (limit - count) sc w done a
   pub room : Room (sc .text) a t
-  pub ended : t ≡ to + length (codeOfCases v done)
-  pub wrote : out ≡ sets out₀ to (codeOfCases v done)
+  pub ended : t ≡ to + length (codeOfCases pick v done)
+  pub wrote : out ≡ sets out₀ to (codeOfCases pick v done)
   pub listed : spansOf done ≡ spansIn from upto count
   pub inside : (i : ℕ) → i < count → getD upto i 0 ≤ length (sc .text)
-  pub in-from : caseLimit ≤ length from
-  pub in-upto : caseLimit ≤ length upto
+  pub in-from : limit ≤ length from
+  pub in-upto : limit ≤ length upto
 
-abbrev Answer : (sc : Scope) (w : List ℕ) (v at to : ℕ) (out₀ from upto out : List ℕ) → Step → Type 0
-Answer sc w v at to out₀ from upto out r = Writes (codeOfCases v) numberTold length (casesFrom caseLimit sc w [] at) to out₀ out r × Lists (casesFrom caseLimit sc w [] at) (sc .text) from upto
+abbrev Answer : (sc : Scope) (w : List ℕ) (limit pick v at to : ℕ) (out₀ from upto out : List ℕ) → Step → Type 0
+Answer sc w limit pick v at to out₀ from upto out r = Writes (codeOfCases pick v) numberTold length (casesFrom limit sc w [] at) to out₀ out r × Lists (casesFrom limit sc w [] at) (sc .text) from upto
 
-refuse : (sc : Scope) (w : List ℕ) (v at to : ℕ) (out₀ : List ℕ) {from upto out : List ℕ} {r : Step} {k q : ℕ} → r ≡ Refused k q → casesFrom caseLimit sc w [] at ≡ refused k q → Answer sc w v at to out₀ from upto out r
-refuse sc w v at to out₀ d e = (refuses d e, record { held = λ cs n f. apart (sym f ∙ e); listed = λ cs n f. apart (sym f ∙ e) })
+refuse : (sc : Scope) (w : List ℕ) (limit pick v at to : ℕ) (out₀ : List ℕ) {from upto out : List ℕ} {r : Step} {k q : ℕ} → r ≡ Refused k q → casesFrom limit sc w [] at ≡ refused k q → Answer sc w limit pick v at to out₀ from upto out r
+refuse sc w limit pick v at to out₀ d e = (refuses d e, record { held = λ cs n f. apart (sym f ∙ e); listed = λ cs n f. apart (sym f ∙ e) })
 
-pub casing-first : (sc : Scope) (w : List ℕ) (v at to : ℕ) (out₀ from upto : List ℕ) → Room (sc .text) at to → caseLimit ≤ length from → caseLimit ≤ length upto → Casing sc w v at to out₀ from upto out₀ at to 0
-unfolding bytesK
-casing-first sc w v at to out₀ from upto r hf hu = record {
+pub casing-first : (sc : Scope) (w : List ℕ) (limit pick v at to : ℕ) (out₀ from upto : List ℕ) → Room (sc .text) at to → limit ≤ length from → limit ≤ length upto → limit ≤ caseLimit → Casing sc w limit pick v at to out₀ from upto out₀ at to 0
+unfolding bytesPicked
+casing-first sc w limit pick v at to out₀ from upto r hf hu hs = record {
   done = [];
   counted = refl;
   few = omega arith;
-  same = refl;
+  small = hs;
+  same = let e : limit - 0 ≡ limit = omega arith in ap (λ (l : ℕ). casesFrom l sc w [] at) (sym e);
   room = r;
   ended = omega arith;
   wrote = refl;
@@ -167,40 +169,40 @@ casing-first sc w v at to out₀ from upto r hf hu = record {
   in-upto = hu;
 }
 
-module _ {sc : Scope} {w : List ℕ} {v at to : ℕ} {out₀ from upto out : List ℕ} {a t count : ℕ} (x : Casing sc w v at to out₀ from upto out a t count) where
+module _ {sc : Scope} {w : List ℕ} {limit pick v at to : ℕ} {out₀ from upto out : List ℕ} {a t count : ℕ} (x : Casing sc w limit pick v at to out₀ from upto out a t count) where
   -- the cases come to a refusal
-  refused-so : {from′ upto′ out′ : List ℕ} {r : Step} {k q : ℕ} → r ≡ Refused k q → casesFrom (caseLimit - count) sc w (x .done) a ≡ refused k q → Answer sc w v at to out₀ from′ upto′ out′ r
-  refused-so d e = refuse sc w v at to out₀ d (x .same ∙ e)
+  refused-so : {from′ upto′ out′ : List ℕ} {r : Step} {k q : ℕ} → r ≡ Refused k q → casesFrom (limit - count) sc w (x .done) a ≡ refused k q → Answer sc w limit pick v at to out₀ from′ upto′ out′ r
+  refused-so d e = refuse sc w limit pick v at to out₀ d (x .same ∙ e)
 
-  pub casing-fault : {from′ upto′ out′ : List ℕ} {r : Step} {k q : ℕ} → r ≡ Refused k q → (tokenAt (sc .text) a ≡ fault q) × (k ≡ noToken) → Answer sc w v at to out₀ from′ upto′ out′ r
-  casing-fault {q = q} d e = refused-so (d ∙ ap (λ (y : ℕ). Refused y q) (e .1)) (cases-fault sc w (x .done) a (caseLimit - count) (e .0))
+  pub casing-fault : {from′ upto′ out′ : List ℕ} {r : Step} {k q : ℕ} → r ≡ Refused k q → (tokenAt (sc .text) a ≡ fault q) × (k ≡ noToken) → Answer sc w limit pick v at to out₀ from′ upto′ out′ r
+  casing-fault {q = q} d e = refused-so (d ∙ ap (λ (y : ℕ). Refused y q) (e .1)) (cases-fault sc w (x .done) a (limit - count) (e .0))
 
   module _ {k s n : ℕ} (f : Found (sc .text) a k s n) where
-    pub casing-other : {from′ upto′ out′ : List ℕ} → is (kindOf k) openSquare ≡ false → Answer sc w v at to out₀ from′ upto′ out′ (Refused notAllowed s)
-    casing-other i = refused-so refl (cases-other sc w (x .done) a (f .read) (caseLimit - count) i)
+    pub casing-other : {from′ upto′ out′ : List ℕ} → is (kindOf k) openSquare ≡ false → Answer sc w limit pick v at to out₀ from′ upto′ out′ (Refused notAllowed s)
+    casing-other i = refused-so refl (cases-other sc w (x .done) a (f .read) (limit - count) i)
 
     module _ (i : is (kindOf k) openSquare ≡ true) where
-      pub casing-full : {from′ upto′ out′ : List ℕ} → count ≡ caseLimit → Answer sc w v at to out₀ from′ upto′ out′ (Refused tooMany s)
+      pub casing-full : {from′ upto′ out′ : List ℕ} → count ≡ limit → Answer sc w limit pick v at to out₀ from′ upto′ out′ (Refused tooMany s)
       casing-full z =
-          let e : caseLimit - count ≡ 0 = omega arith in
+          let e : limit - count ≡ 0 = omega arith in
           refused-so refl (ap (λ (l : ℕ). casesFrom l sc w (x .done) a) e ∙ cases-full sc w (x .done) a (f .read) i)
 
       pub casing-room : Room (sc .text) n t
       casing-room = record { short = x .room .short; within = f .lies .within (x .room .within); room = omega (arith, x .room .room, f .lies .after, f .lies .ordered) }
 
-      module _ (z : count ≡ caseLimit → ⊥) where
-        more : count < caseLimit
+      module _ (z : count ≡ limit → ⊥) where
+        more : count < limit
         more = omega (arith, x .few)
 
-        some-left : casesFrom (caseLimit - count) sc w (x .done) a ≡ casesFrom (suc (caseLimit - (count + 1))) sc w (x .done) a
-        some-left = let e : caseLimit - count ≡ suc (caseLimit - (count + 1)) = omega (arith, more) in ap (λ (l : ℕ). casesFrom l sc w (x .done) a) e
+        some-left : casesFrom (limit - count) sc w (x .done) a ≡ casesFrom (suc (limit - (count + 1))) sc w (x .done) a
+        some-left = let e : limit - count ≡ suc (limit - (count + 1)) = omega (arith, more) in ap (λ (l : ℕ). casesFrom l sc w (x .done) a) e
 
-        pub casing-refused : {from′ upto′ out′ : List ℕ} {r : Step} {l q : ℕ} → r ≡ Refused l q → caseAt sc w a n ≡ refused l q → Answer sc w v at to out₀ from′ upto′ out′ r
-        casing-refused d e = refused-so d (some-left ∙ cases-refused sc w (x .done) a (f .read) i (caseLimit - (count + 1)) e)
+        pub casing-refused : {from′ upto′ out′ : List ℕ} {r : Step} {l q : ℕ} → r ≡ Refused l q → caseAt sc w a n ≡ refused l q → Answer sc w limit pick v at to out₀ from′ upto′ out′ r
+        casing-refused d e = refused-so d (some-left ∙ cases-refused sc w (x .done) a (f .read) i (limit - (count + 1)) e)
 
-        module _ {out′ : List ℕ} {o : Place} (g : Got (codeOfCase v) numberTold endOfCondition (caseAt sc w a n) t out out′ o) where
-          pub casing-behind : {from′ upto′ out″ : List ℕ} {r : Step} {k q : ℕ} → r ≡ Refused k q → (tokenAt (sc .text) (o .at) ≡ fault q) × (k ≡ noToken) → Answer sc w v at to out₀ from′ upto′ out″ r
-          casing-behind {q = q} d h = refused-so (d ∙ ap (λ (y : ℕ). Refused y q) (h .1)) (some-left ∙ cases-behind sc w (x .done) a (f .read) i (caseLimit - (count + 1)) (g .is) (h .0))
+        module _ {out′ : List ℕ} {o : Place} (g : Got (codeOfCase pick v) numberTold endOfCondition (caseAt sc w a n) t out out′ o) where
+          pub casing-behind : {from′ upto′ out″ : List ℕ} {r : Step} {k q : ℕ} → r ≡ Refused k q → (tokenAt (sc .text) (o .at) ≡ fault q) × (k ≡ noToken) → Answer sc w limit pick v at to out₀ from′ upto′ out″ r
+          casing-behind {q = q} d h = refused-so (d ∙ ap (λ (y : ℕ). Refused y q) (h .1)) (some-left ∙ cases-behind sc w (x .done) a (f .read) i (limit - (count + 1)) (g .is) (h .0))
 
           -- one case more
           abbrev all : List Spanned
@@ -209,14 +211,14 @@ module _ {sc : Scope} {w : List ℕ} {v at to : ℕ} {out₀ from upto out : Lis
           all-counted : length all ≡ count + 1
           all-counted = length-append (x .done) (g .tree ∷ []) ∙ ap (λ (y : ℕ). y + 1) (x .counted)
 
-          all-code : codeOfCases v all ≡ codeOfCases v (x .done) ++ codeOfCase v (g .tree)
-          all-code = code-append v (x .done) (g .tree)
+          all-code : codeOfCases pick v all ≡ codeOfCases pick v (x .done) ++ codeOfCase pick v (g .tree)
+          all-code = code-append pick v (x .done) (g .tree)
 
-          all-ended : o .to ≡ to + length (codeOfCases v all)
+          all-ended : o .to ≡ to + length (codeOfCases pick v all)
           all-ended = rw (all-code) (simp length-append (omega (arith, g .ended, x .ended)))
 
-          all-wrote : out′ ≡ sets out₀ to (codeOfCases v all)
-          all-wrote = rw all-code (then-bytes out₀ to (codeOfCases v (x .done)) (codeOfCase v (g .tree)) (x .ended) (x .wrote) (g .wrote))
+          all-wrote : out′ ≡ sets out₀ to (codeOfCases pick v all)
+          all-wrote = rw all-code (then-bytes out₀ to (codeOfCases pick v (x .done)) (codeOfCase pick v (g .tree)) (x .ended) (x .wrote) (g .wrote))
 
           all-listed : spansOf all ≡ spansIn (set from count a) (set upto count (o .number)) (count + 1)
           all-listed =
@@ -233,13 +235,13 @@ module _ {sc : Scope} {w : List ℕ} {v at to : ℕ} {out₀ from upto out : Lis
             held : Spans (sc .text) (set from count a) (set upto count (o .number)) (count + 1)
             held = record { in-from = simp length-set (omega (arith, more, x .in-from)); in-to = simp length-set (omega (arith, more, x .in-upto)); inside = all-inside }
 
-            paid : (2 * length (codeOfCase v (g .tree)) + 3 * n ≤ 3 * o .at) × (o .at ≤ length (sc .text))
-            paid = subst (Pays (λ (c : Spanned). length (codeOfCase v c)) (length (sc .text)) n) (g .is) (case-pays sc few v hv w a n (casing-room .within))
+            paid : (2 * length (codeOfCase pick v (g .tree)) + 3 * n ≤ 3 * o .at) × (o .at ≤ length (sc .text))
+            paid = subst (Pays (λ (c : Spanned). length (codeOfCase pick v c)) (length (sc .text)) n) (g .is) (case-pays sc few v hv pick w a n (casing-room .within))
 
             module _ {k2 s2 n2 : ℕ} (f2 : Found (sc .text) (o .at) k2 s2 n2) where
-              pub casing-last : {r : Step} → r ≡ reachedAt (o .at) (o .to) (count + 1) → is (kindOf k2) bar ≡ false → Answer sc w v at to out₀ (set from count a) (set upto count (o .number)) out′ r
+              pub casing-last : {r : Step} → r ≡ reachedAt (o .at) (o .to) (count + 1) → is (kindOf k2) bar ≡ false → Answer sc w limit pick v at to out₀ (set from count a) (set upto count (o .number)) out′ r
               casing-last d j =
-                  let q : casesFrom caseLimit sc w [] at ≡ accepted all (o .at) = x .same ∙ (some-left ∙ cases-last sc w (x .done) a (f .read) i (caseLimit - (count + 1)) (g .is) (f2 .read) j) in (
+                  let q : casesFrom limit sc w [] at ≡ accepted all (o .at) = x .same ∙ (some-left ∙ cases-last sc w (x .done) a (f .read) i (limit - (count + 1)) (g .is) (f2 .read) j) in (
                     writes d (record { tree = all; is = q; ended = all-ended; tells-it = sym all-counted; wrote = all-wrote }),
                     record {
                       held = λ cs y r. subst (λ (l : List Spanned). Spans (sc .text) (set from count a) (set upto count (o .number)) (length l)) (same-value (sym q ∙ r)) (rw all-counted held);
@@ -247,12 +249,13 @@ module _ {sc : Scope} {w : List ℕ} {v at to : ℕ} {out₀ from upto out : Lis
                     },
                   )
 
-              pub casing-more : is (kindOf k2) bar ≡ true → Casing sc w v at to out₀ (set from count a) (set upto count (o .number)) out′ n2 (o .to) (count + 1)
+              pub casing-more : is (kindOf k2) bar ≡ true → Casing sc w limit pick v at to out₀ (set from count a) (set upto count (o .number)) out′ n2 (o .to) (count + 1)
               casing-more j = record {
                 done = all;
                 counted = all-counted;
                 few = omega (arith, more);
-                same = x .same ∙ (some-left ∙ cases-more sc w (x .done) a (f .read) i (caseLimit - (count + 1)) (g .is) (f2 .read) j);
+                small = x .small;
+                same = x .same ∙ (some-left ∙ cases-more sc w (x .done) a (f .read) i (limit - (count + 1)) (g .is) (f2 .read) j);
                 room = record {
                   short = x .room .short;
                   within = f2 .lies .within (paid .1);

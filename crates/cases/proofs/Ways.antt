@@ -8,14 +8,13 @@ use lib.Seq.{sets}
 use borrow.Author.Tests.{lt-ltb, le-ltb, le-leb, lt-leb, eq-eqb, ne-eqb}
 use Rattle.limits.specs.Limits.{listsDiffer}
 use Rattle.leb128.specs.Numbers.{number}
-use Rattle.bytecode.specs.Instructions.{pickCode}
 use Rattle.lexer.specs.Token.{closeRound}
 use Rattle.semantics.specs.Program.{Expression, Condition, changing, Case}
 use Rattle.grammar.specs.Parsed.{Parsed, accepted, refused, Wanted, sign, expected, phrase, followed}
 use Rattle.grammar.specs.Expressions.{Scope, wholeExpression}
 use Rattle.grammar.specs.Conditions.{listed}
 use Rattle.grammar.specs.Rules.{caseAt, Compared, differs, firstFound}
-use Rattle.grammar.specs.Inner.Bytes.{bytesE, bytesC, bytesK}
+use Rattle.grammar.specs.Inner.Bytes.{bytesE, bytesC, bytesPicked}
 use Rattle.grammar.proofs.Size.{Solid, Long, phrase-long}
 use Rattle.expressions.specs.Inner.Steps.{Room}
 use Rattle.expressions.proofs.Steps.{Refuses}
@@ -57,17 +56,17 @@ pub then-bytes : (before : List ℕ) {mid after : List ℕ} (to : ℕ) {t : ℕ}
 then-bytes before to xs ys ht hm ha = ha ∙ rw (hm, ht) (sym (sets-append before to xs ys))
 
 -- the bytes of a case, written one after another
-pub case-bytes : (before : List ℕ) {mid1 mid2 mid3 after : List ℕ} (to : ℕ) {t u x : ℕ} (v : ℕ) (k : Case) → t ≡ to + length (bytesC (k .condition)) → mid1 ≡ sets before to (bytesC (k .condition)) → u ≡ t + 1 → mid2 ≡ set mid1 t 19 → x ≡ u + length (bytesE (k .value)) → mid3 ≡ sets mid2 u (bytesE (k .value)) → after ≡ sets mid3 x (pickCode (k .side) ∷ number v) → after ≡ sets before to (bytesK v (k ∷ []))
-unfolding bytesK
-case-bytes before {mid1} {mid2} to {t} {u} v k ht h1 hu h2 hx h3 h4 =
+pub case-bytes : (before : List ℕ) {mid1 mid2 mid3 after : List ℕ} (to : ℕ) {t u x : ℕ} (pick v : ℕ) (k : Case) → t ≡ to + length (bytesC (k .condition)) → mid1 ≡ sets before to (bytesC (k .condition)) → u ≡ t + 1 → mid2 ≡ set mid1 t 19 → x ≡ u + length (bytesE (k .value)) → mid3 ≡ sets mid2 u (bytesE (k .value)) → after ≡ sets mid3 x (pick ∷ number v) → after ≡ sets before to (bytesPicked pick v (k ∷ []))
+unfolding bytesPicked
+case-bytes before {mid1} {mid2} to {t} {u} pick v k ht h1 hu h2 hx h3 h4 =
     rw (append-nil (number v))
-    (then-bytes before to (bytesC (k .condition)) (19 ∷ (bytesE (k .value) ++ (pickCode (k .side) ∷ number v))) ht h1
-    (then-bytes mid1 t (19 ∷ []) (bytesE (k .value) ++ (pickCode (k .side) ∷ number v)) hu h2
-    (then-bytes mid2 u (bytesE (k .value)) (pickCode (k .side) ∷ number v) hx h3 h4)))
+    (then-bytes before to (bytesC (k .condition)) (19 ∷ (bytesE (k .value) ++ (pick ∷ number v))) ht h1
+    (then-bytes mid1 t (19 ∷ []) (bytesE (k .value) ++ (pick ∷ number v)) hu h2
+    (then-bytes mid2 u (bytesE (k .value)) (pick ∷ number v) hx h3 h4)))
 
-pub case-length : (to : ℕ) {t u x y : ℕ} (v : ℕ) (k : Case) → t ≡ to + length (bytesC (k .condition)) → u ≡ t + 1 → x ≡ u + length (bytesE (k .value)) → y ≡ x + length (pickCode (k .side) ∷ number v) → y ≡ to + length (bytesK v (k ∷ []))
-unfolding bytesK
-case-length to v k ht hu hx hy = simp length-append (omega arith)
+pub case-length : (to : ℕ) {t u x y : ℕ} (pick v : ℕ) (k : Case) → t ≡ to + length (bytesC (k .condition)) → u ≡ t + 1 → x ≡ u + length (bytesE (k .value)) → y ≡ x + length (pick ∷ number v) → y ≡ to + length (bytesPicked pick v (k ∷ []))
+unfolding bytesPicked
+case-length to pick v k ht hu hx hy = simp length-append (omega arith)
 
 -- ---- room
 

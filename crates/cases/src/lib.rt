@@ -26,13 +26,14 @@ pub struct Variable {
     pub id: usize,
 }
 
-// `c] & w = (e)`, after the bracket that ends at `at`. The number told is where the condition ends, its bracket included.
+// `c] & w = (e)`, after the bracket that ends at `at`, written with this code byte for its pick. The number told is where the condition ends, its bracket included.
 fn case(
     text: &[u8],
     starts: &[usize],
     ends: &[usize],
     names: Names,
     w: Variable,
+    pick: u8,
     at: usize,
     out: &mut [u8],
     to: usize,
@@ -40,7 +41,7 @@ fn case(
     requires { ⌜ Declared (now starts) (now ends) names ⌝ }
     requires { ⌜ Room (now text) at to ⌝ }
     requires { ⌜ w .id < nameLimit ⌝ }
-    ensures { λ r. ⌜ ((from : ℕ) → Writes (codeOfCase (w .id)) numberTold endOfCondition (caseAt (scopeOf (now (text .entry)) (now (starts .entry)) (now (ends .entry)) names) (part (now (text .entry)) (w .start) (w .end)) from at) to (now (out .entry)) (now (out .exit)) r) ⌝ }
+    ensures { λ r. ⌜ ((from : ℕ) → Writes (codeOfCase pick (w .id)) numberTold endOfCondition (caseAt (scopeOf (now (text .entry)) (now (starts .entry)) (now (ends .entry)) names) (part (now (text .entry)) (w .start) (w .end)) from at) to (now (out .entry)) (now (out .exit)) r) ⌝ }
 {
     let first = conditions::listed(text, starts, ends, names, at, out, to);
     let Step::Done(condition) = first else {
@@ -59,17 +60,19 @@ fn case(
     let Step::Done(b) = closed else {
         return closed;
     };
-    let v = bytecode::put_instruction(out, value.to, opcode::PICK, w.id as u64);
+    let v = bytecode::put_instruction(out, value.to, pick, w.id as u64);
     lexer::reached(b.at, v, condition.at)
 }
 
-// Cases with `|` between them. Where their conditions stand is kept in `from` and `upto`; the number told is how many there are.
+// At most `limit` cases with `|` between them. Where their conditions stand is kept in `from` and `upto`; the number told is how many there are.
 pub fn cases(
     text: &[u8],
     starts: &[usize],
     ends: &[usize],
     names: Names,
     w: Variable,
+    pick: u8,
+    limit: usize,
     from: &mut [usize],
     upto: &mut [usize],
     at: usize,
@@ -79,9 +82,9 @@ pub fn cases(
     requires { ⌜ Declared (now starts) (now ends) names ⌝ }
     requires { ⌜ Room (now text) at to ⌝ }
     requires { ⌜ w .id < nameLimit ⌝ }
-    requires { ⌜ (caseLimit ≤ length (now from)) × (caseLimit ≤ length (now upto)) ⌝ }
-    ensures { λ r. ⌜ Writes (codeOfCases (w .id)) numberTold length (casesFrom caseLimit (scopeOf (now (text .entry)) (now (starts .entry)) (now (ends .entry)) names) (part (now (text .entry)) (w .start) (w .end)) [] at) to (now (out .entry)) (now (out .exit)) r ⌝ }
-    ensures { λ r. ⌜ Lists (casesFrom caseLimit (scopeOf (now (text .entry)) (now (starts .entry)) (now (ends .entry)) names) (part (now (text .entry)) (w .start) (w .end)) [] at) (now (text .entry)) (now (from .exit)) (now (upto .exit)) ⌝ }
+    requires { ⌜ (limit ≤ length (now from)) × (limit ≤ length (now upto)) × (limit ≤ caseLimit) ⌝ }
+    ensures { λ r. ⌜ Writes (codeOfCases pick (w .id)) numberTold length (casesFrom limit (scopeOf (now (text .entry)) (now (starts .entry)) (now (ends .entry)) names) (part (now (text .entry)) (w .start) (w .end)) [] at) to (now (out .entry)) (now (out .exit)) r ⌝ }
+    ensures { λ r. ⌜ Lists (casesFrom limit (scopeOf (now (text .entry)) (now (starts .entry)) (now (ends .entry)) names) (part (now (text .entry)) (w .start) (w .end)) [] at) (now (text .entry)) (now (from .exit)) (now (upto .exit)) ⌝ }
 {
     let mut a = at;
     let mut t = to;
@@ -94,10 +97,10 @@ pub fn cases(
         if token.kind != lexer::OPEN_SQUARE {
             return Step::Refused(limits::NOT_ALLOWED, token.start);
         }
-        if count == limits::CASE_LIMIT {
+        if count == limit {
             return Step::Refused(limits::TOO_MANY, token.start);
         }
-        let one = case(text, starts, ends, names, w, token.end, out, t);
+        let one = case(text, starts, ends, names, w, pick, token.end, out, t);
         let Step::Done(b) = one else {
             return one;
         };

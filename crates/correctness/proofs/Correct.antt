@@ -6,7 +6,7 @@ use mathlib.Core.Bool.{Bool, true, false, _&&_}
 use mathlib.Core.List.{List, [], _∷_}
 use lib.Dec.{eqb}
 use lib.IntN.{ℤ}
-use lib.ListN.{length}
+use lib.ListN.{length, take}
 use borrow.Author.Tests.{eq-eqb}
 use Rattle.limits.specs.Answer.{Answer, accepted, refused}
 use Rattle.arith.specs.Values.{Outcome, ok, refusal, _>>=_, check}
@@ -26,6 +26,7 @@ use Rattle.bytecode.proofs.Soundness.{header-of, code-of, translated-small, che
 use Rattle.machine.specs.Step.{Machine, machine}
 use Rattle.machine.proofs.Ranges.{currentOf}
 use Rattle.machine.proofs.Translated.{exec-rules, run-exec}
+use Rattle.grammar.specs.Parse.{programOf}
 use Rattle.grammar.proofs.Accepted.{program-translatable}
 use Rattle.grammar.proofs.ConverseText.{accepted-exactly}
 use Rattle.translate.specs.Services.{translationOf}
@@ -143,3 +144,13 @@ trace-correct text buffer n e lent rows =
       spelled = accepted-exactly .accepted-spelled text (x .program) (x .parsed);
       correct = λ l. rw (stored-image text buffer n x) (image-correct (x .program) (program-translatable text (x .program) (x .parsed)) lent l rows);
     }
+
+-- The two formulas of a pair hold as they are written too (document 02, A.6), for every text that translation accepts.
+pub trace-written : (text buffer : List ℕ) (n : ℕ) → translationOf text buffer .answer ≡ accepted n → (p : Program) → programOf text ≡ accepted p → (lent : State) → length lent ≡ length (rangesOf p) → (rows : List (List ℤ)) → All (λ f. GX f (traceOf (begun (take n (translationOf text buffer .buffer)) lent) (found (take n (translationOf text buffer .buffer)) lent rows))) (writtenOf p)
+trace-written text buffer n e p parsed lent l rows =
+    let x = image-stored text buffer n e in
+    let same : x .program ≡ p = answered (sym (x .parsed) ∙ parsed) in
+    rw (stored-image text buffer n x, same) (image-written p (program-translatable text p parsed) lent l rows)
+  where
+    answered : {q r : Program} → _≡_ {A = Answer Program} (accepted q) (accepted r) → q ≡ r
+    answered h = cc

@@ -215,22 +215,16 @@ recased = sound
 abbrev pub otherWord : Example
 otherWord = record { given = text (bytes "var v 0..1; v: GX(v = (_v MOD 2));"); translation = refused 2 26; verdict = accepted tt; first = []; rows = []; results = [] }
 
--- A.6 a rising and a falling pick: to 5 and back; 22 where the value stands there already
-abbrev pub climbing : List ℕ
-climbing =
-    0x01 ∷ 0x01 ∷ 0x00 ∷ 0x02 ∷ 0x00 ∷ 0x00 ∷ 0x0A ∷ 0x00
-    ∷ 0x02 ∷ 0x00 ∷ 0x01 ∷ 0x02 ∷ 0x0A ∷ 0x13 ∷ 0x01 ∷ 0x0A ∷ 0x18 ∷ 0x01
-    ∷ 0x02 ∷ 0x00 ∷ 0x01 ∷ 0x00 ∷ 0x0A ∷ 0x13 ∷ 0x01 ∷ 0x00 ∷ 0x19 ∷ 0x01 ∷ 0x16 ∷ 0x01 ∷ []
-
+-- A.6 a pair: to 5 and back; 22 where the value stands there already
 abbrev pub climb : Example
-climb = record {
-  given = image climbing;
-  translation = accepted climbing;
-  verdict = accepted tt;
-  first = pos 0 ∷ pos 0 ∷ [];
-  rows = (pos 1 ∷ []) ∷ (pos 1 ∷ []) ∷ (pos 0 ∷ []) ∷ (pos 0 ∷ []) ∷ [];
-  results = done 13 (pos 1 ∷ pos 5 ∷ []) ∷ stopped 22 6 (pos 1 ∷ pos 5 ∷ []) ∷ done 13 (pos 0 ∷ pos 0 ∷ []) ∷ stopped 22 12 (pos 0 ∷ pos 0 ∷ []) ∷ [];
-}
+climb = sound
+    (bytes "input i 0..1; var v 0..5; v +: GX(v > _v -> [i = 1] & v = (5)) ; v - : GX(v < _v -> [i = 0] & v = (0));")
+    (0x01 ∷ 0x01 ∷ 0x00 ∷ 0x02 ∷ 0x00 ∷ 0x00 ∷ 0x0A ∷ 0x00
+    ∷ 0x02 ∷ 0x00 ∷ 0x01 ∷ 0x02 ∷ 0x0A ∷ 0x13 ∷ 0x01 ∷ 0x0A ∷ 0x18 ∷ 0x01
+    ∷ 0x02 ∷ 0x00 ∷ 0x01 ∷ 0x00 ∷ 0x0A ∷ 0x13 ∷ 0x01 ∷ 0x00 ∷ 0x19 ∷ 0x01 ∷ 0x16 ∷ 0x01 ∷ [])
+    (pos 0 ∷ pos 0 ∷ [])
+    ((pos 1 ∷ []) ∷ (pos 1 ∷ []) ∷ (pos 0 ∷ []) ∷ (pos 0 ∷ []) ∷ [])
+    (done 13 (pos 1 ∷ pos 5 ∷ []) ∷ stopped 22 6 (pos 1 ∷ pos 5 ∷ []) ∷ done 13 (pos 0 ∷ pos 0 ∷ []) ∷ stopped 22 12 (pos 0 ∷ pos 0 ∷ []) ∷ [])
 
 abbrev pub examples : List Example
 examples = L1 ∷ L2 ∷ L3 ∷ L4 ∷ L5 ∷ L5-deeper ∷ L6 ∷ L7 ∷ L8 ∷ L8-unsound ∷ launch ∷ rotation ∷ share ∷ recased ∷ otherWord ∷ climb ∷ []

@@ -3,7 +3,7 @@ use mathlib.Core.Path.{_≡_, sym, _∙_, subst}
 use mathlib.Core.List.{List, [], _∷_, _++_}
 use mathlib.Core.Bool.{Bool, true, false, cond, _&&_}
 use mathlib.Core.Logic.{inl}
-use Prim.Native.Nat.{ℕ, zero, suc, _≤_, _<_}
+use Prim.Native.Nat.{ℕ, zero, suc, _-_, _≤_, _<_}
 use native.Mathlib.Nat.{le-refl}
 use native.Mathlib.Omega.{arith}
 use lib.ListN.{length, getD, set, length-set}
@@ -11,7 +11,7 @@ use lib.Dec.{ltb}
 use lib.IntN.{ℤ, pos, negℤ}
 use Rattle.limits.specs.Limits.{caseLimit, nameLimit}
 use Rattle.arith.specs.Values.{isInt32}
-use Rattle.lexer.specs.Token.{Kind, name, ending, digits, openSquare, bar, tilde, minus, initWord, semicolon, inputWord, varWord, is}
+use Rattle.lexer.specs.Token.{Kind, name, ending, digits, openSquare, bar, tilde, plus, minus, initWord, semicolon, inputWord, varWord, is}
 use Rattle.lexer.specs.Lexer.{tokenAt, overLong, valueOf}
 use Rattle.lexer.specs.Names.{idOf}
 use Rattle.lexer.proofs.Laws.{cond-prop, token-at-moved}
@@ -20,7 +20,7 @@ use Rattle.grammar.specs.Parsed.{Parsed, accepted, refused, onOption, phrase}
 use Rattle.grammar.specs.Expressions.{withId, wholeExpression}
 use Rattle.grammar.specs.Conditions.{listed}
 use Rattle.grammar.specs.Declarations.{inRange, signedDigits, boundAt, spellings, newName, startAt, declaration, declarationsFrom, declarations}
-use Rattle.grammar.specs.Rules.{Spanned, caseAt, casesFrom, listFrom, plainList, partsFrom, agreeingList, functionAt, changeAt, formulas, ruleAt, rulesFrom}
+use Rattle.grammar.specs.Rules.{Spanned, caseAt, casesFrom, listFrom, plainList, partsFrom, agreeingList, functionAt, changeAt, pairAt, formulaAt, formulas, ruleAt, rulesFrom}
 use Rattle.grammar.specs.Forms.{changeOpening, noChangeOpening, ruleOpening}
 use Rattle.grammar.specs.Parsed.{followed}
 use Rattle.grammar.specs.Inner.Names.{Named}
@@ -127,6 +127,14 @@ module _ (S : Setting) (names : List (List ℕ)) (known : List Bool) where
   unfolding functionAt
   function-alike w v at = then-alike (phrase-alike S _ at) (λ u n1. then-alike (whole-expression-alike S names known n1) (λ e n2. followed-alike S _ _ n2))
 
+  pair-alike : (w : List ℕ) (v at : ℕ) → Alike S Any at (λ t. pairAt (scope names known t) w v at)
+  unfolding pairAt
+  pair-alike w v at =
+      then-alike (phrase-alike S _ at)
+      (λ u n1. then-alike (cases-alike caseLimit w [] n1)
+      (λ ups n2. then-alike (phrase-alike S _ n2)
+      (λ u n3. then-alike (cases-alike (caseLimit - length ups) w [] n3) (λ downs n4. followed-alike S _ _ n4))))
+
   -- ---- the comparison
 
   -- the condition of a case ends before the case does
@@ -214,11 +222,15 @@ module _ (S : Setting) (names : List (List ℕ)) (known : List Bool) where
             let j = read-after (phrase-reads t (noChangeOpening w) n2) (h .1) in
             record { cases-are = c; spans = before-later n2 n3 cases j b; within = read-within (phrase-reads t (noChangeOpening w) n2) (h .1) (c .within) }
 
-    formulas-alike : (w : List ℕ) (v at : ℕ) → Alike S (In at) at (λ t. formulas (scope names known t) w v at)
-    unfolding formulas
-    formulas-alike w v at =
+    formula-alike : (w : List ℕ) (v at : ℕ) → Alike S (In at) at (λ t. formulaAt (scope names known t) w v at)
+    unfolding formulaAt
+    formula-alike w v at =
         then-known (plain (phrase-alike S _ at))
         (λ u n. token-in n (λ k s m. cond-alike (is k tilde) (step-in (λ t h. h .1) (λ t h. token-at-moved t n k s m (read-within (phrase-reads t ruleOpening at) (h .0 .1) (h .0 .0)) (h .1) .2) (change-alike w v m)) (plain (function-alike w v n))))
+
+    formulas-alike : (w : List ℕ) (v at : ℕ) → Alike S (In at) at (λ t. formulas (scope names known t) w v at)
+    unfolding formulas
+    formulas-alike w v at = token-in at (λ k s n. cond-alike (is k plus) (step-in {K = Any} (λ t h. h .1) (λ t h. tt) (pair-alike w v n)) (only (λ t h. h .0) (formula-alike w v at)))
 
     rule-alike : (at : ℕ) (k : Kind) (s n : ℕ) → Alike S (λ t. In at t × TokenIn at k s n t) at (λ t. ruleAt (scope names known t) s n)
     unfolding ruleAt withId

@@ -4,8 +4,9 @@ use mathlib.Core.List.{List, [], _∷_, _++_}
 use Prim.Native.Nat.{ℕ}
 use lib.IntN.{ℤ}
 use Rattle.lexer.specs.Bytes.{bytes}
+use Rattle.lexer.specs.Token.{greater}
 use Rattle.lexer.specs.Spelling.{SpellsName}
-use Rattle.grammar.specs.Forms.{changeOpening, noChangeOpening, valueOpening, functionClosing, formulaClosing, caseValueOpening}
+use Rattle.grammar.specs.Forms.{changeOpening, noChangeOpening, valueOpening, functionClosing, formulaClosing, caseValueOpening, turnedOpening, fallingOpening}
 use Rattle.grammar.specs.Derivation as D
 use Rattle.grammar.specs.Derivation.{Tokens}
 use Rattle.grammar.specs.Spelled.{SpellsZ, SpellsStart}
@@ -78,3 +79,13 @@ module _ (names : List (List ℕ)) where
 
   abbrev pub Computes : List ℕ → Tokens → Type 0
   Computes w = Joins (These (wantedTokens (valueOpening w))) (Joins (IsExpression names D.expression) (These (wantedTokens functionClosing)))
+
+  -- what follows `w+`
+  abbrev pub Falls : List ℕ → Tokens → Type 0
+  Falls w = Joins (AreCases names w) (These (wantedTokens formulaClosing))
+
+  abbrev pub ThenFalls : List ℕ → Tokens → Type 0
+  ThenFalls w = Joins (These (wantedTokens (fallingOpening w))) (Falls w)
+
+  abbrev pub Turns : List ℕ → Tokens → Type 0
+  Turns w = Joins (These (wantedTokens (turnedOpening greater w))) (Joins (AreCases names w) (ThenFalls w))

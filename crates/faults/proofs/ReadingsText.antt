@@ -5,7 +5,7 @@ use mathlib.Core.List.{List, [], _∷_, _++_}
 use mathlib.Core.Bool.{Bool, true, false, _&&_}
 use mathlib.Core.Logic.{inl, inr}
 use mathlib.Core.Option.{none}
-use Prim.Native.Nat.{ℕ, zero, suc, _≤_, _<_}
+use Prim.Native.Nat.{ℕ, zero, suc, _-_, _≤_, _<_}
 use native.Mathlib.Nat.{le-refl}
 use native.Mathlib.Omega.{arith}
 use lib.ListN.{length, getD, set, length-set}
@@ -15,7 +15,7 @@ use borrow.Author.Tests.{lt-ltb, le-ltb, ltb-false, eqb-false}
 use Rattle.limits.specs.Limits.{caseLimit, nameLimit, textLimit}
 use Rattle.arith.specs.Values.{isInt32}
 use Rattle.lexer.specs.Bytes.{part}
-use Rattle.lexer.specs.Token.{Kind, name, ending, digits, openSquare, closeRound, bar, tilde, minus, initWord, semicolon, inputWord, varWord, is, TokenRead, token, fault}
+use Rattle.lexer.specs.Token.{Kind, name, ending, digits, openSquare, closeRound, bar, tilde, plus, minus, initWord, semicolon, inputWord, varWord, is, TokenRead, token, fault}
 use Rattle.lexer.specs.Lexer.{tokenAt, sameToken, overLong, valueOf}
 use Rattle.lexer.specs.Names.{idOf}
 use Rattle.lexer.proofs.Laws.{cond-prop, token-at-moved}
@@ -24,7 +24,7 @@ use Rattle.semantics.proofs.Reference.{length-known}
 use Rattle.grammar.specs.Parsed.{Parsed, accepted, refused}
 use Rattle.grammar.specs.Expressions.{Scope}
 use Rattle.grammar.specs.Declarations.{inRange, signedDigits, boundAt, spellings, newName, startAt, declaration, declarationsFrom, declarations}
-use Rattle.grammar.specs.Rules.{Spanned, caseAt, casesFrom, listFrom, plainList, Compared, agrees, differs, onCompared, onFound, partFrom, kindAt, partsFrom, firstFound, agreeingList, functionAt, changeAt, formulas, ruleAt, ruled, rulesFrom}
+use Rattle.grammar.specs.Rules.{Spanned, caseAt, casesFrom, listFrom, plainList, Compared, agrees, differs, onCompared, onFound, partFrom, kindAt, partsFrom, firstFound, agreeingList, functionAt, changeAt, pairAt, formulaAt, formulas, ruleAt, ruled, rulesFrom}
 use Rattle.grammar.specs.Parse.{program, parse}
 use Rattle.grammar.specs.Derivation.{Tokens, Spells, normal}
 use Rattle.grammar.specs.Inner.Names.{Named}
@@ -234,10 +234,21 @@ module _ (sc : Scope) where
         then-reads (phrase-reads (sc .text) _ n2)
         (λ u n3 q3. then-reads (agreeing-reads w n1 n2 cases c n3 (read-within (phrase-reads (sc .text) _ n2) q3 (c .within))) (λ ds n4 q4. followed-reads (sc .text) _ _ n4))))
 
+    formula-reads : (w : List ℕ) (v at : ℕ) → at ≤ length (sc .text) → ReadsFrom (sc .text) at (formulaAt sc w v at)
+    unfolding formulaAt
+    formula-reads w v at h = then-reads (phrase-reads (sc .text) _ at)
+        (λ u n q. token-reads (sc .text) n (λ k s m e. cond-reads (is k tilde) (step e (change-reads w v m (token-at-moved (sc .text) n k s m (read-within (phrase-reads (sc .text) _ at) q h) e .2))) (function-reads w v n)))
+
+    pair-reads : (w : List ℕ) (v at : ℕ) → ReadsFrom (sc .text) at (pairAt sc w v at)
+    unfolding pairAt
+    pair-reads w v at = then-reads (phrase-reads (sc .text) _ at)
+        (λ u n1 q1. then-reads (cases-reads caseLimit w [] n1)
+        (λ ups n2 q2. then-reads (phrase-reads (sc .text) _ n2)
+        (λ u n3 q3. then-reads (cases-reads (caseLimit - length ups) w [] n3) (λ downs n4 q4. followed-reads (sc .text) _ _ n4))))
+
     formulas-reads : (w : List ℕ) (v at : ℕ) → at ≤ length (sc .text) → ReadsFrom (sc .text) at (formulas sc w v at)
     unfolding formulas
-    formulas-reads w v at h = then-reads (phrase-reads (sc .text) _ at)
-        (λ u n q. token-reads (sc .text) n (λ k s m e. cond-reads (is k tilde) (step e (change-reads w v m (token-at-moved (sc .text) n k s m (read-within (phrase-reads (sc .text) _ at) q h) e .2))) (function-reads w v n)))
+    formulas-reads w v at h = token-reads (sc .text) at (λ k s n e. cond-reads (is k plus) (step e (pair-reads w v n)) (formula-reads w v at h))
 
     rule-reads : (at : ℕ) (k : Kind) (s n : ℕ) → at ≤ length (sc .text) → tokenAt (sc .text) at ≡ token k s n → ReadsFrom (sc .text) at (ruleAt sc s n)
     unfolding ruleAt

@@ -3,13 +3,13 @@ use mathlib.Core.Path.{_≡_, refl, ap, sym, _∙_, subst}
 use mathlib.Core.List.{List, [], _∷_, _++_, append-assoc, append-nil}
 use mathlib.Core.Bool.{false}
 use mathlib.Core.Logic.{_⊎_, inl, inr}
-use Prim.Native.Nat.{ℕ, zero, suc, _≤_}
+use Prim.Native.Nat.{ℕ, zero, suc, _-_, _≤_}
 use native.Mathlib.Omega.{arith}
 use lib.ListN.{length}
 use lib.Dec.{ltb, leb, eqb}
 use Rattle.limits.specs.Limits.{caseLimit}
 use Rattle.lexer.specs.Bytes.{bytes, part}
-use Rattle.lexer.specs.Token.{Kind, kindNumber, name, closeRound, closeSquare, openSquare, bar, tilde, is, token}
+use Rattle.lexer.specs.Token.{Kind, kindNumber, name, colon, closeRound, closeSquare, openSquare, bar, tilde, greater, plus, is, token}
 use Rattle.lexer.specs.Lexer.{tokenAt}
 use Rattle.lexer.proofs.Laws.{token-at-moved}
 use Rattle.semantics.specs.Program.{Condition}
@@ -17,8 +17,8 @@ use Rattle.lexer.specs.Spelling.{SpellsName}
 use Rattle.grammar.specs.Parsed.{Parsed, accepted, refused}
 use Rattle.grammar.specs.Expressions.{Scope, productOf, sumOf}
 use Rattle.grammar.specs.Conditions.{listed}
-use Rattle.grammar.specs.Forms.{changeOpening, noChangeOpening, ruleOpening, valueOpening, functionClosing, formulaClosing, caseValueOpening}
-use Rattle.grammar.specs.Rules.{Spanned, caseAt, casesFrom, listFrom, plainList, Compared, agrees, differs, partsFrom, firstFound, agreeingList, functionAt, changeAt, formulas}
+use Rattle.grammar.specs.Forms.{changeOpening, noChangeOpening, ruleOpening, valueOpening, functionClosing, formulaClosing, caseValueOpening, turnedOpening, fallingOpening}
+use Rattle.grammar.specs.Rules.{Spanned, caseAt, casesFrom, listFrom, plainList, Compared, agrees, differs, partsFrom, firstFound, agreeingList, functionAt, changeAt, pairAt, formulaAt, formulas}
 use Rattle.grammar.specs.Derivation as D
 use Rattle.grammar.specs.Derivation.{Tokens, IsName, normal}
 use Rattle.grammar.proofs.Bytes.{heads}
@@ -27,7 +27,7 @@ use Rattle.grammar.proofs.Phrases.{fixed-stands, wantedTokens, signs}
 use Rattle.grammar.proofs.Standing.{Seen, normally}
 use Rattle.faults.specs.Grammar as G
 use Rattle.faults.specs.Grammar.{AreNames, AreCases, AreConditions, IsRule}
-use Rattle.faults.proofs.Languages.{Joins, These, InRound, InSquare, AndValue, CaseRest, InList, NoChange, ThenNoChange, Changes, Computes}
+use Rattle.faults.proofs.Languages.{Joins, These, InRound, InSquare, AndValue, CaseRest, InList, NoChange, ThenNoChange, Changes, Computes, Falls, ThenFalls, Turns}
 use Rattle.faults.proofs.Sole.{Ahead, Sole, by-other, refused-sole, nothing-sole, behind, narrow, then-sole, cond-sole, token-sole, NoSign, not-sign, first-ahead}
 use Rattle.faults.proofs.SoleParts.{Anything, apart, followed-sole, E, AfterExpression, round-ends, ends-expression, whole-expression-sole}
 use Rattle.faults.proofs.SoleConditions.{Or, K, AfterCondition, square-ends, whole-condition-sole}
@@ -148,14 +148,18 @@ module _ (names : List (List ℕ)) (good : AreNames names) where
     changes : (us : Tokens) → Changes names w us → Formulas w (bytes "~" ∷ us)
     computes : (us : Tokens) → Computes names w us → Formulas w us
 
-  abbrev pub RuleRest : List ℕ → Tokens → Type 0
-  RuleRest w = Joins (These (wantedTokens ruleOpening)) (Formulas w)
+  abbrev FormulaRest : List ℕ → Tokens → Type 0
+  FormulaRest w = Joins (These (wantedTokens ruleOpening)) (Formulas w)
+
+  pub data RuleRest (w : List ℕ) : Tokens → Type 0 where
+    formula : (us : Tokens) → FormulaRest w us → RuleRest w us
+    pair : (us : Tokens) → Turns names w us → RuleRest w (bytes "+" ∷ us)
 
   pub rule-of : (ts : Tokens) → IsRule names ts → (v : List ℕ) × (zs : Tokens) × (ts ≡ v ∷ zs) × SpellsName v × RuleRest v zs
   rule-of ts (G.IsRule.a-function v us g x) =
       let c = us ++ wantedTokens functionClosing in
       let b = wantedTokens (valueOpening v) ++ c in
-      (v, wantedTokens ruleOpening ++ b, refl, g, (wantedTokens ruleOpening, b, refl, refl, computes b (wantedTokens (valueOpening v), c, refl, refl, (us, wantedTokens functionClosing, refl, x, refl))))
+      (v, wantedTokens ruleOpening ++ b, refl, g, formula _ (wantedTokens ruleOpening, b, refl, refl, computes b (wantedTokens (valueOpening v), c, refl, refl, (us, wantedTokens functionClosing, refl, x, refl))))
   rule-of ts (G.IsRule.a-change v cs ls g x y) =
       let n = (ls ++ bytes ")" ∷ []) ++ wantedTokens formulaClosing in
       let t = wantedTokens (noChangeOpening v) ++ n in
@@ -164,8 +168,13 @@ module _ (names : List (List ℕ)) (good : AreNames names) where
         wantedTokens ruleOpening ++ (bytes "~" ∷ b),
         simp append-assoc,
         g,
-        (wantedTokens ruleOpening, bytes "~" ∷ b, refl, refl, changes b (wantedTokens (changeOpening v), cs ++ t, refl, refl, (cs, t, refl, x, (wantedTokens (noChangeOpening v), n, refl, refl, (ls ++ bytes ")" ∷ [], wantedTokens formulaClosing, refl, (ls, bytes ")" ∷ [], refl, y, refl), refl))))),
+        formula _ (wantedTokens ruleOpening, bytes "~" ∷ b, refl, refl, changes b (wantedTokens (changeOpening v), cs ++ t, refl, refl, (cs, t, refl, x, (wantedTokens (noChangeOpening v), n, refl, refl, (ls ++ bytes ")" ∷ [], wantedTokens formulaClosing, refl, (ls, bytes ")" ∷ [], refl, y, refl), refl))))),
       )
+  rule-of ts (G.IsRule.a-pair v cs ds g x y) =
+      let c = wantedTokens formulaClosing in
+      let t = wantedTokens (fallingOpening v) ++ (ds ++ c) in
+      let b = wantedTokens (turnedOpening greater v) ++ (cs ++ t) in
+      (v, bytes "+" ∷ b, simp append-assoc, g, pair b (wantedTokens (turnedOpening greater v), cs ++ t, refl, refl, (cs, t, refl, x, (wantedTokens (fallingOpening v), ds ++ c, refl, refl, (ds, c, refl, y, refl)))))
 
   module _ (sc : Scope) (w : List ℕ) (is-name : IsName w) (seen : Seen normally w) where
     function-sole : (v at : ℕ) → at ≤ length (sc .text) → Sole (Computes names w) Anything (sc .text) at (functionAt sc w v at)
@@ -188,10 +197,10 @@ module _ (names : List (List ℕ)) (good : AreNames names) where
         then-ends : (xs ys : Tokens) → ThenNoChange names w xs → Anything ys → NoSign Or (xs ++ ys)
         then-ends xs ys (ts, us, q, l, m) z = subst (λ (x : Tokens). NoSign Or (x ++ ys)) (sym (q ∙ ap (λ (x : Tokens). x ++ us) l)) no-bar
 
-    pub formulas-sole : (v at : ℕ) → at ≤ length (sc .text) → Sole (RuleRest w) Anything (sc .text) at (formulas sc w v at)
-    unfolding formulas signs isFixed is kindNumber
-    formulas-sole v at h =
-        then-sole {L = These (wantedTokens ruleOpening)} {M = Formulas w} {N = RuleRest w} {S = Anything} {S2 = Anything} h (λ zs j. j) (λ xs ys l z. tt) (phrase-sole (sc .text) ruleOpening refl tt tt at h)
+    formula-sole : (v at : ℕ) → at ≤ length (sc .text) → Sole (FormulaRest w) Anything (sc .text) at (formulaAt sc w v at)
+    unfolding formulaAt signs isFixed is kindNumber
+    formula-sole v at h =
+        then-sole {L = These (wantedTokens ruleOpening)} {M = Formulas w} {N = FormulaRest w} {S = Anything} {S2 = Anything} h (λ zs j. j) (λ xs ys l z. tt) (phrase-sole (sc .text) ruleOpening refl tt tt at h)
         (λ u n i j q. token-sole (sc .text) n
         (λ k s m e. cond-sole (is k tilde)
         (λ t. behind (bytes "~") (fixed-stands normally (sc .text) tilde refl n k s m j e t) tilde-goes (change-sole v m (token-at-moved (sc .text) n k s m j e .2)))
@@ -204,3 +213,31 @@ module _ (names : List (List ℕ)) (good : AreNames names) where
         no-tilde : (n : ℕ) (k : Kind) (s m : ℕ) → n ≤ length (sc .text) → tokenAt (sc .text) n ≡ token k s m → is k tilde ≡ false → (us xs ys : Tokens) → Ahead k (normal (part (sc .text) s m)) us → us ≡ xs ++ ys → Formulas w xs → Computes names w xs
         no-tilde n k s m j e t us xs ys ah q (computes vs x) = x
         no-tilde n k s m j e t us xs ys ah q (changes vs x) = absurd (first-ahead (sc .text) n k s m j e us (vs ++ ys) (bytes "~") ah q tilde refl (apart k tilde refl t))
+
+    pair-sole : (v at : ℕ) → at ≤ length (sc .text) → Sole (Turns names w) Anything (sc .text) at (pairAt sc w v at)
+    unfolding pairAt signs isFixed is kindNumber
+    pair-sole v at h =
+        then-sole {L = These (wantedTokens (turnedOpening greater w))} {M = Joins (AreCases names w) (ThenFalls names w)} {N = Turns names w} {S = Anything} {S2 = Anything} h (λ zs j. j) (λ xs ys l z. tt) (phrase-sole (sc .text) (turnedOpening greater w) refl (is-name, (is-name, tt)) (seen, (seen, tt)) at h)
+        (λ u n1 i1 h1 e1. then-sole {L = AreCases names w} {M = ThenFalls names w} {N = Joins (AreCases names w) (ThenFalls names w)} {S = NoSign Or} {S2 = Anything} h1 (λ zs j. j) then-ends (cases-sole sc w is-name seen caseLimit [] n1 h1)
+        (λ ups n2 i2 h2 e2. then-sole {L = These (wantedTokens (fallingOpening w))} {M = Falls names w} {N = ThenFalls names w} {S = Anything} {S2 = Anything} h2 (λ zs j. j) (λ xs ys l z. tt) (phrase-sole (sc .text) (fallingOpening w) refl (is-name, (is-name, (is-name, tt))) (seen, (seen, (seen, tt))) n2 h2)
+        (λ u n3 i3 h3 e3. then-sole {L = AreCases names w} {M = These (wantedTokens formulaClosing)} {N = Falls names w} {S = NoSign Or} {S2 = Anything} h3 (λ zs j. j) (λ xs ys l z. subst (λ (x : Tokens). NoSign Or (x ++ ys)) (sym l) no-bar) (cases-sole sc w is-name seen (caseLimit - length ups) [] n3 h3)
+        (λ downs n4 i4 h4 e4. followed-by-sole (sc .text) formulaClosing refl tt tt _ n4 h4))))
+      where
+        then-ends : (xs ys : Tokens) → ThenFalls names w xs → Anything ys → NoSign Or (xs ++ ys)
+        then-ends xs ys (ts, us, q, l, m) z = subst (λ (x : Tokens). NoSign Or (x ++ ys)) (sym (q ∙ ap (λ (x : Tokens). x ++ us) l)) no-bar
+
+    pub formulas-sole : (v at : ℕ) → at ≤ length (sc .text) → Sole (RuleRest w) Anything (sc .text) at (formulas sc w v at)
+    unfolding formulas signs isFixed is kindNumber
+    formulas-sole v at h =
+        token-sole (sc .text) at
+        (λ k s n e. cond-sole (is k plus)
+        (λ t. behind (bytes "+") (fixed-stands normally (sc .text) plus refl at k s n h e t) plus-goes (pair-sole v n (token-at-moved (sc .text) at k s n h e .2)))
+        (λ t. narrow h (λ us xs ys ah q l z. no-plus k s n e t us xs ys (ah k s n e) q l) (formula-sole v at h)))
+      where
+        plus-goes : (us xs ys : Tokens) → bytes "+" ∷ us ≡ xs ++ ys → RuleRest w xs → Anything ys → (zs : Tokens) × (xs ≡ bytes "+" ∷ zs) × Turns names w zs
+        plus-goes us xs ys q (pair vs x) z = (vs, refl, x)
+        plus-goes us xs ys q (formula vs (cs, bs, r, l, m)) z = absurd (not-sign plus colon (bytes "+") (bytes ":") refl refl (apart plus colon refl refl) (heads (q ∙ ap (λ (x : Tokens). x ++ ys) (r ∙ ap (λ (x : Tokens). x ++ bs) l))))
+
+        no-plus : (k : Kind) (s n : ℕ) → tokenAt (sc .text) at ≡ token k s n → is k plus ≡ false → (us xs ys : Tokens) → Ahead k (normal (part (sc .text) s n)) us → us ≡ xs ++ ys → RuleRest w xs → FormulaRest w xs
+        no-plus k s n e t us xs ys ah q (formula vs x) = x
+        no-plus k s n e t us xs ys ah q (pair vs x) = absurd (first-ahead (sc .text) at k s n h e us (vs ++ ys) (bytes "+") ah q plus refl (apart k plus refl t))

@@ -2,13 +2,13 @@
 use mathlib.Core.Path.{_≡_, refl, ap, sym, subst}
 use mathlib.Core.List.{List, [], _∷_, _++_, append-assoc, append-nil}
 use mathlib.Core.Bool.{true, false}
-use Prim.Native.Nat.{ℕ, zero, suc, _+_, _≤_}
+use Prim.Native.Nat.{ℕ, zero, suc, _+_, _-_, _≤_}
 use native.Mathlib.Omega.{arith}
 use lib.ListN.{length, getD}
 use lib.Dec.{ltb, leb, eqb}
 use Rattle.limits.specs.Limits.{caseLimit}
 use Rattle.lexer.specs.Bytes.{bytes, part}
-use Rattle.lexer.specs.Token.{Kind, kindNumber, name, openSquare, closeRound, closeSquare, bar, tilde, is, token}
+use Rattle.lexer.specs.Token.{Kind, kindNumber, name, openSquare, closeRound, closeSquare, bar, tilde, greater, plus, is, token}
 use Rattle.lexer.specs.Lexer.{tokenAt}
 use Rattle.lexer.proofs.Laws.{token-at-moved}
 use Rattle.semantics.specs.Program.{Condition}
@@ -16,8 +16,8 @@ use Rattle.lexer.specs.Spelling.{SpellsName}
 use Rattle.grammar.specs.Parsed.{Parsed, accepted, refused, sign}
 use Rattle.grammar.specs.Expressions.{Scope}
 use Rattle.grammar.specs.Conditions.{listed}
-use Rattle.grammar.specs.Forms.{changeOpening, noChangeOpening, ruleOpening, valueOpening, functionClosing, formulaClosing, caseValueOpening}
-use Rattle.grammar.specs.Rules.{Spanned, caseAt, casesFrom, listFrom, plainList, Compared, agrees, differs, partsFrom, firstFound, agreeingList, functionAt, changeAt, formulas, ruleAt}
+use Rattle.grammar.specs.Forms.{changeOpening, noChangeOpening, ruleOpening, valueOpening, functionClosing, formulaClosing, caseValueOpening, turnedOpening, fallingOpening}
+use Rattle.grammar.specs.Rules.{Spanned, caseAt, casesFrom, listFrom, plainList, Compared, agrees, differs, partsFrom, firstFound, agreeingList, functionAt, changeAt, pairAt, formulaAt, formulas, ruleAt}
 use Rattle.grammar.specs.Derivation as D
 use Rattle.grammar.specs.Derivation.{Tokens, normal, normals}
 use Rattle.grammar.specs.Spelled.{squared, cased}
@@ -29,7 +29,7 @@ use Rattle.grammar.proofs.Normal.{name-seen, normal-twice}
 use Rattle.grammar.proofs.SameRule.{formulas-same}
 use Rattle.faults.specs.Grammar as G
 use Rattle.faults.specs.Grammar.{IsExpression, IsCondition, AreCases, AreConditions, IsRule}
-use Rattle.faults.proofs.Languages.{These, InRound, InSquare, CaseRest, InList, NoChange, ThenNoChange, Changes, Computes}
+use Rattle.faults.proofs.Languages.{These, InRound, InSquare, CaseRest, InList, NoChange, ThenNoChange, Changes, Computes, Falls, ThenFalls, Turns}
 use Rattle.faults.proofs.Viable.{Viable, by-other, refused-here, wider, behind, then-viable, cond-viable, token-viable}
 use Rattle.faults.proofs.ViableParts.{zeros, equal-zeros, zero-in-expression, zero-in-condition, id-viable, whole-expression-viable, whole-condition-viable}
 use Rattle.faults.proofs.ViableDeclarations.{cat-viable, nothing-more, phrase-viable, followed-by}
@@ -163,9 +163,9 @@ module _ (sc : Scope) where
     change-in us (a, b, q1, q2, (cs, c, q3, x, (d, e, q4, q5, (f, g, q6, (ls, i, q7, y, q8), q9)))) =
         subst (IsRule (normals (sc .names))) (rw (q1, q2, q3, q4, q5, q6, q7, q8, q9) (simp append-assoc)) (G.IsRule.a-change w cs ls is-name x y)
 
-    formulas-viable : (v at : ℕ) → at ≤ length (sc .text) → Viable (λ us. IsRule (normals (sc .names)) (w ∷ us)) (sc .text) at (formulas sc w v at)
-    unfolding formulas signs isFixed kindNumber
-    formulas-viable v at h =
+    formula-viable : (v at : ℕ) → at ≤ length (sc .text) → Viable (λ us. IsRule (normals (sc .names)) (w ∷ us)) (sc .text) at (formulaAt sc w v at)
+    unfolding formulaAt signs isFixed kindNumber
+    formula-viable v at h =
         then-viable {L = These (wantedTokens ruleOpening)} {M = Body} h (λ ts us q x. rw q x)
         (wantedTokens (valueOpening w) ++ zeros (normals (sc .names)) ++ wantedTokens functionClosing)
         (function-in _ (wantedTokens (valueOpening w), _, refl, refl, (zeros (normals (sc .names)), _, refl, zero-in-expression (normals (sc .names)), refl)))
@@ -174,6 +174,32 @@ module _ (sc : Scope) where
         (λ k s m e. cond-viable (is k tilde)
         (λ t. behind (bytes "~" ∷ []) (m, fixed-stands normally (sc .text) tilde refl n k s m i e t, refl) change-in (change-viable v m (token-at-moved (sc .text) n k s m i e .2)))
         (λ t. wider function-in (function-viable v n i))))
+
+    some-falls : (Falls (normals (sc .names)) w) (cased w (equal-zeros (normals (sc .names))) (zeros (normals (sc .names))) ++ wantedTokens formulaClosing)
+    some-falls = (cased w (equal-zeros (normals (sc .names))) (zeros (normals (sc .names))), wantedTokens formulaClosing, refl, some-cases w seen, refl)
+
+    some-then-falls : (ThenFalls (normals (sc .names)) w) (wantedTokens (fallingOpening w) ++ (cased w (equal-zeros (normals (sc .names))) (zeros (normals (sc .names))) ++ wantedTokens formulaClosing))
+    some-then-falls = (wantedTokens (fallingOpening w), cased w (equal-zeros (normals (sc .names))) (zeros (normals (sc .names))) ++ wantedTokens formulaClosing, refl, refl, some-falls)
+
+    pair-viable : (v at : ℕ) → at ≤ length (sc .text) → Viable (Turns (normals (sc .names)) w) (sc .text) at (pairAt sc w v at)
+    unfolding pairAt signs isFixed kindNumber
+    pair-viable v at h =
+        cat-viable h _ (cased w (equal-zeros (normals (sc .names))) (zeros (normals (sc .names))), _, refl, some-cases w seen, some-then-falls) (phrase-viable (sc .text) (turnedOpening greater w) refl (seen, (seen, tt)) at h)
+        (λ u n1 h1. cat-viable h1 _ some-then-falls (cases-viable w seen caseLimit [] n1 h1)
+        (λ ups n2 h2. cat-viable h2 _ some-falls (phrase-viable (sc .text) (fallingOpening w) refl (seen, (seen, (seen, tt))) n2 h2)
+        (λ u n3 h3. cat-viable h3 (wantedTokens formulaClosing) refl (cases-viable w seen (caseLimit - length ups) [] n3 h3) (λ downs n4 h4. followed-by (sc .text) formulaClosing refl tt _ n4 h4))))
+
+    pair-in : (us : Tokens) → (Turns (normals (sc .names)) w) us → IsRule (normals (sc .names)) (w ∷ bytes "+" ∷ us)
+    pair-in us (a, b, q1, q2, (cs, c, q3, x, (d, e, q4, q5, (ds, f, q6, y, q7)))) =
+        subst (IsRule (normals (sc .names))) (rw (q1, q2, q3, q4, q5, q6, q7) (simp append-assoc)) (G.IsRule.a-pair w cs ds is-name x y)
+
+    formulas-viable : (v at : ℕ) → at ≤ length (sc .text) → Viable (λ us. IsRule (normals (sc .names)) (w ∷ us)) (sc .text) at (formulas sc w v at)
+    unfolding formulas signs isFixed kindNumber
+    formulas-viable v at h =
+        token-viable (sc .text) at
+        (λ k s n e. cond-viable (is k plus)
+        (λ t. behind (bytes "+" ∷ []) (n, fixed-stands normally (sc .text) plus refl at k s n h e t, refl) pair-in (pair-viable v n (token-at-moved (sc .text) at k s n h e .2)))
+        (λ t. formula-viable v at h))
 
   pub rule-viable : (at : ℕ) (k : Kind) (s n : ℕ) → at ≤ length (sc .text) → tokenAt (sc .text) at ≡ token k s n → is k name ≡ true → Viable (IsRule (normals (sc .names))) (sc .text) at (ruleAt sc s n)
   unfolding ruleAt is kindNumber

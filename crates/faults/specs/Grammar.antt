@@ -18,7 +18,7 @@ use Rattle.grammar.specs.Conditions.{wholeCondition, listed}
 use Rattle.grammar.specs.Parse.{programOf}
 use Rattle.lexer.specs.Spelling.{SpellsName}
 use Rattle.grammar.specs.Derivation.{Tokens, normal, normals, Spells, IsName, Level, SpellsE, expression, LevelC, SpellsC, condition}
-use Rattle.grammar.specs.Spelled.{SpellsZ, SpellsStart, declarationForm, squared, cased, Distinct, changeForm, functionForm, Spelled}
+use Rattle.grammar.specs.Spelled.{SpellsZ, SpellsStart, declarationForm, squared, cased, Distinct, changeForm, functionForm, pairForm, Spelled}
 use Rattle.faults.specs.Texts.{SameThrough}
 
 -- the tokens spell an expression of the names, however many brackets are open at the same time (8, not 2, limits these)
@@ -60,6 +60,7 @@ pub data AreConditions (names : List (List ℕ)) : Tokens → Type 0 where
 pub data IsRule (names : List (List ℕ)) : Tokens → Type 0 where
   a-change : (v : List ℕ) (cs ls : Tokens) → SpellsName v → AreCases names v cs → AreConditions names ls → IsRule names (changeForm v cs ls)
   a-function : (v : List ℕ) (ts : Tokens) → SpellsName v → IsExpression names expression ts → IsRule names (functionForm v ts)
+  a-pair : (v : List ℕ) (cs ds : Tokens) → SpellsName v → AreCases names v cs → AreCases names v ds → IsRule names (pairForm v cs ds)
 
 pub data AreRules (names : List (List ℕ)) : Tokens → Type 0 where
   none : AreRules names []

@@ -3,7 +3,7 @@ use mathlib.Core.Path.{_≡_, refl, ap, sym, _∙_, subst}
 use mathlib.Core.List.{List, [], _∷_, _++_, append-assoc, append-nil}
 use mathlib.Core.Bool.{Bool, true, false}
 use mathlib.Core.Option.{none, some}
-use Prim.Native.Nat.{ℕ, zero, suc, _≤_, _<_}
+use Prim.Native.Nat.{ℕ, zero, suc, _+_, _-_, _≤_, _<_}
 use native.Mathlib.Omega.{arith}
 use lib.ListN.{length, getD, set, getElem?}
 use lib.Dec.{ltb→lt}
@@ -11,24 +11,26 @@ use Rattle.limits.specs.Limits.{caseLimit, bracketLimit}
 use Rattle.arith.proofs.Basics.{T-true}
 use Rattle.lexer.specs.Bytes.{bytes, part, capitals}
 use Rattle.lexer.specs.Spelling.{SpellsName}
-use Rattle.lexer.specs.Token.{kindNumber, ending, name, closeRound, tilde, is, token}
+use Rattle.lexer.specs.Token.{kindNumber, ending, name, colon, closeRound, tilde, greater, plus, is, token}
 use Rattle.lexer.specs.Lexer.{tokenAt}
 use Rattle.lexer.proofs.Laws.{token-at-moved}
 use Rattle.semantics.specs.Program.{Expression, Condition, Case, Rule, function, change, target, allTrue, UsableE, UsableK, UsableR, OrderedRules}
 use Rattle.grammar.specs.Parsed.{accepted, phrase, followed, itemBound}
 use Rattle.grammar.specs.Expressions.{Scope, productOf, sumOf, wholeExpression}
-use Rattle.grammar.specs.Forms.{valueOpening, functionClosing, formulaClosing, changeOpening, noChangeOpening, ruleOpening}
-use Rattle.grammar.specs.Rules.{Spanned, casesFrom, plainList, agrees, partsFrom, firstFound, agreeingList, casesOf, functionAt, changeAt, formulas, ruleAt, ruled, rulesFrom}
+use Rattle.grammar.specs.Forms.{valueOpening, functionClosing, formulaClosing, changeOpening, noChangeOpening, ruleOpening, turnedOpening, fallingOpening}
+use Rattle.grammar.specs.Pairs.{pairCases, pairRule}
+use Rattle.grammar.specs.Rules.{Spanned, casesFrom, plainList, agrees, partsFrom, firstFound, agreeingList, casesOf, functionAt, changeAt, pairAt, formulaAt, formulas, ruleAt, ruled, rulesFrom}
 use Rattle.grammar.specs.Derivation.{Spells, IsName, SpellsE, normal, normals}
 use Rattle.grammar.specs.Derivation as D
-use Rattle.grammar.specs.Spelled.{SpellsCases, SpellsList, SpellsR, a-change, a-function, SpellsRules}
+use Rattle.grammar.specs.Spelled.{SpellsCases, SpellsList, SpellsR, a-change, a-function, a-pair, SpellsRules}
 use Rattle.grammar.specs.Spelled as S
 use Rattle.grammar.specs.Inner.Names.{Named}
 use Rattle.lexer.proofs.Spellings.{isFixed}
 use Rattle.grammar.proofs.Standing.{split, stands-in, spells-in, spells-append, is-read, normally, stands-raw}
-use Rattle.grammar.proofs.Phrases.{signs, fixed-at, name-at, phrase-reads, followed-reads, headTokens, middleTokens}
+use Rattle.grammar.proofs.Phrases.{signs, fixed-at, name-at, phrase-reads, followed-reads, headTokens, middleTokens, riseTokens, fallTokens}
 use Rattle.grammar.proofs.Normal.{normal-twice, each-normal}
 use Rattle.grammar.proofs.SameRule.{formulas-same}
+use Rattle.grammar.proofs.Pairing.{counted-cases, ups-usable, downs-usable}
 use Rattle.grammar.proofs.Listed.{spells-parts}
 use Rattle.grammar.proofs.Converse.{named-id, spelled-expression, spells-normal}
 use Rattle.grammar.proofs.ConverseCases.{cases-read, no-change-reads}
@@ -88,13 +90,48 @@ module _ (sc : Scope) (good : Named (sc .names)) (w : List ℕ) (nm : IsName w) 
 
   -- ---- the formulas of w, after its name
 
-  formulas-change : (r : Rule) (a n s m e : ℕ) → phrase (sc .text) ruleOpening a ≡ accepted tt n → tokenAt (sc .text) n ≡ token tilde s m → changeAt sc w v m ≡ accepted r e → formulas sc w v a ≡ accepted r e
+  -- after a colon
+  formulas-formula : (r : Rule) (a s m e : ℕ) → tokenAt (sc .text) a ≡ token colon s m → formulaAt sc w v a ≡ accepted r e → formulas sc w v a ≡ accepted r e
   unfolding formulas is kindNumber
-  formulas-change r a n s m e e1 e2 e3 = rw (e1, e2) e3
+  formulas-formula r a s m e e1 e2 = rw e1 e2
 
-  formulas-function : (r : Rule) (a n s m e : ℕ) → phrase (sc .text) ruleOpening a ≡ accepted tt n → tokenAt (sc .text) n ≡ token name s m → functionAt sc w v n ≡ accepted r e → formulas sc w v a ≡ accepted r e
+  formula-change : (r : Rule) (a n s m e : ℕ) → phrase (sc .text) ruleOpening a ≡ accepted tt n → tokenAt (sc .text) n ≡ token tilde s m → changeAt sc w v m ≡ accepted r e → formulaAt sc w v a ≡ accepted r e
+  unfolding formulaAt is kindNumber
+  formula-change r a n s m e e1 e2 e3 = rw (e1, e2) e3
+
+  formula-function : (r : Rule) (a n s m e : ℕ) → phrase (sc .text) ruleOpening a ≡ accepted tt n → tokenAt (sc .text) n ≡ token name s m → functionAt sc w v n ≡ accepted r e → formulaAt sc w v a ≡ accepted r e
+  unfolding formulaAt is kindNumber
+  formula-function r a n s m e e1 e2 e3 = rw (e1, e2) e3
+
+  -- ---- a pair, after `v+`
+
+  formulas-pair : (r : Rule) (a s m e : ℕ) → tokenAt (sc .text) a ≡ token plus s m → pairAt sc w v m ≡ accepted r e → formulas sc w v a ≡ accepted r e
   unfolding formulas is kindNumber
-  formulas-function r a n s m e e1 e2 e3 = rw (e1, e2) e3
+  formulas-pair r a s m e e1 e2 = rw e1 e2
+
+  pair-goes : (ups downs : List Spanned) (ks js : List Case) → casesOf ups ≡ ks → casesOf downs ≡ js → (a n1 n2 n3 n4 n5 : ℕ) → phrase (sc .text) (turnedOpening greater w) a ≡ accepted tt n1 → casesFrom caseLimit sc w [] n1 ≡ accepted ups n2 → phrase (sc .text) (fallingOpening w) n2 ≡ accepted tt n3 → casesFrom (caseLimit - length ups) sc w [] n3 ≡ accepted downs n4 → followed (sc .text) formulaClosing (pairRule v ks js) n4 ≡ accepted (pairRule v ks js) n5 → pairAt sc w v a ≡ accepted (pairRule v ks js) n5
+  unfolding pairAt
+  pair-goes ups downs ks js eu ed a n1 n2 n3 n4 n5 e1 e2 e3 e4 e5 = rw (e1, e2, e3, e4, eu, ed) e5
+
+  pair-reads : (ts ls us ms : List (List ℕ)) (ks js : List Case) → SpellsCases (normals (sc .names)) w ts ls ks → SpellsCases (normals (sc .names)) w us ms js → length ks + length js ≤ caseLimit → UsableK (sc .known) (pairCases ks js) → (a m : ℕ) → a ≤ length (sc .text) → Spells normal (sc .text) a m ((riseTokens w ++ ts) ++ (fallTokens w ++ us) ++ bytes ")" ∷ bytes ";" ∷ []) → pairAt sc w v a ≡ accepted (pairRule v ks js) m
+  unfolding signs isFixed kindNumber is
+  pair-reads ts ls us ms ks js d f room u a m h g =
+      let text = sc .text in
+      let p = split normally text a m ((riseTokens w ++ ts) ++ (fallTokens w ++ us)) (bytes ")" ∷ bytes ";" ∷ []) g in
+      let q = split normally text a (p .place) (riseTokens w ++ ts) (fallTokens w ++ us) (p .first) in
+      let r = split normally text a (q .place) (riseTokens w) ts (q .first) in
+      let t = split normally text (q .place) (p .place) (fallTokens w) us (q .second) in
+      let i1 = spells-in normally text a (r .place) (riseTokens w) h (r .first) .1 in
+      let i2 = spells-in normally text (r .place) (q .place) ts i1 (r .second) .1 in
+      let i3 = spells-in normally text (q .place) (t .place) (fallTokens w) i2 (t .first) .1 in
+      let i4 = spells-in normally text (t .place) (p .place) us i3 (t .second) .1 in
+      let x = cases-read sc good w nm caseLimit [] ts ls ks d (ups-usable (sc .known) ks js u) (omega (arith, room)) (r .place) (q .place) i1 (r .second) closeRound (t .first .1 .start) (t .first .0) (fixed-at normally text closeRound refl (q .place) (t .first .0) i2 (t .first .1)) refl in
+      let l = counted-cases (x .spans) ks (x .are-cases) in
+      let y = cases-read sc good w nm (caseLimit - length (x .spans)) [] us ms js f (downs-usable (sc .known) ks js u) (omega (arith, l, room)) (t .place) (p .place) i3 (t .second) closeRound (p .second .1 .start) (p .second .0) (fixed-at normally text closeRound refl (p .place) (p .second .0) i4 (p .second .1)) refl in
+      pair-goes (x .spans) (y .spans) ks js (x .are-cases) (y .are-cases) a (r .place) (q .place) (t .place) (p .place) m
+      (phrase-reads normally text (turnedOpening greater w) refl (nm, (nm, tt)) a (r .place) h (r .first)) (x .reads)
+      (phrase-reads normally text (fallingOpening w) refl (nm, (nm, (nm, tt))) (q .place) (t .place) i2 (t .first)) (y .reads)
+      (followed-reads normally text formulaClosing refl tt (pairRule v ks js) (p .place) m i4 (p .second))
 
 -- ---- a rule
 
@@ -128,10 +165,11 @@ module _ (sc : Scope) (good : Named (sc .names)) where
         place = n;
         is-name = name-at normally text w nm a n h st;
         reads = rule-goes w v (st .start) n m (function v e) (mv .1) (mv .2) (stands-raw normally text name w (spells-normal sc good v w ev) a n h st) (st .spelled) ev new
-            (formulas-function sc good w nm v (function v e) n (p .place) (p .second .1 .start) (p .second .0) m
+            (formulas-formula sc good w nm v (function v e) n (g .2 .1 .start) (g .2 .0) m (fixed-at normally text colon refl n (g .2 .0) (mv .2) (g .2 .1))
+            (formula-function sc good w nm v (function v e) n (p .place) (p .second .1 .start) (p .second .0) m
             (phrase-reads normally text ruleOpening refl tt n (p .place) (mv .2) (p .first))
             (name-at normally text w nm (p .place) (p .second .0) i (p .second .1))
-            (function-reads sc good w nm v us e d u (p .place) m i (p .second)));
+            (function-reads sc good w nm v us e d u (p .place) m i (p .second))));
       }
   rule-reads ts r (a-change w v us ls ks cs ev d room e) u new a m h g =
       let text = sc .text in
@@ -148,10 +186,27 @@ module _ (sc : Scope) (good : Named (sc .names)) where
         place = n;
         is-name = name-at normally text w nm a n h st;
         reads = rule-goes w v (st .start) n m (change v ks cs) (mv .1) (mv .2) (stands-raw normally text name w (spells-normal sc good v w ev) a n h st) (st .spelled) ev new
-            (formulas-change sc good w nm v (change v ks cs) n (p .place) (p .second .1 .start) (p .second .0) m
+            (formulas-formula sc good w nm v (change v ks cs) n (g .2 .1 .start) (g .2 .0) m (fixed-at normally text colon refl n (g .2 .0) (mv .2) (g .2 .1))
+            (formula-change sc good w nm v (change v ks cs) n (p .place) (p .second .1 .start) (p .second .0) m
             (phrase-reads normally text ruleOpening refl tt n (p .place) (mv .2) (p .first))
             (fixed-at normally text tilde refl (p .place) (p .second .0) i (p .second .1))
-            (change-reads sc good w nm v us ls ks cs d room e u (p .second .0) m j (p .second .2)));
+            (change-reads sc good w nm v us ls ks cs d room e u (p .second .0) m j (p .second .2))));
+      }
+  rule-reads ts r (a-pair w v xs ls ys ms ks js ev d f room) u new a m h g =
+      let text = sc .text in
+      let nm = each-normal (sc .names) good v w ev in
+      let st = g .1 in
+      let n = g .0 in
+      let mv = token-at-moved text a (st .kind) (st .start) n h (is-read st) in
+      let j = stands-in normally text n (g .2 .0) (bytes "+") (mv .2) (g .2 .1) .1 in
+      record {
+        start = st .start;
+        place = n;
+        is-name = name-at normally text w nm a n h st;
+        reads = rule-goes w v (st .start) n m (pairRule v ks js) (mv .1) (mv .2) (stands-raw normally text name w (spells-normal sc good v w ev) a n h st) (st .spelled) ev new
+            (formulas-pair sc good w nm v (pairRule v ks js) n (g .2 .1 .start) (g .2 .0) m
+            (fixed-at normally text plus refl n (g .2 .0) (mv .2) (g .2 .1))
+            (pair-reads sc good w nm v xs ls ys ms ks js d f room u (g .2 .0) m j (g .2 .2)));
       }
 
 -- ---- all rules

@@ -18,7 +18,7 @@ use Rattle.grammar.specs.Declarations.{spellings, declarations}
 use Rattle.grammar.specs.Rules.{rulesFrom}
 use Rattle.grammar.specs.Parse.{program, parse, answerOf, programOf}
 use Rattle.grammar.specs.Derivation.{asWritten, normal, normals, Spells}
-use Rattle.grammar.specs.Spelled.{declares, DeclareAll, Distinct, Apart, a-change, a-function, SpellsRules, namesOf, Spelled}
+use Rattle.grammar.specs.Spelled.{declares, DeclareAll, Distinct, Apart, a-change, a-function, a-pair, SpellsRules, namesOf, Spelled}
 use Rattle.grammar.specs.Spelled as S
 use Rattle.grammar.specs.Accepts.{Accepts}
 use Rattle.grammar.specs.Inner.Names.{Named}
@@ -58,6 +58,8 @@ module _ (text : List ℕ) where
   rules-next word e1 e2 names good ts rs (S.SpellsRules.more us vs r qs (a-change w v xs ls ks cs ev d room e) q) a n h g s m et =
       record { kind = name; start = g .1 .start; end = g .0; is-token = name-at normally text w (each-normal names good v w ev) a (g .0) h (g .1); other = e1 }
   rules-next word e1 e2 names good ts rs (S.SpellsRules.more us vs r qs (a-function w v xs e ev d) q) a n h g s m et =
+      record { kind = name; start = g .1 .start; end = g .0; is-token = name-at normally text w (each-normal names good v w ev) a (g .0) h (g .1); other = e1 }
+  rules-next word e1 e2 names good ts rs (S.SpellsRules.more us vs r qs (a-pair w v xs ls ys ms ks js ev d f room) q) a n h g s m et =
       record { kind = name; start = g .1 .start; end = g .0; is-token = name-at normally text w (each-normal names good v w ev) a (g .0) h (g .1); other = e1 }
 
   -- the variables begin with `var`

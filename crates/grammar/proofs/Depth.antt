@@ -1,14 +1,16 @@
 -- The most values that the code of a text's rules holds at the same time: by derivations. Assumes nothing.
-use mathlib.Core.List.{List, [], _∷_}
+use mathlib.Core.Path.{_≡_, refl}
+use mathlib.Core.List.{List, [], _∷_, _++_}
 use Prim.Native.Nat.{ℕ, _+_, _*_, _≤_, max}
 use native.Mathlib.Omega.{arith}
 use lib.ListN.{length}
 use Rattle.limits.specs.Limits.{bracketLimit}
-use Rattle.semantics.specs.Program.{Expression, Condition, Case, Rule, function, change}
+use Rattle.semantics.specs.Program.{Expression, Condition, Side, rising, falling, Case, Rule, function, change}
 use Rattle.bytecode.specs.Translation.{depthE, depthC, ShallowK, Shallow}
 use Rattle.grammar.specs.Derivation.{Level, SpellsE, a-number, a-current, a-previous, brackets, plain, opposite, one-factor, product, one-term, sum, LevelC, SpellsC, not-square, one-atom, conjoined, one-conjunction, disjoined}
 use Rattle.grammar.specs.Derivation as D
-use Rattle.grammar.specs.Spelled.{SpellsCases, one-case, more-cases, a-change, a-function, SpellsRules}
+use Rattle.grammar.specs.Pairs.{onSide, pairCases}
+use Rattle.grammar.specs.Spelled.{SpellsCases, one-case, more-cases, a-change, a-function, a-pair, SpellsRules}
 use Rattle.grammar.specs.Spelled as S
 
 -- ---- expressions and conditions, with l brackets left to open
@@ -52,6 +54,21 @@ abbrev pub depthK : List Case → ℕ
 depthK [] = 0
 depthK (k ∷ ks) = max (max (depthC (k .condition)) (depthE (k .value))) (depthK ks)
 
+depth-on : (side : Side) (ks : List Case) → depthK (onSide side ks) ≡ depthK ks
+depth-on side [] = refl
+depth-on side (k ∷ ks) = rw (depth-on side ks)
+
+depth-both : (ks js : List Case) → depthK ks ≤ 38 → depthK js ≤ 38 → depthK (ks ++ js) ≤ 38
+depth-both [] js h i = i
+depth-both (k ∷ ks) js h i = omega (arith, depth-both ks js (omega arith) i)
+
+pair-depth : (ups downs : List Case) → depthK ups ≤ 38 → depthK downs ≤ 38 → depthK (pairCases ups downs) ≤ 38
+pair-depth ups downs h i = depth-both (onSide rising ups) (onSide falling downs) (omega (arith, depth-on rising ups)) (omega (arith, depth-on falling downs))
+
+pair-some : (ups downs : List Case) → 1 ≤ length ups → 1 ≤ length (pairCases ups downs)
+pair-some [] downs h = let f : ⊥ = omega arith in absurd f
+pair-some (k ∷ ups) downs h = omega arith
+
 abbrev pub depthR : Rule → ℕ
 depthR (function v e) = depthE e
 depthR (change v ks cs) = depthK ks
@@ -70,6 +87,7 @@ module _ (names : List (List ℕ)) where
   pub rules-depth : (ts : List (List ℕ)) (rs : List Rule) → SpellsRules names ts rs → depthRules rs ≤ 38
   rules-depth ts rs S.SpellsRules.none = omega arith
   rules-depth ts rs (S.SpellsRules.more us vs r qs (a-change v i xs ls ks cs ei d room e) q) = omega (arith, cases-depth v xs ls ks d .1, rules-depth vs qs q)
+  rules-depth ts rs (S.SpellsRules.more us vs r qs (a-pair v i xs ls ys ms ks js ei d f room) q) = omega (arith, pair-depth ks js (cases-depth v xs ls ks d .1) (cases-depth v ys ms js f .1), rules-depth vs qs q)
   rules-depth ts rs (S.SpellsRules.more us vs r qs (a-function v i xs e ei d) q) = omega (arith, expression-depth names D.expression bracketLimit xs e d, rules-depth vs qs q)
 
   cases-shallow : (ks : List Case) → depthK ks ≤ 38 → ShallowK ks
@@ -80,4 +98,7 @@ module _ (names : List (List ℕ)) where
   pub rules-shallow : (ts : List (List ℕ)) (rs : List Rule) → SpellsRules names ts rs → Shallow rs
   rules-shallow ts rs S.SpellsRules.none = tt
   rules-shallow ts rs (S.SpellsRules.more us vs r qs (a-change v i xs ls ks cs ei d room e) q) = let c = cases-depth v xs ls ks d in ((c .0, cases-shallow ks (c .1)), rules-shallow vs qs q)
+  rules-shallow ts rs (S.SpellsRules.more us vs r qs (a-pair v i xs ls ys ms ks js ei d f room) q) =
+      let c = cases-depth v xs ls ks d in
+      ((pair-some ks js (c .0), cases-shallow (pairCases ks js) (pair-depth ks js (c .1) (cases-depth v ys ms js f .1))), rules-shallow vs qs q)
   rules-shallow ts rs (S.SpellsRules.more us vs r qs (a-function v i xs e ei d) q) = (omega (arith, expression-depth names D.expression bracketLimit xs e d), rules-shallow vs qs q)

@@ -3,13 +3,13 @@ use mathlib.Core.Path.{_≡_, refl, ap, sym, _∙_, subst}
 use mathlib.Core.List.{List, [], _∷_, _++_, map, append-assoc, append-nil}
 use mathlib.Core.Bool.{Bool, true, false}
 use mathlib.Core.Option.{none, some}
-use Prim.Native.Nat.{ℕ, zero, suc, _≤_, _<_}
+use Prim.Native.Nat.{ℕ, zero, suc, _+_, _-_, _≤_, _<_}
 use native.Mathlib.Omega.{arith}
 use lib.ListN.{length, getD, set, getElem?, length-set}
 use lib.Dec.{lt→ltb}
 use Rattle.limits.specs.Limits.{caseLimit, bracketLimit}
 use Rattle.lexer.specs.Bytes.{bytes, part, capitals}
-use Rattle.lexer.specs.Token.{Kind, kindNumber, ending, name, tilde, is, token}
+use Rattle.lexer.specs.Token.{Kind, kindNumber, ending, name, tilde, greater, plus, is, token}
 use Rattle.lexer.specs.Lexer.{tokenAt, overLong}
 use Rattle.lexer.specs.Names.{idOf}
 use Rattle.lexer.proofs.Laws.{cond-prop, token-at-moved}
@@ -18,11 +18,12 @@ use Rattle.arith.proofs.Basics.{true-T}
 use Rattle.semantics.specs.Program.{Condition, Case, Rule, change, target, allTrue, UsableK, UsableR, AgreesR, AgreesAll, OrderedRules}
 use Rattle.grammar.specs.Parsed.{Parsed, accepted, refused, phrase, followed}
 use Rattle.grammar.specs.Expressions.{Scope, withId, wholeExpression}
-use Rattle.grammar.specs.Forms.{valueOpening, functionClosing, formulaClosing, changeOpening, noChangeOpening, ruleOpening}
-use Rattle.grammar.specs.Rules.{casesFrom, agreeingList, casesOf, functionAt, changeAt, formulas, ruleAt, ruled, rulesFrom}
+use Rattle.grammar.specs.Forms.{valueOpening, functionClosing, formulaClosing, changeOpening, noChangeOpening, ruleOpening, turnedOpening, fallingOpening}
+use Rattle.grammar.specs.Pairs.{pairRule}
+use Rattle.grammar.specs.Rules.{Spanned, casesFrom, agreeingList, casesOf, functionAt, changeAt, pairAt, formulaAt, formulas, ruleAt, ruled, rulesFrom}
 use Rattle.grammar.specs.Derivation.{Stands, Spells, normal, normals}
 use Rattle.grammar.specs.Derivation as D
-use Rattle.grammar.specs.Spelled.{SpellsCases, SpellsList, SpellsR, a-change, a-function, SpellsRules}
+use Rattle.grammar.specs.Spelled.{SpellsCases, SpellsList, SpellsR, a-change, a-function, a-pair, SpellsRules}
 use Rattle.grammar.specs.Spelled as S
 use Rattle.grammar.specs.Inner.Names.{Named}
 use Rattle.grammar.proofs.Combine.{token-prop, then-prop, option-prop}
@@ -30,12 +31,13 @@ use Rattle.grammar.proofs.Bytes.{id-of}
 use Rattle.lexer.specs.Spelling.{Separated}
 use Rattle.lexer.proofs.Spellings.{isFixed}
 use Rattle.grammar.proofs.Standing.{spells-in, split, spells-append, end-separated, Seen, normally, seen-capitals}
-use Rattle.grammar.proofs.Phrases.{signs, fixed-stands, phrase-spells, headTokens, middleTokens}
+use Rattle.grammar.proofs.Phrases.{signs, fixed-stands, phrase-spells, headTokens, middleTokens, riseTokens, fallTokens}
 use Rattle.lexer.proofs.Capitals.{capitals-twice}
 use Rattle.grammar.proofs.Normal.{normal-capitals, id-word, id-names}
 use Rattle.grammar.proofs.SameRule.{formulas-same}
 use Rattle.grammar.proofs.DerivedCases.{cases-list}
-use Rattle.grammar.proofs.Lists.{cases-in, agreeing-same}
+use Rattle.grammar.proofs.Lists.{CasesUpTo, cases-up-to, cases-in, agreeing-same}
+use Rattle.grammar.proofs.Pairing.{length-cases, pair-usable}
 use Rattle.grammar.proofs.Derived.{Derived, Derives, before, weaker, sign-stands, ScopedE, whole-expression-derives}
 
 module _ (sc : Scope) (few : length (sc .names) ≤ 64) (lengths : length (sc .names) ≡ length (sc .known)) (good : Named (sc .names)) where
@@ -117,10 +119,10 @@ module _ (sc : Scope) (few : length (sc .names) ≤ 64) (lengths : length (sc .n
           derives = change-is (r .tokens) (r .list) (casesOf cases) ds (subst (λ (x : List ℕ). SpellsCases (normals (sc .names)) x (r .tokens) (r .list) (casesOf cases)) big (r .derives)) (r .counted) (ag .same) (r .usable);
         })))))
 
-    -- the formulas of w, after its name
-    formulas-derive : (at : ℕ) → at ≤ length (sc .text) → Derives normally (sc .text) (λ ts r. SpellsR (normals (sc .names)) (w ∷ ts) r × ScopedR r) at (formulas sc w v at)
-    unfolding formulas signs isFixed kindNumber
-    formulas-derive at h =
+    -- a function, or a change formula and its no-change formula, after its name
+    formula-derive : (at : ℕ) → at ≤ length (sc .text) → Derives normally (sc .text) (λ ts r. SpellsR (normals (sc .names)) (w ∷ ts) r × ScopedR r) at (formulaAt sc w v at)
+    unfolding formulaAt signs isFixed kindNumber
+    formula-derive at h =
         then-prop R (phrase (sc .text) ruleOpening at) _ (λ k q. tt)
         (λ u n e1.
         let s1 = phrase-spells normally (sc .text) ruleOpening refl tt at u n h e1 in
@@ -143,6 +145,67 @@ module _ (sc : Scope) (few : length (sc .names) ≤ 64) (lengths : length (sc .n
               derives = d .derives;
             }
         after at n sp (refused k q) d = tt
+
+    -- ---- a pair, after `v+`
+
+    abbrev Turning : List (List ℕ) → Rule → Type 0
+    Turning ts r = SpellsR (normals (sc .names)) (w ∷ bytes "+" ∷ ts) r × ScopedR r
+
+    pair-spells : (a b c d e f : ℕ) (ts us : List (List ℕ)) → Spells normal (sc .text) a b (riseTokens w) → Spells normal (sc .text) b c ts → Spells normal (sc .text) c d (fallTokens w) → Spells normal (sc .text) d e us → Spells normal (sc .text) e f (bytes ")" ∷ bytes ";" ∷ []) → Spells normal (sc .text) a f ((riseTokens w ++ ts) ++ (fallTokens w ++ us) ++ bytes ")" ∷ bytes ";" ∷ [])
+    pair-spells a b c d e f ts us s1 s2 s3 s4 s5 =
+        let front = spells-append normally (sc .text) a b c (riseTokens w) ts s1 s2 in
+        let back = spells-append normally (sc .text) c d e (fallTokens w) us s3 s4 in
+        spells-append normally (sc .text) a e f ((riseTokens w ++ ts) ++ (fallTokens w ++ us)) (bytes ")" ∷ bytes ";" ∷ []) (spells-append normally (sc .text) a c e (riseTokens w ++ ts) (fallTokens w ++ us) front back) s5
+
+    named : (ts ls : List (List ℕ)) (ks : List Case) → SpellsCases (normals (sc .names)) (capitals w) ts ls ks → SpellsCases (normals (sc .names)) w ts ls ks
+    named ts ls ks d = subst (λ (x : List ℕ). SpellsCases (normals (sc .names)) x ts ls ks) big d
+
+    pair-is : (n1 n2 n3 n4 : ℕ) (ups downs : List Spanned) (r : CasesUpTo sc few lengths caseLimit w n1 n2 ups) (q : CasesUpTo sc few lengths (caseLimit - length ups) w n3 n4 downs) → Turning ((riseTokens w ++ r .tokens) ++ (fallTokens w ++ q .tokens) ++ bytes ")" ∷ bytes ";" ∷ []) (pairRule v (casesOf ups) (casesOf downs))
+    pair-is n1 n2 n3 n4 ups downs r q =
+        let room : length (casesOf ups) + length (casesOf downs) ≤ caseLimit = omega (arith, length-cases ups, r .counted, q .counted) in (
+          a-pair w v (r .tokens) (r .list) (q .tokens) (q .list) (casesOf ups) (casesOf downs) ev (named (r .tokens) (r .list) (casesOf ups) (r .derives)) (named (q .tokens) (q .list) (casesOf downs) (q .derives)) room,
+          (pair-usable (sc .known) (casesOf ups) (casesOf downs) (r .usable) (q .usable), refl, refl),
+        )
+
+    pair-derives : (at : ℕ) → at ≤ length (sc .text) → Derives normally (sc .text) Turning at (pairAt sc w v at)
+    unfolding pairAt followed signs isFixed kindNumber
+    pair-derives at h =
+        then-prop (Derives normally (sc .text) Turning at) (phrase (sc .text) (turnedOpening greater w) at) _ (λ k q. tt)
+        (λ u n1 e1.
+        let s1 = phrase-spells normally (sc .text) (turnedOpening greater w) refl (seen, (seen, tt)) at u n1 h e1 in
+        let i1 = spells-in normally (sc .text) at n1 (riseTokens w) h s1 .1 in
+        then-prop (Derives normally (sc .text) Turning at) (casesFrom caseLimit sc w [] n1) _ (λ k q. tt)
+        (λ ups n2 e2.
+        let r = cases-up-to sc few lengths caseLimit w n1 n2 ups i1 e2 in
+        then-prop (Derives normally (sc .text) Turning at) (phrase (sc .text) (fallingOpening w) n2) _ (λ k q. tt)
+        (λ u2 n3 e3.
+        let s3 = phrase-spells normally (sc .text) (fallingOpening w) refl (seen, (seen, (seen, tt))) n2 u2 n3 (r .within) e3 in
+        let i3 = spells-in normally (sc .text) n2 n3 (fallTokens w) (r .within) s3 .1 in
+        then-prop (Derives normally (sc .text) Turning at) (casesFrom (caseLimit - length ups) sc w [] n3) _ (λ k q. tt)
+        (λ downs n4 e4.
+        let q = cases-up-to sc few lengths (caseLimit - length ups) w n3 n4 downs i3 e4 in
+        then-prop (Derives normally (sc .text) Turning at) (phrase (sc .text) formulaClosing n4) _ (λ k q. tt)
+        (λ u3 n5 e5.
+        let s5 = phrase-spells normally (sc .text) formulaClosing refl tt n4 u3 n5 (q .within) e5 in
+        record {
+          tokens = (riseTokens w ++ r .tokens) ++ (fallTokens w ++ q .tokens) ++ bytes ")" ∷ bytes ";" ∷ [];
+          spells = pair-spells at n1 n2 n3 n4 n5 (r .tokens) (q .tokens) s1 (r .spells) s3 (q .spells) s5;
+          derives = pair-is n1 n2 n3 n4 ups downs r q;
+        })))))
+
+    -- the formulas of w, after its name
+    formulas-derive : (at : ℕ) → at ≤ length (sc .text) → Derives normally (sc .text) (λ ts r. SpellsR (normals (sc .names)) (w ∷ ts) r × ScopedR r) at (formulas sc w v at)
+    unfolding formulas signs isFixed kindNumber
+    formulas-derive at h =
+        token-prop R (tokenAt (sc .text) at) _ (λ k q. tt)
+        (λ k s n et.
+        let mv = token-at-moved (sc .text) at k s n h et in
+        cond-prop R (is k plus) _ _
+        (λ e. before normally (sc .text) Turning (λ ts r. SpellsR (normals (sc .names)) (w ∷ ts) r × ScopedR r) (bytes "+") (λ ts x d. d) at n (fixed-stands normally (sc .text) plus refl at k s n h et e) (pairAt sc w v n) (pair-derives n (mv .2)))
+        (λ e. formula-derive at h))
+      where
+        R : Parsed Rule → Type 0
+        R p = Derives normally (sc .text) (λ ts r. SpellsR (normals (sc .names)) (w ∷ ts) r × ScopedR r) at p
 
   -- ---- a rule, and all rules
 

@@ -287,5 +287,58 @@ letterCases =
     ∷ at (bytes "var ") 8 "AbcdefghijklmnopQ 0..1;"
     ∷ []
 
+-- Rising and falling formulas (document 02, A.6): after `v+` and `v-` as tokens; a rising formula without its falling one is 2 at what
+-- follows. At most 32 cases in the two lists together: the 33rd is 8 at its bracket.
+abbrev five : List ℕ
+five = bytes "input i 0..1; var v 0..5; "
+
+abbrev rises : List ℕ
+rises = bytes "v+: GX(v > _v -> [i = 1 & _v < 5] & v = (_v + 1)); "
+
+abbrev falls : List ℕ
+falls = bytes "v-: GX(v < _v -> [i = 0 & _v > 0] & v = (_v - 1)); "
+
+abbrev first : String → ℕ → String → Example
+first before number after = at (five ++ bytes before) number after
+
+abbrev risen : String → ℕ → String → Example
+risen before number after = at (five ++ rises ++ bytes before) number after
+
+-- a rising formula as far as its n-th case and the `|` after it; a whole one of n cases and one, and a falling one as far as its m-th
+abbrev ups : ℕ → List ℕ
+ups n = one ++ bytes "v+:GX(v>_v->" ++ times n (bytes "[1=1]&v=(1)|")
+
+abbrev downs : ℕ → ℕ → List ℕ
+downs n m = ups n ++ bytes "[1=1]&v=(1));v-:GX(v<_v->" ++ times m (bytes "[1=1]&v=(1)|")
+
+abbrev pub pairTexts : List Example
+pairTexts =
+    fine (five ++ rises ++ falls)
+    ∷ fine (five ++ bytes "V +: GX(v > _V -> [I = 1] & v = (5)) ; v - : GX(V < _v -> [i = 0] & V = (0));")
+    ∷ risen "" 2 ""
+    ∷ first "v" 2 "-: GX(v < _v"
+    ∷ risen "v" 2 ": GX(v = (1));"
+    ∷ risen "v" 2 "+: GX("
+    ∷ risen "" 2 "i-: GX("
+    ∷ risen "" 2 long
+    ∷ first "v+: GX(v " 2 "< _v"
+    ∷ first "v+: GX(v " 2 ">= _v"
+    ∷ first "v+: GX(" 2 "~(v = _v)"
+    ∷ first "v+: GX(v > _v -> " 2 ");"
+    ∷ first "v+ " 2 "GX("
+    ∷ risen "v-: GX(v " 2 "> _v"
+    ∷ risen "v-: GX(v < _v -> [1=1] & v = (0)" 2 ";"
+    ∷ at (five ++ rises ++ falls) 6 "v: GX(v = (1));"
+    ∷ first "" 6 "i+: GX("
+    ∷ first "" 4 "zz+: GX("
+    ∷ risen "v-: GX(v < _v -> [" 5 "v"
+    ∷ risen "v-: GX(v < _v -> [1=1] & v = (" 5 "v"
+    ∷ fine (downs 30 0 ++ bytes "[1=1]&v=(1));")
+    ∷ at (downs 30 1) 8 "[1=1]&v=(1));"
+    ∷ at (downs 31 0) 8 "[1=1]&v=(1));"
+    ∷ at (downs 31 0) 2 ");"
+    ∷ at (ups 32) 8 "[1=1]&v=(1));"
+    ∷ []
+
 abbrev pub examples : List (List Example)
-examples = numberOrder ∷ afterChange ∷ otherTokens ∷ longNames ∷ manyNames ∷ missingRules ∷ numbers ∷ longestMatch ∷ manyBrackets ∷ manyCases ∷ letterCases ∷ []
+examples = numberOrder ∷ afterChange ∷ otherTokens ∷ longNames ∷ manyNames ∷ missingRules ∷ numbers ∷ longestMatch ∷ manyBrackets ∷ manyCases ∷ letterCases ∷ pairTexts ∷ []

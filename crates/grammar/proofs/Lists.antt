@@ -41,10 +41,15 @@ first-found-inv (refused k q) (differs p) ds m e =
     P : Parsed (List Condition) → Type 0
     P x = x ≡ accepted ds m → NoneFound (refused k q) (differs p) ds m
 
+-- cases that are accepted are read from their tokens, whatever the case of their variable's letters
+pub cases-seen : (sc : Scope) (left : ℕ) (w : List ℕ) (at n : ℕ) (cs : List Spanned) → at ≤ length (sc .text) → casesFrom left sc w [] at ≡ accepted cs n → CasesRead sc (capitals w) left [] at n cs
+cases-seen sc left w at n cs h e =
+    subst (CasesReads sc (capitals w) left [] at) (sym (cases-same sc w (capitals w) (sym (capitals-twice w)) left [] at) ∙ e) (cases-derive sc (capitals w) (seen-capitals w) left [] at h)
+
 module _ (sc : Scope) (few : length (sc .names) ≤ 64) (lengths : length (sc .names) ≡ length (sc .known)) where
-  -- the cases of a change formula, from `at` up to n
-  pub record CasesIn (w : List ℕ) (at n : ℕ) (cs : List Spanned) : Type 0 where
-    pub counted : length (casesOf cs) ≤ caseLimit
+  -- the cases of a formula, at most `left`, from `at` up to n
+  pub record CasesUpTo (left : ℕ) (w : List ℕ) (at n : ℕ) (cs : List Spanned) : Type 0 where
+    pub counted : length (casesOf cs) ≤ left
     pub usable : UsableK (sc .known) (casesOf cs)
     pub within : n ≤ length (sc .text)
     pub tokens : List (List ℕ)
@@ -53,12 +58,15 @@ module _ (sc : Scope) (few : length (sc .names) ≤ 64) (lengths : length (sc .n
     pub derives : SpellsCases (normals (sc .names)) (capitals w) tokens list (casesOf cs)
     pub lists : Listed (sc .text) cs list
 
-  pub cases-in : (w : List ℕ) (at n : ℕ) (cs : List Spanned) → at ≤ length (sc .text) → casesFrom caseLimit sc w [] at ≡ accepted cs n → CasesIn w at n cs
-  cases-in w at n cs h e =
-      let same = cases-same sc w (capitals w) (sym (capitals-twice w)) caseLimit [] at in
-      let r : CasesRead sc (capitals w) caseLimit [] at n cs = subst (CasesReads sc (capitals w) caseLimit [] at) (sym same ∙ e) (cases-derive sc (capitals w) (seen-capitals w) caseLimit [] at h) in
+  -- those of a change formula
+  abbrev pub CasesIn : List ℕ → ℕ → ℕ → List Spanned → Type 0
+  CasesIn w at n cs = CasesUpTo caseLimit w at n cs
+
+  pub cases-up-to : (left : ℕ) (w : List ℕ) (at n : ℕ) (cs : List Spanned) → at ≤ length (sc .text) → casesFrom left sc w [] at ≡ accepted cs n → CasesUpTo left w at n cs
+  cases-up-to left w at n cs h e =
+      let r = cases-seen sc left w at n cs h e in
       record {
-        counted = subst (λ (x : List Spanned). length (casesOf x) ≤ caseLimit) (sym (r .is-more)) (r .counted);
+        counted = subst (λ (x : List Spanned). length (casesOf x) ≤ left) (sym (r .is-more)) (r .counted);
         usable = subst (λ (x : List Spanned). UsableK (sc .known) (casesOf x)) (sym (r .is-more)) (r .usable lengths);
         within = spells-in normally (sc .text) at n (r .tokens) h (r .spells) .1;
         tokens = r .tokens;
@@ -67,6 +75,9 @@ module _ (sc : Scope) (few : length (sc .names) ≤ 64) (lengths : length (sc .n
         derives = subst (λ (x : List Spanned). SpellsCases (normals (sc .names)) (capitals w) (r .tokens) (r .list) (casesOf x)) (sym (r .is-more)) (r .derives);
         lists = subst (λ (x : List Spanned). Listed (sc .text) x (r .list)) (sym (r .is-more)) (r .lists);
       }
+
+  pub cases-in : (w : List ℕ) (at n : ℕ) (cs : List Spanned) → at ≤ length (sc .text) → casesFrom caseLimit sc w [] at ≡ accepted cs n → CasesIn w at n cs
+  cases-in w at n cs h e = cases-up-to caseLimit w at n cs h e
 
   -- a list that agrees reads as the conditions of the cases
   pub agreeing-reads : Named (sc .names) → (w : List ℕ) (from to : ℕ) (cs : List Spanned) → CasesIn w from to cs → (at n : ℕ) → at ≤ length (sc .text) → partsFrom (sc .text) cs at ≡ agrees n → plainList sc at ≡ accepted (conditionsOf (casesOf cs)) n

@@ -44,6 +44,13 @@ headTokens w = bytes "(" ∷ w ∷ bytes "=" ∷ (bytes "_" ++ w) ∷ bytes ")" 
 abbrev pub middleTokens : List ℕ → List (List ℕ)
 middleTokens w = bytes ")" ∷ bytes ";" ∷ w ∷ bytes ":" ∷ bytes "GX" ∷ bytes "(" ∷ w ∷ bytes "=" ∷ (bytes "_" ++ w) ∷ bytes "->" ∷ bytes "~" ∷ bytes "(" ∷ []
 
+-- the spellings of `turnedOpening greater` and `fallingOpening`
+abbrev pub riseTokens : List ℕ → List (List ℕ)
+riseTokens w = bytes ":" ∷ bytes "GX" ∷ bytes "(" ∷ w ∷ bytes ">" ∷ (bytes "_" ++ w) ∷ bytes "->" ∷ []
+
+abbrev pub fallTokens : List ℕ → List (List ℕ)
+fallTokens w = bytes ")" ∷ bytes ";" ∷ w ∷ bytes "-" ∷ bytes ":" ∷ bytes "GX" ∷ bytes "(" ∷ w ∷ bytes "<" ∷ (bytes "_" ++ w) ∷ bytes "->" ∷ []
+
 -- a kind with one spelling is not the end
 fixed-end : (k : Kind) → isFixed k ≡ true → k ≡ ending → ⊥
 unfolding isFixed kindNumber

@@ -3,7 +3,7 @@
 use mathlib.Core.Path.{_≡_}
 use mathlib.Core.List.{List, [], _∷_, _++_}
 use mathlib.Core.Bool.{Bool, true, false, _&&_}
-use Prim.Native.Nat.{ℕ, zero, suc, _≤_}
+use Prim.Native.Nat.{ℕ, zero, suc, _-_, _≤_}
 use native.Mathlib.Omega.{arith}
 use lib.ListN.{length, getD}
 use lib.Dec.{ltb, leb, eqb}
@@ -14,7 +14,7 @@ use Rattle.limits.specs.Limits.{caseLimit, textLimit, nameLimit}
 use Rattle.limits.specs.Answer as A
 use Rattle.arith.specs.Values.{isInt32}
 use Rattle.lexer.specs.Bytes.{part}
-use Rattle.lexer.specs.Token.{Kind, name, ending, digits, openSquare, tilde, bar, minus, initWord, semicolon, closeRound, is, TokenRead, token, fault, inputWord, varWord}
+use Rattle.lexer.specs.Token.{Kind, name, ending, digits, openSquare, tilde, bar, plus, minus, initWord, semicolon, closeRound, is, TokenRead, token, fault, inputWord, varWord}
 use Rattle.lexer.specs.Lexer.{tokenAt, sameToken, overLong, valueOf}
 use Rattle.lexer.specs.Names.{idOf}
 use Rattle.lexer.proofs.Laws.{cond-prop, Moved, token-moved, Faulted, token-faulted}
@@ -23,7 +23,7 @@ use Rattle.grammar.specs.Parsed.{Parsed, accepted, refused, phrase, item
 use Rattle.grammar.specs.Expressions.{Scope, wholeExpression}
 use Rattle.grammar.specs.Conditions.{listed}
 use Rattle.grammar.specs.Declarations.{inRange, signedDigits, boundAt, spellings, newName, startAt, declaration, declarationsFrom, declarations}
-use Rattle.grammar.specs.Rules.{Spanned, caseAt, casesFrom, listFrom, plainList, Compared, agrees, differs, onCompared, onFound, onWanted, partFrom, kindAt, partsFrom, firstFound, agreeingList, functionAt, changeAt, formulas, ruleAt, ruled, rulesFrom}
+use Rattle.grammar.specs.Rules.{Spanned, caseAt, casesFrom, listFrom, plainList, Compared, agrees, differs, onCompared, onFound, onWanted, partFrom, kindAt, partsFrom, firstFound, agreeingList, functionAt, changeAt, pairAt, formulaAt, formulas, ruleAt, ruled, rulesFrom}
 use Rattle.grammar.specs.Parse.{program, parse, answerOf, programOf}
 use Rattle.grammar.proofs.Places.{Within, then-within, cond-within, option-within, token-within, phrase-within, followed-within, id-within, whole-expression-within, listed-within}
 
@@ -188,11 +188,23 @@ module _ (sc : Scope) where
       (λ cases n2 h2. then-within (length (sc .text)) (phrase (sc .text) _ n2) _ (phrase-within (sc .text) _ n2 h2)
       (λ u n3 h3. then-within (length (sc .text)) (agreeingList sc cases n3) _ (agreeing-within cases n3 h3) (λ ds n4 h4. followed-within (sc .text) _ _ n4 h4))))
 
-  formulas-within : (w : List ℕ) (v at : ℕ) → at ≤ length (sc .text) → Within (length (sc .text)) (formulas sc w v at)
-  unfolding formulas
-  formulas-within w v at h =
+  formula-within : (w : List ℕ) (v at : ℕ) → at ≤ length (sc .text) → Within (length (sc .text)) (formulaAt sc w v at)
+  unfolding formulaAt
+  formula-within w v at h =
       then-within (length (sc .text)) (phrase (sc .text) _ at) _ (phrase-within (sc .text) _ at h)
       (λ u n m. token-within (sc .text) n _ m (λ k s e l i. cond-within (length (sc .text)) (is k tilde) _ _ (change-within w v e i) (function-within w v n m)))
+
+  pair-within : (w : List ℕ) (v at : ℕ) → at ≤ length (sc .text) → Within (length (sc .text)) (pairAt sc w v at)
+  unfolding pairAt
+  pair-within w v at h =
+      then-within (length (sc .text)) (phrase (sc .text) _ at) _ (phrase-within (sc .text) _ at h)
+      (λ u n1 h1. then-within (length (sc .text)) (casesFrom caseLimit sc w [] n1) _ (cases-within caseLimit w [] n1 h1)
+      (λ ups n2 h2. then-within (length (sc .text)) (phrase (sc .text) _ n2) _ (phrase-within (sc .text) _ n2 h2)
+      (λ u n3 h3. then-within (length (sc .text)) (casesFrom (caseLimit - length ups) sc w [] n3) _ (cases-within (caseLimit - length ups) w [] n3 h3) (λ downs n4 h4. followed-within (sc .text) _ _ n4 h4))))
+
+  formulas-within : (w : List ℕ) (v at : ℕ) → at ≤ length (sc .text) → Within (length (sc .text)) (formulas sc w v at)
+  unfolding formulas
+  formulas-within w v at h = token-within (sc .text) at _ h (λ k s n l m. cond-within (length (sc .text)) (is k plus) _ _ (pair-within w v n m) (formula-within w v at h))
 
   rule-within : (s n : ℕ) → s ≤ length (sc .text) → n ≤ length (sc .text) → Within (length (sc .text)) (ruleAt sc s n)
   unfolding ruleAt

@@ -2,17 +2,18 @@
 use mathlib.Core.Path.{_≡_, refl, ap, ap₂}
 use mathlib.Core.List.{List, [], _∷_, _++_}
 use mathlib.Core.Bool.{Bool, cond}
-use Prim.Native.Nat.{ℕ, zero, suc, _+_}
+use Prim.Native.Nat.{ℕ, zero, suc, _+_, _-_}
+use lib.ListN.{length}
 use Rattle.limits.specs.Limits.{caseLimit, notAllowed}
 use Rattle.lexer.specs.Bytes.{part, capitals}
-use Rattle.lexer.specs.Token.{Kind, openSquare, tilde, bar, is, TokenRead, token, fault}
+use Rattle.lexer.specs.Token.{Kind, openSquare, tilde, bar, greater, plus, is, TokenRead, token, fault}
 use Rattle.lexer.specs.Lexer.{tokenAt}
 use Rattle.lexer.proofs.Same.{same-left}
 use Rattle.grammar.specs.Parsed.{Parsed, accepted, refused, andThen, onToken, Wanted, sign, own, ownPrevious, expected, phrase}
 use Rattle.grammar.specs.Expressions.{Scope, wholeExpression}
 use Rattle.grammar.specs.Conditions.{listed}
-use Rattle.grammar.specs.Forms.{valueOpening, changeOpening, noChangeOpening, ruleOpening, caseValueOpening}
-use Rattle.grammar.specs.Rules.{Spanned, caseAt, casesFrom, functionAt, changeAt, formulas}
+use Rattle.grammar.specs.Forms.{valueOpening, changeOpening, noChangeOpening, ruleOpening, caseValueOpening, turnedOpening, fallingOpening}
+use Rattle.grammar.specs.Rules.{Spanned, caseAt, casesFrom, functionAt, changeAt, pairAt, formulaAt, formulas}
 
 then-same : {A B : Type 0} (p : Parsed A) (f g : A → ℕ → Parsed B) → ((a : A) (n : ℕ) → f a n ≡ g a n) → andThen p f ≡ andThen p g
 then-same (accepted a n) f g h = h a n
@@ -59,6 +60,15 @@ module _ (sc : Scope) (w d : List ℕ) (e : capitals w ≡ capitals d) where
       phrase-same (noChangeOpening w) (noChangeOpening d)
       ((λ at. refl), ((λ at. refl), (own-same, ((λ at. refl), ((λ at. refl), ((λ at. refl), (own-same, ((λ at. refl), (previous-same, ((λ at. refl), ((λ at. refl), ((λ at. refl), tt)))))))))))) at
 
+  rising-opening-same : (at : ℕ) → phrase (sc .text) (turnedOpening greater w) at ≡ phrase (sc .text) (turnedOpening greater d) at
+  rising-opening-same at =
+      phrase-same (turnedOpening greater w) (turnedOpening greater d) ((λ at. refl), ((λ at. refl), ((λ at. refl), (own-same, ((λ at. refl), (previous-same, ((λ at. refl), tt))))))) at
+
+  falling-opening-same : (at : ℕ) → phrase (sc .text) (fallingOpening w) at ≡ phrase (sc .text) (fallingOpening d) at
+  falling-opening-same at =
+      phrase-same (fallingOpening w) (fallingOpening d)
+      ((λ at. refl), ((λ at. refl), (own-same, ((λ at. refl), ((λ at. refl), ((λ at. refl), ((λ at. refl), (own-same, ((λ at. refl), (previous-same, ((λ at. refl), tt))))))))))) at
+
   pub case-same : (at n : ℕ) → caseAt sc w at n ≡ caseAt sc d at n
   unfolding caseAt
   case-same at n = then-same (listed sc n) _ _ (λ c n1. rw (case-value-same n1))
@@ -84,6 +94,20 @@ module _ (sc : Scope) (w d : List ℕ) (e : capitals w ≡ capitals d) where
       (then-same (phrase (sc .text) (changeOpening d) at) _ _
       (λ u n1. rw (cases-same caseLimit [] n1) (then-same (casesFrom caseLimit sc d [] n1) _ _ (λ cases n2. rw (no-change-same n2)))))
 
+  formula-same : (v at : ℕ) → formulaAt sc w v at ≡ formulaAt sc d v at
+  unfolding formulaAt
+  formula-same v at = then-same (phrase (sc .text) ruleOpening at) _ _ (λ u n. token-same (tokenAt (sc .text) n) _ _ (λ k s m. rw (change-same v m, function-same v n)))
+
+  pair-same : (v at : ℕ) → pairAt sc w v at ≡ pairAt sc d v at
+  unfolding pairAt
+  pair-same v at =
+      rw (rising-opening-same at)
+      (then-same (phrase (sc .text) (turnedOpening greater d) at) _ _
+      (λ u n1. rw (cases-same caseLimit [] n1)
+      (then-same (casesFrom caseLimit sc d [] n1) _ _
+      (λ ups n2. rw (falling-opening-same n2)
+      (then-same (phrase (sc .text) (fallingOpening d) n2) _ _ (λ u2 n3. rw (cases-same (caseLimit - length ups) [] n3)))))))
+
   pub formulas-same : (v at : ℕ) → formulas sc w v at ≡ formulas sc d v at
   unfolding formulas
-  formulas-same v at = then-same (phrase (sc .text) ruleOpening at) _ _ (λ u n. token-same (tokenAt (sc .text) n) _ _ (λ k s m. rw (change-same v m, function-same v n)))
+  formulas-same v at = token-same (tokenAt (sc .text) at) _ _ (λ k s n. rw (pair-same v n, formula-same v at))

@@ -10,7 +10,7 @@ use lib.IntN.{ℤ, pos, negℤ}
 use Rattle.limits.specs.Limits.{caseLimit, bracketLimit}
 use Rattle.leb128.specs.Numbers.{number, zigzag}
 use Rattle.lexer.specs.Bytes.{bytes, part, capitals}
-use Rattle.lexer.specs.Token.{Kind, kindNumber, name, previous, ending, tilde, is}
+use Rattle.lexer.specs.Token.{Kind, kindNumber, name, previous, ending, tilde, plus, is}
 use Rattle.lexer.specs.Lexer.{tokenAt, overLong, valueOf, sameName}
 use Rattle.lexer.specs.Names.{idOf}
 use Rattle.lexer.proofs.Laws.{cond-prop, token-at-moved}
@@ -19,21 +19,22 @@ use Rattle.semantics.specs.Program.{Name, Case, Rule, function, change, Program
 use Rattle.grammar.specs.Parsed.{Parsed, accepted, refused, Wanted, sign, own, ownPrevious, isWanted, expected, phrase, followed}
 use Rattle.grammar.specs.Expressions.{Scope, withId, wholeExpression}
 use Rattle.grammar.specs.Declarations.{declaration, declarationsFrom}
-use Rattle.grammar.specs.Rules.{Spanned, caseAt, casesFrom, agreeingList, casesOf, functionAt, changeAt, formulas, ruleAt}
+use Rattle.grammar.specs.Rules.{Spanned, caseAt, casesFrom, agreeingList, casesOf, functionAt, changeAt, pairAt, formulaAt, formulas, ruleAt}
 use Rattle.grammar.specs.Derivation.{SpellsE, SpellsC, normal, normals}
 use Rattle.grammar.specs.Derivation as D
-use Rattle.grammar.specs.Spelled.{SpellsZ, positive, negative, SpellsStart, absent, given, Declares, declares, DeclareAll, cased, SpellsCases, one-case, more-cases, changeForm, SpellsR, a-change, a-function, SpellsRules, namesOf, Spelled}
+use Rattle.grammar.specs.Spelled.{SpellsZ, positive, negative, SpellsStart, absent, given, Declares, declares, DeclareAll, cased, SpellsCases, one-case, more-cases, changeForm, pairForm, SpellsR, a-change, a-function, a-pair, SpellsRules, namesOf, Spelled}
 use Rattle.grammar.specs.Spelled as S
-use Rattle.grammar.specs.Inner.Bytes.{bytesE, bytesK, bytesR, header, image}
+use Rattle.grammar.specs.Inner.Bytes.{bytesE, bytesK, bytesPicked, bytesR, header, image}
 use Rattle.grammar.proofs.Combine.{token-prop, then-prop, option-prop}
 use Rattle.grammar.proofs.Bytes.{digits-bytes, value-bytes, id-bytes, id-of, place-in}
 use Rattle.grammar.proofs.Standing.{written, normally, seen-capitals, spells-in}
-use Rattle.grammar.proofs.Phrases.{headTokens, middleTokens}
+use Rattle.grammar.proofs.Phrases.{headTokens, middleTokens, riseTokens, fallTokens}
 use Rattle.lexer.proofs.Capitals.{capitals-twice}
 use Rattle.grammar.proofs.SameRule.{case-same, cases-same}
 use Rattle.grammar.proofs.Derived.{Derives}
 use Rattle.grammar.proofs.Growth.{Grown, Kept, phrase-kept, whole-expression-grown, not-end, laterBytes, bytesOf, bytes-append, token-bytes, spells-bytes, digits-some, expression-makes, condition-makes}
 use Rattle.grammar.proofs.DerivedCases.{caseRest, CaseReads, case-derives, CasesReads, cases-derive}
+use Rattle.grammar.proofs.Pairing.{picked-length, pair-length}
 use Rattle.grammar.proofs.Whole.{agree-kept}
 use Rattle.grammar.proofs.DerivedDeclarations.{AfterWord, declaration-derives}
 
@@ -117,13 +118,13 @@ module _ (sc : Scope) (few : length (sc .names) ≤ 64) (v : ℕ) (hv : v < 64) 
   few2 : length (normals (sc .names)) ≤ 64
   few2 = omega (arith, few, length-map (sc .names) normal)
 
-  pub case-pays : (w : List ℕ) (at n : ℕ) → n ≤ length (sc .text) → Pays (λ c. length (bytesK v (casesOf (c ∷ [])))) (length (sc .text)) n (caseAt sc w at n)
-  case-pays w at n h = rw (case-same sc w (capitals w) (sym (capitals-twice w)) at n) (pays (capitals w) (caseAt sc (capitals w) at n) (case-derives sc (capitals w) (seen-capitals w) at n h))
+  pub case-pays : (pick : ℕ) (w : List ℕ) (at n : ℕ) → n ≤ length (sc .text) → Pays (λ c. length (bytesPicked pick v (casesOf (c ∷ [])))) (length (sc .text)) n (caseAt sc w at n)
+  case-pays pick w at n h = rw (case-same sc w (capitals w) (sym (capitals-twice w)) at n) (pays (capitals w) (caseAt sc (capitals w) at n) (case-derives sc (capitals w) (seen-capitals w) at n h))
     where
-      pays : (w : List ℕ) (p : Parsed Spanned) → CaseReads sc w at n p → Pays (λ c. length (bytesK v (casesOf (c ∷ [])))) (length (sc .text)) n p
+      pays : (w : List ℕ) (p : Parsed Spanned) → CaseReads sc w at n p → Pays (λ c. length (bytesPicked pick v (casesOf (c ∷ [])))) (length (sc .text)) n p
       pays w (accepted c m) r =
           let ts = caseRest w (r .conditions) (r .values) in
-          (omega (arith, spells-bytes normally (sc .text) n m ts h (r .spells), case-bytes w (r .conditions) (r .values), case-makes (normals (sc .names)) few2 v hv (r .conditions) (r .values) (c .case) (r .condition .0) (r .value .0)), spells-in normally (sc .text) n m ts h (r .spells) .1)
+          (omega (arith, picked-length pick v (casesOf (c ∷ [])), spells-bytes normally (sc .text) n m ts h (r .spells), case-bytes w (r .conditions) (r .values), case-makes (normals (sc .names)) few2 v hv (r .conditions) (r .values) (c .case) (r .condition .0) (r .value .0)), spells-in normally (sc .text) n m ts h (r .spells) .1)
       pays w (refused k q) r = tt
 
   pub cases-pay : (w : List ℕ) (left : ℕ) (done : List Spanned) (from at : ℕ) → at ≤ length (sc .text) → 2 * length (bytesK v (casesOf done)) + 3 * from ≤ 3 * at → Pays (λ cs. length (bytesK v (casesOf cs))) (length (sc .text)) from (casesFrom left sc w done at)
@@ -244,9 +245,17 @@ module _ (sc : Scope) (few : length (sc .names) ≤ 64) (lengths : length (sc .n
         let g5 = subst (Long 2 (length (sc .text)) n4) e5 (phrase-long (sc .text) _ (refl, (refl, tt)) n4 (g4 .1)) in
         (simp length-append (omega (arith, g1 .0, g2 .0, g3 .0, g4 .0, g5 .0, id-bytes v (omega arith))), g5 .1))))))
 
-    pub formulas-pay : (w : List ℕ) (at : ℕ) → at ≤ length (sc .text) → Pays ruleBytes (length (sc .text)) at (formulas sc w v at)
-    unfolding formulas
-    formulas-pay w at h =
+    later : (at n : ℕ) (p : Parsed Rule) → at ≤ n → Pays ruleBytes (length (sc .text)) n p → Pays ruleBytes (length (sc .text)) at p
+    later at n (accepted r m) h g = (omega (arith, g .0), g .1)
+    later at n (refused k q) h g = tt
+
+    none-paid : (n : ℕ) → 2 * length (bytesK v (casesOf [])) + 3 * n ≤ 3 * n
+    unfolding bytesK
+    none-paid n = omega arith
+
+    formula-pays : (w : List ℕ) (at : ℕ) → at ≤ length (sc .text) → Pays ruleBytes (length (sc .text)) at (formulaAt sc w v at)
+    unfolding formulaAt
+    formula-pays w at h =
         then-prop (Pays ruleBytes (length (sc .text)) at) (phrase (sc .text) _ at) _ (λ k q. tt)
         (λ u n e.
         let g = subst (Kept (length (sc .text)) at) e (phrase-kept (sc .text) _ at h) in
@@ -256,10 +265,36 @@ module _ (sc : Scope) (few : length (sc .names) ≤ 64) (lengths : length (sc .n
         cond-prop (Pays ruleBytes (length (sc .text)) at) (is k tilde) _ _
         (λ e. later at m (changeAt sc w v m) (omega (arith, g .0, mv .0, mv .1)) (change-pays w m (mv .2)))
         (λ e. later at n (functionAt sc w v n) (g .0) (function-pays w n (g .1)))))
-      where
-        later : (at n : ℕ) (p : Parsed Rule) → at ≤ n → Pays ruleBytes (length (sc .text)) n p → Pays ruleBytes (length (sc .text)) at p
-        later at n (accepted r m) h g = (omega (arith, g .0), g .1)
-        later at n (refused k q) h g = tt
+
+    pub pair-pays : (w : List ℕ) (at : ℕ) → at ≤ length (sc .text) → Pays ruleBytes (length (sc .text)) at (pairAt sc w v at)
+    unfolding pairAt followed bytesR is kindNumber
+    pair-pays w at h =
+        then-prop (Pays ruleBytes (length (sc .text)) at) (phrase (sc .text) _ at) _ (λ k q. tt)
+        (λ u n1 e1.
+        let g1 = subst (Kept (length (sc .text)) at) e1 (phrase-kept (sc .text) _ at h) in
+        then-prop (Pays ruleBytes (length (sc .text)) at) (casesFrom caseLimit sc w [] n1) _ (λ k q. tt)
+        (λ ups n2 e2.
+        let g2 = subst (Pays (λ (cs : List Spanned). length (bytesK v (casesOf cs))) (length (sc .text)) n1) e2 (cases-pay sc few v hv w caseLimit [] n1 n1 (g1 .1) (none-paid n1)) in
+        then-prop (Pays ruleBytes (length (sc .text)) at) (phrase (sc .text) _ n2) _ (λ k q. tt)
+        (λ u2 n3 e3.
+        let g3 = subst (Kept (length (sc .text)) n2) e3 (phrase-kept (sc .text) _ n2 (g2 .1)) in
+        then-prop (Pays ruleBytes (length (sc .text)) at) (casesFrom (caseLimit - length ups) sc w [] n3) _ (λ k q. tt)
+        (λ downs n4 e4.
+        let g4 = subst (Pays (λ (cs : List Spanned). length (bytesK v (casesOf cs))) (length (sc .text)) n3) e4 (cases-pay sc few v hv w (caseLimit - length ups) [] n3 n3 (g3 .1) (none-paid n3)) in
+        then-prop (Pays ruleBytes (length (sc .text)) at) (phrase (sc .text) _ n4) _ (λ k q. tt)
+        (λ u3 n5 e5.
+        let g5 = subst (Long 2 (length (sc .text)) n4) e5 (phrase-long (sc .text) _ (refl, (refl, tt)) n4 (g4 .1)) in
+        (simp length-append (omega (arith, pair-length v (casesOf ups) (casesOf downs), g1 .0, g2 .0, g3 .0, g4 .0, g5 .0, id-bytes v (omega arith))), g5 .1))))))
+
+    pub formulas-pay : (w : List ℕ) (at : ℕ) → at ≤ length (sc .text) → Pays ruleBytes (length (sc .text)) at (formulas sc w v at)
+    unfolding formulas
+    formulas-pay w at h =
+        token-prop (Pays ruleBytes (length (sc .text)) at) (tokenAt (sc .text) at) _ (λ k q. tt)
+        (λ k s n et.
+        let mv = token-at-moved (sc .text) at k s n h et in
+        cond-prop (Pays ruleBytes (length (sc .text)) at) (is k plus) _ _
+        (λ e. later at n (pairAt sc w v n) (omega (arith, mv .0, mv .1)) (pair-pays w n (mv .2)))
+        (λ e. formula-pays w at h))
 
   pub rule-pays : (s n : ℕ) → n ≤ length (sc .text) → Pays ruleBytes (length (sc .text)) n (ruleAt sc s n)
   unfolding ruleAt withId
@@ -277,11 +312,20 @@ module _ (names : List (List ℕ)) (few : length names ≤ 64) where
       let closing = bytes ")" ∷ bytes ")" ∷ bytes ";" ∷ [] in
       omega (arith, bytes-append ((opening ++ ts) ++ (middleTokens v ++ ls)) closing, bytes-append (opening ++ ts) (middleTokens v ++ ls), bytes-append opening ts)
 
+  pair-form-bytes : (v : List ℕ) (ts us : List (List ℕ)) → bytesOf ts + bytesOf us + 2 ≤ bytesOf (pairForm v ts us)
+  pair-form-bytes v ts us =
+      let opening = v ∷ bytes "+" ∷ riseTokens v in
+      let closing = bytes ")" ∷ bytes ";" ∷ [] in
+      omega (arith, bytes-append ((opening ++ ts) ++ (fallTokens v ++ us)) closing, bytes-append (opening ++ ts) (fallTokens v ++ us), bytes-append opening ts, bytes-append (fallTokens v) us)
+
   rule-makes : (ts : List (List ℕ)) (r : Rule) → SpellsR names ts r → 2 * ruleBytes r ≤ 3 * bytesOf ts
   unfolding bytesR
   rule-makes ts r (a-change v i us ls ks cs ei d room e) =
       let hi : i < 64 = omega (arith, place-in names i v ei) in
       simp length-append (omega (arith, cases-make names few i hi v us ls ks d, change-form-bytes v us ls, id-bytes i (omega arith)))
+  rule-makes ts r (a-pair v i us ls ws ms ks js ei d f room) =
+      let hi : i < 64 = omega (arith, place-in names i v ei) in
+      simp length-append (omega (arith, pair-length i ks js, cases-make names few i hi v us ls ks d, cases-make names few i hi v ws ms js f, pair-form-bytes v us ws, id-bytes i (omega arith)))
   rule-makes ts r (a-function v i us e ei d) =
       let hi : i < 64 = omega (arith, place-in names i v ei) in
       let g = expression-makes names few D.expression bracketLimit us e d in

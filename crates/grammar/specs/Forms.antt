@@ -1,8 +1,8 @@
 -- The fixed tokens of the rule forms. Document 01, "The text": `v: GX(~(v = _v) -> [c] & v = (e) | [c] & v = (e));`,
--- `v: GX(v = _v -> ~([c] | [c]));`, `v: GX(v = (e));`. Assumes nothing.
+-- `v: GX(v = _v -> ~([c] | [c]));`, `v: GX(v = (e));`; document 02, A.6: `v+: GX(v > _v -> cases);`, `v-: GX(v < _v -> cases);`. Assumes nothing.
 use Prim.Native.Nat.{ℕ}
 use mathlib.Core.List.{List, [], _∷_}
-use Rattle.lexer.specs.Token.{nextWord, arrow, semicolon, colon, openRound, closeRound, tilde, ampersand, equals}
+use Rattle.lexer.specs.Token.{Kind, nextWord, arrow, semicolon, colon, openRound, closeRound, tilde, ampersand, equals, less, minus}
 use Rattle.grammar.specs.Parsed.{Wanted, sign, own, ownPrevious}
 
 -- after a rule's name: `: GX (`
@@ -38,3 +38,15 @@ abbrev pub noChangeOpening : List ℕ → List Wanted
 noChangeOpening w =
     sign closeRound ∷ sign semicolon
     ∷ own w ∷ sign colon ∷ sign nextWord ∷ sign openRound ∷ own w ∷ sign equals ∷ ownPrevious w ∷ sign arrow ∷ sign tilde ∷ sign openRound ∷ []
+
+-- `w > _w ->`, `w < _w ->`
+abbrev pub turnedValue : Kind → List ℕ → List Wanted
+turnedValue k w = own w ∷ sign k ∷ ownPrevious w ∷ sign arrow ∷ []
+
+-- a rising formula after `w +`, a falling one after `w -`: `: GX ( w > _w ->`
+abbrev pub turnedOpening : Kind → List ℕ → List Wanted
+turnedOpening k w = sign colon ∷ sign nextWord ∷ sign openRound ∷ turnedValue k w
+
+-- the end of a rising formula, and its falling formula up to the cases: `) ; w - : GX ( w < _w ->`
+abbrev pub fallingOpening : List ℕ → List Wanted
+fallingOpening w = sign closeRound ∷ sign semicolon ∷ own w ∷ sign minus ∷ turnedOpening less w

@@ -3,6 +3,7 @@ pub mod Expressions
 pub mod Conditions
 pub mod Declarations
 pub mod Forms
+pub mod Pairs
 pub mod Rules
 pub mod Parse
 pub mod Derivation

@@ -1,18 +1,20 @@
--- Rules: functions, change formulas and their no-change formulas. Document 01, "The text". Assumes nothing.
-use Prim.Native.Nat.{ℕ, zero, suc}
+-- Rules: functions, change formulas and their no-change formulas; pairs of rising and falling formulas. Document 01, "The text"; document 02,
+-- A.6. Assumes nothing.
+use Prim.Native.Nat.{ℕ, zero, suc, _-_}
 use mathlib.Core.Bool.{Bool, true, false, cond}
 use mathlib.Core.List.{List, [], _∷_, _++_}
 use lib.ListN.{length, getD, set}
 use lib.Dec.{ltb, leb, eqb}
 use Rattle.limits.specs.Limits.{caseLimit, notAllowed, wrongRule, listsDiffer, tooMany}
 use Rattle.lexer.specs.Bytes.{part}
-use Rattle.lexer.specs.Token.{Kind, name, ending, closeRound, openSquare, tilde, bar, is, TokenRead, token, fault}
+use Rattle.lexer.specs.Token.{Kind, name, ending, closeRound, openSquare, tilde, bar, greater, plus, is, TokenRead, token, fault}
 use Rattle.lexer.specs.Lexer.{tokenAt, sameToken}
 use Rattle.semantics.specs.Program.{Condition, changing, Case, Rule, function, change, target, allTrue}
 use Rattle.grammar.specs.Parsed.{Parsed, accepted, refused, andThen, onToken, sign, phrase, followed}
 use Rattle.grammar.specs.Expressions.{Scope, withId, wholeExpression}
 use Rattle.grammar.specs.Conditions.{listed}
-use Rattle.grammar.specs.Forms.{valueOpening, functionClosing, formulaClosing, changeOpening, noChangeOpening, ruleOpening, caseValueOpening}
+use Rattle.grammar.specs.Forms.{valueOpening, functionClosing, formulaClosing, changeOpening, noChangeOpening, ruleOpening, caseValueOpening, turnedOpening, fallingOpening}
+use Rattle.grammar.specs.Pairs.{pairRule}
 
 -- ---- the cases of a change formula
 
@@ -138,15 +140,33 @@ changeAt sc w v at =
     andThen (agreeingList sc cases n3) (λ conditions n4.
     followed (sc .text) formulaClosing (change v (casesOf cases) conditions) n4))))
 
--- the rule of the variable v, spelled w, after that name
-unfoldable pub formulas : Scope → List ℕ → ℕ → ℕ → Parsed Rule
-formulas sc w v at =
+-- `: GX(w > _w -> [c] & w = (e) | ..);` after `w+`, then `w-: GX(w < _w -> [c] & w = (e) | ..);`, at most 32 cases in the two together
+unfoldable pub pairAt : Scope → List ℕ → ℕ → ℕ → Parsed Rule
+pairAt sc w v at =
+    andThen (phrase (sc .text) (turnedOpening greater w) at) (λ u n1.
+    andThen (casesFrom caseLimit sc w [] n1) (λ ups n2.
+    andThen (phrase (sc .text) (fallingOpening w) n2) (λ u n3.
+    andThen (casesFrom (caseLimit - length ups) sc w [] n3) (λ downs n4.
+    followed (sc .text) formulaClosing (pairRule v (casesOf ups) (casesOf downs)) n4))))
+
+-- a function, or a change formula and its no-change formula, of the variable v, spelled w, after that name
+unfoldable pub formulaAt : Scope → List ℕ → ℕ → ℕ → Parsed Rule
+formulaAt sc w v at =
     andThen (phrase (sc .text) ruleOpening at) (λ u n.
     onToken (tokenAt (sc .text) n)
     (λ k s m.
     let changes = changeAt sc w v m in
     let computes = functionAt sc w v n in
     cond (is k tilde) changes computes))
+
+-- the rule of the variable v, spelled w, after that name
+unfoldable pub formulas : Scope → List ℕ → ℕ → ℕ → Parsed Rule
+formulas sc w v at =
+    onToken (tokenAt (sc .text) at)
+    (λ k s n.
+    let pair = pairAt sc w v n in
+    let formula = formulaAt sc w v at in
+    cond (is k plus) pair formula)
 
 -- an input, or a variable that has its rule: just those whose current values may be used (law `known-exactly`)
 abbrev pub inputOrRuled : Scope → ℕ → Bool

@@ -1,6 +1,6 @@
 -- Which texts spell a program: document 01's grammar, limits, order of work and agreement of the two lists, apart from any way of
 -- reading them. Document 01, "The text". Assumes nothing.
-use Prim.Native.Nat.{ℕ, _≤_}
+use Prim.Native.Nat.{ℕ, _+_, _≤_}
 use mathlib.Core.Path.{_≡_}
 use mathlib.Core.Bool.{false}
 use mathlib.Core.List.{List, [], _∷_, _++_, map}
@@ -12,6 +12,7 @@ use Rattle.semantics.specs.Program.{Range, Name, Expression, Condition, changin
 use Rattle.lexer.specs.Bytes.{bytes}
 use Rattle.lexer.specs.Lexer.{sameName, valueOf}
 use Rattle.lexer.specs.Spelling.{IsDigits, Separated}
+use Rattle.grammar.specs.Pairs.{pairRule}
 use Rattle.grammar.specs.Derivation.{Tokens, asWritten, normal, normals, Spells, IsName, SpellsE, expression, SpellsC, condition}
 
 -- ---- declarations
@@ -78,11 +79,19 @@ changeForm v cases list =
 abbrev pub functionForm : List ℕ → Tokens → Tokens
 functionForm v e = v ∷ bytes ":" ∷ bytes "GX" ∷ bytes "(" ∷ v ∷ bytes "=" ∷ bytes "(" ∷ e ++ bytes ")" ∷ bytes ")" ∷ bytes ";" ∷ []
 
+-- Or a pair (document 02, A.6): `v+: GX(v > _v -> cases);` and `v-: GX(v < _v -> cases);`, in this order.
+abbrev pub pairForm : List ℕ → Tokens → Tokens → Tokens
+pairForm v ups downs =
+    v ∷ bytes "+" ∷ bytes ":" ∷ bytes "GX" ∷ bytes "(" ∷ v ∷ bytes ">" ∷ (bytes "_" ++ v) ∷ bytes "->" ∷ ups ++ bytes ")" ∷ bytes ";"
+    ∷ v ∷ bytes "-" ∷ bytes ":" ∷ bytes "GX" ∷ bytes "(" ∷ v ∷ bytes "<" ∷ (bytes "_" ++ v) ∷ bytes "->" ∷ downs ++ bytes ")" ∷ bytes ";" ∷ []
+
 -- A rule of the variable v, whose id is i.
 pub data SpellsR (names : List (List ℕ)) : Tokens → Rule → Type 0 where
   -- with 1 to 32 cases, both lists of conditions equal token by token in spelling
   a-change : (v : List ℕ) (i : ℕ) (ts ls : Tokens) (ks : List Case) (cs : List Condition) → getElem? names i ≡ some v → SpellsCases names v ts ls ks → length ks ≤ caseLimit → SpellsList names ls cs → SpellsR names (changeForm v ts ls) (change i ks cs)
   a-function : (v : List ℕ) (i : ℕ) (ts : Tokens) (e : Expression) → getElem? names i ≡ some v → SpellsE names expression bracketLimit ts e → SpellsR names (functionForm v ts) (function i e)
+  -- case lists as before, at least one case in each list, at most 32 in the two together
+  a-pair : (v : List ℕ) (i : ℕ) (ts ls us ms : Tokens) (ks js : List Case) → getElem? names i ≡ some v → SpellsCases names v ts ls ks → SpellsCases names v us ms js → length ks + length js ≤ caseLimit → SpellsR names (pairForm v ts us) (pairRule i ks js)
 
 pub data SpellsRules (names : List (List ℕ)) : Tokens → List Rule → Type 0 where
   none : SpellsRules names [] []

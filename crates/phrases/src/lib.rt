@@ -6,7 +6,7 @@ ghost use Rattle.lexer.specs.Bytes.{part};
 ghost use Rattle.lexer.specs.Results.{kindOf};
 ghost use Rattle.lexer.specs.Token.{lastKind};
 ghost use Rattle.grammar.specs.Parsed.{sign, own, ownPrevious, expected, phrase};
-ghost use Rattle.grammar.specs.Forms.{ruleOpening, formulaClosing, functionClosing, valueOpening, caseValueOpening, unchangedValue, changeOpening, noChangeOpening};
+ghost use Rattle.grammar.specs.Forms.{ruleOpening, formulaClosing, functionClosing, valueOpening, caseValueOpening, unchangedValue, changeOpening, noChangeOpening, turnedValue, turnedOpening, fallingOpening};
 ghost use Rattle.phrases.specs.Inner.Steps.{parsedOf, nothing};
 
 // A token of a kind.
@@ -188,4 +188,55 @@ pub fn no_change_opening(text: &[u8], at: usize, start: usize, end: usize) -> St
         return sixth;
     };
     expect(text, f.at, lexer::OPEN_ROUND)
+}
+
+// `w > _w ->`, and `w < _w ->`: the sign is of a kind.
+fn turned_value(text: &[u8], at: usize, start: usize, end: usize, kind: u32) -> Step
+    requires { ⌜ kind ≤ lastKind ⌝ }
+    ensures { λ r. ⌜ parsedOf nothing r ≡ phrase (now (text .entry)) (turnedValue (kindOf kind) (part (now (text .entry)) start end)) at ⌝ }
+{
+    let first = expect_name(text, at, start, end);
+    let Step::Done(a) = first else {
+        return first;
+    };
+    let second = expect(text, a.at, kind);
+    let Step::Done(b) = second else {
+        return second;
+    };
+    let third = expect_previous(text, b.at, start, end);
+    let Step::Done(p) = third else {
+        return third;
+    };
+    expect(text, p.at, lexer::ARROW)
+}
+
+// A formula of a pair after `w +` or `w -`: `: GX ( w > _w ->`.
+pub fn turned_opening(text: &[u8], at: usize, start: usize, end: usize, kind: u32) -> Step
+    requires { ⌜ kind ≤ lastKind ⌝ }
+    ensures { λ r. ⌜ parsedOf nothing r ≡ phrase (now (text .entry)) (turnedOpening (kindOf kind) (part (now (text .entry)) start end)) at ⌝ }
+{
+    let first = rule_opening(text, at);
+    let Step::Done(a) = first else {
+        return first;
+    };
+    turned_value(text, a.at, start, end, kind)
+}
+
+// The end of a rising formula, and its falling formula up to the cases: `) ; w - : GX ( w < _w ->`.
+pub fn falling_opening(text: &[u8], at: usize, start: usize, end: usize) -> Step
+    ensures { λ r. ⌜ parsedOf nothing r ≡ phrase (now (text .entry)) (fallingOpening (part (now (text .entry)) start end)) at ⌝ }
+{
+    let first = formula_closing(text, at);
+    let Step::Done(a) = first else {
+        return first;
+    };
+    let second = expect_name(text, a.at, start, end);
+    let Step::Done(b) = second else {
+        return second;
+    };
+    let third = expect(text, b.at, lexer::MINUS);
+    let Step::Done(c) = third else {
+        return third;
+    };
+    turned_opening(text, c.at, start, end, lexer::LESS)
 }

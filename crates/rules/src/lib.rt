@@ -1,4 +1,4 @@
-// The rules of a text: functions, and change formulas with their no-change formulas. A rule is written as it is read.
+// The rules of a text: functions, change formulas with their no-change formulas, and pairs of a rising and a falling formula. A rule is written as it is read.
 ghost use mathlib.Core.List.{[]};
 use bytecode::opcode;
 use cases::Variable;
@@ -11,7 +11,7 @@ ghost use lib.ListN.{length};
 ghost use Rattle.limits.specs.Limits.{nameLimit};
 ghost use Rattle.lexer.specs.Bytes.{part};
 ghost use Rattle.grammar.specs.Parsed.{itemBound};
-ghost use Rattle.grammar.specs.Rules.{functionAt, changeAt, formulas as formulasAt, ruleAt, rulesFrom};
+ghost use Rattle.grammar.specs.Rules.{functionAt, changeAt, pairAt, formulaAt, formulas as formulasAt, ruleAt, rulesFrom};
 ghost use Rattle.grammar.specs.Inner.Names.{Named};
 ghost use Rattle.grammar.specs.Inner.Bytes.{bytesR};
 ghost use Rattle.semantics.specs.Program.{target};
@@ -76,7 +76,20 @@ fn change(
     let Step::Done(a) = opened else {
         return opened;
     };
-    let listed = cases::cases(text, starts, ends, names, w, from, upto, a.at, out, to);
+    let listed = cases::cases(
+        text,
+        starts,
+        ends,
+        names,
+        w,
+        opcode::PICK,
+        limits::CASE_LIMIT,
+        from,
+        upto,
+        a.at,
+        out,
+        to,
+    );
     let Step::Done(b) = listed else {
         return listed;
     };
@@ -94,6 +107,110 @@ fn change(
     };
     let t = bytecode::put_instruction(out, b.to, opcode::SETTLE, w.id as u64);
     lexer::reached(f.at, t, w.id)
+}
+
+// `: GX(w > _w -> [c] & w = (e) | ..);` and `w-: GX(w < _w -> [c] & w = (e) | ..);`, at most 32 cases in the two together.
+fn pair(
+    text: &[u8],
+    starts: &[usize],
+    ends: &[usize],
+    names: Names,
+    w: Variable,
+    from: &mut [usize],
+    upto: &mut [usize],
+    at: usize,
+    out: &mut [u8],
+    to: usize,
+) -> Step
+    requires { ⌜ Declared (now starts) (now ends) names ⌝ }
+    requires { ⌜ Room (now text) at to ⌝ }
+    requires { ⌜ w .id < nameLimit ⌝ }
+    requires { ⌜ SpanRoom (now from) (now upto) ⌝ }
+    ensures { λ r. ⌜ Writes codeOfRule numberTold target (pairAt (scopeOf (now (text .entry)) (now (starts .entry)) (now (ends .entry)) names) (part (now (text .entry)) (w .start) (w .end)) (w .id) at) to (now (out .entry)) (now (out .exit)) r ⌝ }
+{
+    let opened = phrases::turned_opening(text, at, w.start, w.end, lexer::GREATER);
+    let Step::Done(a) = opened else {
+        return opened;
+    };
+    let risen = cases::cases(
+        text,
+        starts,
+        ends,
+        names,
+        w,
+        opcode::RISE,
+        limits::CASE_LIMIT,
+        from,
+        upto,
+        a.at,
+        out,
+        to,
+    );
+    let Step::Done(b) = risen else {
+        return risen;
+    };
+    let next = phrases::falling_opening(text, b.at, w.start, w.end);
+    let Step::Done(d) = next else {
+        return next;
+    };
+    let left = limits::CASE_LIMIT - b.number;
+    let fallen = cases::cases(
+        text,
+        starts,
+        ends,
+        names,
+        w,
+        opcode::FALL,
+        left,
+        from,
+        upto,
+        d.at,
+        out,
+        b.to,
+    );
+    let Step::Done(g) = fallen else {
+        return fallen;
+    };
+    let closed = phrases::formula_closing(text, g.at);
+    let Step::Done(f) = closed else {
+        return closed;
+    };
+    let t = bytecode::put_instruction(out, g.to, opcode::SETTLE, w.id as u64);
+    lexer::reached(f.at, t, w.id)
+}
+
+// A function, or a change formula and its no-change formula, of the variable, after its name.
+fn formula(
+    text: &[u8],
+    starts: &[usize],
+    ends: &[usize],
+    names: Names,
+    w: Variable,
+    from: &mut [usize],
+    upto: &mut [usize],
+    at: usize,
+    out: &mut [u8],
+    to: usize,
+) -> Step
+    requires { ⌜ Declared (now starts) (now ends) names ⌝ }
+    requires { ⌜ Room (now text) at to ⌝ }
+    requires { ⌜ w .id < nameLimit ⌝ }
+    requires { ⌜ SpanRoom (now from) (now upto) ⌝ }
+    requires { ⌜ Named (scopeOf (now text) (now starts) (now ends) names .names) ⌝ }
+    ensures { λ r. ⌜ Writes codeOfRule numberTold target (formulaAt (scopeOf (now (text .entry)) (now (starts .entry)) (now (ends .entry)) names) (part (now (text .entry)) (w .start) (w .end)) (w .id) at) to (now (out .entry)) (now (out .exit)) r ⌝ }
+{
+    let opened = phrases::rule_opening(text, at);
+    let Step::Done(a) = opened else {
+        return opened;
+    };
+    let read = lexer::token_at(text, a.at);
+    let Step::Done(token) = read else {
+        return read;
+    };
+    if token.kind == lexer::TILDE {
+        return change(text, starts, ends, names, w, from, upto, token.end, out, to);
+    }
+    function(text, starts, ends, names, w, a.at, out, to)
 }
 
 // The rule of the variable, after its name.
@@ -116,18 +233,14 @@ fn formulas(
     requires { ⌜ Named (scopeOf (now text) (now starts) (now ends) names .names) ⌝ }
     ensures { λ r. ⌜ Writes codeOfRule numberTold target (formulasAt (scopeOf (now (text .entry)) (now (starts .entry)) (now (ends .entry)) names) (part (now (text .entry)) (w .start) (w .end)) (w .id) at) to (now (out .entry)) (now (out .exit)) r ⌝ }
 {
-    let opened = phrases::rule_opening(text, at);
-    let Step::Done(a) = opened else {
-        return opened;
-    };
-    let read = lexer::token_at(text, a.at);
+    let read = lexer::token_at(text, at);
     let Step::Done(token) = read else {
         return read;
     };
-    if token.kind == lexer::TILDE {
-        return change(text, starts, ends, names, w, from, upto, token.end, out, to);
+    if token.kind == lexer::PLUS {
+        return pair(text, starts, ends, names, w, from, upto, token.end, out, to);
     }
-    function(text, starts, ends, names, w, a.at, out, to)
+    formula(text, starts, ends, names, w, from, upto, at, out, to)
 }
 
 // The rule whose name stands from `start` to `end`. The number told is the variable's id.

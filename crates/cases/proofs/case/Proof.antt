@@ -137,9 +137,9 @@ returns-5 c =
     writes (c .reached .ensures) (record {
       tree = record { case = record { side = changing; condition = l .tree; value = v .tree }; span = record { from = from; to = at-first .first .given .0 .0 .at } };
       is = case-accepted _ _ from _ (l .is) p (v .is) q;
-      ended = case-length _ _ _ (l .count) (at-put-byte .put-byte .ensures .0) (v .count) (c .before .before .before .put-instruction .ensures .0);
+      ended = case-length _ _ _ _ (l .count) (at-put-byte .put-byte .ensures .0) (v .count) (c .before .before .before .put-instruction .ensures .0);
       tells-it = refl;
-      wrote = case-bytes _ _ _ _ (l .count) (l .wrote) (at-put-byte .put-byte .ensures .0) (at-put-byte .put-byte .ensures .1) (v .count) (v .wrote) (c .before .before .before .put-instruction .ensures .1);
+      wrote = case-bytes _ _ _ _ _ (l .count) (l .wrote) (at-put-byte .put-byte .ensures .0) (at-put-byte .put-byte .ensures .1) (v .count) (v .wrote) (c .before .before .before .put-instruction .ensures .1);
     })
 
 pub case-spec : {M : Type 1} → statement M

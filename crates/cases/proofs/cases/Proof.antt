@@ -4,7 +4,6 @@ use Prim.Native.Nat.{_-_}
 use native.Mathlib.Omega.{arith}
 use lib.ListN.{length, length-set}
 use borrow.Author.Needs.{needs}
-use Rattle.limits.specs.Limits.{caseLimit}
 use Rattle.lexer.specs.Bytes.{part}
 use Rattle.lexer.specs.Results.{kindOf}
 use Rattle.lexer.proofs.Tokens.{is-fault}
@@ -18,17 +17,17 @@ use Rattle.cases.proofs.cases.Statement.{statement}
 use Rattle.cases.proofs.cases.Tie as tie
 
 abbrev Inv-loop : tie.InvT-loop
-Inv-loop text starts ends names w from₀ upto₀ at out₀ to a₀ t₀ count₀ from upto out a t count =
-    Casing (scopeOf text starts ends names) (part text (w .start) (w .end)) (w .id) at to out₀ from upto out a t count
+Inv-loop text starts ends names w pick limit from₀ upto₀ at out₀ to a₀ t₀ count₀ from upto out a t count =
+    Casing (scopeOf text starts ends names) (part text (w .start) (w .end)) limit pick (w .id) at to out₀ from upto out a t count
     × (length from ≡ length from₀) × (length upto ≡ length upto₀) × (length out ≡ length out₀)
 
 abbrev μ-loop : tie.MeasureT-loop
-μ-loop text starts ends names w from₀ upto₀ at out₀ to a₀ t₀ count₀ from upto out a t count = caseLimit - count
+μ-loop text starts ends names w pick limit from₀ upto₀ at out₀ to a₀ t₀ count₀ from upto out a t count = limit - count
 
 loop-holds : tie.Need-loop-holds Inv-loop μ-loop
 loop-holds c =
     let start = c .before .before .before .before .before .before in
-    (casing-first _ _ _ _ _ _ _ _ (start .pre .1 .0) (start .pre .1 .1 .1 .0) (start .pre .1 .1 .1 .1), refl, refl, refl)
+    (casing-first _ _ _ _ _ _ _ _ _ _ (start .pre .1 .0) (start .pre .1 .1 .1 .0) (start .pre .1 .1 .1 .1) (start .pre .1 .1 .1 .2), refl, refl, refl)
 
 same-length : tie.Need-same-length Inv-loop μ-loop
 same-length c = c .before .before .before .loop .inv .1
@@ -99,7 +98,7 @@ same-length-12 : tie.Need-same-length-12 Inv-loop μ-loop
 same-length-12 c =
     let at-case = c .before .before .before .before in
     let at-loop = at-case .before .before .before .before .before .before .before .before .before in
-    at-case .case .kept .1 .1 .1 .1 .1 .1 .0 ∙ at-loop .loop .inv .3
+    at-case .case .kept .1 .1 .1 .1 .1 .1 .1 .0 ∙ at-loop .loop .inv .3
 
 returns-4 : tie.Need-returns-4 Inv-loop μ-loop
 unfolding kindOf
@@ -124,7 +123,7 @@ same-length-15 : tie.Need-same-length-15 Inv-loop μ-loop
 same-length-15 c =
     let at-case = c .before .before .before .before .before .before .before .before in
     let at-loop = at-case .before .before .before .before .before .before .before .before .before in
-    at-case .case .kept .1 .1 .1 .1 .1 .1 .0 ∙ at-loop .loop .inv .3
+    at-case .case .kept .1 .1 .1 .1 .1 .1 .1 .0 ∙ at-loop .loop .inv .3
 
 returns-5 : tie.Need-returns-5 Inv-loop μ-loop
 unfolding kindOf
@@ -151,7 +150,7 @@ same-length-18 : tie.Need-same-length-18 Inv-loop μ-loop
 same-length-18 c =
     let at-case = c .before .before .before .before .before .before .before .before .before .before .before .before in
     let at-loop = at-case .before .before .before .before .before .before .before .before .before in
-    at-case .case .kept .1 .1 .1 .1 .1 .1 .0 ∙ at-loop .loop .inv .3
+    at-case .case .kept .1 .1 .1 .1 .1 .1 .1 .0 ∙ at-loop .loop .inv .3
 
 returns-6 : tie.Need-returns-6 Inv-loop μ-loop
 unfolding kindOf
@@ -194,7 +193,7 @@ loop-again c =
     let i = same-kinds _ 19 (at-if1 .if1 .left) in
     let g = got (at-case .case .ensures (at-loop .loop .a)) (at-one .one .given .1) in
     let f2 = found-token _ _ (at-token-at2 .token-at2 .ensures) (c .before .before .before .next .given .1) in
-    (casing-more (at-loop .loop .inv .0) f i (at-if2 .if2 .left) g (few-names _ (start .pre .0)) (start .pre .1 .1 .0) f2 (same-kinds _ 23 (c .if3 .left)), simp length-set (at-loop .loop .inv .1), simp length-set (at-loop .loop .inv .2), at-case .case .kept .1 .1 .1 .1 .1 .1 .0 ∙ at-loop .loop .inv .3)
+    (casing-more (at-loop .loop .inv .0) f i (at-if2 .if2 .left) g (few-names _ (start .pre .0)) (start .pre .1 .1 .0) f2 (same-kinds _ 23 (c .if3 .left)), simp length-set (at-loop .loop .inv .1), simp length-set (at-loop .loop .inv .2), at-case .case .kept .1 .1 .1 .1 .1 .1 .1 .0 ∙ at-loop .loop .inv .3)
 
 pub cases-spec : {M : Type 1} → statement M
 cases-spec =

@@ -7,15 +7,15 @@ use Rattle.grammar.specs.Parsed.{Parsed, accepted}
 use Rattle.limits.specs.Limits.{caseLimit}
 use Rattle.grammar.specs.Expressions.{Scope}
 use Rattle.grammar.specs.Rules.{Spanned, casesOf, casesFrom}
-use Rattle.grammar.specs.Inner.Bytes.{bytesK}
+use Rattle.grammar.specs.Inner.Bytes.{bytesPicked}
 use Rattle.agreement.specs.Inner.Spans.{spansIn, spansOf, Spans}
 
--- the code of a case of the variable v, and of cases
-abbrev pub codeOfCase : ℕ → Spanned → List ℕ
-codeOfCase v c = bytesK v (c .case ∷ [])
+-- the code of a case of the variable v, and of cases, with a code byte for their picks
+abbrev pub codeOfCase : ℕ → ℕ → Spanned → List ℕ
+codeOfCase pick v c = bytesPicked pick v (c .case ∷ [])
 
-abbrev pub codeOfCases : ℕ → List Spanned → List ℕ
-codeOfCases v cs = bytesK v (casesOf cs)
+abbrev pub codeOfCases : ℕ → ℕ → List Spanned → List ℕ
+codeOfCases pick v cs = bytesPicked pick v (casesOf cs)
 
 -- where the condition of a case ends
 abbrev pub endOfCondition : Spanned → ℕ

@@ -25,6 +25,11 @@ unfoldable pub bytesK : ℕ → List Case → List ℕ
 bytesK v [] = []
 bytesK v (k ∷ ks) = bytesC (k .condition) ++ (19 ∷ (bytesE (k .value) ++ (pickCode (k .side) ∷ (number v ++ bytesK v ks))))
 
+-- the same with one code byte for every pick, as it is written before the rule's form is known to the case
+unfoldable pub bytesPicked : ℕ → ℕ → List Case → List ℕ
+bytesPicked pick v [] = []
+bytesPicked pick v (k ∷ ks) = bytesC (k .condition) ++ (19 ∷ (bytesE (k .value) ++ (pick ∷ (number v ++ bytesPicked pick v ks))))
+
 unfoldable pub bytesR : List Rule → List ℕ
 bytesR [] = []
 bytesR (function v e ∷ rs) = bytesE e ++ (21 ∷ (number v ++ bytesR rs))
