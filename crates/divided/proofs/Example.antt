@@ -17,7 +17,7 @@ use Rattle.machine.specs.Step.{bit, yes}
 use Rattle.scan.specs.Services.{scanCode, scanOf}
 use Rattle.paused.specs.declared.Response.the-variants as R
 use Rattle.paused.specs.Memory.{clipped, checkpointOf, waitingLength, waitingOf}
-use Rattle.divided.specs.Expected.{Call, post, begin, advance, finish, Said, says, leaves, play, expectedSaid}
+use Rattle.divided.specs.Expected.{Call, post, begin, advanceScan, finish, Said, says, saysLeaving, play, expectedSaid}
 use Rattle.divided.proofs.Undivided.{as-undivided}
 
 abbrev latch : List ℕ
@@ -28,14 +28,14 @@ zeros = replicate pausedLength (pos 0)
 
 abbrev calls : List Call
 calls =
-    post latch [] ∷ begin latch (pos 0 ∷ []) ∷ advance 3 ∷ finish (pos 0 ∷ []) ∷ advance 9 ∷ finish (pos 1 ∷ []) ∷ finish (pos 0 ∷ [])
+    post latch [] ∷ begin latch (pos 0 ∷ []) ∷ advanceScan 3 ∷ finish (pos 0 ∷ []) ∷ advanceScan 9 ∷ finish (pos 1 ∷ []) ∷ finish (pos 0 ∷ [])
     ∷ finish (pos 1 ∷ []) ∷ []
 
 abbrev answers : List Said
 answers =
-    says (R.Done 0) ∷ says (R.Done 0) ∷ says (R.Done 3) ∷ leaves (R.Unfinished 0) (pos 0 ∷ []) ∷ says (R.Done 4) ∷ leaves (R.Refused 24 0 0) (pos 1 ∷ [])
-    ∷ leaves (R.Done 7) (pos 1 ∷ [])
-    ∷ leaves R.Idle (pos 1 ∷ []) ∷ []
+    says (R.Done 0) ∷ says (R.Done 0) ∷ says (R.Done 3) ∷ saysLeaving (R.Unfinished 0) (pos 0 ∷ []) ∷ says (R.Done 4) ∷ saysLeaving (R.Refused 24 0 0) (pos 1 ∷ [])
+    ∷ saysLeaving (R.Done 7) (pos 1 ∷ [])
+    ∷ saysLeaving R.Idle (pos 1 ∷ []) ∷ []
 
 -- what is expected, computed
 latch-expected : expectedSaid calls (waitingOf zeros) none ≡ answers

@@ -17,14 +17,14 @@ use Rattle.scan.specs.Services.{finished as ended}
 use Rattle.paused.specs.declared.Checkpoint.{Checkpoint}
 use Rattle.paused.specs.declared.Response.the-variants as R
 use Rattle.paused.specs.Memory.{startPlace, currentPlace, slice, checkpointOf, layoutOf, waitingOf}
-use Rattle.lifecycle.specs.Calls.{sameValues, over, afterFinish, finishOf}
-use Rattle.divided.specs.Expected.{Scan, whole, leaves, played, finish, plays, expect, expects}
+use Rattle.lifecycle.specs.Calls.{sameValues, withoutScan, afterFinish, finishOf}
+use Rattle.divided.specs.Expected.{Scan, whole, saysLeaving, played, finish, plays, expect, expects}
 use Rattle.divided.proofs.Left.{Stands}
 use Rattle.divided.proofs.Stored.{phase-over, waits-over}
 use Rattle.divided.proofs.Agrees.{codeLength, Standing, Agrees, Matches, over-refused, over-ended, not-over, whole-is}
 
 -- a scan that is over leaves the row that waits
-over-agrees : (image : List ℕ) (cells : List ℤ) (w : Option (List ℤ)) → length cells ≡ pausedLength → waitingOf cells ≡ w → Agrees image (over cells) w none
+over-agrees : (image : List ℕ) (cells : List ℤ) (w : Option (List ℤ)) → length cells ≡ pausedLength → waitingOf cells ≡ w → Agrees image (withoutScan cells) w none
 over-agrees image cells w l e = record { long = length-set cells 0 (pos 0) ∙ l; waits = waits-over cells ∙ e; scan = phase-over cells l }
 
 module _ {image : List ℕ} {cells : List ℤ} {w : Option (List ℤ)} (o : Scan) (x : Agrees image cells w (some o)) (s : State) where
@@ -40,10 +40,10 @@ module _ {image : List ℕ} {cells : List ℤ} {w : Option (List ℤ)} (o : Scan
     where
       same : (z : Bool) → Matches
           (played
-          (leaves (cond z (afterFinish (R.Done (o .done)) (over cells) t) (afterFinish (R.Refused 24 0 0) cells s) .reply)
-          (cond z (afterFinish (R.Done (o .done)) (over cells) t) (afterFinish (R.Refused 24 0 0) cells s) .state))
-          image (cond z (afterFinish (R.Done (o .done)) (over cells) t) (afterFinish (R.Refused 24 0 0) cells s) .cells))
-          (cond z (expect (leaves (R.Done (o .done)) t) w none) (expect (leaves (R.Refused 24 0 0) s) w (some o)))
+          (saysLeaving (cond z (afterFinish (R.Done (o .done)) (withoutScan cells) t) (afterFinish (R.Refused 24 0 0) cells s) .reply)
+          (cond z (afterFinish (R.Done (o .done)) (withoutScan cells) t) (afterFinish (R.Refused 24 0 0) cells s) .state))
+          image (cond z (afterFinish (R.Done (o .done)) (withoutScan cells) t) (afterFinish (R.Refused 24 0 0) cells s) .cells))
+          (cond z (expect (saysLeaving (R.Done (o .done)) t) w none) (expect (saysLeaving (R.Refused 24 0 0) s) w (some o)))
       same true = record { said = refl; agrees = over-agrees image cells w (x .long) (x .waits) }
       same false = record { said = refl; agrees = x }
 

@@ -25,13 +25,13 @@ use Rattle.resumable.specs.Instalment.{afterCall, rangesIn, ranFrom, leftByRun,
 use Rattle.lifecycle.specs.Calls.{layoutFor}
 use Rattle.resumable.proofs.Running.{length-slice, ranges-between}
 use Rattle.resumable.proofs.Advancing.{advance-idle, advance-over, advance-zero, advance-goes}
-use Rattle.divided.specs.Expected.{Scan, whole, says, played, advance, plays, stepsNow, furtherBy, expect, expects}
+use Rattle.divided.specs.Expected.{Scan, whole, says, played, advanceScan, plays, stepsNow, furtherBy, expect, expects}
 use Rattle.divided.proofs.Left.{Stands, Numbered, kept-left, stands-left}
 use Rattle.divided.proofs.Agrees.{goes, codeLength, Standing, Agrees, Matches, few-names, code-short, goes-sized, goes-place, goes-numbered, goes-min, goes-within, whole-steps, on-from, done-within, over-refused, over-ended, not-over}
 
 module _ {image : List ℕ} {cells : List ℤ} {w : Option (List ℤ)} (o : Scan) (x : Agrees image cells w (some o)) (n : ℕ) where
   -- 0 steps: nothing moves
-  stays : stepsNow n o ≡ 0 → afterCall (R.Done 0) cells ≡ advanceOf image n cells → Matches (plays (advance n) image cells) (expects (advance n) w (some o))
+  stays : stepsNow n o ≡ 0 → afterCall (R.Done 0) cells ≡ advanceOf image n cells → Matches (plays (advanceScan n) image cells) (expects (advanceScan n) w (some o))
   stays z e =
       let q : o .done + 0 ≡ o .done = omega arith in
       rw (← e, z, q) (record { said = refl; agrees = x })
@@ -108,14 +108,14 @@ module _ {image : List ℕ} {cells : List ℤ} {w : Option (List ℤ)} (o : Scan
                 };
           }
 
-      moved : advanceOf image n cells ≡ afterCall (R.Done (d .steps)) (leftByRun (o .done) (codeLength o) d cells) → Matches (plays (advance n) image cells) (expects (advance n) w (some o))
+      moved : advanceOf image n cells ≡ afterCall (R.Done (d .steps)) (leftByRun (o .done) (codeLength o) d cells) → Matches (plays (advanceScan n) image cells) (expects (advanceScan n) w (some o))
       moved q = rw (q, ← steps-are) (record { said = refl; agrees = further })
 
     code-length : (o : Scan) → codeLength o ≡ length (o .image) - headerOf (o .image) .place
     unfolding codeOf
     code-length o = length-drop (headerOf (o .image) .place) (o .image)
 
-    under-way : x .scan .reached .place < codeLength o → (n ≡ 0 → ⊥) → Matches (plays (advance n) image cells) (expects (advance n) w (some o))
+    under-way : x .scan .reached .place < codeLength o → (n ≡ 0 → ⊥) → Matches (plays (advanceScan n) image cells) (expects (advanceScan n) w (some o))
     under-way h given =
         let p : checkpointOf cells .phase ≡ 1 = ap (λ (p : Checkpoint). p .phase) (s .progress) ∙ rw (lt-leb (codeLength o) (x .scan .reached .place) h) in
         let l : length image ≡ layoutOf cells .image = rw (x .scan .layout, x .scan .same) in
@@ -123,29 +123,29 @@ module _ {image : List ℕ} {cells : List ℤ} {w : Option (List ℤ)} (o : Scan
         moved _ refl
         (sym (advance-goes image n cells (x .long) (checkpointOf cells) refl (λ z. omega (arith, p, z)) p given (layoutOf cells) refl l within) ∙ now-is (min n imageLimit))
 
-    ended : codeLength o ≤ x .scan .reached .place → Matches (plays (advance n) image cells) (expects (advance n) w (some o))
+    ended : codeLength o ≤ x .scan .reached .place → Matches (plays (advanceScan n) image cells) (expects (advanceScan n) w (some o))
     ended h =
         let p : checkpointOf cells .phase ≡ 2 = ap (λ (p : Checkpoint). p .phase) (s .progress) ∙ rw (le-leb (codeLength o) (x .scan .reached .place) h) in
         stays (omega (arith, over-ended o (x .scan) (machine b c vs t) e h)) (advance-over image n cells (x .long) (checkpointOf cells) refl (λ z. omega (arith, p, z)) (λ z. omega (arith, p, z)))
 
-    at-zero : x .scan .reached .place < codeLength o → n ≡ 0 → Matches (plays (advance n) image cells) (expects (advance n) w (some o))
+    at-zero : x .scan .reached .place < codeLength o → n ≡ 0 → Matches (plays (advanceScan n) image cells) (expects (advanceScan n) w (some o))
     at-zero h z =
         let p : checkpointOf cells .phase ≡ 1 = ap (λ (p : Checkpoint). p .phase) (s .progress) ∙ rw (lt-leb (codeLength o) (x .scan .reached .place) h) in
         stays (omega arith) (advance-zero image n cells (x .long) (checkpointOf cells) refl (λ q. omega (arith, p, q)) p z)
 
   by-last : (r : Outcome Machine) → x .scan .reached .last ≡ r → Stands cells (length (o .start)) (codeLength o) (o .done) (x .scan .reached .place) r
-      → Matches (plays (advance n) image cells) (expects (advance n) w (some o))
+      → Matches (plays (advanceScan n) image cells) (expects (advanceScan n) w (some o))
   by-last (refusal k) e s =
       let p : checkpointOf cells .phase ≡ 3 = ap (λ (p : Checkpoint). p .phase) s in
       stays (omega (arith, over-refused o (x .scan) k e)) (advance-over image n cells (x .long) (checkpointOf cells) refl (λ z. omega (arith, p, z)) (λ z. omega (arith, p, z)))
   by-last (ok (machine b c vs t)) e s = by (leb (codeLength o) (x .scan .reached .place)) (leb-true (codeLength o) (x .scan .reached .place)) (leb-false (codeLength o) (x .scan .reached .place)) (eqb n 0) (eqb-true n 0) (eqb-false n 0)
     where
       by : (a : Bool) → (a ≡ true → codeLength o ≤ x .scan .reached .place) → (a ≡ false → x .scan .reached .place < codeLength o)
-          → (z : Bool) → (z ≡ true → n ≡ 0) → (z ≡ false → n ≡ 0 → ⊥) → Matches (plays (advance n) image cells) (expects (advance n) w (some o))
+          → (z : Bool) → (z ≡ true → n ≡ 0) → (z ≡ false → n ≡ 0 → ⊥) → Matches (plays (advanceScan n) image cells) (expects (advanceScan n) w (some o))
       by true y f z i j = ended b c vs t e s (y refl)
       by false y f true i j = at-zero b c vs t e s (f refl) (i refl)
       by false y f false i j = under-way b c vs t e s (f refl) (j refl)
 
-pub advance-agrees : (image : List ℕ) (cells : List ℤ) (w : Option (List ℤ)) (o : Option Scan) (n : ℕ) → Agrees image cells w o → Matches (plays (advance n) image cells) (expects (advance n) w o)
+pub advance-agrees : (image : List ℕ) (cells : List ℤ) (w : Option (List ℤ)) (o : Option Scan) (n : ℕ) → Agrees image cells w o → Matches (plays (advanceScan n) image cells) (expects (advanceScan n) w o)
 advance-agrees image cells w none n x = rw (← (advance-idle image n cells (x .long) (checkpointOf cells) refl (x .scan))) (record { said = refl; agrees = x })
 advance-agrees image cells w (some o) n x = by-last o x n (x .scan .reached .last) refl (x .scan .stands)

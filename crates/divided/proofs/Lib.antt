@@ -8,4 +8,5 @@ pub mod Instalments
 pub mod Finishing
 pub mod Undivided
 pub mod Yardstick
+pub mod AnyDivision
 pub mod Example

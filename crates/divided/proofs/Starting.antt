@@ -24,7 +24,7 @@ use Rattle.paused.specs.declared.Response.the-variants as R
 use Rattle.paused.specs.Memory.{checkpointOf, waitingOf}
 use Rattle.resumable.specs.Instalment.{AfterCall, afterCall}
 use Rattle.lifecycle.specs.Calls.{formed, startedIn, taken, orRefused, startWith, beginOf}
-use Rattle.divided.specs.Expected.{Scan, Expected, expect, says, Played, played, imageAfter, begin, plays, expectBegin, expects}
+use Rattle.divided.specs.Expected.{Scan, Expected, expect, says, begun, Played, played, imageAfter, begin, plays, expectBegin, expects}
 use Rattle.divided.proofs.May.{placed, May, may, may-not}
 use Rattle.divided.proofs.Left.{Stands, kept-left, stands-left}
 use Rattle.divided.proofs.Stored.{apart-taken, waits-none, Formed, forms}
@@ -39,12 +39,8 @@ some-phase cells w len total place (ok (machine b c vs t)) s e = by (leb len pla
     by false h = omega arith
 some-phase cells w len total place (refusal k) s e = let h = sym (ap (λ p. p .phase) s) ∙ e in omega (arith, h)
 
--- the scan that a start leaves
-abbrev begun : List ℕ → State → List ℤ → Scan
-begun i s row = record { image = i; start = s; row = row; done = 0 }
-
 -- a scan that passed the tests before the code is started
-expect-begun : (i : List ℕ) (s : State) (row : List ℤ) → May i s row
+pub expect-begun : (i : List ℕ) (s : State) (row : List ℤ) → May i s row
     → expectBegin i s row (scanOf i s row .answer) (scanOf i s row .steps) ≡ expect (says (R.Done 0)) none (some (begun i s row))
 expect-begun i s row y =
     rw (whole-finished (begun i s row) y)

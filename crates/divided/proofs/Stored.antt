@@ -14,7 +14,7 @@ use Rattle.semantics.specs.Formula.{State}
 use Rattle.bytecode.specs.Parts.{headerOf, lows, highs}
 use Rattle.paused.specs.Memory.{layoutPlace, startPlace, lowPlace, highPlace, rowPlace, waitingPlace, slice, clipped, checkpointOf, layoutOf, layoutCells, waitingLength, waitingIn, waitingOf}
 use Rattle.paused.proofs.ReadBack.{getD-sets-before, getD-sets-behind, getD-sets-same, slice-sets-before, slice-sets-behind, slice-sets-same, clipped-is, clipped-alike, layout-alike, layout-stored, waiting-alike}
-use Rattle.lifecycle.specs.Calls.{layoutFor, formed, taken, withRow, over}
+use Rattle.lifecycle.specs.Calls.{layoutFor, formed, taken, withRow, withoutScan}
 use Rattle.divided.proofs.May.{Placed}
 
 checkpoint-alike : (l m : List ℤ) → ((j : ℕ) → j < 7 → getD l j (pos 0) ≡ getD m j (pos 0)) → checkpointOf l ≡ checkpointOf m
@@ -78,11 +78,11 @@ waits-none cells l = rw (clipped-is (taken cells) waitingPlace 0 (nameLimit + 1)
 
 -- ---- a finish
 
-pub phase-over : (cells : List ℤ) → length cells ≡ pausedLength → checkpointOf (over cells) .phase ≡ 0
+pub phase-over : (cells : List ℤ) → length cells ≡ pausedLength → checkpointOf (withoutScan cells) .phase ≡ 0
 unfolding checkpointOf
-phase-over cells l = clipped-is (over cells) 0 0 3 (getD-set-same cells 0 (pos 0) (pos 0) (omega arith)) (omega arith)
+phase-over cells l = clipped-is (withoutScan cells) 0 0 3 (getD-set-same cells 0 (pos 0) (pos 0) (omega arith)) (omega arith)
 
-pub waits-over : (cells : List ℤ) → waitingOf (over cells) ≡ waitingOf cells
+pub waits-over : (cells : List ℤ) → waitingOf (withoutScan cells) ≡ waitingOf cells
 waits-over cells =
     waiting-alike _ _ (getD-sets-behind (pos 0 ∷ []) cells 0 waitingPlace (omega arith)) (λ n h. slice-sets-behind (pos 0 ∷ []) cells 0 rowPlace n (omega arith))
 

@@ -7,7 +7,7 @@ use lib.IntN.{ℤ}
 use lib.ListN.{length}
 use Rattle.limits.specs.Limits.{pausedLength}
 use Rattle.paused.specs.Memory.{checkpointOf, waitingOf}
-use Rattle.divided.specs.Expected.{Call, post, begin, advance, finish, Said, plays, play, Scan, expects, expectedSaid}
+use Rattle.divided.specs.Expected.{Call, post, begin, advanceScan, finish, Said, plays, play, Scan, expects, expectedSaid}
 use Rattle.divided.proofs.Agrees.{Agrees, Matches}
 use Rattle.divided.proofs.Posting.{post-agrees}
 use Rattle.divided.proofs.Starting.{begin-agrees}
@@ -18,7 +18,7 @@ use Rattle.divided.proofs.Finishing.{finish-agrees}
 pub call-agrees : (c : Call) (image : List ℕ) (cells : List ℤ) (w : Option (List ℤ)) (o : Option Scan) → Agrees image cells w o → Matches (plays c image cells) (expects c w o)
 call-agrees (post i row) image cells w o x = post-agrees x i row
 call-agrees (begin i s) image cells w o x = begin-agrees image cells i s w o x
-call-agrees (advance n) image cells w o x = advance-agrees image cells w o n x
+call-agrees (advanceScan n) image cells w o x = advance-agrees image cells w o n x
 call-agrees (finish s) image cells w o x = finish-agrees image cells w o s x
 
 -- any list of calls

@@ -3,11 +3,14 @@
 use Prim.Native.Nat.{ℕ, zero, suc, _+_, _-_, _≤_, _<_, min}
 use native.Mathlib.Omega.{arith}
 use mathlib.Core.Path.{_≡_, refl, sym, ap, _∙_}
-use mathlib.Core.Bool.{true}
+use mathlib.Core.Bool.{Bool, true, false, _&&_, cond}
 use mathlib.Core.List.{List, [], _∷_}
 use mathlib.Core.Option.{Option, none, some}
+use lib.Dec.{eqb, ltb}
 use lib.IntN.{ℤ}
+use lib.ListN.{length}
 use borrow.Author.Tests.{le-ltb}
+use Rattle.limits.specs.Limits.{pausedLength}
 use Rattle.limits.specs.Answer.{Answer, accepted, refused}
 use Rattle.arith.specs.Values.{Outcome, ok, refusal}
 use Rattle.arith.proofs.Basics.{eqZ-self}
@@ -16,18 +19,21 @@ use Rattle.bytecode.specs.Parts.{countFrom, shapeIn}
 use Rattle.bytecode.specs.Check.{checkOf}
 use Rattle.bytecode.proofs.Walk.{refused≢accepted}
 use Rattle.machine.specs.Step.{Machine, machine}
-use Rattle.machine.proofs.Laws.{run-steps}
+use Rattle.semantics.specs.Program.{Range}
+use Rattle.machine.specs.Runs.{Ran, run, resume}
+use Rattle.machine.proofs.Laws.{run-steps, run-divided}
+use Rattle.runs.proofs.Divided.{run-counts, run-exact, refused-late}
 use Rattle.scan.specs.Services.{AfterScan, finished, runOf, scanCode, scanOf}
 use Rattle.scan.specs.Inner.Parts.{scannedBy}
 use Rattle.before.specs.Before.{beforeCode}
 use Rattle.before.proofs.Scans.{scan-is}
 use Rattle.paused.specs.declared.Checkpoint.{Checkpoint}
 use Rattle.paused.specs.declared.Response.the-variants as R
-use Rattle.paused.specs.Memory.{startPlace, slice}
+use Rattle.paused.specs.Memory.{startPlace, slice, checkpointOf}
 use Rattle.paused.specs.Responses.{stepsIn}
-use Rattle.resumable.specs.Instalment.{rangesIn, standing, ranFrom}
+use Rattle.resumable.specs.Instalment.{AfterCall, afterCall, rangesIn, standing, ranFrom, advanceOf}
 use Rattle.lifecycle.specs.Calls.{sameValues, mayPost}
-use Rattle.divided.specs.Expected.{Call, post, begin, advance, finish, Said, leaves, Scan, whole, Expected, expect, expectPost, furtherBy, expectEnd, expects, expectedSaid, Between, AllBetween, givenIn, doneIn, saidOf}
+use Rattle.divided.specs.Expected.{Call, post, begin, advanceScan, finish, Said, saysLeaving, Scan, whole, Expected, expect, expectPost, furtherBy, expectEnd, expects, expectedSaid, NotOver, givenIn, doneIn, saidOf}
 
 -- ---- the steps of an instalment
 
@@ -36,8 +42,44 @@ pub counted : (code : List ℕ) (n : ℕ) (p : Checkpoint) (size : ℕ) (cells :
 unfolding ranFrom
 counted code n p size cells m e = run-steps (rangesIn size cells) (slice startPlace size cells) code n (p .place) 0 (standing p size cells) m e ∙ omega arith
 
+before-refusal : (ns : List Range) (s : State) (code : List ℕ) (b at j : ℕ) (m : Machine) (k : ℕ) → run ns s code b at 0 m .last ≡ refusal k → run ns s code b at 0 m .steps ≡ suc j → countFrom code j at ≡ j
+before-refusal ns s code b at j m k e q =
+    let z : j + 1 ≡ suc j = omega arith in
+    let x = run-exact ns s code b at 0 (suc j) m (omega (arith, q)) in
+    let d = ap (λ (n : ℕ). run ns s code n at 0 m) (sym z) in
+    by (run ns s code j at 0 m .last) refl (ap (λ (r : Ran). r .steps) (sym (run-divided ns s code j 1 at 0 m) ∙ sym d ∙ x) ∙ q)
+  where
+    by : (o : Outcome Machine) → run ns s code j at 0 m .last ≡ o → resume ns s code 1 o (run ns s code j at 0 m .place) (run ns s code j at 0 m .steps) .steps ≡ suc j → countFrom code j at ≡ j
+    by (ok m₁) h w =
+        let y = run-steps ns s code j at 0 m m₁ h in
+        omega (arith, w, y, run-counts ns s code j at 0 m .1, run-counts ns s code 1 (run ns s code j at 0 m .place) (run ns s code j at 0 m .steps) m₁ .1)
+    by (refusal i) h w = absurd (omega (arith, w, run-counts ns s code j at 0 m .1))
+
+-- where it is refused: the instructions before the refusing one, and that one
+pub counted-refused : (code : List ℕ) (n : ℕ) (p : Checkpoint) (size : ℕ) (cells : List ℤ) (k : ℕ) → ranFrom code n p size cells .last ≡ refusal k
+    → ranFrom code n p size cells .steps ≡ countFrom code (ranFrom code n p size cells .steps - 1) (p .place) + 1
+unfolding ranFrom
+counted-refused code n p size cells k e =
+    let ns = rangesIn size cells in
+    let s = slice startPlace size cells in
+    let m = standing p size cells in
+    let late = refused-late ns s code n (p .place) 0 m k e in
+    let c = before-refusal ns s code n (p .place) (run ns s code n (p .place) 0 m .steps - 1) m k e (omega (arith, late)) in
+    omega (arith, late, c)
+
+-- With 0 steps nothing moves, whatever the memory holds.
+pub zero-stays : (image : List ℕ) (cells : List ℤ) → advanceOf image 0 cells .cells ≡ cells
+unfolding advanceOf
+zero-stays image cells = by (eqb (length cells) pausedLength) (eqb (checkpointOf cells .phase) 0) (eqb (checkpointOf cells .phase) 1) _
+  where
+    by : (a b c : Bool) (x : AfterCall) → cond a (cond b (afterCall R.Idle cells) (cond (c && false) x (afterCall (R.Done 0) cells))) (afterCall R.Idle cells) .cells ≡ cells
+    by true true c x = refl
+    by true false true x = refl
+    by true false false x = refl
+    by false b c x = refl
+
 -- with 0 steps nothing moves
-pub expected-zero : (w : Option (List ℤ)) (o : Scan) → expects (advance 0) w (some o) ≡ expect (record { reply = R.Done 0; left = none }) w (some o)
+pub expected-zero : (w : Option (List ℤ)) (o : Scan) → expects (advanceScan 0) w (some o) ≡ expect (record { reply = R.Done 0; left = none }) w (some o)
 expected-zero w o =
     let k : min 0 (whole o .steps - o .done) ≡ 0 = omega arith in
     let d : o .done + 0 ≡ o .done = omega arith in
@@ -53,19 +95,39 @@ pub posted-scan : (a : Answer (Unit {0})) (row : List ℤ) (w : Option (List ℤ
 posted-scan (refused number place) row w o = refl
 posted-scan (accepted u) row w o = refl
 
+-- a finish that leaves the scan not over tells no steps
+open-steps : (t : State) (w : Option (List ℤ)) (o : Scan) → expects (finish t) w (some o) .scan ≡ some o → stepsIn (expects (finish t) w (some o) .said .reply) ≡ 0
+open-steps t w o h = by (ltb (o .done) (whole o .steps)) h
+  where
+    same : (b : Bool) → cond b (expect (saysLeaving (R.Done (whole o .steps)) (whole o .state)) w none) (expect (saysLeaving (R.Refused 24 0 0) t) w (some o)) .scan ≡ some o
+        → stepsIn (cond b (expect (saysLeaving (R.Done (whole o .steps)) (whole o .state)) w none) (expect (saysLeaving (R.Refused 24 0 0) t) w (some o)) .said .reply) ≡ 0
+    same true q = let z : _≡_ {A = ℕ} 0 1 = cc in absurd (omega arith)
+    same false q = refl
+
+    end : (a : Answer (Unit {0})) → expectEnd t o w a .scan ≡ some o → stepsIn (expectEnd t o w a .said .reply) ≡ 0
+    end (refused n p) q = let z : _≡_ {A = ℕ} 0 1 = cc in absurd (omega arith)
+    end (accepted u) q = same (sameValues t (o .start)) q
+
+    by : (b : Bool) → cond b (expect (saysLeaving (R.Unfinished 0) t) w (some o)) (expectEnd t o w (whole o .answer)) .scan ≡ some o
+        → stepsIn (cond b (expect (saysLeaving (R.Unfinished 0) t) w (some o)) (expectEnd t o w (whole o .answer)) .said .reply) ≡ 0
+    by true q = refl
+    by false q = end (whole o .answer) q
+
 -- in all they do as many steps as are given, or those of the undivided scan that are left
-pub expected-total : (cs : List Call) → AllBetween cs → (w : Option (List ℤ)) (o : Scan) → doneIn (expectedSaid cs w (some o)) ≡ min (givenIn cs) (whole o .steps - o .done)
-expected-total [] h w o = omega arith
-expected-total (post i row ∷ cs) h w o =
+pub expected-total : (cs : List Call) (w : Option (List ℤ)) (o : Scan) → NotOver cs w o → doneIn (expectedSaid cs w (some o)) ≡ min (givenIn cs) (whole o .steps - o .done)
+expected-total [] w o h = omega arith
+expected-total (post i row ∷ cs) w o h =
     let a = mayPost (checkOf i) (shapeIn i) row in
-    let e = expected-total cs (h .1) (expectPost a row w (some o) .waiting) o in
+    let e = expected-total cs (expectPost a row w (some o) .waiting) o h in
     rw (posted-steps a row w (some o), posted-scan a row w (some o)) (omega (arith, e))
-expected-total (advance n ∷ cs) h w o =
+expected-total (begin i s ∷ cs) w o h = let e = expected-total cs w o h in omega (arith, e)
+expected-total (advanceScan n ∷ cs) w o h =
     let k = min n (whole o .steps - o .done) in
-    let e = expected-total cs (h .1) w (furtherBy k o) in
+    let e = expected-total cs w (furtherBy k o) h in
     omega (arith, e)
-expected-total (begin i s ∷ cs) h w o = absurd (h .0)
-expected-total (finish s ∷ cs) h w o = absurd (h .0)
+expected-total (finish t ∷ cs) w o h =
+    let e = expected-total cs (expects (finish t) w (some o) .waiting) o (h .1) in
+    rw (open-steps t w o (h .0), h .0) (omega (arith, e))
 
 -- ---- the result
 

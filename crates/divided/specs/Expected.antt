@@ -1,10 +1,12 @@
 -- What the calls of a scan in instalments answer, by the undivided scan alone. Document 02, A.8. Assumes nothing.
-use Prim.Native.Nat.{ℕ, zero, suc, _+_, _-_, min}
+use Prim.Native.Nat.{ℕ, zero, suc, _+_, _-_, _≤_, _<_, min}
+use mathlib.Core.Path.{_≡_}
 use mathlib.Core.Bool.{Bool, true, false, cond}
-use mathlib.Core.List.{List, [], _∷_}
+use mathlib.Core.List.{List, [], _∷_, _++_}
 use mathlib.Core.Option.{Option, none, some}
 use lib.Dec.{ltb}
 use lib.IntN.{ℤ}
+use lib.ListN.{length}
 use Rattle.limits.specs.Limits.{stateDiffers}
 use Rattle.limits.specs.Answer.{Answer, accepted, refused}
 use Rattle.semantics.specs.Formula.{State}
@@ -21,7 +23,7 @@ use Rattle.lifecycle.specs.Calls.{sameValues, mayPost, postOf, beginOf, AfterFi
 pub data Call : Type 0 where
   post : List ℕ → List ℤ → Call
   begin : List ℕ → State → Call
-  advance : ℕ → Call
+  advanceScan : ℕ → Call
   finish : State → Call
 
 -- the reply, and at a finish the state left
@@ -32,8 +34,8 @@ pub record Said : Type 0 where
 abbrev pub says : Response → Said
 says r = record { reply = r; left = none }
 
-abbrev pub leaves : Response → State → Said
-leaves r s = record { reply = r; left = some s }
+abbrev pub saysLeaving : Response → State → Said
+saysLeaving r s = record { reply = r; left = some s }
 
 -- ---- the calls on memory
 
@@ -55,8 +57,8 @@ imageAfter R.Idle new old = old
 abbrev pub plays : Call → List ℕ → List ℤ → Played
 plays (post i row) image cells = played (says (postOf i row cells .reply)) image (postOf i row cells .cells)
 plays (begin i s) image cells = played (says (beginOf i s cells .reply)) (imageAfter (beginOf i s cells .reply) i image) (beginOf i s cells .cells)
-plays (advance n) image cells = played (says (advanceOf image n cells .reply)) image (advanceOf image n cells .cells)
-plays (finish s) image cells = played (leaves (finishOf s cells .reply) (finishOf s cells .state)) image (finishOf s cells .cells)
+plays (advanceScan n) image cells = played (says (advanceOf image n cells .reply)) image (advanceOf image n cells .cells)
+plays (finish s) image cells = played (saysLeaving (finishOf s cells .reply) (finishOf s cells .state)) image (finishOf s cells .cells)
 
 abbrev pub play : List Call → List ℕ → List ℤ → List Said
 play [] image cells = []
@@ -102,19 +104,19 @@ abbrev pub furtherBy : ℕ → Scan → Scan
 furtherBy k o = record { image = o .image; start = o .start; row = o .row; done = o .done + k }
 
 abbrev pub expectEnd : State → Scan → Option (List ℤ) → Answer (Unit {0}) → Expected
-expectEnd s o w (refused number place) = expect (leaves (R.Refused number place (whole o .steps)) s) w none
+expectEnd s o w (refused number place) = expect (saysLeaving (R.Refused number place (whole o .steps)) s) w none
 expectEnd s o w (accepted u) =
-    cond (sameValues s (o .start)) (expect (leaves (R.Done (whole o .steps)) (whole o .state)) w none) (expect (leaves (R.Refused stateDiffers 0 0) s) w (some o))
+    cond (sameValues s (o .start)) (expect (saysLeaving (R.Done (whole o .steps)) (whole o .state)) w none) (expect (saysLeaving (R.Refused stateDiffers 0 0) s) w (some o))
 
 abbrev pub expects : Call → Option (List ℤ) → Option Scan → Expected
 expects (post image row) w o = expectPost (mayPost (checkOf image) (shapeIn image) row) row w o
 expects (begin image s) w (some o) = expect (says (R.Unfinished 0)) w (some o)
 expects (begin image s) none none = expect (says R.Idle) none none
 expects (begin image s) (some row) none = expectBegin image s row (scanOf image s row .answer) (scanOf image s row .steps)
-expects (advance n) w none = expect (says R.Idle) w none
-expects (advance n) w (some o) = expect (says (R.Done (stepsNow n o))) w (some (furtherBy (stepsNow n o) o))
-expects (finish s) w none = expect (leaves R.Idle s) w none
-expects (finish s) w (some o) = cond (ltb (o .done) (whole o .steps)) (expect (leaves (R.Unfinished 0) s) w (some o)) (expectEnd s o w (whole o .answer))
+expects (advanceScan n) w none = expect (says R.Idle) w none
+expects (advanceScan n) w (some o) = expect (says (R.Done (stepsNow n o))) w (some (furtherBy (stepsNow n o) o))
+expects (finish s) w none = expect (saysLeaving R.Idle s) w none
+expects (finish s) w (some o) = cond (ltb (o .done) (whole o .steps)) (expect (saysLeaving (R.Unfinished 0) s) w (some o)) (expectEnd s o w (whole o .answer))
 
 abbrev pub expectedSaid : List Call → Option (List ℤ) → Option Scan → List Said
 expectedSaid [] w o = []
@@ -122,22 +124,19 @@ expectedSaid (c ∷ cs) w o = expects c w o .said ∷ expectedSaid cs (expects c
 
 -- ---- any division into instalments gives the result, total steps and state of the undivided scan
 
--- between a start and its finish: instalments, and posts at any time
-abbrev pub Between : Call → Type 0
-Between (post image row) = Unit {0}
-Between (begin image s) = ⊥
-Between (advance n) = Unit {0}
-Between (finish s) = ⊥
-
-abbrev pub AllBetween : List Call → Type 0
-AllBetween [] = Unit {0}
-AllBetween (c ∷ cs) = Between c × AllBetween cs
+-- Calls that leave a scan not over: instalments of any sizes, posts and starts at any time, finishes that are too early or answer 24.
+abbrev pub NotOver : List Call → Option (List ℤ) → Scan → Type 0
+NotOver [] w o = Unit {0}
+NotOver (post image row ∷ cs) w o = NotOver cs (expects (post image row) w (some o) .waiting) o
+NotOver (begin image s ∷ cs) w o = NotOver cs w o
+NotOver (advanceScan n ∷ cs) w o = NotOver cs w (furtherBy (stepsNow n o) o)
+NotOver (finish s ∷ cs) w o = (expects (finish s) w (some o) .scan ≡ some o) × NotOver cs (expects (finish s) w (some o) .waiting) o
 
 -- the steps that instalments are given, and those that they report
 abbrev pub givenBy : Call → ℕ
 givenBy (post image row) = 0
 givenBy (begin image s) = 0
-givenBy (advance n) = n
+givenBy (advanceScan n) = n
 givenBy (finish s) = 0
 
 abbrev pub givenIn : List Call → ℕ
@@ -154,4 +153,19 @@ responseOf (refused number place) n = R.Refused number place n
 responseOf (accepted u) n = R.Done n
 
 abbrev pub saidOf : AfterScan → Said
-saidOf a = leaves (responseOf (a .answer) (a .steps)) (a .state)
+saidOf a = saysLeaving (responseOf (a .answer) (a .steps)) (a .state)
+
+-- the scan that a start leaves
+abbrev pub begun : List ℕ → State → List ℤ → Scan
+begun image s row = record { image = image; start = s; row = row; done = 0 }
+
+-- What a start of a row says, calls that leave its scan not over, and a finish with the state of the start: the instalments did as many steps
+-- as were given, or those of the undivided scan; if these are all, the finish answers its result and total steps, and leaves its state.
+pub record AsUndivided (image : List ℕ) (s : State) (row : List ℤ) (calls : List Call) (said : List Said) : Type 0 where
+  pub between : List Said
+  pub last : Said
+  pub each : said ≡ says (R.Done 0) ∷ (between ++ (last ∷ []))
+  pub one : length between ≡ length calls
+  pub total : doneIn between ≡ min (givenIn calls) (scanOf image s row .steps)
+  pub early : givenIn calls < scanOf image s row .steps → last ≡ saysLeaving (R.Unfinished 0) s
+  pub undivided : scanOf image s row .steps ≤ givenIn calls → last ≡ saidOf (scanOf image s row)

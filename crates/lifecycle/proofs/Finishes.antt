@@ -15,7 +15,7 @@ use Rattle.paused.specs.declared.Checkpoint.{Checkpoint}
 use Rattle.paused.specs.declared.Layout.{Layout}
 use Rattle.paused.specs.declared.Response.the-variants as R
 use Rattle.paused.specs.Memory.{startPlace, currentPlace, slice, checkpointOf, layoutOf}
-use Rattle.lifecycle.specs.Calls.{sameValues, afterFinish, over, finishOf}
+use Rattle.lifecycle.specs.Calls.{sameValues, afterFinish, withoutScan, finishOf}
 use Rattle.resumable.proofs.Running.{length-slice}
 use Rattle.lifecycle.specs.Inner.Parts.{finishEnded}
 use Rattle.lifecycle.proofs.Sameness.{same-long}
@@ -43,7 +43,7 @@ module _ (s : State) (cells : List ℤ) where
         unfolding finishOf
         finish-end z f g = rw (eq-eqb (length cells) pausedLength l, ← e, ← g, ne-eqb (p .phase) 0 n, ne-eqb (p .phase) 1 m, eq-eqb (p .phase) 2 z)
 
-        pub finish-refused : (p .phase ≡ 2 → ⊥) → afterFinish (R.Refused (p .number) 0 (p .steps)) (over cells) s ≡ finishOf s cells
+        pub finish-refused : (p .phase ≡ 2 → ⊥) → afterFinish (R.Refused (p .number) 0 (p .steps)) (withoutScan cells) s ≡ finishOf s cells
         unfolding finishOf
         finish-refused z = rw (eq-eqb (length cells) pausedLength l, ← e, ne-eqb (p .phase) 0 n, ne-eqb (p .phase) 1 m, ne-eqb (p .phase) 2 z)
 
@@ -55,5 +55,5 @@ module _ (s : State) (cells : List ℤ) (size : ℕ) (l : length cells ≡ pause
   pub state-room : length (slice currentPlace size cells) ≤ length s
   state-room = omega (arith, length-slice currentPlace size cells (omega arith), state-sized)
 
-  pub ended-done : (steps : ℕ) (m t : List ℤ) → t ≡ withInputs s (slice currentPlace size cells) → m ≡ over cells → afterFinish (R.Done steps) m t ≡ finishEnded steps size s cells
+  pub ended-done : (steps : ℕ) (m t : List ℤ) → t ≡ withInputs s (slice currentPlace size cells) → m ≡ withoutScan cells → afterFinish (R.Done steps) m t ≡ finishEnded steps size s cells
   ended-done steps m t f g = rw (e, g, f, over-all (slice currentPlace size cells) s (length-slice currentPlace size cells (omega arith) ∙ sym state-sized))

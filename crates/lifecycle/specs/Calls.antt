@@ -36,8 +36,8 @@ abbrev pub afterFinish : Response → List ℤ → State → AfterFinish
 afterFinish r cells s = record { reply = r; cells = cells; state = s }
 
 -- the scan is over
-abbrev pub over : List ℤ → List ℤ
-over cells = set cells 0 (pos 0)
+abbrev pub withoutScan : List ℤ → List ℤ
+withoutScan cells = set cells 0 (pos 0)
 
 -- 24 a state at the finish that differs, in length too, from the one at the start
 abbrev pub sameValues : List ℤ → List ℤ → Bool
@@ -54,9 +54,9 @@ finishWith p size s cells =
     (cond (eqb (p .phase) 1) (afterFinish (R.Unfinished 0) cells s)
     (cond (eqb (p .phase) 2)
     (cond (sameValues s (slice startPlace size cells))
-    (afterFinish (R.Done (p .steps)) (over cells) (slice currentPlace size cells))
+    (afterFinish (R.Done (p .steps)) (withoutScan cells) (slice currentPlace size cells))
     (afterFinish (R.Refused stateDiffers 0 0) cells s))
-    (afterFinish (R.Refused (p .number) 0 (p .steps)) (over cells) s)))
+    (afterFinish (R.Refused (p .number) 0 (p .steps)) (withoutScan cells) s)))
 
 unfoldable pub finishOf : State → List ℤ → AfterFinish
 finishOf s cells = cond (eqb (length cells) pausedLength) (finishWith (checkpointOf cells) (layoutOf cells .size) s cells) (afterFinish R.Idle cells s)

@@ -19,7 +19,7 @@ use Rattle.paused.specs.declared.Response.the-variants as R
 use Rattle.paused.specs.Memory.{waitingOf}
 use Rattle.resumable.specs.Instalment.{AfterCall, advanceOf}
 use Rattle.lifecycle.specs.Calls.{sameValues, mayPost, postOf, beginOf, AfterFinish, finishOf}
-use Rattle.divided.specs.Expected.{Scan, whole, Said, Played, Expected, post, begin, advance, finish, plays, expectPost, expects, imageAfter, expect, says, leaves, expectBegin}
+use Rattle.divided.specs.Expected.{Scan, whole, Said, Played, Expected, post, begin, advanceScan, finish, plays, expectPost, expects, imageAfter, expect, says, saysLeaving, expectBegin}
 use Rattle.divided.proofs.Agrees.{Agrees, Matches}
 use Rattle.divided.proofs.Posting.{post-agrees}
 use Rattle.divided.proofs.Starting.{begin-agrees}
@@ -82,14 +82,14 @@ module _ (image : List ℕ) (s : State) (row : List ℤ) where
         }
 
     pub goes-on : d + share < steps → Left image (given image share cells s) (R.Unfinished share) s (some (scanAt (d + share)))
-    goes-on h = finishes share (expect (leaves (R.Unfinished 0) s) (x .waiting) (some (scanAt (d + share)))) (omega arith) (rw (lt-ltb (d + share) steps h)) (R.Unfinished 0) s refl
+    goes-on h = finishes share (expect (saysLeaving (R.Unfinished 0) s) (x .waiting) (some (scanAt (d + share)))) (omega arith) (rw (lt-ltb (d + share) steps h)) (R.Unfinished 0) s refl
 
     pub ends : steps ≤ d + share → d ≤ steps → scanOf image s row .answer ≡ accepted tt → Left image (given image share cells s) (R.Done (steps - d)) (scanOf image s row .state) none
-    ends h l e = finishes (steps - d) (expect (leaves (R.Done steps) (scanOf image s row .state)) (x .waiting) none) (omega arith) (rw (le-ltb (d + (steps - d)) steps (omega arith), e, same-itself s)) (R.Done steps) (scanOf image s row .state) refl
+    ends h l e = finishes (steps - d) (expect (saysLeaving (R.Done steps) (scanOf image s row .state)) (x .waiting) none) (omega arith) (rw (le-ltb (d + (steps - d)) steps (omega arith), e, same-itself s)) (R.Done steps) (scanOf image s row .state) refl
 
     pub ends-refused : steps ≤ d + share → d ≤ steps → (number place : ℕ) → scanOf image s row .answer ≡ refused number place
         → Left image (given image share cells s) (R.Refused number place (steps - d)) s none
-    ends-refused h l number place e = finishes (steps - d) (expect (leaves (R.Refused number place steps) s) (x .waiting) none) (omega arith) (rw (le-ltb (d + (steps - d)) steps (omega arith), e)) (R.Refused number place steps) s refl
+    ends-refused h l number place e = finishes (steps - d) (expect (saysLeaving (R.Refused number place steps) s) (x .waiting) none) (omega arith) (rw (le-ltb (d + (steps - d)) steps (omega arith), e)) (R.Refused number place steps) s refl
 
 -- ---- the start
 

@@ -26,7 +26,7 @@ use Rattle.paused.specs.Memory.{startPlace, currentPlace, slice, checkpointOf, 
 use Rattle.paused.proofs.Clipped.{layout-within}
 use Rattle.resumable.specs.Instalment.{AfterCall, afterCall, ranFrom, leftAfter, instalment, advanced, advanceOf}
 use Rattle.resumable.proofs.Running.{length-slice}
-use Rattle.lifecycle.specs.Calls.{AfterFinish, afterFinish, over, sameValues, finishOf, taken, orRefused, formed, startedIn, startWith, beginOf}
+use Rattle.lifecycle.specs.Calls.{AfterFinish, afterFinish, withoutScan, sameValues, finishOf, taken, orRefused, formed, startedIn, startWith, beginOf}
 use Rattle.lifecycle.proofs.Sameness.{same-long}
 use Rattle.rounds.specs.Visits.{shareInLimit, withSteps, given, visitFrom, visitOf}
 
@@ -92,7 +92,7 @@ finish-same s cells =
     still : {r : Response} → SameLengths cells s (afterFinish r cells s)
     still = record { memory = refl; values = refl }
 
-    done : {r : Response} → length cells ≡ pausedLength → sameValues s (slice startPlace (layoutOf cells .size) cells) ≡ true → SameLengths cells s (afterFinish r (over cells) (slice currentPlace (layoutOf cells .size) cells))
+    done : {r : Response} → length cells ≡ pausedLength → sameValues s (slice startPlace (layoutOf cells .size) cells) ≡ true → SameLengths cells s (afterFinish r (withoutScan cells) (slice currentPlace (layoutOf cells .size) cells))
     done l q =
         let n = layoutOf cells .size in
         let few = layout-within cells .sizes in

@@ -70,20 +70,20 @@ pub record Turn : Type 0 where
 abbrev pub withCells : RuleSet → List ℤ → State → RuleSet
 withCells x cells s = record { image = x .image; share = x .share; cells = cells; state = s }
 
-abbrev pub turn : Option Response → RuleSet → Turn
-turn r x = record { reply = r; left = x }
+abbrev pub turnWith : Option Response → RuleSet → Turn
+turnWith r x = record { reply = r; left = x }
 
 abbrev pub posted : Post → RuleSet → Turn
-posted p x = turn (some (postOf (p .image) (p .row) (x .cells) .reply)) (withCells x (postOf (p .image) (p .row) (x .cells) .cells) (x .state))
+posted p x = turnWith (some (postOf (p .image) (p .row) (x .cells) .reply)) (withCells x (postOf (p .image) (p .row) (x .cells) .cells) (x .state))
 
 abbrev pub visited : RuleSet → Turn
 visited x =
-    turn (some (visitOf (x .image) (x .share) (x .cells) (x .state) .reply))
+    turnWith (some (visitOf (x .image) (x .share) (x .cells) (x .state) .reply))
     (withCells x (visitOf (x .image) (x .share) (x .cells) (x .state) .cells) (visitOf (x .image) (x .share) (x .cells) (x .state) .state))
 
 -- no call
 abbrev pub still : RuleSet → Turn
-still x = turn none x
+still x = turnWith none x
 
 -- A row is posted to one set; a round visits all of them.
 pub data Event : Type 0 where

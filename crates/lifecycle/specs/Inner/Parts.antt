@@ -12,13 +12,13 @@ use Rattle.semantics.specs.Formula.{State}
 use Rattle.paused.specs.declared.Layout.{Layout}
 use Rattle.paused.specs.declared.Response.the-variants as R
 use Rattle.paused.specs.Memory.{layoutPlace, startPlace, currentPlace, lowPlace, highPlace, slice, layoutCells, checkpointCells}
-use Rattle.lifecycle.specs.Calls.{sameValues, AfterFinish, afterFinish, over}
+use Rattle.lifecycle.specs.Calls.{sameValues, AfterFinish, afterFinish, withoutScan}
 
 -- a finish at the end of the code
 abbrev pub finishEnded : ℕ → ℕ → State → List ℤ → AfterFinish
 finishEnded steps size s cells =
     cond (sameValues s (slice startPlace size cells))
-    (afterFinish (R.Done steps) (over cells) (slice currentPlace size cells))
+    (afterFinish (R.Done steps) (withoutScan cells) (slice currentPlace size cells))
     (afterFinish (R.Refused stateDiffers 0 0) cells s)
 
 -- a start, stored list by list
