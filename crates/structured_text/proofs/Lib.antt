@@ -1,2 +1,4 @@
 pub mod Ways
 pub mod Table
+pub mod Growth
+pub mod Bound

@@ -1,2 +1,3 @@
 pub mod Services
+pub mod Room
 pub mod Examples
