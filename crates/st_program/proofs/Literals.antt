@@ -1,18 +1,19 @@
 -- The program of an accepted text: its names are names, its starts DINTs, and its numbers carry no sign. Assumes nothing.
 use Prim.Native.Nat.{ℕ, zero, suc}
-use mathlib.Core.Path.{_≡_, refl}
+use mathlib.Core.Path.{_≡_, refl, subst}
 use mathlib.Core.Bool.{Bool, true, false, _&&_}
-use mathlib.Core.List.{List, [], _∷_, map}
+use mathlib.Core.List.{List, [], _∷_, _++_, map, append-nil}
 use mathlib.Core.Option.{Option, none, some}
 use lib.ListN.{length, getElem?}
 use lib.Signed.{leZ}
 use Rattle.limits.specs.Answer.{accepted}
 use Rattle.arith.specs.Values.{isInt32}
 use Rattle.arith.proofs.Basics.{T-true, and-left}
-use Rattle.semantics.specs.Program.{Name, Range, Expression, Condition, Case, Rule, Program, rangesOf}
+use Rattle.semantics.specs.Program.{Name, Range, Expression, Condition, Side, rising, falling, Case, Rule, Program, rangesOf}
 use Rattle.bytecode.specs.Translation.{Translatable, RangesFit}
 use Rattle.grammar.specs.Derivation as D
 use Rattle.grammar.specs.Derivation.{IsName, Tokens, normals, Level, LevelC, SpellsE, SpellsC}
+use Rattle.grammar.specs.Pairs.{onSide, pairCases}
 use Rattle.grammar.specs.Spelled as S
 use Rattle.grammar.specs.Spelled.{namesOf, SpellsCases, SpellsR, SpellsRules}
 use Rattle.grammar.specs.Parse.{programOf}
@@ -52,10 +53,19 @@ module _ (names : List (List ℕ)) where
   literal-cases v ts ls ks (S.SpellsCases.more-cases us ws xs ys k js s d f q) =
       (literal-condition D.condition _ us (k .condition) d, literal-expression D.expression _ ws (k .value) f, literal-cases v xs ys js q)
 
+  -- a side changes nothing, and two lists make one
+  literal-sided : (side : Side) (ks js : List Case) → LiteralK ks → LiteralK js → LiteralK (onSide side ks ++ js)
+  literal-sided side [] js a b = b
+  literal-sided side (k ∷ ks) js a b = (a .0, a .1, literal-sided side ks js (a .2) b)
+
+  literal-pair : (ks js : List Case) → LiteralK ks → LiteralK js → LiteralK (pairCases ks js)
+  literal-pair ks js a b = literal-sided rising ks (onSide falling js) a (subst LiteralK (append-nil (onSide falling js)) (literal-sided falling js [] b tt))
+
   literal-rules : (ts : Tokens) (rs : List Rule) → SpellsRules names ts rs → LiteralAll rs
   literal-rules ts rs S.SpellsRules.none = tt
   literal-rules ts rs (S.SpellsRules.more us vs r qs (S.SpellsR.a-change v i xs ls ks cs ei d room e) q) = (literal-cases v xs ls ks d, literal-rules vs qs q)
   literal-rules ts rs (S.SpellsRules.more us vs r qs (S.SpellsR.a-function v i xs e ei d) q) = (literal-expression D.expression _ xs e d, literal-rules vs qs q)
+  literal-rules ts rs (S.SpellsRules.more us vs r qs (S.SpellsR.a-pair v i xs ls ys ms ks js ei d f room) q) = (literal-pair ks js (literal-cases v xs ls ks d) (literal-cases v ys ms js f), literal-rules vs qs q)
 
 all-names : (ws : List Identifier) → ((i : ℕ) (w : List ℕ) → getElem? ws i ≡ some w → IsName w) → AllNames ws
 all-names [] h = tt
