@@ -55,6 +55,14 @@ impl<'i> Subject<'i> {
     }
 }
 
+/// So many scans of one input in instalments of one size, for a tool that counts instructions.
+pub fn run(inputs: &[Input], name: &str, size: usize, calls: u32) {
+    let input = inputs.iter().find(|input| input.name == name).expect("an input of the tables");
+    let subject = Subject::new(input);
+    (0..calls).for_each(|_| subject.instalments(size));
+    println!("{}", input.instructions);
+}
+
 /// Nanoseconds, over so many rounds: of post and start a call, of instalments an instruction with the ratio to scan.
 pub fn table(inputs: &[Input], rounds: u32) {
     println!("\na scan in instalments: ns a call of post and of start, ns an instruction of scan and of instalments with their finish");

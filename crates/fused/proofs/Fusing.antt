@@ -23,7 +23,9 @@ use Rattle.checker.proofs.Walking.{WalksTo, walks-here, walks-on, walks-step, j
 use Rattle.machine.specs.declared.Registers.{Registers}
 use Rattle.machine.specs.declared.Stepped.the-variants.{Next, Refused}
 use Rattle.machine.specs.Inner.Memory.{heldOf, OneEach}
-use Rattle.machine.proofs.Loop.{Going, ended, again, refused}
+use Rattle.machine.specs.Inner.Dispatch.{dispatchedOf}
+use Rattle.machine.proofs.Loop.{Going, ended, stopped, again}
+use Rattle.machine.proofs.Dispatching.{one-done}
 use Rattle.fused.specs.declared.Progress.{Progress}
 use Rattle.fused.specs.declared.ahead.Leap.{Leap}
 use Rattle.fused.specs.declared.ahead.Leap.the-variants as L
@@ -79,6 +81,8 @@ module _ {code : List ℕ} {low high prev : List ℤ} {inputs : ℕ} {cur₀ val
       let i = m .instruction in
       let behind : b .at < k .at = fetch-next code (b .at) i (k .at) (m .fetched) .1 in
       let names : length (flagsOf (k .walk .names) (k .walk .known)) ≡ length (flagsOf (b .walk .names) (b .walk .known)) = advance-small i (knownOf (b .walk)) (knownOf (k .walk)) (omega (arith, length-flags (b .walk .names) (b .walk .known), f .ready .small .few-names)) (m .advanced) .1 in
+      let c = one-done code low high prev (b .at) (registersOf b) vals cur l (some i) (k .at) (m .fetched) vals₁ cur₁ (Next (registersOf k)) (few-held (k .passing) (k .walk .held) (m .small .few-held))
+      (λ ns q. sym (m .acted ns q)) (dispatchedOf (k .at) (Next (registersOf k))) refl in
       record {
         ready = record {
           small = m .small;
@@ -88,8 +92,7 @@ module _ {code : List ℕ} {low high prev : List ℤ} {inputs : ℕ} {cur₀ val
           opened = m .opened;
         };
         walks = walks-on code 0 _ _ _ _ _ (f .walks) (walks-step code (b .at) _ l (some i) (k .at) (m .fetched) _ (m .advanced) behind);
-        going = again (f .going) (omega (arith, f .few)) l (some i) (k .at) (sym (m .fetched)) (Next (registersOf k)) vals₁ cur₁ (λ ns q. sym (m .acted ns q))
-            (registersOf k) refl (few-held (k .passing) (k .walk .held) (m .small .few-held)) deeper wider;
+        going = again (f .going) (omega (arith, f .few)) vals₁ cur₁ (registersOf k) (k .at) 1 (record { few = c .few; some-done = omega arith; no-more = omega (arith, f .few); goes = c .goes }) deeper wider;
         few = omega (arith, f .few);
       }
 
@@ -117,7 +120,8 @@ module _ {code : List ℕ} {low high prev : List ℤ} {inputs : ℕ} {cur₀ val
         record {
           sound = fusing-sound (behind J.Sound rest);
           place = b .at;
-          went = λ ns q. sym (refused (f .going) (omega (arith, f .few)) l (some (m .instruction)) (k .at) (sym (m .fetched)) (Refused number) vals cur (λ ns₁ q₁. sym (m .acted ns₁ q₁)) number refl ns q);
+          went = λ ns q. sym (stopped (f .going) (omega (arith, f .few)) number
+              (one-done code low high prev (b .at) (registersOf b) vals cur l (some (m .instruction)) (k .at) (m .fetched) vals cur (Refused number) tt (λ ns₁ q₁. sym (m .acted ns₁ q₁)) (dispatchedOf (k .at) (Refused number)) refl) ns q);
           within = omega (arith, f .few);
         }
 

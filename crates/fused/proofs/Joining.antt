@@ -3,19 +3,17 @@ use Prim.Native.Nat.{ℕ, _+_, _≤_, _<_}
 use native.Mathlib.Omega.{arith}
 use mathlib.Core.Path.{_≡_, refl, sym, ap, subst, _∙_}
 use mathlib.Core.Bool.{Bool, true, false, cond, false≢true}
-use mathlib.Core.List.{List, [], _∷_, map}
+use mathlib.Core.List.{List, [], _∷_}
 use mathlib.Core.Option.{Option, none, some}
 use lib.IntN.{ℤ, pos}
 use lib.ListN.{length, getD}
-use borrow.Author.Tests.{le-leb, lt-leb}
-use Rattle.arith.specs.Values.{ok, refusal}
+use Rattle.arith.specs.Values.{ok}
 use Rattle.semantics.specs.Program.{Range}
 use Rattle.leb128.specs.Numbers.{Read, got, nothing, numberAt}
-use Rattle.bytecode.specs.Instructions.{Instruction, operation, operationOf, instructionOf, hasOperand, decoded, fetch}
+use Rattle.bytecode.specs.Instructions.{Instruction, instructionOf, hasOperand, decoded, fetch}
 use Rattle.bytecode.specs.Check.{advance}
 use Rattle.bytecode.proofs.Soundness.{none≢some, idsOf}
-use Rattle.bytecode.proofs.Codes.{operation-of, comparison-of}
-use Rattle.bytecode.proofs.Fetching.{fetch-alone, fetch-number, fetch-malformed, number-within}
+use Rattle.bytecode.proofs.Fetching.{fetch-alone, fetch-number, fetch-malformed}
 use Rattle.checker.specs.declared.advance.Walk.{Walk}
 use Rattle.checker.specs.declared.advance.Advanced.{Advanced}
 use Rattle.checker.specs.declared.advance.Advanced.the-variants.{Kept, Broken}
@@ -28,15 +26,12 @@ use Rattle.machine.specs.declared.Stepped.{Stepped}
 use Rattle.machine.specs.declared.Stepped.the-variants as S
 use Rattle.machine.specs.Step.{Machine, machine, step}
 use Rattle.machine.specs.Inner.Memory.{heldOf, machineOf, stepOutcome, stepped, RangesIn}
-use Rattle.machine.specs.Inner.Groups.{OnStack, truthOf, related}
 use Rattle.machine.proofs.Refusals.{Matches, Kept as KeptBy, step-keeps}
 use Rattle.machine.proofs.Changes.{names-length}
-use Rattle.machine.proofs.Codes.{truth-comparison, related-same}
 use Rattle.machine.proofs.Stack.{length-held}
 use Rattle.fused.specs.declared.Progress.{Progress}
 use Rattle.fused.specs.declared.Moved.{Moved}
-use Rattle.fused.specs.declared.Moved.the-variants as M
-use Rattle.fused.specs.Inner.Passes.{registersOf, movedOf, Ready, BreaksAt, Moves, Refuses, MovesBy}
+use Rattle.fused.specs.Inner.Passes.{registersOf, movedOf, Ready, BreaksAt, Moves, MovesBy}
 
 -- ---- ranges of which only lows and highs are known
 
@@ -151,18 +146,3 @@ module _ (code : List ℕ) (b : Progress) (inside : b .at < length code) where
 
       pub malformed : numberAt code (b .at + 1) ≡ nothing → BreaksAt code b
       malformed e = judges-malformed code (b .at) (knownOf (b .walk)) inside (fetch-malformed code (b .at) inside (ap hasOperand is ∙ has) e)
-
--- ---- arithmetic and comparisons
-
-pub no-operand : (code : ℕ) → 4 ≤ code → code < 20 → hasOperand code ≡ false
-unfolding hasOperand
-no-operand code l h = rw (le-leb 1 code (omega arith), lt-leb code 3 (omega arith), lt-leb 20 code h, lt-leb 24 code (omega arith))
-
-module _ (code : ℕ) (m : Registers) (vals left : List ℤ) (r : Stepped) (go : m .passing ≡ false) where
-  pub calculated-is : 4 ≤ code → code ≤ 8 → OnStack (operation (operationOf code)) m vals r left
-      → (ns : List Range) (s t : List ℤ) → stepOutcome r left t ≡ stepped ns s (instructionOf code 0) (machineOf m vals t)
-  calculated-is l h e ns s t = e ns s t ∙ rw (operation-of code 0 l h, go)
-
-  pub related-is : 10 ≤ code → code ≤ 15 → ((t : List ℤ) → stepOutcome r left t ≡ related (truthOf code) (m .picked) (heldOf vals (m .held)) t)
-      → (ns : List Range) (s t : List ℤ) → stepOutcome r left t ≡ stepped ns s (instructionOf code 0) (machineOf m vals t)
-  related-is l h e ns s t = e t ∙ related-same _ _ _ (heldOf vals (m .held)) t (λ x y. truth-comparison code x y (omega arith)) ∙ rw (comparison-of code 0 l h, go)

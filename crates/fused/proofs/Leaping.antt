@@ -3,7 +3,7 @@ use Prim.Native.Nat.{ℕ, _+_, _*_, _%_, _^_, _≤_, _<_}
 use native.Mathlib.Omega.{arith}
 use native.Mathlib.Numerals.{add-one}
 use native.Mathlib.Nat.{pow-suc}
-use mathlib.Core.Path.{_≡_, refl, sym, ap, subst, _∙_}
+use mathlib.Core.Path.{_≡_, refl, sym, subst, _∙_}
 use mathlib.Core.Bool.{Bool, true, false, false≢true}
 use mathlib.Core.List.{List}
 use mathlib.Core.Option.{some}
@@ -11,17 +11,13 @@ use lib.IntN.{ℤ}
 use lib.ListN.{length, getD, set, length-set}
 use borrow.Author.Tests.{lt-ltb}
 use Rattle.arith.specs.Inner.Flags.{flagsOf}
-use Rattle.arith.specs.Values.{Comparison, ok, compares}
 use Rattle.arith.proofs.Flags.{length-flags}
 use Rattle.semantics.specs.Program.{Range}
 use Rattle.semantics.specs.Formula.{State, at as valueAt}
-use Rattle.leb128.specs.Numbers.{got, unzigzag}
-use Rattle.leb128.proofs.Laws.{one-group}
-use Rattle.bytecode.specs.Instructions.{Instruction, constant, current, previous, operation, comparison, operationOf, comparisonOf, instructionOf, hasOperand, fetch}
+use Rattle.leb128.specs.Numbers.{unzigzag}
+use Rattle.bytecode.specs.Instructions.{Instruction, constant, current, previous, operation, comparison, operationOf, comparisonOf, instructionOf, hasOperand}
 use Rattle.bytecode.specs.Signature.{number, truth}
 use Rattle.bytecode.specs.Check.{advance}
-use Rattle.bytecode.proofs.Codes.{operation-of, comparison-of}
-use Rattle.bytecode.proofs.Fetching.{fetch-alone, fetch-number}
 use Rattle.checker.specs.declared.advance.Walk.{Walk}
 use Rattle.checker.specs.declared.advance.Advanced.the-variants.{Kept}
 use Rattle.checker.specs.Inner.Walk.{openOf, knownOf, pushed, joined, outside, Small}
@@ -29,59 +25,26 @@ use Rattle.checker.proofs.Bits.{length-sorts, sorts-cons, sorts-push, sorts-num
 use Rattle.checker.proofs.Steps.{operation-is, comparison-is, constant-is}
 use Rattle.machine.specs.declared.Registers.{Registers}
 use Rattle.machine.specs.declared.Stepped.the-variants as S
-use Rattle.machine.specs.Step.{machine, bit, push, perform}
+use Rattle.machine.specs.Step.{bit, push, perform}
 use Rattle.machine.specs.Inner.Memory.{heldOf}
 use Rattle.machine.specs.Inner.Groups.{truthOf}
 use Rattle.machine.proofs.Changes.{names-length}
 use Rattle.machine.proofs.Codes.{truth-comparison}
-use Rattle.machine.proofs.Stack.{held-put, push-put}
+use Rattle.machine.proofs.Stack.{push-put}
+use Rattle.machine.proofs.Dispatching.{compares-two}
 use Rattle.fused.specs.declared.Progress.{Progress}
 use Rattle.fused.specs.declared.Moved.{Moved}
 use Rattle.fused.specs.declared.Moved.the-variants as M
 use Rattle.fused.specs.declared.ahead.Leap.{Leap}
 use Rattle.fused.specs.Inner.Passes.{Ready, Moves, MovesBy}
 use Rattle.fused.specs.Inner.Leaps.{ComparisonSeen, OperationSeen, Goes, lastly, first, leapOf, LeapsBy}
-use Rattle.fused.proofs.Joining.{arrives, no-operand}
+use Rattle.machine.proofs.Fetches.{short-fetch, constant-ahead, second-is, third-is, operation-third}
+use Rattle.fused.proofs.Joining.{arrives}
 use Rattle.fused.proofs.Passing.{over-moves-by}
 
 -- ---- the bytes ahead
 
-module _ (code : List ℕ) (at byte : ℕ) (is : getD code at 0 ≡ byte) (i : Instruction) where
-  -- a code byte and an operand of one byte
-  short-fetch : at + 1 < length code → hasOperand byte ≡ true → getD code (at + 1) 0 < 128 → instructionOf byte (getD code (at + 1) 0) ≡ some i → fetch code at ≡ got i (at + 2)
-  short-fetch l has s e =
-      let two : at + 1 + 1 ≡ at + 2 = omega arith in
-      fetch-number code at (getD code (at + 1) 0) (at + 1 + 1) (omega arith) (ap hasOperand is ∙ has) (one-group code (at + 1) l s) ∙ rw (is, e, two)
-
-  -- a code byte alone
-  lone-fetch : at < length code → hasOperand byte ≡ false → instructionOf byte 0 ≡ some i → fetch code at ≡ got i (at + 1)
-  lone-fetch l has e = fetch-alone code at l (ap hasOperand is ∙ has) ∙ rw (is, e)
-
 module _ (code : List ℕ) (at : ℕ) where
-  constant-ahead : at + 1 < length code → getD code at 0 ≡ 1 → getD code (at + 1) 0 < 128 → fetch code at ≡ got (constant (unzigzag (getD code (at + 1) 0))) (at + 2)
-  unfolding instructionOf hasOperand
-  constant-ahead l is s = short-fetch code at 1 is (constant (unzigzag (getD code (at + 1) 0))) l refl s refl
-
-module _ (code : List ℕ) (at : ℕ) where
-  second-is : at + 4 < length code → getD code (at + 2) 0 ≡ 1 → getD code (at + 3) 0 < 128 → fetch code (at + 2) ≡ got (constant (unzigzag (getD code (at + 3) 0))) (at + 4)
-  second-is l is s =
-      let p : at + 2 + 1 ≡ at + 3 = omega arith in
-      let q : at + 2 + 2 ≡ at + 4 = omega arith in
-      let s₁ : getD code (at + 2 + 1) 0 < 128 = rw p s in
-      rw (p, q) at (constant-ahead code (at + 2) (omega arith) is s₁)
-
-  third-is : at + 4 < length code → 10 ≤ getD code (at + 4) 0 → getD code (at + 4) 0 ≤ 15 → fetch code (at + 4) ≡ got (comparison (comparisonOf (getD code (at + 4) 0))) (at + 5)
-  third-is l a z =
-      let q : at + 4 + 1 ≡ at + 5 = omega arith in
-      let has : hasOperand (getD code (at + 4) 0) ≡ false = no-operand (getD code (at + 4) 0) (omega arith) (omega arith) in
-      rw q at (lone-fetch code (at + 4) (getD code (at + 4) 0) refl (comparison (comparisonOf (getD code (at + 4) 0))) l has (comparison-of (getD code (at + 4) 0) 0 a z))
-
-  operation-third : at + 2 < length code → 4 ≤ getD code (at + 2) 0 → getD code (at + 2) 0 ≤ 8 → fetch code (at + 2) ≡ got (operation (operationOf (getD code (at + 2) 0))) (at + 3)
-  operation-third l a z =
-      let q : at + 2 + 1 ≡ at + 3 = omega arith in
-      let has : hasOperand (getD code (at + 2) 0) ≡ false = no-operand (getD code (at + 2) 0) a (omega arith) in
-      rw q at (lone-fetch code (at + 2) (getD code (at + 2) 0) refl (operation (operationOf (getD code (at + 2) 0))) l has (operation-of (getD code (at + 2) 0) 0 a z))
-
   pub operation-seen : (w : Walk) → getD code at 0 ≡ 1 → at + 2 < length code → 4 ≤ getD code (at + 2) 0 → getD code (at + 2) 0 ≤ 8 → getD code (at + 1) 0 < 128 → 1 ≤ w .held → w .held + 1 ≤ 40 → w .sorts % 2 ≡ 0
       → OperationSeen code at w
   operation-seen w is l a z s some-held room on-number =
@@ -89,7 +52,7 @@ module _ (code : List ℕ) (at : ℕ) where
         operand = getD code (at + 1) 0;
         operator = operationOf (getD code (at + 2) 0);
         first = constant-ahead code at (omega arith) is s;
-        second = operation-third l a z;
+        second = operation-third code at l a z;
         inside = omega arith;
         short = s;
         some-held = some-held;
@@ -182,14 +145,6 @@ module _ (w : Walk) where
   two-joined : 1 ≤ w .held → w .sorts % 2 ≡ 0 → joined number number (knownOf (withNumber w)) ≡ some (knownOf w)
   unfolding joined
   two-joined h e = rw (sorts-number (w .held) (w .sorts), sorts-cons (w .held) (w .sorts) h, e)
-
--- ---- the machine
-
-compares-two : (ns : List Range) (s t : State) (o : Comparison) (c : Bool) (vals : List ℤ) (h : ℕ) (x y : ℤ) → h + 2 ≤ 40 → 40 ≤ length vals
-    → ok (machine false c (heldOf (set vals h (bit (compares o x y))) (h + 1)) t) ≡ perform ns s (comparison o) c (heldOf (set (set vals h x) (h + 1) y) (h + 1 + 1)) t
-compares-two ns s t o c vals h x y l room =
-    let deep : h + 1 < length (set vals h x) = omega (arith, length-set vals h x) in
-    rw (held-put (set vals h x) (h + 1) y deep, held-put vals h x (omega arith), held-put vals h (bit (compares o x y)) (omega arith))
 
 -- ---- a comparison at once
 

@@ -1,5 +1,5 @@
 -- Code bytes and the instructions that they stand for, as the matches on them tell. Assumes nothing.
-use mathlib.Core.Path.{_≡_, refl}
+use mathlib.Core.Path.{_≡_, refl, _∙_}
 use mathlib.Core.Bool.{Bool, true, false, _&&_, cond}
 use mathlib.Core.List.{List, [], _∷_}
 use mathlib.Core.Option.{Option, none, some}
@@ -13,9 +13,11 @@ use Rattle.semantics.specs.Program.{Range}
 use Rattle.semantics.specs.Formula.{State}
 use Rattle.bytecode.specs.Instructions.{Instruction, operation, comparison, operationOf, comparisonOf, instructionOf}
 use Rattle.bytecode.proofs.Codes.{operation-of, comparison-of, past, from-four}
+use Rattle.machine.specs.declared.Registers.{Registers}
+use Rattle.machine.specs.declared.Stepped.{Stepped}
 use Rattle.machine.specs.Step.{machine, isPick}
-use Rattle.machine.specs.Inner.Groups.{truthOf, related, performed}
-use Rattle.machine.specs.Inner.Memory.{stepped}
+use Rattle.machine.specs.Inner.Groups.{truthOf, related, performed, OnStack}
+use Rattle.machine.specs.Inner.Memory.{heldOf, machineOf, stepOutcome, stepped}
 
 -- ---- arithmetic and comparisons
 
@@ -33,6 +35,15 @@ pub related-same : (f g : ℤ → ℤ → Bool) (c : Bool) (vs : List ℤ) (t : 
 related-same f g c [] t h = refl
 related-same f g c (b ∷ []) t h = refl
 related-same f g c (b ∷ a ∷ vs) t h = rw (h a b)
+
+module _ (code : ℕ) (m : Registers) (vals left : List ℤ) (r : Stepped) (go : m .passing ≡ false) where
+  pub calculated-is : 4 ≤ code → code ≤ 8 → OnStack (operation (operationOf code)) m vals r left
+      → (ns : List Range) (s t : List ℤ) → stepOutcome r left t ≡ stepped ns s (instructionOf code 0) (machineOf m vals t)
+  calculated-is l h e ns s t = e ns s t ∙ rw (operation-of code 0 l h, go)
+
+  pub related-is : 10 ≤ code → code ≤ 15 → ((t : List ℤ) → stepOutcome r left t ≡ related (truthOf code) (m .picked) (heldOf vals (m .held)) t)
+      → (ns : List Range) (s t : List ℤ) → stepOutcome r left t ≡ stepped ns s (instructionOf code 0) (machineOf m vals t)
+  related-is l h e ns s t = e t ∙ related-same _ _ _ (heldOf vals (m .held)) t (λ x y. truth-comparison code x y (omega arith)) ∙ rw (comparison-of code 0 l h, go)
 
 -- ---- passing over: every instruction but a pick
 

@@ -9,7 +9,9 @@ use Rattle.bytecode.proofs.Codes.{operation-of, comparison-of, none-below, none
 use Rattle.bytecode.proofs.Fetching.{number-within}
 use Rattle.checker.specs.Inner.Walk.{knownOf}
 use Rattle.checker.proofs.Steps.{operation-is, comparison-is, both-is, either-is, negate-is, negated-is, constant-is}
-use Rattle.fused.proofs.Joining.{arrives, breaks, breaks-otherwise, alone, with-operand, malformed, no-operand, calculated-is, related-is}
+use Rattle.machine.proofs.Codes.{calculated-is, related-is}
+use Rattle.machine.proofs.Fetches.{no-operand}
+use Rattle.fused.proofs.Joining.{arrives, breaks, breaks-otherwise, alone, with-operand, malformed}
 use Rattle.fused.proofs.Passing.{over-moves-by}
 use borrow.Author.Needs.{needs}
 use Rattle.fused.proofs.advance_one.Statement.{statement}

@@ -10,7 +10,8 @@ use Rattle.bytecode.proofs.Codes.{operation-of, none-below, from-four, past}
 use Rattle.bytecode.proofs.Fetching.{number-within}
 use Rattle.checker.specs.Inner.Walk.{knownOf}
 use Rattle.checker.proofs.Steps.{operation-is, negate-is, constant-is}
-use Rattle.fused.proofs.Joining.{breaks-otherwise, alone, with-operand, malformed, no-operand}
+use Rattle.machine.proofs.Fetches.{no-operand}
+use Rattle.fused.proofs.Joining.{breaks-otherwise, alone, with-operand, malformed}
 use Rattle.fused.proofs.Passing.{passes, open-breaks}
 use borrow.Author.Needs.{needs}
 use Rattle.fused.proofs.pass.Statement.{statement}

@@ -1,0 +1,81 @@
+-- Instructions that a run does at once, and what it is then left with: auxiliary definitions for proofs. Assumes nothing.
+use mathlib.Core.Path.{_≡_}
+use mathlib.Core.Bool.{Bool, true}
+use mathlib.Core.List.{List}
+use Prim.Native.Nat.{ℕ, _+_, _-_, _≤_, _<_}
+use lib.IntN.{ℤ}
+use lib.ListN.{length}
+use Rattle.limits.specs.Limits.{stackLimit, brokenImage}
+use Rattle.arith.specs.Values.{refusal, Comparison, compares}
+use Rattle.semantics.specs.Program.{Range}
+use Rattle.leb128.specs.Numbers.{Read, got, nothing, unzigzag}
+use Rattle.bytecode.specs.Instructions.{Instruction, constant, comparison, fetch}
+use Rattle.machine.specs.declared.Registers.{Registers}
+use Rattle.machine.specs.declared.Stepped.{Stepped}
+use Rattle.machine.specs.declared.Stepped.the-variants as S
+use Rattle.machine.specs.declared.dispatch.Dispatched.{Dispatched}
+use Rattle.machine.specs.declared.dispatch.Dispatched.the-variants as D
+use Rattle.machine.specs.declared.dispatch.Lookahead.{Lookahead}
+use Rattle.machine.specs.declared.dispatch.Lookahead.the-variants as C
+use Rattle.machine.specs.Step.{push, perform}
+use Rattle.machine.specs.Runs.{ran, run}
+use Rattle.machine.specs.Inner.Memory.{machineOf, RangesIn}
+
+abbrev pub registers : ℕ → Bool → Bool → Registers
+registers h c p = record { held = h; picked = c; passing = p }
+
+-- ---- what one instruction leads to
+
+-- done, with this place behind it
+abbrev pub dispatchedOf : ℕ → Stepped → Dispatched
+dispatchedOf next (S.Next t) = D.On (t .held) (t .picked) (t .passing) next 1
+dispatchedOf next (S.Refused number) = D.Refused number
+
+-- passed over, with its operand read
+abbrev pub overOf : ℕ → Bool → Bool → Read ℕ → Dispatched
+overOf h c p (got n next) = D.On h c p next 1
+overOf h c p nothing = D.Refused brokenImage
+
+-- ---- what is done
+
+-- n instructions from a place on, at most so many: the run goes on behind them
+pub record Continues (code : List ℕ) (low high prev : List ℤ) (at : ℕ) (m : Registers) (vals cur vals₁ cur₁ : List ℤ) (most : ℕ) (k : Registers) (next n : ℕ) : Type 0 where
+  pub few : k .held ≤ stackLimit
+  pub some-done : 1 ≤ n
+  pub no-more : n ≤ most
+  pub goes : (ns : List Range) (budget done : ℕ) → RangesIn ns low high → n ≤ budget
+      → run ns prev code budget at done (machineOf m vals cur) ≡ run ns prev code (budget - n) next (done + n) (machineOf k vals₁ cur₁)
+
+-- the instruction at a place is refused
+abbrev pub Stops : List ℕ → List ℤ → List ℤ → List ℤ → ℕ → Registers → List ℤ → List ℤ → ℕ → Type 0
+Stops code low high prev at m vals cur number = (ns : List Range) (budget done : ℕ) → RangesIn ns low high → 0 < budget
+    → run ns prev code budget at done (machineOf m vals cur) ≡ ran (done + 1) at (refusal number)
+
+abbrev pub DispatchedBy : List ℕ → List ℤ → List ℤ → List ℤ → ℕ → Registers → List ℤ → List ℤ → List ℤ → List ℤ → ℕ → Dispatched → Type 0
+DispatchedBy code low high prev at m vals cur vals₁ cur₁ most (D.On h c p next n) = Continues code low high prev at m vals cur vals₁ cur₁ most (registers h c p) next n
+DispatchedBy code low high prev at m vals cur vals₁ cur₁ most (D.Refused number) = Stops code low high prev at m vals cur number
+
+-- passed over: whatever the memory holds
+abbrev pub PassedBy : List ℕ → ℕ → ℕ → Bool → Dispatched → Type 0
+PassedBy code at h c r = (low high prev vals cur : List ℤ) → DispatchedBy code low high prev at (registers h c true) vals cur vals cur 1 r
+
+-- ---- three instructions at once
+
+-- An instruction that puts x on top, a constant and a comparison; there is room for both values.
+pub record Comparing (code : List ℕ) (prev cur : List ℤ) (at held left : ℕ) (found : Bool) : Type 0 where
+  pub loading : Instruction
+  pub x : ℤ
+  pub operand : ℕ
+  pub relation : Comparison
+  pub first : fetch code at ≡ got loading (at + 2)
+  pub second : fetch code (at + 2) ≡ got (constant (unzigzag operand)) (at + 4)
+  pub third : fetch code (at + 4) ≡ got (comparison relation) (at + 5)
+  pub inside : at + 5 ≤ length code
+  pub room : held + 2 ≤ stackLimit
+  pub enough : 3 ≤ left
+  pub loaded : (ns : List Range) (c : Bool) (vs : List ℤ) → length ns ≡ length prev → perform ns prev loading c vs cur ≡ push x c vs cur
+  pub finds : found ≡ compares relation x (unzigzag operand)
+
+abbrev pub LookaheadBy : List ℕ → List ℤ → List ℤ → ℕ → ℕ → ℕ → Lookahead → Type 0
+LookaheadBy code prev cur at held left (C.Truth found) = Comparing code prev cur at held left found
+LookaheadBy code prev cur at held left C.Other = Unit {0}
