@@ -130,11 +130,16 @@ struct parts start(const uint8_t *image, size_t length, int32_t *state, size_t c
     return p;
 }
 
+/* The refusals of the rules at work. */
+static int at_work(unsigned number) {
+    return (number >= 14 && number <= 17) || number == 22;
+}
+
 static void scan_promises(struct parts p, const uint8_t *image, size_t cells, size_t inputs) {
     int lengths = (size_t)image[0] + image[1] == cells && image[0] == inputs;
     PROMISE((p.number == 12) == !lengths);
-    PROMISE(p.number == 0 || (p.number >= 12 && p.number <= 18));
-    PROMISE(p.count == 0 || p.number == 0 || (p.number >= 14 && p.number <= 17));
+    PROMISE(p.number == 0 || p.number == 12 || p.number == 13 || p.number == 18 || at_work(p.number));
+    PROMISE(p.count == 0 || p.number == 0 || at_work(p.number));
     PROMISE(p.count > 0 || p.number == 0 || p.number == 12 || p.number == 13 || p.number == 18);
 }
 
@@ -338,7 +343,7 @@ struct parts closed(const uint8_t *image, size_t length) {
     size_t cells = (size_t)image[0] + image[1], inputs = image[0];
     PROMISE(combination(image, length, p.place, state, cells, row, inputs).number == 0);
     struct parts refused = scan(image, length, state, cells, row, inputs);
-    PROMISE(refused.number >= 14 && refused.number <= 17);
+    PROMISE(at_work(refused.number));
     if (p.place > 0) { /* the scan before it was accepted */
         PROMISE(combination(image, length, p.place - 1, state, cells, row, inputs).number == 0);
         PROMISE(scan(image, length, state, cells, row, inputs).number == 0);
