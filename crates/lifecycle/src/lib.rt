@@ -54,11 +54,11 @@ fn finish_ended(memory: &mut [i32], state: &mut [i32], size: usize, steps: usize
     ensures { λ r. ⌜ afterFinish r (now (memory .exit)) (now (state .exit)) ≡ finishEnded steps size (now (state .entry)) (now (memory .entry)) ⌝ }
     ensures { λ r. ⌜ ResponseWithin imageLimit r ⌝ }
 {
-    if !same(state, &memory[128..128 + size]) {
+    if !same(state, &memory[paused::START..paused::START + size]) {
         return Response::Refused(limits::STATE_DIFFERS, 0, 0);
     }
-    lists::fill(state, &memory[256..256 + size]);
-    put(memory, 0, 0);
+    lists::fill(state, &memory[paused::CURRENT..paused::CURRENT + size]);
+    put(memory, paused::CHECKPOINT, 0);
     Response::Done(steps)
 }
 
@@ -82,7 +82,7 @@ pub fn finish(paused: &mut [i32], state: &mut [i32]) -> Response
         let layout = paused::layout_in(paused);
         return finish_ended(paused, state, layout.size, p.steps);
     }
-    put(paused, 0, 0);
+    put(paused, paused::CHECKPOINT, 0);
     Response::Refused(p.number, 0, p.steps)
 }
 
