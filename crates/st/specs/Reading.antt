@@ -23,7 +23,7 @@ isPart b = (leb 97 b && ltb b 123) || ((leb 65 b && ltb b 91) || ((leb 48 b && l
 abbrev pub isPair : ℕ → ℕ → Bool
 isPair a b = cond (eqb a 60) (eqb b 61 || eqb b 62) (cond (eqb a 58 || eqb a 62) (eqb b 61) false)
 
--- whether the byte b goes on the token that stands left
+-- whether the byte b goes on the lexeme that stands left
 abbrev pub joins : List ℕ → ℕ → Bool
 joins [] b = false
 joins (a ∷ []) b = cond (isPart a) (isPart b) (isPair a b)
@@ -64,7 +64,7 @@ isNumber (b ∷ l) = allDigits (b ∷ l)
 
 -- ---- readers
 
--- what was read and the tokens behind it; or nothing
+-- what was read and the lexemes behind it; or nothing
 pub data Reading (A : Type 0) : Type 0 where
   read : A → Lexemes → Reading A
   unread : Reading A
@@ -78,7 +78,7 @@ abbrev pub first : Lexemes → List ℕ
 first [] = []
 first (t ∷ ts) = t
 
--- the first token is the word or sign given
+-- the first lexeme is the word or sign given
 abbrev pub begins : String → Lexemes → Bool
 begins w ts = sameName (first ts) (bytes w)
 
@@ -154,7 +154,7 @@ unfoldable pub readExpression : ℕ → Lexemes → Reading StExpression
 readExpression zero ts = unread
 readExpression (suc f) ts = leveled levels (readUnary (λ us. readExpression f us)) ts
 
--- no more brackets than tokens
+-- no more brackets than lexemes
 abbrev pub readWhole : Lexemes → Reading StExpression
 readWhole ts = readExpression (suc (length ts)) ts
 
@@ -186,7 +186,7 @@ abbrev pub isEmpty : Lexemes → Bool
 isEmpty [] = true
 isEmpty (t ∷ ts) = false
 
--- up to the end; each has a token
+-- up to the end; each has a lexeme
 unfoldable pub readStatements : ℕ → Lexemes → Reading (List Statement)
 readStatements zero ts = read [] ts
 readStatements (suc f) ts =

@@ -18,14 +18,14 @@ use Rattle.st_program.specs.Written.{stBytes, isStWord, hasSt}
 -- ---- the place of 21
 
 -- behind `input` or `var` stands the name declared
-abbrev pub declares : Kind → Bool
-declares k = is k inputWord || is k varWord
+abbrev pub declaresName : Kind → Bool
+declaresName k = is k inputWord || is k varWord
 
 -- of a token: where it stands if it is a declared name and a word of Structured Text, else what the walk goes on to find
 abbrev pub reservedAt : List ℕ → Bool → (Bool → ℕ → ℕ) → TokenRead → ℕ
 reservedAt text named more (fault s) = 0
 reservedAt text named more (token k s n) =
-    let next = more (declares k) n in
+    let next = more (declaresName k) n in
     let here = cond (isStWord (part text s n)) s next in
     cond (is k ending) 0 (cond named here next)
 
