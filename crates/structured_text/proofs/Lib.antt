@@ -2,3 +2,4 @@ pub mod Ways
 pub mod Table
 pub mod Growth
 pub mod Bound
+pub mod FirstReserved

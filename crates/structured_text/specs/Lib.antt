@@ -1,3 +1,4 @@
 pub mod Services
+pub mod Place
 pub mod Room
 pub mod Examples

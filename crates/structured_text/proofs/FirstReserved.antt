@@ -1,0 +1,234 @@
+-- 21 is answered at the first declared name that is a word of Structured Text. Assumes nothing.
+use Prim.Native.Nat.{ℕ, zero, suc, _+_, _-_, _≤_}
+use native.Mathlib.Omega.{arith}
+use mathlib.Core.Path.{_≡_, refl, sym, ap, _∙_, subst}
+use mathlib.Core.Bool.{Bool, true, false, not, _&&_, _||_, cond, false≢true}
+use mathlib.Core.List.{List, [], _∷_, _++_, map, append-assoc}
+use mathlib.Core.Logic.{_⊎_, inl, inr}
+use lib.IntN.{ℤ}
+use lib.ListN.{length, length-append}
+use Rattle.limits.specs.Answer.{accepted}
+use Rattle.lexer.specs.Bytes.{bytes, part}
+use Rattle.lexer.specs.Token.{Kind, name, ending, inputWord, varWord, kindNumber, spellingOf, is, TokenRead, token}
+use Rattle.lexer.specs.Lexer.{isDigit, tokenAt}
+use Rattle.lexer.specs.Spelling.{Spelling, IsDigits, TokenFrom}
+use Rattle.lexer.proofs.Same.{same-kind}
+use Rattle.lexer.proofs.Spellings.{isFixed}
+use Rattle.semantics.specs.Program.{Name, Program}
+use Rattle.grammar.specs.Derivation.{asWritten, Stands, Spells, IsName}
+use Rattle.grammar.specs.Spelled as S
+use Rattle.grammar.specs.Spelled.{SpellsZ, SpellsStart, Declares, DeclareAll, namesOf, Spelled}
+use Rattle.grammar.specs.Parse.{programOf}
+use Rattle.grammar.proofs.Growth.{bytesOf, bytes-append, spells-bytes}
+use Rattle.grammar.proofs.Standing.{written, is-read, split, stands-in, spells-in}
+use Rattle.grammar.proofs.Phrases.{fixed-at, name-at}
+use Rattle.grammar.proofs.ConverseText.{accepted-exactly}
+use Rattle.st_program.specs.Written.{isStWord, noneStWord, hasSt}
+use Rattle.st_program.proofs.FirstStore.{spelled}
+use Rattle.structured_text.specs.Services.{declaresName, reservedFrom, reservedPlace}
+use Rattle.structured_text.specs.Place.{FirstReserved}
+
+-- ---- tokens that declare nothing
+
+abbrev Plain : List ℕ → Type 0
+Plain w = (w ≡ bytes "input" → ⊥) × (w ≡ bytes "var" → ⊥)
+
+abbrev AllPlain : List (List ℕ) → Type 0
+AllPlain [] = Unit {0}
+AllPlain (w ∷ ws) = Plain w × AllPlain ws
+
+plain-append : (ts us : List (List ℕ)) → AllPlain ts → AllPlain us → AllPlain (ts ++ us)
+plain-append [] us h g = g
+plain-append (t ∷ ts) us h g = (h .0, plain-append ts us (h .1) g)
+
+-- of another length than 5 and 3
+length-plain : (w : List ℕ) (n : ℕ) → length w ≡ n → (n ≡ 5 → ⊥) → (n ≡ 3 → ⊥) → Plain w
+length-plain w n e f g = ((λ q. f (sym e ∙ ap {A = List ℕ} length q)), (λ q. g (sym e ∙ ap {A = List ℕ} length q)))
+
+heads : {x y : ℕ} {k l : List ℕ} → x ∷ k ≡ y ∷ l → x ≡ y
+heads e = cc
+
+digits-plain : (w : List ℕ) → IsDigits w → Plain w
+unfolding isDigit
+digits-plain [] d = absurd d
+digits-plain (b ∷ l) d = ((λ q. false≢true (sym (ap isDigit (heads q)) ∙ d .0)), (λ q. false≢true (sym (ap isDigit (heads q)) ∙ d .0)))
+
+one-plain : (b : ℕ) → Plain (b ∷ [])
+one-plain b = length-plain (b ∷ []) 1 refl (λ e. omega arith) (λ e. omega arith)
+
+number-plain : (ts : List (List ℕ)) (z : ℤ) → SpellsZ ts z → AllPlain ts
+number-plain ts z (S.SpellsZ.positive w d) = (digits-plain w d, tt)
+number-plain ts z (S.SpellsZ.negative w d) = (one-plain 45, (digits-plain w d, tt))
+
+start-plain : (ts : List (List ℕ)) (z : ℤ) → SpellsStart ts z → AllPlain ts
+start-plain ts z S.SpellsStart.absent = tt
+start-plain ts z (S.SpellsStart.given us y d) = (length-plain (bytes "init") 4 refl (λ e. omega arith) (λ e. omega arith), number-plain us y d)
+
+-- ---- the walk
+
+never-is : (k j : Kind) → (k ≡ j → ⊥) → is k j ≡ false
+never-is k j f = by (is k j) refl where
+  by : (t : Bool) → is k j ≡ t → t ≡ false
+  by true e = absurd (f (same-kind k j e))
+  by false e = refl
+
+module _ (text : List ℕ) where
+  -- the kind of a token is none that spells something else
+  other-kind : (a n : ℕ) (w : List ℕ) (st : Stands asWritten text a n w) (k : Kind) → (Spelling k w → ⊥) → is (st .kind) k ≡ false
+  other-kind a n w st k f =
+      never-is (st .kind) k (λ e. f (subst (Spelling k) (st .spelled) (subst (λ (j : Kind). Spelling j (part text (st .start) n)) e (st .is-token .spells))))
+
+  pass : (f : ℕ) (a s n : ℕ) (k : Kind) → tokenAt text a ≡ token k s n → is k ending ≡ false → is k inputWord ≡ false → is k varWord ≡ false → reservedFrom (suc f) text false a ≡ reservedFrom f text false n
+  unfolding reservedFrom
+  pass f a s n k t e i v = rw (t, e, i, v)
+
+  walk-plain : (ts : List (List ℕ)) → AllPlain ts → (a b : ℕ) → a ≤ length text → Spells asWritten text a b ts → (f : ℕ) → length ts ≤ f → reservedFrom f text false a ≡ reservedFrom (f - length ts) text false b
+  walk-plain [] p a b h g f l = let e : f ≡ f - 0 = omega arith in ap (λ (n : ℕ). reservedFrom f text false n) g ∙ ap (λ (n : ℕ). reservedFrom n text false b) e
+  walk-plain (w ∷ ts) p a b h g zero l = absurd (omega arith)
+  walk-plain (w ∷ ts) p a b h g (suc f) l =
+      let st = g .1 in
+      let e : f - length ts ≡ suc f - length (w ∷ ts) = omega arith in
+      pass f a (st .start) (g .0) (st .kind) (is-read st) (other-kind a (g .0) w st ending (λ x. x)) (other-kind a (g .0) w st inputWord (λ x. p .0 .0 x)) (other-kind a (g .0) w st varWord (λ x. p .0 .1 x))
+      ∙ walk-plain ts (p .1) (g .0) b (stands-in written text a (g .0) w h st .1) (g .2) f (omega arith)
+      ∙ ap (λ (n : ℕ). reservedFrom n text false b) e
+
+  -- a word that declares, then a name
+  two : (f : ℕ) (a s n t m : ℕ) (k : Kind) (w : List ℕ) → is k ending ≡ false → declaresName k ≡ true → tokenAt text a ≡ token k s n → tokenAt text n ≡ token name t m → part text t m ≡ w
+      → reservedFrom (suc (suc f)) text false a ≡ cond (isStWord w) t (reservedFrom f text false m)
+  unfolding reservedFrom is kindNumber
+  two f a s n t m k w e d q r p = rw (q, e, d, r, p)
+
+  -- one declaration
+  record Declared (x : Name) (ts : List (List ℕ)) (a b f : ℕ) : Type 0 where
+    start : ℕ
+    end : ℕ
+    stands : TokenFrom text start end name
+    spells : part text start end ≡ x .spelling
+    walks : reservedFrom f text false a ≡ cond (isStWord (x .spelling)) start (reservedFrom (f - length ts) text false b)
+
+  kind-name : (k : Kind) (s n : ℕ) → _≡_ {A = TokenRead} (token k s n) (token name s n) → k ≡ name
+  kind-name k s n e = cc
+
+  declared : (k : Kind) → isFixed k ≡ true → is k ending ≡ false → declaresName k ≡ true → (ts : List (List ℕ)) (x : Name) → Declares (spellingOf k) ts x
+      → (a b : ℕ) → a ≤ length text → Spells asWritten text a b ts → (f : ℕ) → length ts ≤ f → Declared x ts a b f
+  declared k fx e d ts x (S.Declares.declares w ls hs ss r nm dl dh ds fits) a b h g zero l = absurd (omega arith)
+  declared k fx e d ts x (S.Declares.declares w ls hs ss r nm dl dh ds fits) a b h g (suc zero) l = absurd (omega arith)
+  declared k fx e d ts x (S.Declares.declares w ls hs ss r nm dl dh ds fits) a b h g (suc (suc f)) l =
+      let rest = ((ls ++ bytes ".." ∷ hs) ++ ss) ++ bytes ";" ∷ [] in
+      let plain = plain-append ((ls ++ bytes ".." ∷ hs) ++ ss) (bytes ";" ∷ []) (plain-append (ls ++ bytes ".." ∷ hs) ss
+      (plain-append ls (bytes ".." ∷ hs) (number-plain ls (r .low) dl) (length-plain (bytes "..") 2 refl (λ q. omega arith) (λ q. omega arith), number-plain hs (r .high) dh)) (start-plain ss (r .start) ds)) (one-plain 59, tt) in
+      let n1 = g .0 in
+      let st1 = g .1 in
+      let h1 = stands-in written text a n1 (spellingOf k) h st1 .1 in
+      let n2 = g .2 .0 in
+      let st2 = g .2 .1 in
+      let h2 = stands-in written text n1 n2 w h1 st2 .1 in
+      let t2 = name-at written text w nm n1 n2 h1 st2 in
+      let fuel : f - length rest ≡ suc (suc f) - length (S.declarationForm (spellingOf k) w ls hs ss) = omega arith in
+      record {
+        start = st2 .start;
+        end = n2;
+        stands = subst (TokenFrom text (st2 .start) n2) (kind-name (st2 .kind) (st2 .start) n2 (sym (is-read st2) ∙ t2)) (st2 .is-token);
+        spells = st2 .spelled;
+        walks = two f a (st1 .start) n1 (st2 .start) n2 k w e d (fixed-at written text k fx a n1 h st1) t2 (st2 .spelled)
+            ∙ ap (cond (isStWord w) (st2 .start)) (walk-plain rest plain n2 b h2 (g .2 .2) f (omega arith) ∙ ap (λ (n : ℕ). reservedFrom n text false b) fuel);
+      }
+
+  -- what a walk over declarations shows: a reserved name, or none and where it goes on
+  abbrev Walked : List Name → List (List ℕ) → ℕ → ℕ → ℕ → Type 0
+  Walked ns ts a b f = FirstReserved text (spelled ns) (reservedFrom f text false a) ⊎ ((noneStWord (spelled ns) ≡ true) × (reservedFrom f text false a ≡ reservedFrom (f - length ts) text false b))
+
+  first-here : (x : Name) (ns : List Name) (ts : List (List ℕ)) (a b f : ℕ) (d : Declared x ts a b f) → isStWord (x .spelling) ≡ true → FirstReserved text (spelled (x ∷ ns)) (reservedFrom f text false a)
+  first-here x ns ts a b f d e =
+      let q : reservedFrom f text false a ≡ d .start = d .walks ∙ ap (λ (t : Bool). cond t (d .start) (reservedFrom (f - length ts) text false b)) e in
+      subst (FirstReserved text (spelled (x ∷ ns))) (sym q)
+      (record { earlier = []; word = x .spelling; later = spelled ns; in-order = refl; none-earlier = refl; reserved = e; end = d .end; stands = d .stands; spells = d .spells })
+
+  first-later : (w : List ℕ) (ws : List (List ℕ)) (place : ℕ) → isStWord w ≡ false → FirstReserved text ws place → FirstReserved text (w ∷ ws) place
+  first-later w ws place e r =
+      record { earlier = w ∷ r .earlier; word = r .word; later = r .later; in-order = ap (λ (l : List (List ℕ)). w ∷ l) (r .in-order); none-earlier = rw (e, r .none-earlier); reserved = r .reserved; end = r .end; stands = r .stands; spells = r .spells }
+
+  all-walked : (k : Kind) → isFixed k ≡ true → is k ending ≡ false → declaresName k ≡ true → (ts : List (List ℕ)) (ns : List Name) → DeclareAll (spellingOf k) ts ns
+      → (a b : ℕ) → a ≤ length text → Spells asWritten text a b ts → (f : ℕ) → length ts ≤ f → Walked ns ts a b f
+  all-walked k fx e d ts ns S.DeclareAll.none a b h g f l = inr (refl, (let q : f ≡ f - 0 = omega arith in ap (λ (n : ℕ). reservedFrom f text false n) g ∙ ap (λ (n : ℕ). reservedFrom n text false b) q))
+  all-walked k fx e d ts ns (S.DeclareAll.more us vs x xs dx r) a b h g f l =
+      let s = split written text a b us vs g in
+      let m = length-append us vs in
+      let one = declared k fx e d us x dx a (s .place) h (s .first) f (omega arith) in
+      let mid = spells-in written text a (s .place) us h (s .first) .1 in
+      by (isStWord (x .spelling)) refl (s .place) one (all-walked k fx e d vs xs r (s .place) b mid (s .second) (f - length us) (omega arith)) m where
+        by : (t : Bool) → isStWord (x .spelling) ≡ t → (c : ℕ) → Declared x us a c f → Walked xs vs c b (f - length us) → length (us ++ vs) ≡ length us + length vs → Walked (x ∷ xs) (us ++ vs) a b f
+        by true q c one more m = inl (first-here x xs us a c f one q)
+        by false q c one more m = go more where
+          on : reservedFrom f text false a ≡ reservedFrom (f - length us) text false c
+          on = one .walks ∙ ap (λ (t : Bool). cond t (one .start) (reservedFrom (f - length us) text false c)) q
+
+          go : Walked xs vs c b (f - length us) → Walked (x ∷ xs) (us ++ vs) a b f
+          go (inl z) = inl (first-later (x .spelling) (spelled xs) (reservedFrom f text false a) q (subst (FirstReserved text (spelled xs)) (sym on) z))
+          go (inr z) = inr (rw (q, z .0), (let e2 : f - length us - length vs ≡ f - length (us ++ vs) = omega arith in on ∙ z .1 ∙ ap (λ (n : ℕ). reservedFrom n text false b) e2))
+
+  -- all names, the inputs' first
+  both-walked : (is vs : List Name) (place : ℕ) → noneStWord (spelled is) ≡ true → FirstReserved text (spelled vs) place → FirstReserved text (spelled (is ++ vs)) place
+  both-walked [] vs place e r = r
+  both-walked (n ∷ is) vs place e r = let x = halves (isStWord (n .spelling)) (noneStWord (spelled is)) e in first-later (n .spelling) (spelled (is ++ vs)) place (x .0) (both-walked is vs place (x .1) r) where
+    halves : (s t : Bool) → (not s && t) ≡ true → (s ≡ false) × (t ≡ true)
+    halves true t e = absurd (false≢true e)
+    halves false t e = (refl, e)
+
+  none-both : (is vs : List Name) → noneStWord (spelled is) ≡ true → noneStWord (spelled vs) ≡ true → noneStWord (spelled (is ++ vs)) ≡ true
+  none-both [] vs e f = f
+  none-both (n ∷ is) vs e f = go (isStWord (n .spelling)) (noneStWord (spelled is)) e (none-both is vs) where
+    go : (s t : Bool) → (not s && t) ≡ true → (t ≡ true → noneStWord (spelled vs) ≡ true → noneStWord (spelled (is ++ vs)) ≡ true) → (not s && noneStWord (spelled (is ++ vs))) ≡ true
+    go true t e more = absurd (false≢true e)
+    go false t e more = more e f
+
+  more-inputs : (is vs : List Name) (place : ℕ) → FirstReserved text (spelled is) place → FirstReserved text (spelled (is ++ vs)) place
+  more-inputs is vs place r =
+      record {
+        earlier = r .earlier;
+        word = r .word;
+        later = r .later ++ spelled vs;
+        none-earlier = r .none-earlier;
+        reserved = r .reserved;
+        end = r .end;
+        stands = r .stands;
+        spells = r .spells;
+        in-order = joined is ∙ ap (λ (l : List (List ℕ)). l ++ spelled vs) (r .in-order) ∙ append-assoc (r .earlier) (r .word ∷ r .later) (spelled vs);
+      } where
+        joined : (k : List Name) → spelled (k ++ vs) ≡ spelled k ++ spelled vs
+        joined [] = refl
+        joined (n ∷ k) = ap (λ (l : List (List ℕ)). n .spelling ∷ l) (joined k)
+
+tokens-few : (ts : List (List ℕ)) → length ts ≤ bytesOf ts
+tokens-few [] = omega arith
+tokens-few (t ∷ ts) = let i = tokens-few ts in omega arith
+
+input-facts : (isFixed inputWord ≡ true) × (is inputWord ending ≡ false) × (declaresName inputWord ≡ true)
+unfolding isFixed is kindNumber
+input-facts = (refl, refl, refl)
+
+var-facts : (isFixed varWord ≡ true) × (is varWord ending ≡ false) × (declaresName varWord ≡ true)
+unfolding isFixed is kindNumber
+var-facts = (refl, refl, refl)
+
+-- the theorem: of an accepted text without Structured Text, the place is that of the first such name
+pub first-reserved : (text : List ℕ) (p : Program) → programOf text ≡ accepted p → hasSt p ≡ false → FirstReserved text (namesOf p) (reservedPlace text)
+unfolding hasSt reservedPlace
+first-reserved text p e lacks =
+    let s = accepted-exactly .accepted-spelled text p e in
+    let x = split written text 0 (s .rules-from) (s .input-tokens) (s .variable-tokens) (s .spells-declarations) in
+    let mid = spells-in written text 0 (x .place) (s .input-tokens) (omega arith) (x .first) .1 in
+    let i = spells-bytes written text 0 (x .place) (s .input-tokens) (omega arith) (x .first) in
+    let j = spells-bytes written text (x .place) (s .rules-from) (s .variable-tokens) mid (x .second) in
+    let end = spells-in written text (x .place) (s .rules-from) (s .variable-tokens) mid (x .second) .1 in
+    let ti = tokens-few (s .input-tokens) in
+    let tv = tokens-few (s .variable-tokens) in
+    by s (x .place) (all-walked text inputWord (input-facts .0) (input-facts .1) (input-facts .2) (s .input-tokens) (s .inputs) (s .declares-inputs) 0 (x .place) (omega arith) (x .first) (suc (length text)) (omega arith))
+    (all-walked text varWord (var-facts .0) (var-facts .1) (var-facts .2) (s .variable-tokens) (s .variables) (s .declares-variables) (x .place) (s .rules-from) mid (x .second) (suc (length text) - length (s .input-tokens)) (omega arith)) where
+      by : (s : Spelled text p) (c : ℕ) → Walked text (s .inputs) (s .input-tokens) 0 c (suc (length text)) → Walked text (s .variables) (s .variable-tokens) c (s .rules-from) (suc (length text) - length (s .input-tokens))
+          → FirstReserved text (namesOf p) (reservedFrom (suc (length text)) text false 0)
+      by s c (inl r) w = subst (λ (ns : List Name). FirstReserved text (spelled ns) (reservedFrom (suc (length text)) text false 0)) (sym (s .names)) (more-inputs text (s .inputs) (s .variables) (reservedFrom (suc (length text)) text false 0) r)
+      by s c (inr z) (inl r) =
+          subst (λ (ns : List Name). FirstReserved text (spelled ns) (reservedFrom (suc (length text)) text false 0)) (sym (s .names))
+          (both-walked text (s .inputs) (s .variables) (reservedFrom (suc (length text)) text false 0) (z .0) (subst (FirstReserved text (spelled (s .variables))) (sym (z .1)) r))
+      by s c (inr z) (inr y) = absurd (false≢true (sym lacks ∙ ap (λ (ns : List Name). noneStWord (spelled ns)) (s .names) ∙ none-both text (s .inputs) (s .variables) (z .0) (y .0)))
