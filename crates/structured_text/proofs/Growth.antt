@@ -1,9 +1,9 @@
 -- The Structured Text of the expressions, conditions and rules that tokens spell: twice its bytes are at most seven times theirs. Assumes nothing.
 use Prim.Native.Nat.{ℕ, zero, suc, _+_, _*_, _/_, _%_, _≤_, _<_}
 use native.Mathlib.Omega.{arith}
-use mathlib.Core.Path.{_≡_, refl, sym, ap, _∙_, subst}
+use mathlib.Core.Path.{_≡_, refl, sym, ap, ap₂, _∙_, subst}
 use mathlib.Core.Bool.{Bool, true, false}
-use mathlib.Core.List.{List, [], _∷_, _++_, map}
+use mathlib.Core.List.{List, [], _∷_, _++_, map, append-nil, map-append}
 use mathlib.Core.Option.{Option, none, some}
 use lib.Dec.{ltb, leb}
 use lib.IntN.{ℤ, pos, negsuc, negℤ}
@@ -16,14 +16,15 @@ use Rattle.lexer.specs.Lexer.{isDigit, digitValue, valueOn, valueOf}
 use Rattle.lexer.specs.Spelling.{AllBytes, IsDigits}
 use Rattle.trace_text.specs.Output.{unsignedDecimal}
 use Rattle.trace_text.proofs.Printing.{decimal-small, decimal-more}
-use Rattle.semantics.specs.Program.{Expression, Condition, Case, Rule}
+use Rattle.semantics.specs.Program.{Expression, Condition, Side, rising, falling, Case, Rule}
 use Rattle.grammar.specs.Derivation as D
 use Rattle.grammar.specs.Derivation.{Level, LevelC, SpellsE, SpellsC, SumSign, ProductSign, ComparisonSign}
+use Rattle.grammar.specs.Pairs.{onSide, pairCases}
 use Rattle.grammar.specs.Spelled as S
-use Rattle.grammar.specs.Spelled.{squared, cased, changeForm, SpellsCases, SpellsR, SpellsRules}
+use Rattle.grammar.specs.Spelled.{squared, cased, changeForm, pairForm, SpellsCases, SpellsR, SpellsRules}
 use Rattle.grammar.proofs.Growth.{laterBytes, bytesOf, bytes-append, token-bytes, digits-some}
-use Rattle.grammar.proofs.Phrases.{headTokens, middleTokens}
-use Rattle.st.specs.Syntax.{Identifier, or, and, Operator, connects, relates, computes, StExpression, number, variable, negative, complement, binary, Statement, choose}
+use Rattle.grammar.proofs.Phrases.{headTokens, middleTokens, riseTokens, fallTokens}
+use Rattle.st.specs.Syntax.{Identifier, or, and, Operator, connects, relates, computes, StExpression, number, variable, negative, complement, binary, Branch, Statement, choose}
 use Rattle.st.specs.Printed.{spelling, expressionPrinted, assignmentPrinted, branchPrinted, laterBranches, statementPrinted, statementsPrinted}
 use Rattle.st_program.specs.Written.{nameAt, expressionInSt, conditionInSt, branchInSt, ruleInSt}
 
@@ -150,21 +151,37 @@ module _ (ws names : List Identifier) (sized : (i : ℕ) (w : List ℕ) → getE
       let t = token-bytes v (s .1) in
       omega (arith, cased-bytes v ts us, f, g, a, s .0, s .1, t)
 
+  -- cases with others behind them
   cases-fit : (i : ℕ) (v : List ℕ) → getElem? names i ≡ some v → (ts ls : List (List ℕ)) (ks : List Case) → SpellsCases names v ts ls ks
-      → (l : List ℕ) → 2 * length (laterBranches (map (branchInSt ws i) ks) l) ≤ 7 * bytesOf ts + 2 * length l
+      → (rest : List Branch) (l : List ℕ) → 2 * length (laterBranches (map (branchInSt ws i) ks ++ rest) l) + 16 ≤ 7 * bytesOf ts + 2 * length (laterBranches rest l)
   unfolding laterBranches
-  cases-fit i v ei ts ls ks (S.SpellsCases.one-case us vs k s c e) l = let f = case-fits i v ei us vs k c e (bytes "END_IF;\n" ++ l) in omega arith
-  cases-fit i v ei ts ls ks (S.SpellsCases.more-cases us vs xs ys k js s c e q) l =
-      let f = case-fits i v ei us vs k c e (laterBranches (map (branchInSt ws i) js) l) in
-      let g = cases-fit i v ei xs ys js q l in
+  cases-fit i v ei ts ls ks (S.SpellsCases.one-case us vs k s c e) rest l = case-fits i v ei us vs k c e (laterBranches rest l)
+  cases-fit i v ei ts ls ks (S.SpellsCases.more-cases us vs xs ys k js s c e q) rest l =
+      let f = case-fits i v ei us vs k c e (laterBranches (map (branchInSt ws i) js ++ rest) l) in
+      let g = cases-fit i v ei xs ys js q rest l in
       let b = bytes-append (cased v us vs) (bytes "|" ∷ xs) in
       omega arith
 
+  list-fits : (i : ℕ) (v : List ℕ) → getElem? names i ≡ some v → (ts ls : List (List ℕ)) (ks : List Case) → SpellsCases names v ts ls ks
+      → (l : List ℕ) → 2 * length (laterBranches (map (branchInSt ws i) ks) l) ≤ 7 * bytesOf ts + 2 * length l
+  unfolding laterBranches
+  list-fits i v ei ts ls ks d l =
+      let f = subst (λ (bs : List Branch). 2 * length (laterBranches bs l) + 16 ≤ 7 * bytesOf ts + 2 * length (laterBranches [] l)) (append-nil (map (branchInSt ws i) ks)) (cases-fit i v ei ts ls ks d [] l) in
+      omega arith
+
+  -- a side is not printed
+  side-left-out : (i : ℕ) (side : Side) (ks : List Case) → map (branchInSt ws i) (onSide side ks) ≡ map (branchInSt ws i) ks
+  side-left-out i side [] = refl
+  side-left-out i side (k ∷ ks) = ap (λ (bs : List Branch). branchInSt ws i k ∷ bs) (side-left-out i side ks)
+
+  pair-branches : (i : ℕ) (ks js : List Case) → map (branchInSt ws i) (pairCases ks js) ≡ map (branchInSt ws i) ks ++ map (branchInSt ws i) js
+  pair-branches i ks js = map-append (branchInSt ws i) (onSide rising ks) (onSide falling js) ∙ ap₂ (λ (a b : List Branch). a ++ b) (side-left-out i rising ks) (side-left-out i falling js)
+
   -- IF is shorter
-  choose-fits : (i : ℕ) (v : List ℕ) (ts ls : List (List ℕ)) (ks : List Case) → SpellsCases names v ts ls ks → (l : List ℕ) (n : ℕ) → length (laterBranches (map (branchInSt ws i) ks) l) ≤ n → length (statementPrinted (choose (map (branchInSt ws i) ks)) l) ≤ n
+  choose-fits : (bs : List Branch) (l : List ℕ) → length (statementPrinted (choose bs) l) ≤ length (laterBranches bs l)
   unfolding statementPrinted laterBranches
-  choose-fits i v ts ls ks (S.SpellsCases.one-case us vs k s c e) l n h = omega arith
-  choose-fits i v ts ls ks (S.SpellsCases.more-cases us vs xs ys k js s c e q) l n h = omega arith
+  choose-fits [] l = omega arith
+  choose-fits (b ∷ bs) l = omega arith
 
   change-bytes : (v : List ℕ) (ts ls : List (List ℕ)) → bytesOf ts ≤ bytesOf (changeForm v ts ls)
   change-bytes v ts ls =
@@ -172,12 +189,24 @@ module _ (ws names : List Identifier) (sized : (i : ℕ) (w : List ℕ) → getE
       let closing = bytes ")" ∷ bytes ")" ∷ bytes ";" ∷ [] in
       omega (arith, bytes-append ((opening ++ ts) ++ (middleTokens v ++ ls)) closing, bytes-append (opening ++ ts) (middleTokens v ++ ls), bytes-append opening ts)
 
+  pair-bytes : (v : List ℕ) (ts us : List (List ℕ)) → bytesOf ts + bytesOf us ≤ bytesOf (pairForm v ts us)
+  pair-bytes v ts us =
+      let opening = v ∷ bytes "+" ∷ riseTokens v in
+      let closing = bytes ")" ∷ bytes ";" ∷ [] in
+      omega (arith, bytes-append ((opening ++ ts) ++ (fallTokens v ++ us)) closing, bytes-append (opening ++ ts) (fallTokens v ++ us), bytes-append opening ts, bytes-append (fallTokens v) us)
+
   rule-fits : (ts : List (List ℕ)) (r : Rule) → SpellsR names ts r → (l : List ℕ) → 2 * length (statementPrinted (ruleInSt ws r) l) ≤ 7 * bytesOf ts + 2 * length l
   unfolding statementPrinted ruleInSt laterBytes
   rule-fits ts r (S.SpellsR.a-change v i us ls ks cs ei d room e) l =
-      let f = cases-fit i v ei us ls ks d l in
-      let g = choose-fits i v us ls ks d l (length (laterBranches (map (branchInSt ws i) ks) l)) (omega arith) in
+      let f = list-fits i v ei us ls ks d l in
+      let g = choose-fits (map (branchInSt ws i) ks) l in
       omega (arith, f, g, change-bytes v us ls)
+  rule-fits ts r (S.SpellsR.a-pair v i us ls vs ms ks js ei d f room) l =
+      let falls = map (branchInSt ws i) js in
+      let a = subst (λ (bs : List Branch). 2 * length (laterBranches bs l) + 16 ≤ 7 * bytesOf us + 2 * length (laterBranches falls l)) (sym (pair-branches i ks js)) (cases-fit i v ei us ls ks d falls l) in
+      let b = list-fits i v ei vs ms js f l in
+      let g = choose-fits (map (branchInSt ws i) (pairCases ks js)) l in
+      omega (arith, a, b, g, pair-bytes v us vs)
   rule-fits ts r (S.SpellsR.a-function v i us e ei d) l =
       let value = expressionPrinted (expressionInSt ws e) (bytes ";\n" ++ l) in
       let f = expression-fits D.expression 16 us e d (bytes ";\n" ++ l) in

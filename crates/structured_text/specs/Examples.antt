@@ -45,6 +45,9 @@ outputExamples =
     -- later cases begin ELSIF
     ∷ prints (bytes "var v 0..2;v:GX(~(v=_v)->[_v=0]&v=(1)|[_v=1&~[_v<>1|[_v>=2]]]&v=(2));v:GX(v=_v->~([_v=0]|[_v=1&~[_v<>1|[_v>=2]]]));")
     (oneVariable (bytes "IF (_v = 0) THEN\n  v := 1;\nELSIF ((_v = 1) AND (NOT ((_v <> 1) OR (_v >= 2)))) THEN\n  v := 2;\nEND_IF;\n"))
+    -- a pair is one block over both lists, rising first
+    ∷ prints (bytes "var v 0..1;v+:GX(v>_v->[_v=0]&v=(1));v-:GX(v<_v->[_v=1]&v=(0));")
+    (oneVariable (bytes "IF (_v = 0) THEN\n  v := 1;\nELSIF (_v = 1) THEN\n  v := 0;\nEND_IF;\n"))
     -- names as declared
     ∷ prints (bytes "input Run 0..1;var v 0..1;V:GX(v=(rUN));")
     (bytes "VAR_INPUT\n  Run : DINT := 0;\nEND_VAR\nVAR\n  _Run : DINT := 0;\n  v : DINT := 0;\n  _v : DINT := 0;\nEND_VAR\nv := Run;\n_Run := Run;\n_v := v;\n")
