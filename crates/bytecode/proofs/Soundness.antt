@@ -16,6 +16,7 @@ use Rattle.semantics.specs.Program.{Program, Range, Expression, Condition, Side
 use Rattle.semantics.specs.Program as P
 use Rattle.arith.proofs.Basics.{T-true, and-left, and-right}
 use Rattle.semantics.proofs.Reference.{length-known}
+use Rattle.semantics.proofs.Untimed.{untimed-order}
 use Rattle.leb128.specs.Numbers.{number, zigzag}
 use Rattle.bytecode.specs.Instructions.{Instruction, constant, current, previous, operation, negate, comparison, negated, both, either, gate, pick, assign, settle, encode, encodeAll}
 use Rattle.bytecode.specs.Translation.{codeE, codeC, codeCase, codeK, codeR, codeRules, encodeRanges, encodeHeader, imageOf, depthE, depthC, ShallowK, ShallowR, Shallow, RangesFit, Translatable}
@@ -112,7 +113,7 @@ module _ (ids : List Bool) where
       let hs = adv-K v l f (k .side) ks (w .1) (u .2) (d .1 .2) in
       rw (advances-append (codeCase v k ++ codeK v ks) (settle v ∷ []), advances-append (codeCase v k) (codeK v ks), h, hs .1, ltb-is v (length ids) l, f, eqb-self v, hs .2)
 
-adv-rules : (rs : List Rule) (ids : List Bool) → SidedAll rs → OrderedRules ids rs → Shallow rs
+adv-rules : (rs : List Rule) (ids : List Bool) → SidedAll rs → OrderedRules [] ids rs → Shallow rs
     → (end : List Bool) × (advances (codeRules rs) (known [] false none ids) ≡ some (known [] false none end)) × (allTrue end ≡ true)
 adv-rules [] ids sided o d = (ids, refl, T-true (allTrue ids) o)
 adv-rules (r ∷ rs) ids sided o d =
@@ -322,7 +323,7 @@ pub translated-small : (p : Program) → Translatable p → AllSmall (codeRules 
 translated-small p t =
     let l : length (knownFirst (p .inputs) (length (rangesOf p))) ≡ length (rangesOf p) = length-known (p .inputs) (length (rangesOf p)) in
     let f : length (rangesOf p) ≤ 64 = t .few in
-    let r = adv-rules (p .rules) (knownFirst (p .inputs) (length (rangesOf p))) (t .well-formed .sided) (t .well-formed .ordered) (t .shallow) in
+    let r = adv-rules (p .rules) (knownFirst (p .inputs) (length (rangesOf p))) (t .well-formed .sided) (untimed-order p (t .untimed) (t .well-formed .ordered)) (t .shallow) in
     all-small (codeRules (p .rules)) (known [] false none (knownFirst (p .inputs) (length (rangesOf p)))) (known [] false none (r .0)) (omega arith) (r .1)
 
 check-body : (p : Program) → Translatable p → checkBody (imageOf p) (programHeader p) ≡ accepted tt
@@ -331,7 +332,7 @@ check-body p t =
     let l : length (knownFirst (p .inputs) (length (rangesOf p))) ≡ length (rangesOf p) = length-known (p .inputs) (length (rangesOf p)) in
     let f : length (rangesOf p) ≤ 64 = t .few in
     let code = encodeAll (codeRules (p .rules)) in
-    let r = adv-rules (p .rules) (knownFirst (p .inputs) (length (rangesOf p))) (t .well-formed .sided) (t .well-formed .ordered) (t .shallow) in
+    let r = adv-rules (p .rules) (knownFirst (p .inputs) (length (rangesOf p))) (t .well-formed .sided) (untimed-order p (t .untimed) (t .well-formed .ordered)) (t .shallow) in
     let e : drop (length (encodeHeader p)) (encodeHeader p ++ code) ≡ code = drop-append-seam (encodeHeader p) code in
     rw e (check-code (length (encodeHeader p)) code (length code) 0 (codeRules (p .rules)) _ (known [] false none (r .0)) refl (omega arith) (omega arith) (r .1) (rw (r .2)))
 

@@ -23,9 +23,9 @@ orNone (refused number place) = noHeader
 unfoldable pub headerOf : List ℕ → Header
 headerOf bytes = orNone (checkHeader bytes)
 
--- what the states and rows of an image are held to
+-- what the states and rows of an image are held to (no image has timers yet: instruction 23 is unsound)
 abbrev pub shapeIn : List ℕ → Shape
-shapeIn bytes = record { inputs = headerOf bytes .inputs; ranges = headerOf bytes .ranges }
+shapeIn bytes = record { inputs = headerOf bytes .inputs; ranges = headerOf bytes .ranges; limits = [] }
 
 abbrev pub lows : List Range → List ℤ
 lows ns = map (λ n. n .low) ns

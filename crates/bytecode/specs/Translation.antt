@@ -1,5 +1,6 @@
 -- The image of a program. Document 01, "The image". Assumes nothing.
 use Prim.Native.Nat.{ℕ, suc, _-_, _≤_, max}
+use mathlib.Core.Path.{_≡_}
 use mathlib.Core.List.{List, [], _∷_, _++_}
 use lib.ListN.{length}
 use Rattle.limits.specs.Limits.{stackLimit, nameLimit, imageLimit}
@@ -89,6 +90,8 @@ RangesFit (n ∷ ns) = RangeFits n × RangesFit ns
 
 pub record Translatable (p : Program) : Type 0 where
   pub well-formed : WellFormed p
+  -- no timers: `imageOf` writes none yet
+  pub untimed : p .timers ≡ []
   -- at most 64 names in all
   pub few : length (rangesOf p) ≤ nameLimit
   pub ranges-fit : RangesFit (rangesOf p)

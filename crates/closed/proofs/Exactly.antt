@@ -21,7 +21,7 @@ use Rattle.bytecode.specs.Check.{checkOf}
 use Rattle.bytecode.specs.Parts.{headerOf, codeOf, shapeIn}
 use Rattle.bytecode.specs.Translation.{RangesFit}
 use Rattle.bytecode.proofs.CheckNumbers.{CheckRefusal, too-long, broken, check-numbers}
-use Rattle.semantics.specs.Shape.{Shape, allWithin, stateLength}
+use Rattle.semantics.specs.Shape.{allWithin, stateLength}
 use Rattle.machine.specs.Step.{Machine, machine}
 use Rattle.machine.proofs.Refusals.{ByRules, RefusedByRules}
 use Rattle.machine.proofs.Ranges.{Within}
@@ -98,10 +98,10 @@ closed-stopped (accepted u) true image state row n h e = (refl, refl, refused-by
 
 -- ---- exactly
 
-state-within : {h : Shape} {s : List ℤ} → InRangeState h s → Within (h .ranges) s
+state-within : {inputs : ℕ} {ns : List Range} {s : List ℤ} → InRangeState (record { inputs = inputs; ranges = ns; limits = [] }) s → Within ns s
 state-within h = record { size = h .size; ranges = h .ranges }
 
-state-in-range : {h : Shape} {s : List ℤ} → Within (h .ranges) s → InRangeState h s
+state-in-range : {inputs : ℕ} {ns : List Range} {s : List ℤ} → Within ns s → InRangeState (record { inputs = inputs; ranges = ns; limits = [] }) s
 state-in-range h = record { size = h .size; ranges = h .ranges }
 
 -- every in-range state with every in-range row is a combination
@@ -110,7 +110,7 @@ combination-of : (image : List ℕ) → checkOf image ≡ accepted tt → (s : S
 unfolding combinationsOf
 combination-of image sound s row w v =
     in-paired s row (combinations (headerOf image .ranges)) (combinations (inputRanges (shapeIn image))) (combinations-complete (headerOf image .ranges) s (state-within w))
-    (combinations-complete (inputRanges (shapeIn image)) row (row-within (shapeIn image) (inputs-among image sound) row v))
+    (combinations-complete (inputRanges (shapeIn image)) row (row-within (headerOf image .inputs) (headerOf image .ranges) (inputs-among image sound) row v))
 
 pub closed-exactly : (image : List ℕ) → (closedOf image .answer ≡ accepted tt) ↔ Closed image
 unfolding closedOf closedIn isSmall
@@ -131,7 +131,7 @@ closed-exactly image = (forth, back)
         let small = le-leb (productOfSizes (headerOf image .ranges) * productOfSizes (inputRanges (shapeIn image))) 65536 (k .small) in
         let all =
         all-weaker (λ c. Within (headerOf image .ranges) (c .state) × Within (inputRanges (shapeIn image)) (c .row)) (λ c. scanning image c ≡ accepted tt) (combinationsOf (shapeIn image))
-        (λ c w. k .accepts (c .state) (c .row) (state-in-range (w .0)) (row-in-range (shapeIn image) (inputs-among image (k .sound)) (c .row) (w .1))) (combinations-in image (k .sound)) in
+        (λ c w. k .accepts (c .state) (c .row) (state-in-range (w .0)) (row-in-range (headerOf image .inputs) (headerOf image .ranges) (inputs-among image (k .sound)) (c .row) (w .1))) (combinations-in image (k .sound)) in
         rw (k .sound, small, walked-all (scanning image) (combinationsOf (shapeIn image)) 0 all)
 
 -- ---- runs
@@ -200,7 +200,7 @@ module _ (image : List ℕ) (sound : checkOf image ≡ accepted tt) where
       record {
         combination = c;
         state-in = state-in-range (w .0);
-        row-in = row-in-range (shapeIn image) (inputs-among image sound) (c .row) (w .1);
+        row-in = row-in-range (headerOf image .inputs) (headerOf image .ranges) (inputs-among image sound) (c .row) (w .1);
         number = s .number;
         refuses = s .refuses ∙ ap (refused (s .number)) (r .1);
         before = λ t row u v l. earlier-accepted (scanning image) all 0 n c (record { state = t; row = row }) all-rise e (combination-of image sound t row u v) l;

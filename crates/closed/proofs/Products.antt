@@ -8,8 +8,7 @@ use native.Mathlib.Numerals.{add-one}
 use lib.IntN.{ℤ, pos}
 use lib.ListN.{length, drop, getD, List·getD-map}
 use lib.Seq.{drop-cons, drop-length}
-use Rattle.semantics.specs.Program.{Range}
-use Rattle.semantics.specs.ReferenceScan.{noRange}
+use Rattle.semantics.specs.Program.{Range, noRange}
 use Rattle.machine.specs.Inner.Memory.{RangesIn}
 use Rattle.machine.proofs.Changes.{names-length}
 use Rattle.closed.specs.Closed.{sizeBetween, productOfSizes}

@@ -62,12 +62,15 @@ all-within-taken (suc k) (n ∷ ns) (z ∷ zs) t =
     and-T (within n z) (allWithin (take k ns) zs) (and-left (within n z) (allWithin ns zs) t) (all-within-taken k ns zs (and-right (within n z) (allWithin ns zs) t))
 
 -- an in-range row is within the ranges of the inputs
-module _ (h : Shape) (among : h .inputs ≤ length (h .ranges)) (row : List ℤ) where
+module _ (inputs : ℕ) (ns : List Range) (among : inputs ≤ length ns) (row : List ℤ) where
+  abbrev h : Shape
+  h = record { inputs = inputs; ranges = ns; limits = [] }
+
   pub row-within : InRangeRow h row → Within (inputRanges h) row
-  row-within r = record { size = r .size ∙ sym (length-take-le (h .inputs) (h .ranges) among); ranges = all-within-taken (h .inputs) (h .ranges) row (r .ranges) }
+  row-within r = record { size = r .size ∙ sym (length-take-le inputs ns among); ranges = all-within-taken inputs ns row (r .ranges) }
 
   pub row-in-range : Within (inputRanges h) row → InRangeRow h row
-  row-in-range w = record { size = w .size ∙ length-take-le (h .inputs) (h .ranges) among; ranges = all-within-take (h .inputs) (h .ranges) row (w .ranges) (w .size) }
+  row-in-range w = record { size = w .size ∙ length-take-le inputs ns among; ranges = all-within-take inputs ns row (w .ranges) (w .size) }
 
 module _ (image : List ℕ) (sound : checkOf image ≡ accepted tt) where
   pub inputs-among : headerOf image .inputs ≤ length (headerOf image .ranges)
@@ -89,7 +92,7 @@ module _ (image : List ℕ) (sound : checkOf image ≡ accepted tt) where
       → scanOf image s row .answer ≡ scannedCode (headerOf image .ranges) (codeOf image) s row .answer
   unfolding scanOf scanCode
   scanning-is s row w v =
-      let r = row-in-range (shapeIn image) inputs-among row v in
+      let r = row-in-range (headerOf image .inputs) (headerOf image .ranges) inputs-among row v in
       let a = eq-eqb (length s) (length (headerOf image .ranges)) (w .size) in
       let b = eq-eqb (length row) (headerOf image .inputs) (r .size) in
       let d = T-true (allWithin (headerOf image .ranges) s) (w .ranges) in

@@ -8,8 +8,7 @@ use lib.IntN.{ℤ, pos, _+ℤ_}
 use lib.ListN.{length, take, drop, set, getD, List·getD-map}
 use lib.Seq.{take-length, drop-length, drop-cons, take-suc, set-at, getD-at, length-take-le}
 use lib.Signed.{ltZ}
-use Rattle.semantics.specs.Program.{Range}
-use Rattle.semantics.specs.ReferenceScan.{noRange}
+use Rattle.semantics.specs.Program.{Range, noRange}
 use Rattle.machine.specs.Inner.Memory.{RangesIn}
 use Rattle.machine.proofs.Changes.{names-length}
 use Rattle.closed.specs.Inner.Parts.{Turned, turnedTo, turn, turned, nextOf}

@@ -2,15 +2,19 @@
 use Prim.Native.Nat.{ℕ}
 use native.Mathlib.Omega.{arith}
 use mathlib.Core.Path.{_≡_, refl, sym, ap, subst, _∙_}
+use mathlib.Core.Bool.{Bool}
 use mathlib.Core.List.{List, [], _∷_, map}
+use lib.Dec.{T}
 use lib.IntN.{ℤ}
 use lib.ListN.{length, take, length-map}
 use Rattle.limits.specs.Answer.{accepted}
 use Rattle.arith.specs.Values.{Outcome, ok, refusal}
-use Rattle.semantics.specs.Program.{Program, rangesOf}
+use Rattle.semantics.specs.Program.{Program, Range}
 use Rattle.semantics.specs.Formula.{State}
+use Rattle.semantics.specs.Shape.{shapeOf, cells, stateLength, allWithin}
 use Rattle.semantics.specs.ReferenceScan.{referenceScan}
 use Rattle.semantics.specs.Rows.{Reply, reply, referenceReplies, startsOf, InRanges}
+use Rattle.semantics.proofs.Untimed.{plain-cells, plain-states, plain-length, plain-row}
 use Rattle.semantics.proofs.Reference.{starts-in-range}
 use Rattle.bytecode.specs.Translation.{imageOf, Translatable}
 use Rattle.bytecode.specs.Parts.{shapeIn}
@@ -36,10 +40,11 @@ none-refused (a ∷ l) h = (ap verdictOf (h .0), none-refused l (h .1))
 
 module _ (p : Program) (t : Translatable p) (k : Closed (imageOf p)) where
   state-in : (s : State) → InRanges p s → InRangeState (shapeIn (imageOf p)) s
-  state-in s g = rw (header-of p t) (record { size = g .size; ranges = g .ranges })
+  state-in s g = rw (header-of p t) (record { size = g .size ∙ plain-states p (t .untimed); ranges = subst (λ (l : List Range). T (allWithin l s)) (plain-cells p (t .untimed)) (g .ranges) })
 
   row-in : (row : List ℤ) → RowInRanges p row → InRangeRow (shapeIn (imageOf p)) row
-  row-in row g = rw (header-of p t) (record { size = g .size; ranges = g .ranges })
+  row-in row g =
+      rw (header-of p t) (record { size = g .size ∙ plain-length p (t .untimed); ranges = subst (λ (b : Bool). T b) (plain-row p (t .untimed) row) (g .ranges) })
 
   rows-in : (rows : List (List ℤ)) → RowsInRanges p rows → InRangeRows (shapeIn (imageOf p)) rows
   rows-in [] g = tt
@@ -51,9 +56,9 @@ module _ (p : Program) (t : Translatable p) (k : Closed (imageOf p)) where
 
   image-runs : (rows : List (List ℤ)) → RowsInRanges p rows → NoneRefused (referenceReplies p (startsOf p) rows)
   image-runs rows h =
-      let size : length (startsOf p) ≡ length (rangesOf p) = length-map (rangesOf p) (λ n. n .start) in
+      let size : length (startsOf p) ≡ stateLength (shapeOf p) = length-map (cells (shapeOf p)) (λ n. n .start) in
       let q : startOf (imageOf p) (startsOf p) .state ≡ startsOf p = ap {A = AfterStart} (λ r. r .state) (start-translated p t (startsOf p) size) in
-      let all : AllAccepted (scansOf (imageOf p) (startOf (imageOf p) (startsOf p) .state) rows) = closed-runs (imageOf p) k (startsOf p) (rw (header-of p t) size) rows (rows-in rows h) in
+      let all : AllAccepted (scansOf (imageOf p) (startOf (imageOf p) (startsOf p) .state) rows) = closed-runs (imageOf p) k (startsOf p) (rw (header-of p t) (size ∙ plain-states p (t .untimed))) rows (rows-in rows h) in
       let here : AllAccepted (scansOf (imageOf p) (startsOf p) rows) = subst (λ (s : State). AllAccepted (scansOf (imageOf p) s rows)) q all in
       subst NoneRefused (scans-agree p t rows (startsOf p) (starts-in-range p (t .well-formed))) (none-refused (scansOf (imageOf p) (startsOf p) rows) here)
 

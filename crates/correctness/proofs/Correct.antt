@@ -10,12 +10,13 @@ use lib.ListN.{length, take}
 use borrow.Author.Tests.{eq-eqb}
 use Rattle.limits.specs.Answer.{Answer, accepted, refused}
 use Rattle.arith.specs.Values.{Outcome, ok, refusal, _>>=_, check}
-use Rattle.semantics.specs.Program.{Program, rangesOf, knownFirst}
+use Rattle.semantics.specs.Program.{Program, Range, rangesOf, knownFirst}
 use Rattle.semantics.specs.Formula.{State, writtenOf, GX, All}
-use Rattle.semantics.specs.Shape.{allWithin}
-use Rattle.semantics.specs.ReferenceScan.{scanRules, withInputs, referenceScan}
+use Rattle.semantics.specs.Shape.{shapeOf, cells, stateLength, allWithin}
+use Rattle.semantics.specs.ReferenceScan.{withInputs, referenceScan}
 use Rattle.semantics.specs.Rows.{Reply, reply, referenceReplies, startsOf, traceOf, InRanges, OnlyTrace}
 use Rattle.arith.proofs.Basics.{T-true, bind-assoc}
+use Rattle.semantics.proofs.Untimed.{plainRules, plainScan, untimed-order, plain-cells, plain-states, plain-scan}
 use Rattle.semantics.proofs.Written.{written-trace}
 use Rattle.semantics.proofs.Reference.{length-known, reference-next, reference-trace, starts-in-range}
 use Rattle.bytecode.specs.Instructions.{encodeAll}
@@ -50,32 +51,32 @@ bind-ok (ok a) = refl
 bind-ok (refusal k) = refl
 
 module _ (p : Program) (t : Translatable p) where
-  run-reference : (s : State) (row : List ℤ) → runOf (imageOf p) s row .last ≡ (scanRules (rangesOf p) s (withInputs s row) (p .rules) >>= λ u. ok (machine false false [] u))
+  run-reference : (s : State) (row : List ℤ) → runOf (imageOf p) s row .last ≡ (plainRules (rangesOf p) s (withInputs s row) (p .rules) >>= λ u. ok (machine false false [] u))
   run-reference s row =
       let code = encodeAll (codeRules (p .rules)) in
       rw (header-of p t, code-of p t)
       (run-exec (rangesOf p) s code (codeRules (p .rules)) (length code) 0 0 (machine false false [] (withInputs s row)) refl (translated-small p t) (omega arith)
-      ∙ exec-rules (rangesOf p) s (p .rules) (knownFirst (p .inputs) (length (rangesOf p))) (withInputs s row) (length-known (p .inputs) (length (rangesOf p))) (t .well-formed .ordered) (t .shallow))
+      ∙ exec-rules (rangesOf p) s (p .rules) (knownFirst (p .inputs) (length (rangesOf p))) (withInputs s row) (length-known (p .inputs) (length (rangesOf p))) (untimed-order p (t .untimed) (t .well-formed .ordered)) (t .shallow))
 
-  code-reply : (s : State) (row : List ℤ) → replyOf (scanCode (imageOf p) s row) ≡ reply s (scanRules (rangesOf p) s (withInputs s row) (p .rules))
+  code-reply : (s : State) (row : List ℤ) → replyOf (scanCode (imageOf p) s row) ≡ reply s (plainRules (rangesOf p) s (withInputs s row) (p .rules))
   unfolding scanCode
   code-reply s row =
-      let e : (runOf (imageOf p) s row .last >>= λ m. ok (currentOf m)) ≡ scanRules (rangesOf p) s (withInputs s row) (p .rules)
-      = rw (run-reference s row) (bind-assoc (scanRules (rangesOf p) s (withInputs s row) (p .rules)) _ _ ∙ bind-ok (scanRules (rangesOf p) s (withInputs s row) (p .rules))) in
+      let e : (runOf (imageOf p) s row .last >>= λ m. ok (currentOf m)) ≡ plainRules (rangesOf p) s (withInputs s row) (p .rules)
+      = rw (run-reference s row) (bind-assoc (plainRules (rangesOf p) s (withInputs s row) (p .rules)) _ _ ∙ bind-ok (plainRules (rangesOf p) s (withInputs s row) (p .rules))) in
       reply-finished s _ (runOf (imageOf p) s row .last) ∙ ap (reply s) e
 
   -- the scan of the image answers and leaves what the reference scan does
   pub scan-reply : (s : State) → InRanges p s → (row : List ℤ) → replyOf (scanOf (imageOf p) s row) ≡ reply s (referenceScan p s row)
-  unfolding scanOf referenceScan
+  unfolding scanOf plainScan
   scan-reply s g row =
-      let l : eqb (length s) (length (rangesOf p)) ≡ true = eq-eqb (length s) (length (rangesOf p)) (g .size) in
-      let r : allWithin (rangesOf p) s ≡ true = T-true _ (g .ranges) in
-      let inner : replyOf (testedScan (allWithin (rangesOf p) row) 13 s (scanCode (imageOf p) s row)) ≡ reply s (check (allWithin (rangesOf p) row) 13 (scanRules (rangesOf p) s (withInputs s row) (p .rules)))
+      let l : eqb (length s) (length (rangesOf p)) ≡ true = eq-eqb (length s) (length (rangesOf p)) (g .size ∙ plain-states p (t .untimed)) in
+      let r : allWithin (rangesOf p) s ≡ true = ap (λ (l : List Range). allWithin l s) (sym (plain-cells p (t .untimed))) ∙ T-true _ (g .ranges) in
+      let inner : replyOf (testedScan (allWithin (rangesOf p) row) 13 s (scanCode (imageOf p) s row)) ≡ reply s (check (allWithin (rangesOf p) row) 13 (plainRules (rangesOf p) s (withInputs s row) (p .rules)))
       = reply-tested (allWithin (rangesOf p) row) 13 s _ _ (code-reply s row) in
       let outer : replyOf (testedScan (eqb (length row) (p .inputs)) 12 s (testedScan (allWithin (rangesOf p) row) 13 s (scanCode (imageOf p) s row)))
-      ≡ reply s (check (eqb (length row) (p .inputs)) 12 (check (allWithin (rangesOf p) row) 13 (scanRules (rangesOf p) s (withInputs s row) (p .rules))))
+      ≡ reply s (check (eqb (length row) (p .inputs)) 12 (check (allWithin (rangesOf p) row) 13 (plainRules (rangesOf p) s (withInputs s row) (p .rules))))
       = reply-tested (eqb (length row) (p .inputs)) 12 s _ _ inner in
-      rw (check-translated p t, header-of p t, l, r) outer
+      rw (plain-scan p (t .untimed) s row) (rw (check-translated p t, header-of p t, l, r) outer)
 
   kept : (s : State) → InRanges p s → (row : List ℤ) (o : Outcome State) → referenceScan p s row ≡ o → InRanges p (reply s o .state)
   kept s g row (ok u) e = reference-next p (t .well-formed) s g row u e .kept
@@ -101,11 +102,12 @@ all-steps image (r ∷ rs) s = (steps-if (instructionsIn image) (scanOf image s 
 -- ---- the claim
 
 module _ (p : Program) (t : Translatable p) where
-  pub start-translated : (lent : State) → length lent ≡ length (rangesOf p) → startOf (imageOf p) lent ≡ record { answer = accepted tt; state = startsOf p }
+  pub start-translated : (lent : State) → length lent ≡ stateLength (shapeOf p) → startOf (imageOf p) lent ≡ record { answer = accepted tt; state = startsOf p }
   unfolding startOf
-  start-translated lent l = rw (check-translated p t, header-of p t, eq-eqb (length lent) (length (rangesOf p)) l)
+  start-translated lent l =
+      rw (check-translated p t, header-of p t, plain-cells p (t .untimed), eq-eqb (length lent) (length (rangesOf p)) (l ∙ plain-states p (t .untimed)))
 
-  pub image-correct : (lent : State) → length lent ≡ length (rangesOf p) → (rows : List (List ℤ)) → TraceCorrect p (imageOf p) lent rows
+  pub image-correct : (lent : State) → length lent ≡ stateLength (shapeOf p) → (rows : List (List ℤ)) → TraceCorrect p (imageOf p) lent rows
   image-correct lent l rows =
       let e = start-translated lent l in
       let g = starts-in-range p (t .well-formed) in
@@ -117,6 +119,7 @@ module _ (p : Program) (t : Translatable p) where
         started = e;
         satisfies = x .satisfies;
         fits = x .fits;
+        timed = x .timed;
         unique = x .unique;
         agrees = subst (λ (s : State). repliesOf (imageOf p) s rows ≡ referenceReplies p (startsOf p) rows) q a;
         last = x .last;
@@ -124,7 +127,7 @@ module _ (p : Program) (t : Translatable p) where
       }
 
   -- a pair's formulas hold as they are written too (document 02, A.6)
-  pub image-written : (lent : State) → length lent ≡ length (rangesOf p) → (rows : List (List ℤ)) → All (λ f. GX f (traceOf (begun (imageOf p) lent) (found (imageOf p) lent rows))) (writtenOf p)
+  pub image-written : (lent : State) → length lent ≡ stateLength (shapeOf p) → (rows : List (List ℤ)) → All (λ f. GX f (traceOf (begun (imageOf p) lent) (found (imageOf p) lent rows))) (writtenOf p)
   image-written lent l rows =
       let g = starts-in-range p (t .well-formed) in
       let a = scans-agree p t rows (startsOf p) g in

@@ -1,4 +1,4 @@
--- Demand 3, a single claim about a whole list of rows. Document 01, "The plain scan and the list of rows". Assumes nothing.
+-- Demand 3, a single claim about a whole list of rows. Document 01, "The plain scan and the list of rows"; document 02, A.7. Assumes nothing.
 use Prim.Native.Nat.{ℕ}
 use mathlib.Core.Path.{_≡_}
 use mathlib.Core.List.{List, [], _∷_, map}
@@ -9,7 +9,7 @@ use Rattle.arith.specs.Values.{Outcome, ok, refusal}
 use Rattle.semantics.specs.Program.{Program}
 use Rattle.semantics.specs.Formula.{State, Satisfies}
 use Rattle.semantics.specs.Shape.{shapeOf, stateLength}
-use Rattle.semantics.specs.Rows.{Reply, referenceReplies, startsOf, acceptedStates, acceptedRows, traceOf, finalState, lastPlace, Fits}
+use Rattle.semantics.specs.Rows.{Reply, referenceReplies, startsOf, acceptedStates, acceptedRows, traceOf, finalState, lastPlace, Fits, Timed}
 use Rattle.bytecode.specs.Parts.{instructionsIn}
 use Rattle.grammar.specs.Parse.{programOf}
 use Rattle.grammar.specs.Spelled.{Spelled}
@@ -51,9 +51,11 @@ pub record TraceCorrect (p : Program) (image : List ℕ) (lent : State) (rows : 
   pub satisfies : Satisfies p (traceOf (begun image lent) (found image lent rows))
   -- its states are of the program's length and have the accepted rows' inputs
   pub fits : Fits p (acceptedRows rows (found image lent rows)) (acceptedStates (found image lent rows))
+  -- its elapsed times and timers have the timers' equations
+  pub timed : Timed p (acceptedRows rows (found image lent rows)) (begun image lent) (acceptedStates (found image lent rows))
   -- no other trace does: as many states with the same first one and, at each later place, the inputs of the accepted row
   pub unique : (others : List State) → Fits p (acceptedRows rows (found image lent rows)) others → Satisfies p (begun image lent ∷ others)
-      → others ≡ acceptedStates (found image lent rows)
+      → Timed p (acceptedRows rows (found image lent rows)) (begun image lent) others → others ≡ acceptedStates (found image lent rows)
   -- for every row, the plain scan's answer and the state it leaves are equal to those of scan
   pub agrees : found image lent rows ≡ referenceReplies p (startsOf p) rows
   -- the state left is the trace's last place

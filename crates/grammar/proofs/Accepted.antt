@@ -13,6 +13,7 @@ use Rattle.limits.specs.Answer as A
 use Rattle.arith.specs.Values.{isInt32}
 use Rattle.arith.proofs.Basics.{and-left, and-right, and-T}
 use Rattle.semantics.specs.Program.{Range, Name, Program, rangesOf, within, Ordered, StartsWithin, RangeFits}
+use Rattle.semantics.proofs.Untimed.{plain-fit}
 use Rattle.bytecode.specs.Translation.{imageOf, RangesFit, Translatable}
 use Rattle.grammar.specs.Parsed.{Parsed, accepted, refused}
 use Rattle.grammar.specs.Parse.{parse, answerOf, programOf}
@@ -97,7 +98,9 @@ module _ (text : List ℕ) (p : Program) (n : ℕ) (e : parse text ≡ accepted 
           ordered = s .ordered;
           agrees = parse-reads text p n e .1;
           sided = rules-sided (normals (namesOf p)) (s .rule-tokens) (p .rules) (s .spells-rules);
+          timed = plain-fit p (s .untimed);
         };
+        untimed = s .untimed;
         few = omega (arith, l, s .few);
         ranges-fit = fits;
         shallow = rules-shallow (normals (namesOf p)) (s .rule-tokens) (p .rules) (s .spells-rules);

@@ -237,7 +237,7 @@ rules-end : (sc : Scope) (f a s n : ℕ) (done : List Rule) → tokenAt (sc .tex
 unfolding rulesFrom is kindNumber
 rules-end sc f a s n done e1 e2 = rw (e1, e2)
 
-pub rules-read : (f : ℕ) (sc : Scope) → Named (sc .names) → (done : List Rule) (ts : List (List ℕ)) (rs : List Rule) → SpellsRules (normals (sc .names)) ts rs → OrderedRules (sc .known) rs → unruled (sc .known) < f → (a n : ℕ) → a ≤ length (sc .text) → Spells normal (sc .text) a n ts → (s m : ℕ) → tokenAt (sc .text) n ≡ token ending s m → rulesFrom f sc done a ≡ accepted (done ++ rs) m
+pub rules-read : (f : ℕ) (sc : Scope) → Named (sc .names) → (done : List Rule) (ts : List (List ℕ)) (rs : List Rule) → SpellsRules (normals (sc .names)) ts rs → OrderedRules [] (sc .known) rs → unruled (sc .known) < f → (a n : ℕ) → a ≤ length (sc .text) → Spells normal (sc .text) a n ts → (s m : ℕ) → tokenAt (sc .text) n ≡ token ending s m → rulesFrom f sc done a ≡ accepted (done ++ rs) m
 rules-read zero sc good done ts rs d o fuel a n h g s m et = absurd (omega arith)
 rules-read (suc f) sc good done ts rs S.SpellsRules.none o fuel a n h g s m et =
     rules-end sc f a s m done (subst (λ (y : ℕ). tokenAt (sc .text) y ≡ token ending s m) (sym g) et) (T-true (allTrue (sc .known)) o) ∙ ap (λ (y : List Rule). accepted y m) (sym (append-nil done))

@@ -11,7 +11,7 @@ use Rattle.limits.specs.Answer as A
 use Rattle.lexer.specs.Bytes.{bytes}
 use Rattle.lexer.specs.Token.{Kind, kindNumber, ending, name, inputWord, varWord, is, token}
 use Rattle.lexer.specs.Lexer.{tokenAt}
-use Rattle.semantics.specs.Program.{Name, Rule, Program, knownFirst, rangesOf, OrderedRules, Ordered}
+use Rattle.semantics.specs.Program.{Name, Timer, Rule, Program, knownFirst, rangesOf, OrderedRules, Ordered}
 use Rattle.semantics.proofs.Reference.{length-known}
 use Rattle.grammar.specs.Parsed.{accepted, itemBound}
 use Rattle.grammar.specs.Declarations.{spellings, declarations}
@@ -71,11 +71,11 @@ module _ (text : List ℕ) where
 
   -- ---- the whole
 
-  program-goes : (inputs names : List Name) (rules : List Rule) (a b n : ℕ) → declarations inputWord text [] 0 ≡ accepted inputs a → declarations varWord text inputs a ≡ accepted names b → rulesFrom itemBound (record { text = text; names = spellings names; known = knownFirst (length inputs) (length names) }) [] b ≡ accepted rules n → program text ≡ accepted (record { inputs = length inputs; names = names; rules = rules }) n
+  program-goes : (inputs names : List Name) (rules : List Rule) (a b n : ℕ) → declarations inputWord text [] 0 ≡ accepted inputs a → declarations varWord text inputs a ≡ accepted names b → rulesFrom itemBound (record { text = text; names = spellings names; known = knownFirst (length inputs) (length names) }) [] b ≡ accepted rules n → program text ≡ accepted (record { inputs = length inputs; names = names; timers = []; rules = rules }) n
   unfolding program
   program-goes inputs names rules a b n e1 e2 e3 = rw (e1, e2, e3)
 
-  spelled-program : (inputs variables : List Name) (rules : List Rule) (its vts rts : List (List ℕ)) (b end : ℕ) → Spells asWritten text 0 b (its ++ vts) → Spells normal text b end rts → Separated text end (length text) → DeclareAll (bytes "input") its inputs → DeclareAll (bytes "var") vts variables → Distinct (spellings (inputs ++ variables)) → length (inputs ++ variables) ≤ 64 → SpellsRules (normals (spellings (inputs ++ variables))) rts rules → OrderedRules (knownFirst (length inputs) (length (inputs ++ variables))) rules → program text ≡ accepted (record { inputs = length inputs; names = inputs ++ variables; rules = rules }) (length text)
+  spelled-program : (inputs variables : List Name) (rules : List Rule) (its vts rts : List (List ℕ)) (b end : ℕ) → Spells asWritten text 0 b (its ++ vts) → Spells normal text b end rts → Separated text end (length text) → DeclareAll (bytes "input") its inputs → DeclareAll (bytes "var") vts variables → Distinct (spellings (inputs ++ variables)) → length (inputs ++ variables) ≤ 64 → SpellsRules (normals (spellings (inputs ++ variables))) rts rules → OrderedRules [] (knownFirst (length inputs) (length (inputs ++ variables))) rules → program text ≡ accepted (record { inputs = length inputs; names = inputs ++ variables; timers = []; rules = rules }) (length text)
   unfolding declarations isFixed is kindNumber
   spelled-program inputs variables rules its vts rts b end sd sr ends di dv apart few dr ordered =
       let names = inputs ++ variables in
@@ -93,8 +93,9 @@ module _ (text : List ℕ) where
       (declarations-read text varWord refl itemBound inputs vts variables dv apart (omega arith) (omega arith) (q .place) b i1 (q .second) (last .kind) (last .start) (last .end) (last .is-token) (last .other))
       (rules-read itemBound (record { text = text; names = spellings names; known = knownFirst (length inputs) (length names) }) good [] rts rules dr ordered (few-unruled (knownFirst (length inputs) (length names)) (omega arith)) b end i2 sr (length text) (length text) (end-read text end ends))
 
-made : (p : Program) (i : ℕ) (l : List Name) → p .inputs ≡ i → p .names ≡ l → p ≡ record { inputs = i; names = l; rules = p .rules }
-made p i l e f = ap₂ (λ (x : ℕ) (y : List Name). record { inputs = x; names = y; rules = p .rules }) e f
+made : (p : Program) (i : ℕ) (l : List Name) → p .inputs ≡ i → p .names ≡ l → p .timers ≡ [] → p ≡ record { inputs = i; names = l; timers = []; rules = p .rules }
+made p i l e f u =
+    ap₂ (λ (x : ℕ) (y : List Name). record { inputs = x; names = y; timers = p .timers; rules = p .rules }) e f ∙ ap (λ (ts : List Timer). record { inputs = i; names = l; timers = ts; rules = p .rules }) u
 
 pub short-parse : (text : List ℕ) → length text ≤ textLimit → parse text ≡ program text
 unfolding parse
@@ -103,14 +104,14 @@ short-parse text h = rw (le-ltb textLimit (length text) h)
 -- what has document 01's grammar, limits, order and agreement is accepted, and read to the end of the text
 pub spelled-parse : (text : List ℕ) (p : Program) → Spelled text p → parse text ≡ accepted p (length text)
 spelled-parse text p s =
-    let q : Program = record { inputs = length (s .inputs); names = s .inputs ++ s .variables; rules = p .rules } in
-    let same : p ≡ q = made p (length (s .inputs)) (s .inputs ++ s .variables) (s .input-count) (s .names) in
+    let q : Program = record { inputs = length (s .inputs); names = s .inputs ++ s .variables; timers = []; rules = p .rules } in
+    let same : p ≡ q = made p (length (s .inputs)) (s .inputs ++ s .variables) (s .input-count) (s .names) (s .untimed) in
     let count : length (rangesOf q) ≡ length (q .names) = length-map (q .names) (λ n. n .range) in
     let ordered : Ordered q = subst Ordered same (s .ordered) in
     short-parse text (s .short)
     ∙ (spelled-program text (s .inputs) (s .variables) (p .rules) (s .input-tokens) (s .variable-tokens) (s .rule-tokens) (s .rules-from) (s .end) (s .spells-declarations) (s .spells-tokens) (s .ends) (s .declares-inputs) (s .declares-variables)
     (subst (λ (x : Program). Distinct (namesOf x)) same (s .distinct)) (subst (λ (x : Program). length (x .names) ≤ 64) same (s .few)) (subst (λ (x : Program). SpellsRules (normals (namesOf x)) (s .rule-tokens) (x .rules)) same (s .spells-rules))
-    (subst (λ (n : ℕ). OrderedRules (knownFirst (length (s .inputs)) n) (p .rules)) count ordered)
+    (subst (λ (n : ℕ). OrderedRules [] (knownFirst (length (s .inputs)) n) (p .rules)) count ordered)
     ∙ ap (λ (x : Program). accepted x (length text)) (sym same))
 
 spelled-accepted : (text : List ℕ) (p : Program) → Spelled text p → programOf text ≡ A.accepted p

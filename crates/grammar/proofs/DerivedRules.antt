@@ -242,7 +242,7 @@ pub record RulesRead (text : List ℕ) (names : List (List ℕ)) (known : List B
   pub spells : Spells normal text at end tokens
   pub ends : Separated text end (length text)
   pub derives : SpellsRules (normals names) tokens more
-  pub ordered : OrderedRules known more
+  pub ordered : OrderedRules [] known more
   pub agrees : AgreesAll more
 
 abbrev pub RulesReads : List ℕ → List (List ℕ) → List Bool → List Rule → ℕ → Parsed (List Rule) → Type 0

@@ -31,7 +31,7 @@ use Rattle.grammar.proofs.DerivedRules.{RulesRead, RulesReads, rules-de
 abbrev Reads : List ℕ → Parsed Program → Type 0
 Reads text r = Holds (λ (p : Program). (length text ≤ textLimit → Spelled text p) × AgreesAll (p .rules)) r
 
-read : (text : List ℕ) (inputs names : List Name) (rules : List Rule) (a b : ℕ) → DeclaredFrom text (bytes "input") [] 0 a inputs → DeclaredFrom text (bytes "var") inputs a b names → Distinct (spellings names) → length names ≤ 64 → RulesRead text (spellings names) (knownFirst (length inputs) (length names)) [] b rules → length text ≤ textLimit → Spelled text (record { inputs = length inputs; names = names; rules = rules })
+read : (text : List ℕ) (inputs names : List Name) (rules : List Rule) (a b : ℕ) → DeclaredFrom text (bytes "input") [] 0 a inputs → DeclaredFrom text (bytes "var") inputs a b names → Distinct (spellings names) → length names ≤ 64 → RulesRead text (spellings names) (knownFirst (length inputs) (length names)) [] b rules → length text ≤ textLimit → Spelled text (record { inputs = length inputs; names = names; timers = []; rules = rules })
 read text inputs names rules a b d e distinct few r short =
     record {
       short = short;
@@ -51,6 +51,7 @@ read text inputs names rules a b d e distinct few r short =
       input-count = refl;
       distinct = distinct;
       few = few;
+      untimed = refl;
       spells-rules = subst (SpellsRules (normals (spellings names)) (r .tokens)) (sym (r .is-more)) (r .derives);
       ordered = rw (length-map names (λ n. n .range), r .is-more) (r .ordered);
     }

@@ -27,7 +27,7 @@ all-spaces zero = tt
 all-spaces (suc n) = (refl, all-spaces n)
 
 nothing : Program
-nothing = record { inputs = 0; names = []; rules = [] }
+nothing = record { inputs = 0; names = []; timers = []; rules = [] }
 
 spaces-spelled : (n : ℕ) → n ≤ textLimit → Spelled (spaces n) nothing
 unfolding nothing
@@ -50,6 +50,7 @@ spaces-spelled n h =
       input-count = refl;
       distinct = tt;
       few = omega arith;
+      untimed = refl;
       spells-rules = S.SpellsRules.none;
       ordered = tt;
     }

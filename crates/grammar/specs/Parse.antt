@@ -19,7 +19,7 @@ program text =
     andThen (declarations inputWord text [] 0) (λ inputs n1.
     andThen (declarations varWord text inputs n1) (λ names n2.
     andThen (rulesFrom itemBound (record { text = text; names = spellings names; known = knownFirst (length inputs) (length names) }) [] n2) (λ rules n3.
-    accepted (record { inputs = length inputs; names = names; rules = rules }) n3)))
+    accepted (record { inputs = length inputs; names = names; timers = []; rules = rules }) n3)))
 
 -- 9 for a text over its limit, at place 0, before all else
 unfoldable pub parse : List ℕ → Parsed Program

@@ -123,6 +123,8 @@ pub record Spelled (text : List ℕ) (p : Program) : Type 0 where
   pub distinct : Distinct (namesOf p)
   -- At most 64 names in all.
   pub few : length (p .names) ≤ nameLimit
+  -- Document 01's texts have no timers.
+  pub untimed : p .timers ≡ []
   pub spells-rules : SpellsRules (normals (namesOf p)) rule-tokens (p .rules)
   -- The rules are in the order of work; every variable has exactly one. A current value is used only for inputs and for variables
   -- whose rule stands earlier; a previous value for any name.

@@ -8,6 +8,7 @@ use lib.ListN.{length, length-append, length-map}
 use lib.IntN.{ℤ}
 use Rattle.limits.specs.Answer.{accepted}
 use Rattle.semantics.specs.Program.{Range, Name, Program, rangesOf, knownFirst, OrderedRules}
+use Rattle.semantics.proofs.Untimed.{untimed-order}
 use Rattle.lexer.specs.Bytes.{bytes, part, capitals}
 use Rattle.lexer.specs.Token.{Kind, kindNumber, name, previous, digits, inputWord, varWord, initWord, dots, semicolon, minus, is, spellingOf}
 use Rattle.lexer.specs.Lexer.{sameName}
@@ -275,7 +276,7 @@ spelled-too text other p c s =
     let short = s .short in
     let long = c .as-long in
     record {
-      program = record { inputs = length (i .others); names = k; rules = p .rules };
+      program = record { inputs = length (i .others); names = k; timers = []; rules = p .rules };
       spelled = record {
         short = omega arith;
         input-tokens = t .front;
@@ -295,7 +296,8 @@ spelled-too text other p c s =
         distinct = distinct-too k (p .names) same-p (s .distinct);
         few = omega arith;
         spells-rules = subst (λ (l : Tokens). SpellsRules l (s .rule-tokens) (p .rules)) (sym seen) (s .spells-rules);
-        ordered = subst (λ (n : ℕ). OrderedRules (knownFirst n (length (map (λ n. n .range) k))) (p .rules)) (sym inputs) (subst (λ (l : List Range). OrderedRules (knownFirst (p .inputs) (length l)) (p .rules)) (sym ranges) (s .ordered));
+        ordered = subst (λ (n : ℕ). OrderedRules [] (knownFirst n (length (map (λ n. n .range) k))) (p .rules)) (sym inputs) (subst (λ (l : List Range). OrderedRules [] (knownFirst (p .inputs) (length l)) (p .rules)) (sym ranges) (untimed-order p (s .untimed) (s .ordered)));
+        untimed = refl;
       };
       same = record { same-inputs = inputs; same-names = seen; same-ranges = ranges; same-rules = refl };
     }

@@ -9,9 +9,9 @@ use lib.IntN.{ℤ}
 use lib.ListN.{length, getD, set, length-map}
 use lib.Signed.{leZ}
 use Rattle.arith.specs.Values.{ok, refusal}
-use Rattle.semantics.specs.Program.{Range, Side, within}
+use Rattle.semantics.specs.Program.{Range, Side, within, noRange, rangeAt}
 use Rattle.semantics.specs.Formula.{State, at}
-use Rattle.semantics.specs.ReferenceScan.{noRange, rangeAt, moves, stays, picked}
+use Rattle.semantics.specs.ReferenceScan.{moves, stays, picked}
 use Rattle.bytecode.specs.Instructions.{assign, pick, settle}
 use Rattle.machine.specs.Step.{machine, perform}
 use Rattle.machine.specs.Inner.Memory.{heldOf, RangesIn}

@@ -9,10 +9,9 @@ use lib.IntN.{ℤ, pos}
 use lib.ListN.{length, drop}
 use lib.Seq.{drop-cons, drop-length}
 use lib.Signed.{leZ}
-use Rattle.semantics.specs.Program.{Range}
+use Rattle.semantics.specs.Program.{Range, noRange}
 use Rattle.semantics.specs.Formula.{at}
 use Rattle.semantics.specs.Shape.{allWithin}
-use Rattle.semantics.specs.ReferenceScan.{noRange}
 use Rattle.machine.specs.Inner.Memory.{RangesIn}
 use Rattle.machine.proofs.Changes.{names-length, range-at}
 

@@ -7,10 +7,10 @@ use lib.Dec.{T, ltb}
 use lib.IntN.{ℤ}
 use lib.ListN.{length, set, length-set}
 use Rattle.arith.specs.Values.{Outcome, ok, refusal, _>>=_, require, arithmetic, negation}
-use Rattle.semantics.specs.Program.{Range, Side, within}
+use Rattle.semantics.specs.Program.{Range, Side, within, rangeAt}
 use Rattle.semantics.specs.Formula.{State, at}
 use Rattle.semantics.specs.Shape.{allWithin}
-use Rattle.semantics.specs.ReferenceScan.{rangeAt, ranged, moves, stays, picked}
+use Rattle.semantics.specs.ReferenceScan.{ranged, moves, stays, picked}
 use Rattle.arith.proofs.Basics.{Bound, bound, unbind, passed}
 use Rattle.semantics.proofs.Unique.{allWithin-at, allWithin-set}
 use Rattle.leb128.specs.Numbers.{Read, got, nothing}

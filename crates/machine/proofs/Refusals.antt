@@ -13,9 +13,9 @@ use lib.Signed.{quotZ}
 use borrow.Author.Tests.{lt-ltb, ltb-true}
 use Rattle.limits.specs.Answer.{accepted}
 use Rattle.arith.specs.Values.{Outcome, ok, refusal, _>>=_, require, eqZ, isInt32, int32, nonZero, remainder, Operation, add, subtract, multiply, divide, modulo, arithmetic, negation, compares}
-use Rattle.semantics.specs.Program.{Range, Side, changing, rising, falling, within}
+use Rattle.semantics.specs.Program.{Range, Side, changing, rising, falling, within, rangeAt}
 use Rattle.semantics.specs.Formula.{State, at}
-use Rattle.semantics.specs.ReferenceScan.{rangeAt, ranged, moves, stays, picked}
+use Rattle.semantics.specs.ReferenceScan.{ranged, moves, stays, picked}
 use Rattle.arith.proofs.Basics.{T-true, and-left, and-right, ok≢refusal}
 use Rattle.bytecode.specs.Instructions.{Instruction, constant, current, previous, operation, negate, comparison, negated, both, either, gate, pick, assign, settle}
 use Rattle.bytecode.specs.Signature.{Sort, Role, pushes, computes, tests, opens, picks, lets, settles, signature}

@@ -15,9 +15,11 @@ use Rattle.arith.specs.Values.{Outcome, ok, refusal, _>>=_}
 use Rattle.semantics.specs.Program.{Range, Expression, Condition, Side, Case, Rule, function, change, target, UsableE, UsableC, UsableK, UsableR, OrderedRules}
 use Rattle.semantics.specs.Program as P
 use Rattle.semantics.specs.Formula.{State, at, evalE, evalC}
-use Rattle.semantics.specs.ReferenceScan.{tryCase, tryCases, orPrevious, newValue, scanRules}
+use Rattle.semantics.specs.ReferenceScan.{tryCase, tryCases, orPrevious, newValue}
 use Rattle.arith.proofs.Basics.{bind-assoc, bind-cong}
-use Rattle.semantics.proofs.Unique.{Agree, evalC-agree}
+use Rattle.semantics.proofs.Cells.{Agree}
+use Rattle.semantics.proofs.Unique.{evalC-agree}
+use Rattle.semantics.proofs.Untimed.{plainRules}
 use Rattle.bytecode.specs.Instructions.{Instruction, constant, current, previous, operation, negate, comparison, negated, both, either, gate, pick, encode, encodeAll}
 use Rattle.bytecode.specs.Translation.{codeE, codeC, codeCase, codeK, codeR, codeRules, depthE, depthC, ShallowK, ShallowR, Shallow}
 use Rattle.leb128.proofs.RoundTrip.{drop-behind}
@@ -151,17 +153,17 @@ module _ (ns : List Range) (s : State) where
         let l : ltb v (length ns) ≡ true = lt-ltb v (length ns) (omega arith) in
         exec-append (codeK v ks) _ _ ∙ rw (exec-K v i f ks none t u (d .1)) (simp (bind-assoc, l, settled-is v i f))
 
-  pub exec-rules : (rs : List Rule) (ids : List Bool) (t : State) → length ids ≡ length ns → OrderedRules ids rs → Shallow rs
-      → exec ns s (codeRules rs) (machine false false [] t) ≡ (scanRules ns s t rs >>= λ u. ok (machine false false [] u))
+  pub exec-rules : (rs : List Rule) (ids : List Bool) (t : State) → length ids ≡ length ns → OrderedRules [] ids rs → Shallow rs
+      → exec ns s (codeRules rs) (machine false false [] t) ≡ (plainRules ns s t rs >>= λ u. ok (machine false false [] u))
   exec-rules [] ids t l o d = refl
   exec-rules (r ∷ rs) ids t l o d =
       let l₁ : length (set ids (target r) true) ≡ length ns = length-set ids (target r) true ∙ l in
-      let o₁ : OrderedRules (set ids (target r) true) rs = o .3 in
+      let o₁ : OrderedRules [] (set ids (target r) true) rs = o .3 in
       let d₁ : Shallow rs = d .1 in
       exec-append (codeR r) (codeRules rs) _
       ∙ rw (exec-R ids l r t (o .0) (d .0) (ltb→lt (target r) (length ids) (o .1)) (o .2), bind-assoc)
       (bind-cong {m = newValue ns s t r} refl λ z. exec-rules rs (set ids (target r) true) (set t (target r) z) l₁ o₁ d₁)
-      ∙ sym (bind-assoc (newValue ns s t r) (λ z. scanRules ns s (set t (target r) z) rs) _)
+      ∙ sym (bind-assoc (newValue ns s t r) (λ z. plainRules ns s (set t (target r) z) rs) _)
 
   -- the bytes of instructions run as the instructions
   pub run-exec : (code : List ℕ) (is : List Instruction) (budget at n : ℕ) (m : Machine) → drop at code ≡ encodeAll is → AllSmall is → length (encodeAll is) ≤ budget

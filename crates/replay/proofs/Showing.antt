@@ -10,9 +10,9 @@ use lib.ListN.{length, take, drop, length-map}
 use lib.Seq.{sets, sets-eq, take-append-seam, length-sets}
 use borrow.Author.Tests.{eqb-true}
 use Rattle.limits.specs.Answer.{Answer, accepted, refused}
-use Rattle.semantics.specs.Program.{Program, Range, rangesOf}
+use Rattle.semantics.specs.Program.{Program, Range}
 use Rattle.semantics.specs.Formula.{State}
-use Rattle.semantics.specs.Shape.{shapeOf, stateLength, startingState}
+use Rattle.semantics.specs.Shape.{shapeOf, cells as stateRanges, stateLength, startingState}
 use Rattle.bytecode.specs.Check.{checkOf}
 use Rattle.bytecode.specs.Parts.{shapeIn}
 use Rattle.grammar.specs.Parse.{programOf}
@@ -89,10 +89,10 @@ module _ (text : List ℕ) (cells : List ℤ) (lengths : List ℕ) (m : Lent) wh
   right-length : (buffer : List ℕ) (n : ℕ) → translationOf text (m .image) ≡ record { answer = accepted n; buffer = buffer } → startOf (take n buffer) (m .state) .answer ≡ accepted tt
       → (p : Program) → programOf text ≡ accepted p → length (m .state) ≡ stateLength (shapeOf p)
   right-length buffer n t b p h =
-      let other = map (λ (x : Range). pos 0) (rangesOf p) in
+      let other = map (λ (x : Range). pos 0) (stateRanges (shapeOf p)) in
       let d = trace-correct text (m .image) n (ap {A = AfterTranslation} (λ r. r .answer) t) other [] in
       let q : d .program ≡ p = cc (d .parsed) in
-      let o : length other ≡ stateLength (shapeOf p) = length-map (rangesOf p) (λ (x : Range). pos 0) in
+      let o : length other ≡ stateLength (shapeOf p) = length-map (stateRanges (shapeOf p)) (λ (x : Range). pos 0) in
       let c = d .correct (rw q o) in
       let e = start-sized _ other (ap {A = AfterStart} (λ r. r .answer) (c .started)) in
       start-sized (take n buffer) (m .state) b ∙ sym (rw t at e) ∙ o

@@ -9,9 +9,9 @@ use lib.IntN.{ℤ}
 use lib.Signed.{leZ}
 use lib.ListN.{length, set, getD}
 use Rattle.arith.specs.Values.{Outcome, ok, refusal, _>>=_, require}
-use Rattle.semantics.specs.Program.{Side, Range, within}
+use Rattle.semantics.specs.Program.{Side, Range, within, noRange, rangeAt}
 use Rattle.semantics.specs.Formula.{State, at}
-use Rattle.semantics.specs.ReferenceScan.{noRange, rangeAt, ranged, moves, stays, picked}
+use Rattle.semantics.specs.ReferenceScan.{ranged, moves, stays, picked}
 use Rattle.leb128.specs.Numbers.{Read, got, nothing}
 use Rattle.bytecode.specs.Instructions.{Instruction, constant, current, previous, operation, negate, comparison, negated, both, either, gate, pick, assign, settle, fetch}
 use Rattle.bytecode.specs.Parts.{lows, highs}

@@ -1,4 +1,10 @@
+pub mod Timers
+pub mod Cells
 pub mod Unique
 pub mod Reference
 pub mod Flags
 pub mod Written
+pub mod Untimed
+pub mod Said
+pub mod Table
+pub mod Counted

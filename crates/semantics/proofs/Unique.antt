@@ -1,25 +1,27 @@
 -- The reference scan's new state satisfies every formula at its place, and is the only state of its length and inputs that does.
 -- Assumes nothing.
-use Prim.Native.Nat.{ℕ, zero, suc, _<_}
+use Prim.Native.Nat.{ℕ, zero, suc, _+_, min, _<_}
 use native.Mathlib.Omega.{arith}
 use native.Mathlib.Decide.{ℕ-discrete}
 use mathlib.Core.Path.{_≡_, refl, sym, ap, _∙_, subst}
-use mathlib.Core.Logic.{_≢_}
-use mathlib.Core.Bool.{Bool, true, false, false≢true}
+use mathlib.Core.Bool.{Bool, true, false, _&&_, _||_, cond, false≢true}
 use mathlib.Core.List.{List, [], _∷_, _++_, map}
 use mathlib.Core.Option.{Option, none, some}
-use lib.Dec.{T, ltb→lt}
+use lib.Dec.{T, leb, eqb, ltb→lt, le→leb}
 use lib.IntN.{ℤ, pos}
 use lib.Signed.{leZ, ≤ℤ-refl}
-use lib.ListN.{length, getD, set, drop, length-set}
+use lib.ListN.{length, getD, set, drop, length-set, List·getD-append}
 use lib.Seq.{drop-nil, getD-set-same, getD-set-other, ext-getD}
 use Rattle.arith.specs.Values.{ok, _>>=_, require, eqZ}
-use Rattle.semantics.specs.Program.{Range, Expression, constant, current, previous, operation, negate, Condition, comparison, negated, both, either, Side, changing, rising, falling, Case, Rule, function, change, target, UsableE, UsableC, UsableK, UsableR, OrderedRules, AgreesR, AgreesAll, allTrue, within}
+use Rattle.semantics.specs.Program.{Range, noRange, rangeAt, Expression, constant, current, previous, operation, negate, Condition, comparison, negated, both, either, Side, changing, rising, falling, Case, Rule, function, change, target, UsableE, UsableC, UsableK, UsableR, OrderedRules, AgreesR, AgreesAll, within, Timer, timersKnown, bitRange, Numbered, EachTimer}
 use Rattle.semantics.specs.Formula.{State, at, evalE, evalC, anyCase, anyCondition, changeFormula, noChangeFormula, functionFormula, formulasOfRule, Holds, All}
-use Rattle.semantics.specs.Shape.{allWithin}
-use Rattle.semantics.specs.ReferenceScan.{noRange, rangeAt, ranged, moves, stays, picked, tryCase, tryCases, orPrevious, newValue, scanRules}
+use Rattle.semantics.specs.Shape.{allWithin, Setting, timeRange, timeCell, millisOf, elapsed, newTime, due, timed}
+use Rattle.semantics.specs.ReferenceScan.{ranged, moves, stays, picked, tryCase, tryCases, orPrevious, newValue, runTimers, scanRules}
+use Rattle.semantics.specs.Rows.{Equations}
 use borrow.Author.Tests.{not-true}
 use Rattle.arith.proofs.Basics.{and-left, and-right, and-T, T-true, eqZ-self, eqZ-true, ok≢refusal, ok-inj, Bound, bound, unbind, passed, bind-cong, bind-assoc, or-true, or-false, or-second, T-not-false}
+use Rattle.semantics.proofs.Timers.{each-map, each-both, Placed}
+use Rattle.semantics.proofs.Cells.{Agree, agree-set, agree-back, all-true, marks, marks-length, marks-name, all-marked, agree-names, Waiting, ToCome, before-timers, not-taken, known-length, timers-length, timers-back, timers-value, names-kept, first-unknown, still-waiting}
 
 abbrev conditions : List Case → List Condition
 conditions ks = map (λ k. k .condition) ks
@@ -31,10 +33,6 @@ HoldsRule s t r = All (λ f. Holds f s t) (formulasOfRule r)
 abbrev pub HoldsAll : State → State → List Rule → Type 0
 HoldsAll s t [] = Unit {0}
 HoldsAll s t (r ∷ rs) = HoldsRule s t r × HoldsAll s t rs
-
--- a and b have the same known values
-abbrev pub Agree : List Bool → State → State → Type 0
-Agree known a b = (i : ℕ) → getD known i false ≡ true → at a i ≡ at b i
 
 module _ (known : List Bool) (s a b : State) (agree : Agree known a b) where
   pub evalE-agree : (e : Expression) → UsableE known e → evalE s a e ≡ evalE s b e
@@ -231,78 +229,170 @@ module _ (ns : List Range) (s : State) (size : length s ≡ length ns) (ranges :
       go : Bound (tryCases ns s t v none ks) (λ f. ok (orPrevious s v f)) z → T (within (rangeAt ns v) z)
       go (bound f p q) = rw (← (ok-inj q)) (go₁ f (tried ns s t v ks f p))
 
-  pub scan-within : (rs : List Rule) (t u : State) → scanRules ns s t rs ≡ ok u → T (allWithin ns t) → T (allWithin ns u) × (length u ≡ length t)
-  scan-within [] t u e w = (rw (← (ok-inj e)) w, rw (ok-inj e))
-  scan-within (r ∷ rs) t u e w = go (λ z q w₁. scan-within rs (set t (target r) z) u q w₁) (unbind (newValue ns s t r) _ u e)
+pub elapsed-within : (ms n : ℕ) (before now since : ℤ) → T (within (timeRange n) (pos (elapsed ms n before now since)))
+unfolding within elapsed
+elapsed-within ms n before now since = go (eqZ now (pos 0) || eqZ before (pos 0))
+  where
+    go : (b : Bool) → T (leb 0 (cond b 0 (min n (millisOf since + ms))) && leb (cond b 0 (min n (millisOf since + ms))) n)
+    go true = and-T (leb 0 0) (leb 0 n) tt (le→leb 0 n (omega arith))
+    go false =
+        let m = min n (millisOf since + ms) in
+        and-T (leb 0 m) (leb m n) (le→leb 0 m (omega arith)) (le→leb m n (omega arith))
+
+pub due-within : (n : ℕ) (now e : ℤ) → T (within bitRange (due n now e))
+unfolding within due
+due-within n now e = go (eqZ now (pos 1) && eqZ e (pos n))
+  where
+    go : (b : Bool) → T (within bitRange (cond b (pos 1) (pos 0)))
+    go true = tt
+    go false = tt
+
+module _ (k : Setting) (s : State) (n first : ℕ) (owner : ℕ → ℕ) where
+  timed-within : (x : Timer) → Placed k n first owner x → (t : State) → T (allWithin (k .ranges) t) → T (allWithin (k .ranges) (timed k s x t))
+  unfolding timed
+  timed-within x p t w =
+      let now = at t (x .watched) in
+      let e = newTime k s x now in
+      let a = elapsed-within (k .millis) (x .limit) (at s (x .watched)) now (at s (timeCell k x)) in
+      allWithin-set (k .ranges) (set t (timeCell k x) e) (x .id) (due (x .limit) now e) (allWithin-set (k .ranges) t (timeCell k x) e w (rw (p .time) a)) (rw (p .own) (due-within (x .limit) now e))
+
+  timers-within : (v : ℕ) (ts : List Timer) → EachTimer (Placed k n first owner) ts → (t : State) → T (allWithin (k .ranges) t) → T (allWithin (k .ranges) (runTimers k s v ts t))
+  timers-within v [] p t w = w
+  timers-within v (x ∷ xs) p t w = timers-within v xs (p .1) (cond (eqb (x .watched) v) (timed k s x t) t) (go (eqb (x .watched) v))
     where
-      go : ((z : ℤ) → scanRules ns s (set t (target r) z) rs ≡ ok u → T (allWithin ns (set t (target r) z)) → T (allWithin ns u) × (length u ≡ length (set t (target r) z)))
-          → Bound (newValue ns s t r) (λ z. scanRules ns s (set t (target r) z) rs) u → T (allWithin ns u) × (length u ≡ length t)
-      go ih (bound z p q) =
-          let h = ih z q (allWithin-set ns t (target r) z w (newValue-within t r z p)) in
-          (h .0, h .1 ∙ length-set t (target r) z)
+      go : (b : Bool) → T (allWithin (k .ranges) (cond b (timed k s x t) t))
+      go true = timed-within x (p .0) t w
+      go false = w
+
+  module _ (size : length s ≡ length (k .ranges)) (ranges : T (allWithin (k .ranges) s)) (ts : List Timer) (placed : EachTimer (Placed k n first owner) ts) where
+    pub scan-within : (rs : List Rule) (t u : State) → scanRules k ts s t rs ≡ ok u → T (allWithin (k .ranges) t) → T (allWithin (k .ranges) u) × (length u ≡ length t)
+    scan-within [] t u e w = (rw (← (ok-inj e)) w, rw (ok-inj e))
+    scan-within (r ∷ rs) t u e w = go (λ z q w₁. scan-within rs (runTimers k s (target r) ts (set t (target r) z)) u q w₁) (unbind (newValue (k .ranges) s t r) _ u e)
+      where
+        go : ((z : ℤ) → scanRules k ts s (runTimers k s (target r) ts (set t (target r) z)) rs ≡ ok u → T (allWithin (k .ranges) (runTimers k s (target r) ts (set t (target r) z)))
+            → T (allWithin (k .ranges) u) × (length u ≡ length (runTimers k s (target r) ts (set t (target r) z))))
+            → Bound (newValue (k .ranges) s t r) (λ z. scanRules k ts s (runTimers k s (target r) ts (set t (target r) z)) rs) u → T (allWithin (k .ranges) u) × (length u ≡ length t)
+        go ih (bound z p q) =
+            let a = allWithin-set (k .ranges) t (target r) z w (newValue-within (k .ranges) s size ranges t r z p) in
+            let h = ih z q (timers-within (target r) ts placed (set t (target r) z) a) in
+            (h .0, h .1 ∙ timers-length k s (target r) ts (set t (target r) z) ∙ length-set t (target r) z)
 
 -- ---- the rules in order
 
--- every id is known in the end
-all-true : (bs : List Bool) → T (allTrue bs) → (i : ℕ) → i < length bs → getD bs i false ≡ true
-all-true [] h i k = let b : ⊥ = omega arith in absurd b
-all-true (b ∷ bs) h zero k = T-true b (and-left b (allTrue bs) h)
-all-true (b ∷ bs) h (suc i) k = all-true bs (and-right b (allTrue bs) h) i (omega arith)
+-- each rule's new value at a place is the value of its variable there
+abbrev pub NewAll : List Range → State → State → List Rule → Type 0
+NewAll ns s u [] = Unit {0}
+NewAll ns s u (r ∷ rs) = (newValue ns s u r ≡ ok (at u (target r))) × NewAll ns s u rs
 
-known≢ : (known : List Bool) (i v : ℕ) → getD known i false ≡ true → getD known v false ≡ false → i ≢ v
-known≢ known i v p q e = false≢true (sym q ∙ rw e at p)
+-- Then it holds every formula.
+pub new-holds : (ns : List Range) (s : State) (rs : List Rule) (u : State) → AgreesAll rs → NewAll ns s u rs → HoldsAll s u rs
+new-holds ns s [] u same h = tt
+new-holds ns s (r ∷ rs) u same h = (rule-holds ns s u r (at u (target r)) (same .0) (h .0) refl, new-holds ns s rs u (same .1) (h .1))
 
--- after a rule, its variable is known too
-agree-set : (known : List Bool) (a b : State) (v : ℕ) (z : ℤ) → length a ≡ length known → v < length known → Agree known a b → at b v ≡ z
-    → Agree (set known v true) (set a v z) b
-agree-set known a b v z l h agree e i k = go (ℕ-discrete i v)
-  where
-    go : Dec (i ≡ v) → at (set a v z) i ≡ at b i
-    go (yes p) = rw p (getD-set-same a v z (pos 0) (omega arith) ∙ sym e)
-    go (no p) = getD-set-other a v i z (pos 0) p ∙ agree i (sym (getD-set-other known v i true false p) ∙ k)
+module _ (k : Setting) (s : State) (n first : ℕ) (owner : ℕ → ℕ) (ts : List Timer) (numbered : Numbered first n ts) (placed : EachTimer (Placed k n first owner) ts) where
+  module _ (r : Rule) (rs : List Rule) (known : List Bool) (t : State) (z : ℤ) (l : length known ≡ n) (m : length t ≡ length (marks first known)) (o : OrderedRules ts known (r ∷ rs)) where
+    abbrev known₂ : List Bool
+    known₂ = timersKnown (target r) ts (set known (target r) true)
 
-module _ (ns : List Range) (s : State) where
-  -- each rule's new value at a place is the value of its variable there
-  abbrev pub NewAll : State → List Rule → Type 0
-  NewAll u [] = Unit {0}
-  NewAll u (r ∷ rs) = (newValue ns s u r ≡ ok (at u (target r))) × NewAll u rs
+    abbrev t₂ : State
+    t₂ = runTimers k s (target r) ts (set t (target r) z)
 
-  new-step : (r : Rule) (rs : List Rule) (known : List Bool) (t u : State) (z : ℤ) → length t ≡ length known → OrderedRules known (r ∷ rs) → newValue ns s t r ≡ ok z
-      → Agree (set known (target r) true) (set t (target r) z) u × NewAll u rs
-      → Agree known t u × NewAll u (r ∷ rs)
-  new-step r rs known t u z l o p ih =
-      let v = target r in
-      let d₀ : v < length known = ltb→lt v (length known) (o .1) in
-      let agree : Agree known t u = λ i k.
-      let d : i ≢ v = known≢ known i v k (o .2) in
-      sym (getD-set-other t v i z (pos 0) d) ∙ ih .0 i (getD-set-other known v i true false d ∙ k) in
-      let new : at u v ≡ z = sym (ih .0 v (getD-set-same known v true false d₀)) ∙ getD-set-same t v z (pos 0) (omega arith) in
-      (agree, (sym (newValue-agree known s t u agree ns r (o .0)) ∙ (p ∙ ap ok (sym new)), ih .1))
+    inside : target r < length known
+    inside = ltb→lt (target r) (length known) (o .1)
 
-  -- The state found holds the values known, and every new value.
-  pub scan-new : (rs : List Rule) (known : List Bool) (t u : State) → length t ≡ length known → OrderedRules known rs → scanRules ns s t rs ≡ ok u
-      → Agree known t u × NewAll u rs
-  scan-new [] known t u l o e = ((λ i k. rw (ok-inj e)), tt)
-  scan-new (r ∷ rs) known t u l o e = go (λ z q. scan-new rs (set known (target r) true) (set t (target r) z) u (simp length-set l) (o .3) q) (unbind (newValue ns s t r) _ u e)
+    unknown : getD known (target r) false ≡ false
+    unknown = not-taken ts known (target r) (o .2) .1
+
+    below : target r < first
+    below = let h = inside in before-timers first n ts (target r) numbered (not-taken ts known (target r) (o .2) .0) (omega arith)
+
+    length₂ : length known₂ ≡ n
+    length₂ = known-length (target r) ts (set known (target r) true) ∙ length-set known (target r) true ∙ l
+
+    size₁ : length (set t (target r) z) ≡ length (marks first (set known (target r) true))
+    size₁ =
+        let a : length (set known (target r) true) ≡ length known = length-set known (target r) true in
+        let b : length (set t (target r) z) ≡ length t = length-set t (target r) z in
+        omega (arith, marks-length first known, marks-length first (set known (target r) true))
+
+    size₂ : length t₂ ≡ length (marks first known₂)
+    size₂ =
+        let a : length (set known (target r) true) ≡ length known = length-set known (target r) true in
+        let b : length t₂ ≡ length (set t (target r) z) = timers-length k s (target r) ts (set t (target r) z) in
+        let c = length₂ in
+        let d = size₁ in
+        omega (arith, marks-length first known₂, marks-length first (set known (target r) true))
+
+    known₁ : getD (set known (target r) true) (target r) false ≡ true
+    known₁ = getD-set-same known (target r) true false inside
+
+    waiting₂ : EachTimer (Waiting known) ts → EachTimer (Waiting known₂) ts
+    waiting₂ h = still-waiting k s n first owner ts placed (target r) below known inside h
+
+    new-step : (u : State) → EachTimer (Waiting known) ts → newValue (k .ranges) s t r ≡ ok z → Agree (marks first known₂) t₂ u × NewAll (k .ranges) s u rs × EachTimer (ToCome k s u known₂) ts
+        → Agree (marks first known) t u × NewAll (k .ranges) s u (r ∷ rs) × EachTimer (ToCome k s u known) ts
+    new-step u waiting p ih =
+        let v = target r in
+        let un = first-unknown k s n first owner ts placed v below known inside unknown waiting in
+        let a = timers-back k s n first owner v below u first ts numbered placed (set known v true) (set t v z) (length-set known v true ∙ l) size₁ known₁ un (ih .0) in
+        let wide : v < length (marks first known) = omega (arith, marks-length first known, inside) in
+        let free : getD (marks first known) v false ≡ false = List·getD-append known (drop first known) false v inside ∙ unknown in
+        let b = agree-back (marks first known) t u v z m wide free (rw (marks-name first known v below inside) at (a .0)) in
+        let names : Agree known t u = agree-names first known t u (b .0) in
+        let come : EachTimer (ToCome k s u known) ts =
+        each-map (λ x. (x .watched ≡ v → Equations k s u x) × (Placed k n first owner x × ToCome k s u known₂ x)) (ToCome k s u known) (λ x h. either-way x (h .1 .0) (h .0) (h .1 .1)) ts
+        (each-both (λ x. x .watched ≡ v → Equations k s u x) (λ x. Placed k n first owner x × ToCome k s u known₂ x) ts (a .1) (each-both (Placed k n first owner) (ToCome k s u known₂) ts placed (ih .2))) in
+        (b .0, (sym (newValue-agree known s t u names (k .ranges) r (o .0)) ∙ (p ∙ ap ok (sym (b .1))), ih .1), come)
+      where
+        either-way : (x : Timer) → Placed k n first owner x → (x .watched ≡ target r → Equations k s u x) → ToCome k s u known₂ x → ToCome k s u known x
+        either-way x q here later e = go (ℕ-discrete (x .watched) (target r))
+          where
+            go : Dec (x .watched ≡ target r) → Equations k s u x
+            go (yes f) = here f
+            go (no f) = later (names-kept k s n first owner ts placed (target r) below known inside (x .watched) (q .watches) ∙ getD-set-other known (target r) (x .watched) true false f ∙ e)
+
+    value-step : (w : State) → AgreesR r → newValue (k .ranges) s t r ≡ ok z → Agree (marks first known) t w → HoldsRule s w r → EachTimer (Equations k s w) ts → Agree (marks first known₂) t₂ w
+    value-step w same p agree h eqs =
+        let v = target r in
+        let names : Agree known t w = agree-names first known t w agree in
+        let new : at w v ≡ z = rule-value (k .ranges) s w r z same (sym (newValue-agree known s t w names (k .ranges) r (o .0)) ∙ p) h in
+        let wide : v < length (marks first known) = omega (arith, marks-length first known, inside) in
+        let a : Agree (marks first (set known v true)) (set t v z) w = rw (marks-name first known v below inside) (agree-set (marks first known) t w v z m wide agree new) in
+        timers-value k s n first owner v below w ts placed (set known v true) (set t v z) (length-set known v true ∙ l) size₁ known₁ eqs a
+
+  -- The state found holds the values known, every new value, and the equations of the timers that are to come.
+  pub scan-new : (rs : List Rule) (known : List Bool) (t u : State) → length known ≡ n → length t ≡ length (marks first known) → EachTimer (Waiting known) ts → OrderedRules ts known rs
+      → scanRules k ts s t rs ≡ ok u → Agree (marks first known) t u × NewAll (k .ranges) s u rs × EachTimer (ToCome k s u known) ts
+  scan-new [] known t u l m waiting o e = (
+    (λ i h. rw (ok-inj e)),
+    tt,
+    each-map (Placed k n first owner) (ToCome k s u known) (λ x p h.
+        let a = p .watches in
+        let b = p .after in
+        let c = p .below in
+        absurd (false≢true (sym h ∙ all-true known o (x .watched) (omega arith)))) ts placed,
+  )
+  scan-new (r ∷ rs) known t u l m waiting o e =
+      go (λ z q. scan-new rs (known₂ r rs known t z l m o) (t₂ r rs known t z l m o) u (length₂ r rs known t z l m o) (size₂ r rs known t z l m o) (waiting₂ r rs known t z l m o waiting) (o .3) q)
+      (unbind (newValue (k .ranges) s t r) _ u e)
     where
-      go : ((z : ℤ) → scanRules ns s (set t (target r) z) rs ≡ ok u → Agree (set known (target r) true) (set t (target r) z) u × NewAll u rs)
-          → Bound (newValue ns s t r) (λ z. scanRules ns s (set t (target r) z) rs) u → Agree known t u × NewAll u (r ∷ rs)
-      go ih (bound z p q) = new-step r rs known t u z l o p (ih z q)
+      go : ((z : ℤ) → scanRules k ts s (t₂ r rs known t z l m o) rs ≡ ok u
+          → Agree (marks first (known₂ r rs known t z l m o)) (t₂ r rs known t z l m o) u × NewAll (k .ranges) s u rs × EachTimer (ToCome k s u (known₂ r rs known t z l m o)) ts)
+          → Bound (newValue (k .ranges) s t r) (λ z. scanRules k ts s (t₂ r rs known t z l m o) rs) u → Agree (marks first known) t u × NewAll (k .ranges) s u (r ∷ rs) × EachTimer (ToCome k s u known) ts
+      go ih (bound z p q) = new-step r rs known t z l m o u waiting p (ih z q)
 
-  -- It holds every formula.
-  pub new-holds : (rs : List Rule) (u : State) → AgreesAll rs → NewAll u rs → HoldsAll s u rs
-  new-holds [] u same h = tt
-  new-holds (r ∷ rs) u same h = (rule-holds ns s u r (at u (target r)) (same .0) (h .0) refl, new-holds rs u (same .1) (h .1))
-
-  -- A state that holds the values known, and every formula, is the state found.
-  pub scan-value : (rs : List Rule) (known : List Bool) (t u w : State) → length t ≡ length known → length w ≡ length known → OrderedRules known rs → AgreesAll rs
-      → scanRules ns s t rs ≡ ok u → Agree known t w → HoldsAll s w rs → w ≡ u
-  scan-value [] known t u w l m o same e agree h =
-      ext-getD (pos 0) w t (m ∙ sym l) (λ i k. sym (agree i (all-true known o i (omega arith)))) ∙ ok-inj e
-  scan-value (r ∷ rs) known t u w l m o same e agree h =
-      go (λ z q a. scan-value rs (set known (target r) true) (set t (target r) z) u w (simp length-set l) (simp length-set m) (o .3) (same .1) q a (h .1)) (unbind (newValue ns s t r) _ u e)
+  -- A state that holds the values known, every formula and the timers' equations is the state found.
+  pub scan-value : (rs : List Rule) (known : List Bool) (t u w : State) → length known ≡ n → length t ≡ length (marks first known) → length w ≡ length t → OrderedRules ts known rs → AgreesAll rs
+      → scanRules k ts s t rs ≡ ok u → Agree (marks first known) t w → HoldsAll s w rs → EachTimer (Equations k s w) ts → w ≡ u
+  scan-value [] known t u w l m d o same e agree h eqs =
+      ext-getD (pos 0) w t d (λ i h₁. sym (agree i (all-marked first known o i (omega arith)))) ∙ ok-inj e
+  scan-value (r ∷ rs) known t u w l m d o same e agree h eqs =
+      go (λ z q a. scan-value rs (known₂ r rs known t z l m o) (t₂ r rs known t z l m o) u w (length₂ r rs known t z l m o) (size₂ r rs known t z l m o) (same-size z) (o .3) (same .1) q a (h .1) eqs)
+      (unbind (newValue (k .ranges) s t r) _ u e)
     where
-      go : ((z : ℤ) → scanRules ns s (set t (target r) z) rs ≡ ok u → Agree (set known (target r) true) (set t (target r) z) w → w ≡ u)
-          → Bound (newValue ns s t r) (λ z. scanRules ns s (set t (target r) z) rs) u → w ≡ u
-      go ih (bound z p q) =
-          ih z q (agree-set known t w (target r) z l (ltb→lt (target r) (length known) (o .1)) agree (rule-value ns s w r z (same .0) (sym (newValue-agree known s t w agree ns r (o .0)) ∙ p) (h .0)))
+      same-size : (z : ℤ) → length w ≡ length (t₂ r rs known t z l m o)
+      same-size z = d ∙ sym (timers-length k s (target r) ts (set t (target r) z) ∙ length-set t (target r) z)
+
+      go : ((z : ℤ) → scanRules k ts s (t₂ r rs known t z l m o) rs ≡ ok u → Agree (marks first (known₂ r rs known t z l m o)) (t₂ r rs known t z l m o) w → w ≡ u)
+          → Bound (newValue (k .ranges) s t r) (λ z. scanRules k ts s (t₂ r rs known t z l m o) rs) u → w ≡ u
+      go ih (bound z p q) = ih z q (value-step r rs known t z l m o w (same .0) p agree (h .0) eqs)

@@ -13,8 +13,9 @@ use lib.Signed.{leZ, ltZ}
 use borrow.Author.Tests.{le-ltb, leb-false, not-true}
 use Rattle.arith.specs.Values.{Outcome, ok, refusal, _>>=_, eqZ}
 use Rattle.arith.proofs.Basics.{eqZ-self, ok≢refusal, ok-inj, Bound, bound, unbind, bind-assoc, or-true, or-false}
-use Rattle.semantics.specs.Program.{Program, Range, Side, changing, rising, falling, Case, Rule, function, change, target, rangesOf, Sided, all-changing, up-then-down, sides, SidedR, SidedAll, AgreesR, AgreesAll, WellFormed}
+use Rattle.semantics.specs.Program.{Program, Range, Side, changing, rising, falling, Case, Rule, function, change, target, Sided, all-changing, up-then-down, sides, SidedR, SidedAll, AgreesR, AgreesAll, WellFormed}
 use Rattle.semantics.specs.Formula.{State, at, evalE, evalC, anyCase, formulasOfRule, sameSide, ofSide, risingFormula, fallingFormula, allChanging, writtenOfRule, writtenOfRules, writtenOf, Holds, GX, All}
+use Rattle.semantics.specs.Shape.{shapeOf, cells}
 use Rattle.semantics.specs.ReferenceScan.{moves, picked, tryCase, tryCases, orPrevious, newValue, referenceScan}
 use Rattle.semantics.specs.Rows.{reply, referenceReplies, acceptedStates, traceOf, InRanges}
 use Rattle.semantics.proofs.Unique.{NewAll, HoldsRule, rule-holds, picked-is}
@@ -178,5 +179,5 @@ written-trace p wf (r ∷ rs) s g = go (referenceScan p s r) refl (λ t h. writt
         → All (λ f. GX f (traceOf s (reply s o ∷ referenceReplies p (reply s o .state) rs))) (writtenOf p)
     go (ok t) e ih c =
         let x = reference-next p wf s g r t e in
-        all-cons s t (acceptedStates (referenceReplies p t rs)) (writtenOf p) (rules-written (rangesOf p) s t (p .rules) (wf .agrees) (wf .sided) (x .new)) (ih t (x .kept))
+        all-cons s t (acceptedStates (referenceReplies p t rs)) (writtenOf p) (rules-written (cells (shapeOf p)) s t (p .rules) (wf .agrees) (wf .sided) (x .new)) (ih t (x .kept))
     go (refusal k) e ih c = c

@@ -88,7 +88,7 @@ image-bytes q h i = rw (groups-one (q .inputs) h, groups-one (length (q .names) 
 -- all is read: the counts are stored last
 module _ (text before mid last : List ℕ) (starts ends : List ℕ) (a t c m b u : ℕ) (x : HeadingRead text before mid starts ends a t c m) (few : Few text (x .read) a) (rules : List Rule) (e : rulesFrom 65 (scopeAfter text (x .read)) [] a ≡ accepted rules b) (eu : u ≡ t + length (bytesR rules)) (w : last ≡ sets mid t (bytesR rules)) where
   abbrev whole : Program
-  whole = record { inputs = x .read .inputs; names = x .read .names; rules = rules }
+  whole = record { inputs = x .read .inputs; names = x .read .names; timers = []; rules = rules }
 
   is-whole : program text ≡ accepted whole b
   is-whole = program-heading text ∙ rw (x .is-read, e)

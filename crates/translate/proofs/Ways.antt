@@ -27,7 +27,7 @@ use Rattle.translate.specs.Inner.Descent.{Declarations, headingOf, scope
 
 -- the rules after the declarations
 abbrev pub ruled : List ℕ → Declarations → ℕ → Parsed Program
-ruled text d n = andThen (rulesFrom 65 (scopeAfter text d) [] n) (λ rules m. accepted (record { inputs = d .inputs; names = d .names; rules = rules }) m)
+ruled text d n = andThen (rulesFrom 65 (scopeAfter text d) [] n) (λ rules m. accepted (record { inputs = d .inputs; names = d .names; timers = []; rules = rules }) m)
 
 pub program-heading : (text : List ℕ) → program text ≡ andThen (headingOf text) (λ d n. ruled text d n)
 unfolding program headingOf
