@@ -11,7 +11,7 @@ use Rattle.arith.specs.Values.{Outcome, ok, refusal, _>>=_}
 use Rattle.arith.proofs.Basics.{ok≢refusal, ok-inj}
 use Rattle.semantics.specs.Program.{Range, Condition}
 use Rattle.semantics.specs.Formula.{State, evalC}
-use Rattle.semantics.specs.ReferenceScan.{noRange}
+use Rattle.semantics.specs.Program.{noRange}
 use Rattle.semantics.proofs.Reference.{length-known}
 use Rattle.leb128.specs.Numbers.{Read, got, nothing}
 use Rattle.leb128.proofs.RoundTrip.{drop-behind}
