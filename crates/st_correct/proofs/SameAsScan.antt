@@ -12,9 +12,10 @@ use borrow.Author.Tests.{eqb-true}
 use Rattle.limits.specs.Answer.{Answer, accepted, refused}
 use Rattle.arith.specs.Values.{Outcome, ok, refusal}
 use Rattle.arith.proofs.Basics.{true-T, and-both, ok≢refusal}
-use Rattle.semantics.specs.Program.{Program, rangesOf}
+use Rattle.semantics.specs.Program.{Program, Range, rangesOf}
 use Rattle.semantics.specs.Formula.{State}
-use Rattle.semantics.specs.Shape.{shapeOf, allWithin}
+use Rattle.semantics.specs.Shape.{shapeOf, cells, stateLength, allWithin}
+use Rattle.semantics.proofs.Untimed.{plain-cells, plain-states}
 use Rattle.semantics.specs.ReferenceScan.{referenceScan}
 use Rattle.semantics.specs.Rows.{Reply, reply, referenceReplies, startsOf, acceptedStates, acceptedRows, InRanges}
 use Rattle.semantics.proofs.Reference.{starts-in-range}
@@ -53,7 +54,7 @@ accepted-reply s a (refusal k) e f =
     ok≢refusal tt k (sym (ap verdictOf f) ∙ v)
 
 module _ (p : Program) (t : Translatable p) where
-  scan-tests : (s : State) (row : List ℤ) → scanOf (imageOf p) s row ≡ scanned (accepted tt) (shapeOf p) (imageOf p) s row
+  scan-tests : (s : State) (row : List ℤ) → scanOf (imageOf p) s row ≡ scanned (accepted tt) (record { inputs = p .inputs; ranges = rangesOf p; limits = [] }) (imageOf p) s row
   unfolding scanOf
   scan-tests s row = rw (check-translated p t, header-of p t)
 
@@ -62,7 +63,10 @@ module _ (p : Program) (t : Translatable p) where
   scanned-in-range s row e =
       let x = tested-passed (eqb (length s) (length (rangesOf p)) && eqb (length row) (p .inputs)) 12 s _ (sym (ap {A = AfterScan} (λ a. a .answer) (scan-tests s row)) ∙ e) in
       let y = tested-passed (allWithin (rangesOf p) s) 18 s _ (x .1) in
-      record { size = eqb-true (length s) (length (rangesOf p)) (and-both (eqb (length s) (length (rangesOf p))) (eqb (length row) (p .inputs)) (x .0) .0); ranges = true-T (allWithin (rangesOf p) s) (y .0) }
+      record {
+        size = eqb-true (length s) (length (rangesOf p)) (and-both (eqb (length s) (length (rangesOf p))) (eqb (length row) (p .inputs)) (x .0) .0) ∙ sym (plain-states p (t .untimed));
+        ranges = true-T (allWithin (cells (shapeOf p)) s) (ap (λ (ns : List Range). allWithin ns s) (plain-cells p (t .untimed)) ∙ y .0);
+      }
 
   module _ (w : InSt p) (starts : AllStarts (p .names)) (h : hasSt p ≡ true) where
     pub same-as-scan : SameAsScan p (imageOf p) (stBytes p)
@@ -74,7 +78,7 @@ module _ (p : Program) (t : Translatable p) where
           leaves-same p w lazy (stBytes p) (printed-read p w starts h) s g row (scanOf (imageOf p) s row .state) (accepted-reply s (scanOf (imageOf p) s row) (referenceScan p s row) (scan-reply p t s g row) e);
       trace = traced;
     } where
-      traced : (lazy : Bool) (lent : State) (rows : List (List ℤ)) → length lent ≡ length (rangesOf p)
+      traced : (lazy : Bool) (lent : State) (rows : List (List ℤ)) → length lent ≡ stateLength (shapeOf p)
           → cycleStates lazy (programInSt p) (namesOf p) (freshStore (programInSt p)) (acceptedRows rows (found (imageOf p) lent rows)) ≡ some (acceptedStates (found (imageOf p) lent rows))
       traced lazy lent rows l =
           let g = starts-in-range p (t .well-formed) in

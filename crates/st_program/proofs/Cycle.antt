@@ -16,7 +16,8 @@ use Rattle.lexer.specs.Lexer.{sameName}
 use Rattle.semantics.specs.Program.{Name, Program, rangesOf, WellFormed, knownFirst}
 use Rattle.semantics.specs.Formula.{State, at}
 use Rattle.semantics.specs.Shape.{shapeOf, rowInRange}
-use Rattle.semantics.specs.ReferenceScan.{scanRules, withInputs, referenceScan}
+use Rattle.semantics.specs.ReferenceScan.{withInputs}
+use Rattle.semantics.proofs.Untimed.{plainRules, untimed-order}
 use Rattle.semantics.specs.Rows.{Reply, reply, referenceReplies, startsOf, acceptedStates, acceptedRows, InRanges}
 use Rattle.semantics.proofs.Reference.{length-known, reference-next}
 use Rattle.grammar.specs.Derivation.{IsName}
@@ -100,6 +101,8 @@ pub record InSt (p : Program) : Type 0 where
   pub named : AllNames (namesOf p)
   pub distinct : Distinct (namesOf p)
   pub literal : LiteralAll (p .rules)
+  -- a timer has no Structured Text (21)
+  pub untimed : p .timers ≡ []
 
 module _ (p : Program) (w : InSt p) where
   separate : Separate (namesOf p)
@@ -152,9 +155,9 @@ module _ (p : Program) (w : InSt p) where
           knowns = length-known (p .inputs) (length (rangesOf p)) ∙ same-count;
         }
 
-    module _ (u : State) (e : scanRules (rangesOf p) s (withInputs s row) (p .rules) ≡ ok u) (size-u : length u ≡ length (rangesOf p)) where
+    module _ (u : State) (e : plainRules (rangesOf p) s (withInputs s row) (p .rules) ≡ ok u) (size-u : length u ≡ length (rangesOf p)) where
       ruled : Ruled (namesOf p) lazy (inputs-given .store) u s (map (ruleInSt (namesOf p)) (p .rules))
-      ruled = rules-same (namesOf p) separate lazy (rangesOf p) s (p .rules) (inputs-given .store) (withInputs s row) (knownFirst (p .inputs) (length (rangesOf p))) begun (w .well-formed .ordered) (w .literal) u e
+      ruled = rules-same (namesOf p) separate lazy (rangesOf p) s (p .rules) (inputs-given .store) (withInputs s row) (knownFirst (p .inputs) (length (rangesOf p))) begun (untimed-order p (w .untimed) (w .well-formed .ordered)) (w .literal) u e
 
       saved : AllHeld (map previousName (namesOf p)) u (ruled .store)
       saved =

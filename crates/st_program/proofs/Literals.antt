@@ -88,6 +88,7 @@ module _ (text : List ℕ) (p : Program) (e : programOf text ≡ accepted p) whe
         named = all-names (namesOf p) (n .each);
         distinct = n .distinct;
         literal = literal-rules (normals (namesOf p)) (s .rule-tokens) (p .rules) (s .spells-rules);
+        untimed = program-translatable text p e .untimed;
       }
 
   pub accepted-starts : AllStarts (p .names)

@@ -14,6 +14,7 @@ use Rattle.arith.proofs.Basics.{T-true, and-both}
 use Rattle.lexer.specs.Lexer.{sameName}
 use Rattle.semantics.specs.Program.{Name, Range, Expression, constant, current, previous, operation, negate, Condition, comparison, negated, both, either, Side, Case, Rule, function, change, target, Program, rangesOf, knownFirst, UsableE, UsableC, UsableK, UsableR, OrderedRules, Sided, all-changing, up-then-down, sides, SidedR, SidedAll}
 use Rattle.semantics.proofs.Reference.{length-known}
+use Rattle.semantics.proofs.Untimed.{untimed-order}
 use Rattle.grammar.specs.Spelled.{Apart, Distinct, namesOf}
 use Rattle.st.specs.Syntax.{Identifier, Statement, Declaration, StProgram}
 use Rattle.st.specs.Reading.{isDeclared, declaredOnce, programRead}
@@ -84,7 +85,7 @@ module _ (ws : List Identifier) (words : AllWords ws) where
     writable-rule (change v [] cs) u l d h = let i : 1 ≤ 0 = sided-some [] d in absurd (omega arith)
     writable-rule (change v (k ∷ ks) cs) u l d h = let x = writable-cases v h (k ∷ ks) u l in (x .0, x .1)
 
-  writable-rules : (rs : List Rule) (known : List Bool) → length known ≡ length ws → OrderedRules known rs → LiteralAll rs → SidedAll rs → (rest : List Statement) → AllWritableS rest
+  writable-rules : (rs : List Rule) (known : List Bool) → length known ≡ length ws → OrderedRules [] known rs → LiteralAll rs → SidedAll rs → (rest : List Statement) → AllWritableS rest
       → AllWritableS (map (ruleInSt ws) rs ++ rest)
   writable-rules [] known n o l d rest h = h
   writable-rules (r ∷ rs) known n o l d rest h = (
@@ -141,7 +142,7 @@ parts-read (suc k) (n ∷ ns) b e i v h o =
     program-read (map currentLine (take (suc k) (n ∷ ns))) (map previousLine (take k ns) ++ variableLines (drop k ns)) (previousLine n) b i v h o
 
 -- without names there are no rules
-none-ruled : (ns : List Name) (k : ℕ) (rs : List Rule) → OrderedRules (knownFirst k (length (map (λ n. n .range) ns))) rs → (ws : List Identifier) → ns ≡ [] → ws ≡ [] → map (ruleInSt ws) rs ++ map savingLine ws ≡ []
+none-ruled : (ns : List Name) (k : ℕ) (rs : List Rule) → OrderedRules [] (knownFirst k (length (map (λ n. n .range) ns))) rs → (ws : List Identifier) → ns ≡ [] → ws ≡ [] → map (ruleInSt ws) rs ++ map savingLine ws ≡ []
 none-ruled ns k [] o ws e f = rw f
 none-ruled ns k (r ∷ rs) o ws e f =
     let l = length-known k (length (map (λ n. n .range) ns)) in
@@ -160,10 +161,10 @@ module _ (p : Program) (w : InSt p) (starts : AllStarts (p .names)) (h : hasSt p
       let x = words-parts (p .inputs) (p .names) words starts in
       let joined = take-append-drop (p .inputs) (p .names) in
       parts-read (p .inputs) (p .names) (map (ruleInSt (namesOf p)) (p .rules) ++ map savingLine (namesOf p))
-      (λ e. none-ruled (p .names) (p .inputs) (p .rules) (w .well-formed .ordered) (namesOf p) e (ap spelled e))
+      (λ e. none-ruled (p .names) (p .inputs) (p .rules) (untimed-order p (w .untimed) (w .well-formed .ordered)) (namesOf p) e (ap spelled e))
       (writable-current (take (p .inputs) (p .names)) (x .0 .0) (x .0 .1))
       (writable-previous (take (p .inputs) (p .names)) (drop (p .inputs) (p .names)) (x .0 .0) (x .0 .1) (writable-variables (drop (p .inputs) (p .names)) (x .1 .0) (x .1 .1)))
-      (writable-rules (namesOf p) words (p .rules) (knownFirst (p .inputs) (length (rangesOf p))) (length-known (p .inputs) (length (rangesOf p)) ∙ same-count p w) (w .well-formed .ordered) (w .literal) (w .well-formed .sided)
+      (writable-rules (namesOf p) words (p .rules) (knownFirst (p .inputs) (length (rangesOf p))) (length-known (p .inputs) (length (rangesOf p)) ∙ same-count p w) (untimed-order p (w .untimed) (w .well-formed .ordered)) (w .literal) (w .well-formed .sided)
       (map savingLine (namesOf p)) (writable-lines (namesOf p) words))
       (once-declared (map currentLine (take (p .inputs) (p .names)) ++ (map previousLine (take (p .inputs) (p .names)) ++ variableLines (drop (p .inputs) (p .names)))) (lines-apart (take (p .inputs) (p .names)) (drop (p .inputs) (p .names))
       (subst (λ (ns : List Name). AllNames (spelled ns)) (sym joined) (w .named)) (subst (λ (ns : List Name). Distinct (spelled ns)) (sym joined) (w .distinct))))

@@ -12,9 +12,10 @@ use lib.Seq.{getD-set-same, getD-set-other}
 use borrow.Author.Tests.{ltb-true, eqb-true, eqb-false}
 use Rattle.arith.specs.Values.{Outcome, ok, refusal, _>>=_}
 use Rattle.arith.proofs.Basics.{T-true, ok-inj, Bound, bound, unbind, passed}
-use Rattle.semantics.specs.Program.{Range, Expression, Case, Condition, Rule, function, change, target, within, UsableR, OrderedRules}
+use Rattle.semantics.specs.Program.{Range, rangeAt, Expression, Case, Condition, Rule, function, change, target, within, UsableR, OrderedRules}
 use Rattle.semantics.specs.Formula.{State, at, evalE}
-use Rattle.semantics.specs.ReferenceScan.{rangeAt, ranged, tryCases, orPrevious, newValue, scanRules}
+use Rattle.semantics.specs.ReferenceScan.{ranged, tryCases, orPrevious, newValue}
+use Rattle.semantics.proofs.Untimed.{plainRules}
 use Rattle.lexer.specs.Lexer.{sameName}
 use Rattle.trace_text.specs.Row.{_andIf_}
 use Rattle.st.specs.Syntax.{Identifier, Statement, assign, choose, variable}
@@ -137,11 +138,11 @@ module _ (names : List Identifier) (sep : Separate names) (lazy : Bool) (ns : Li
     by true q = let p : i ≡ v = eqb-true i v q in absurd (false≢true (sym e ∙ ap (λ (j : ℕ). getD (set known v true) j false) p ∙ getD-set-same known v true false h))
     by false q = let n : i ≡ v → ⊥ = eqb-false i v q in (sym (getD-set-other known v i true false n) ∙ e, n)
 
-  pub rules-same : (rs : List Rule) (σ : Store) (t : State) (known : List Bool) → Underway names σ t s known → OrderedRules known rs → LiteralAll rs → (u : State) → scanRules ns s t rs ≡ ok u
+  pub rules-same : (rs : List Rule) (σ : Store) (t : State) (known : List Bool) → Underway names σ t s known → OrderedRules [] known rs → LiteralAll rs → (u : State) → plainRules ns s t rs ≡ ok u
       → Ruled names lazy σ u s (map (ruleInSt names) rs)
   rules-same [] σ t known w o l u e =
       record { store = σ; is = λ rest. refl; shows = subst (λ (x : State). Shows names σ x s) (ok-inj e) (w .shows); frame = same-frame σ }
-  rules-same (r ∷ rs) σ t known w o l u e = by (unbind (newValue ns s t r) (λ z. scanRules ns s (set t (target r) z) rs) u e) (λ τ t′ known′ w′ o′ f. rules-same rs τ t′ known′ w′ o′ (l .1) u f) where
+  rules-same (r ∷ rs) σ t known w o l u e = by (unbind (newValue ns s t r) (λ z. plainRules ns s (set t (target r) z) rs) u e) (λ τ t′ known′ w′ o′ f. rules-same rs τ t′ known′ w′ o′ (l .1) u f) where
     in-range : target r < length known
     in-range = ltb-true (target r) (length known) (T-true (ltb (target r) (length known)) (o .1))
 
@@ -155,8 +156,8 @@ module _ (names : List Identifier) (sep : Separate names) (lazy : Bool) (ns : Li
           knowns = length-set known (target r) true ∙ w .knowns;
         }
 
-    by : Bound (newValue ns s t r) (λ z. scanRules ns s (set t (target r) z) rs) u
-        → ((τ : Store) (t′ : State) (known′ : List Bool) → Underway names τ t′ s known′ → OrderedRules known′ rs → scanRules ns s t′ rs ≡ ok u → Ruled names lazy τ u s (map (ruleInSt names) rs))
+    by : Bound (newValue ns s t r) (λ z. plainRules ns s (set t (target r) z) rs) u
+        → ((τ : Store) (t′ : State) (known′ : List Bool) → Underway names τ t′ s known′ → OrderedRules [] known′ rs → plainRules ns s t′ rs ≡ ok u → Ruled names lazy τ u s (map (ruleInSt names) rs))
         → Ruled names lazy σ u s (map (ruleInSt names) (r ∷ rs))
     by (bound z q f) more =
         let x = rule-same σ t known w r (o .0) (l .0) (let m = w .knowns in let k = in-range in omega arith) (o .2) z q in

@@ -15,8 +15,9 @@ use Rattle.arith.specs.Values.{Outcome, ok, refusal, check}
 use Rattle.arith.proofs.Basics.{ok≢refusal}
 use Rattle.semantics.specs.Program.{Name, Program, rangesOf}
 use Rattle.semantics.specs.Formula.{State, at}
-use Rattle.semantics.specs.Shape.{shapeOf, rowInRange}
-use Rattle.semantics.specs.ReferenceScan.{scanRules, withInputs, referenceScan}
+use Rattle.semantics.specs.Shape.{allWithin}
+use Rattle.semantics.specs.ReferenceScan.{withInputs, referenceScan}
+use Rattle.semantics.proofs.Untimed.{plainRules, plainScan, plain-states, plain-starts, plain-scan}
 use Rattle.semantics.specs.Rows.{Reply, reply, referenceReplies, startsOf, acceptedStates, acceptedRows, InRanges}
 use Rattle.semantics.proofs.Reference.{reference-next}
 use Rattle.grammar.specs.Spelled.{Distinct, namesOf}
@@ -60,9 +61,11 @@ passed-tests true true o u e = (refl, e)
 passed-tests true false o u e = ok≢refusal u 13 (sym e)
 passed-tests false b o u e = ok≢refusal u 12 (sym e)
 
-scan-passed : (p : Program) (s : State) (row : List ℤ) (u : State) → referenceScan p s row ≡ ok u → (length row ≡ p .inputs) × (scanRules (rangesOf p) s (withInputs s row) (p .rules) ≡ ok u)
-unfolding referenceScan
-scan-passed p s row u e = let r = passed-tests (eqb (length row) (p .inputs)) (rowInRange (shapeOf p) row) (scanRules (rangesOf p) s (withInputs s row) (p .rules)) u e in (eqb-true (length row) (p .inputs) (r .0), r .1)
+scan-passed : (p : Program) → p .timers ≡ [] → (s : State) (row : List ℤ) (u : State) → referenceScan p s row ≡ ok u → (length row ≡ p .inputs) × (plainRules (rangesOf p) s (withInputs s row) (p .rules) ≡ ok u)
+unfolding plainScan
+scan-passed p untimed s row u e =
+    let r = passed-tests (eqb (length row) (p .inputs)) (allWithin (rangesOf p) row) (plainRules (rangesOf p) s (withInputs s row) (p .rules)) u (sym (plain-scan p untimed s row) ∙ e) in
+    (eqb-true (length row) (p .inputs) (r .0), r .1)
 
 module _ (p : Program) (w : InSt p) where
   joined-names : AllNames (spelled (take (p .inputs) (p .names) ++ drop (p .inputs) (p .names)))
@@ -75,9 +78,9 @@ module _ (p : Program) (w : InSt p) where
   in-parts n i = subst (In n) (sym (take-append-drop (p .inputs) (p .names))) i
 
   -- ---- before the first cycle
-  pub fresh-ready : Ready (namesOf p) (p .inputs) (freshStore (programInSt p)) (startsOf p)
+  ready-plain : Ready (namesOf p) (p .inputs) (freshStore (programInSt p)) (map (λ n. n .start) (rangesOf p))
   unfolding programInSt
-  fresh-ready =
+  ready-plain =
       let is = take (p .inputs) (p .names) in
       let vs = drop (p .inputs) (p .names) in
       record {
@@ -95,6 +98,12 @@ module _ (p : Program) (w : InSt p) where
         };
       }
 
+  pub fresh-ready : Ready (namesOf p) (p .inputs) (freshStore (programInSt p)) (startsOf p)
+  fresh-ready = subst (Ready (namesOf p) (p .inputs) (freshStore (programInSt p))) (sym (plain-starts p (w .untimed))) ready-plain
+
+  sized : (s : State) → InRanges p s → length s ≡ length (rangesOf p)
+  sized s g = g .size ∙ plain-states p (w .untimed)
+
   listed : (σ : Store) (s : State) → length s ≡ length (rangesOf p) → Ready (namesOf p) (p .inputs) σ s → (valuesIn σ (namesOf p) ≡ some s) × (valuesIn σ (map previousName (namesOf p)) ≡ some s)
   listed σ s l r =
       let m = length-map (namesOf p) previousName in (
@@ -104,7 +113,7 @@ module _ (p : Program) (w : InSt p) where
 
   -- the declared starts
   pub fresh-values : (valuesIn (freshStore (programInSt p)) (namesOf p) ≡ some (startsOf p)) × (valuesIn (freshStore (programInSt p)) (map previousName (namesOf p)) ≡ some (startsOf p))
-  fresh-values = listed (freshStore (programInSt p)) (startsOf p) (length-map (rangesOf p) (λ n. n .start)) fresh-ready
+  fresh-values = listed (freshStore (programInSt p)) (startsOf p) (ap length (plain-starts p (w .untimed)) ∙ length-map (rangesOf p) (λ n. n .start)) fresh-ready
 
   -- ---- one cycle from a state
 
@@ -136,17 +145,18 @@ module _ (p : Program) (w : InSt p) where
 
   next : (lazy : Bool) (σ : Store) (s : State) → Ready (namesOf p) (p .inputs) σ s → InRanges p s → (row : List ℤ) (u : State) → referenceScan p s row ≡ ok u → Cycled (namesOf p) (programInSt p) lazy (p .inputs) σ row u
   next lazy σ s r g row u e =
-      let x = scan-passed p s row u e in
-      cycled p w lazy σ s r (g .size) row (x .0) u (x .1) (reference-next p (w .well-formed) s g row u e .kept .size)
+      let x = scan-passed p (w .untimed) s row u e in
+      cycled p w lazy σ s r (sized s g) row (x .0) u (x .1) (sized u (reference-next p (w .well-formed) s g row u e .kept))
 
   -- Started with the scan's state in names and previous values alike, then given an accepted row's inputs, they leave the same values as the scan.
   pub leaves-same : (lazy : Bool) (text : List ℕ) → programRead text ≡ some (programInSt p) → (s : State) → InRanges p s → (row : List ℤ) (u : State) → referenceScan p s row ≡ ok u
       → cycleLeaves lazy text (namesOf p) s row ≡ some (record { names = u; previous = u })
   unfolding cycleLeaves
   leaves-same lazy text q s g row u e =
-      let c = next lazy (previous-held s (g .size) .store) s (state-ready s (g .size)) g row u e in
-      let v = listed (c .store) u (reference-next p (w .well-formed) s g row u e .kept .size) (c .ready) in
-      rw (q, names-held s (g .size) .is, previous-held s (g .size) .is, c .given, c .ran, v .0, v .1)
+      let l = sized s g in
+      let c = next lazy (previous-held s l .store) s (state-ready s l) g row u e in
+      let v = listed (c .store) u (sized u (reference-next p (w .well-formed) s g row u e .kept)) (c .ready) in
+      rw (q, names-held s l .is, previous-held s l .is, c .given, c .ran, v .0, v .1)
 
   -- ---- cycle after cycle
 
@@ -161,6 +171,6 @@ module _ (p : Program) (w : InSt p) where
     by (ok u) e more =
         let c = next lazy σ s r g row u e in
         let k = reference-next p (w .well-formed) s g row u e .kept in
-        let v = listed (c .store) u (k .size) (c .ready) in
+        let v = listed (c .store) u (sized u k) (c .ready) in
         rw (c .given, c .ran, v .0, more (c .store) u (c .ready) k)
     by (refusal n) e more = more σ s r g
