@@ -149,7 +149,7 @@ trace-correct text buffer n e lent rows =
     }
 
 -- The two formulas of a pair hold as they are written too (document 02, A.6), for every text that translation accepts.
-pub trace-written : (text buffer : List ℕ) (n : ℕ) → translationOf text buffer .answer ≡ accepted n → (p : Program) → programOf text ≡ accepted p → (lent : State) → length lent ≡ length (rangesOf p) → (rows : List (List ℤ)) → All (λ f. GX f (traceOf (begun (take n (translationOf text buffer .buffer)) lent) (found (take n (translationOf text buffer .buffer)) lent rows))) (writtenOf p)
+pub trace-written : (text buffer : List ℕ) (n : ℕ) → translationOf text buffer .answer ≡ accepted n → (p : Program) → programOf text ≡ accepted p → (lent : State) → length lent ≡ stateLength (shapeOf p) → (rows : List (List ℤ)) → All (λ f. GX f (traceOf (begun (take n (translationOf text buffer .buffer)) lent) (found (take n (translationOf text buffer .buffer)) lent rows))) (writtenOf p)
 trace-written text buffer n e p parsed lent l rows =
     let x = image-stored text buffer n e in
     let same : x .program ≡ p = answered (sym (x .parsed) ∙ parsed) in
