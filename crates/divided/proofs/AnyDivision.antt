@@ -17,7 +17,7 @@ use Rattle.scan.specs.Services.{scanOf}
 use Rattle.paused.specs.declared.Response.the-variants as R
 use Rattle.paused.specs.Memory.{checkpointOf, waitingOf}
 use Rattle.lifecycle.specs.Calls.{mayPost}
-use Rattle.divided.specs.Expected.{Call, post, begin, advanceScan, finish, Said, says, saysLeaving, play, Scan, whole, expect, expectPost, stepsNow, furtherBy, expects, expectedSaid, NotOver, givenIn, doneIn, saidOf, begun, AsUndivided}
+use Rattle.divided.specs.Expected.{Call, post, begin, advanceScan, finish, Said, says, saysLeaving, play, Scan, whole, expect, expectPost, stepsNow, furtherBy, expects, expectedSaid, NotOver, givenIn, doneIn, saidOf, begunScan, AsUndivided}
 use Rattle.divided.proofs.May.{may}
 use Rattle.divided.proofs.Starting.{expect-begun}
 use Rattle.divided.proofs.Undivided.{as-undivided}
@@ -61,10 +61,10 @@ one-each (c ∷ cs) w o = rw (one-each cs (expects c w o .waiting) (expects c w 
 
 -- from any memory in which a row waits without a scan, where the tests before the code pass
 pub any-division : (cells : List ℤ) → length cells ≡ pausedLength → checkpointOf cells .phase ≡ 0 → (row : List ℤ) → waitingOf cells ≡ some row
-    → (image : List ℕ) (s : State) → beforeCode image s row ≡ accepted tt → (calls : List Call) → NotOver calls none (begun image s row)
+    → (image : List ℕ) (s : State) → beforeCode image s row ≡ accepted tt → (calls : List Call) → NotOver calls none (begunScan image s row)
     → AsUndivided image s row calls (play (begin image s ∷ (calls ++ (finish s ∷ []))) [] cells)
 any-division cells l p row q image s e calls h =
-    let o = begun image s row in
+    let o = begunScan image s row in
     let r = then-finish calls none o s h in
     let b = expect-begun image s row (may image s row e) in
     let t = expected-total calls none o h in

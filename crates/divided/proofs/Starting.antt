@@ -23,8 +23,8 @@ use Rattle.scan.specs.Services.{AfterScan, finished, scanOf}
 use Rattle.paused.specs.declared.Response.the-variants as R
 use Rattle.paused.specs.Memory.{checkpointOf, waitingOf}
 use Rattle.resumable.specs.Instalment.{AfterCall, afterCall}
-use Rattle.lifecycle.specs.Calls.{formed, startedIn, taken, orRefused, startWith, beginOf}
-use Rattle.divided.specs.Expected.{Scan, Expected, expect, says, begun, Played, played, imageAfter, begin, plays, expectBegin, expects}
+use Rattle.lifecycle.specs.Calls.{formed, startedIn, rowTaken, orRefused, startWith, beginOf}
+use Rattle.divided.specs.Expected.{Scan, Expected, expect, says, begunScan, Played, played, imageAfter, begin, plays, expectBegin, expects}
 use Rattle.divided.proofs.May.{placed, May, may, may-not}
 use Rattle.divided.proofs.Left.{Stands, kept-left, stands-left}
 use Rattle.divided.proofs.Stored.{apart-taken, waits-none, Formed, forms}
@@ -41,30 +41,30 @@ some-phase cells w len total place (refusal k) s e = let h = sym (ap (λ p. p .p
 
 -- a scan that passed the tests before the code is started
 pub expect-begun : (i : List ℕ) (s : State) (row : List ℤ) → May i s row
-    → expectBegin i s row (scanOf i s row .answer) (scanOf i s row .steps) ≡ expect (says (R.Done 0)) none (some (begun i s row))
+    → expectBegin i s row (scanOf i s row .answer) (scanOf i s row .steps) ≡ expect (says (R.Done 0)) none (some (begunScan i s row))
 expect-begun i s row y =
-    rw (whole-finished (begun i s row) y)
-    (by (goes (begun i s row) (codeLength (begun i s row)) .steps) (goes (begun i s row) (codeLength (begun i s row)) .last)
-    (refused-late (headerOf i .ranges) s (codeOf i) (codeLength (begun i s row)) 0 0 (machine false false [] (withInputs s row))))
+    rw (whole-finished (begunScan i s row) y)
+    (by (goes (begunScan i s row) (codeLength (begunScan i s row)) .steps) (goes (begunScan i s row) (codeLength (begunScan i s row)) .last)
+    (refused-late (headerOf i .ranges) s (codeOf i) (codeLength (begunScan i s row)) 0 0 (machine false false [] (withInputs s row))))
   where
-    late : (k n : ℕ) → 0 < n → expectBegin i s row (refused k 0) n ≡ expect (says (R.Done 0)) none (some (begun i s row))
+    late : (k n : ℕ) → 0 < n → expectBegin i s row (refused k 0) n ≡ expect (says (R.Done 0)) none (some (begunScan i s row))
     late k zero h = absurd (omega arith)
     late k (suc n) h = refl
 
     by : (n : ℕ) (r : Outcome Machine) → ((k : ℕ) → r ≡ refusal k → 0 < n)
-        → expectBegin i s row (finished s n r .answer) (finished s n r .steps) ≡ expect (says (R.Done 0)) none (some (begun i s row))
+        → expectBegin i s row (finished s n r .answer) (finished s n r .steps) ≡ expect (says (R.Done 0)) none (some (begunScan i s row))
     by n (ok (machine b c vs t)) h = refl
     by n (refusal k) h = late k n (h k refl)
 
 module _ (image : List ℕ) (cells : List ℤ) (i : List ℕ) (s : State) where
-  started : (row : List ℤ) → length cells ≡ pausedLength → May i s row → Agrees i (startedIn i s row (taken cells)) none (some (begun i s row))
+  started : (row : List ℤ) → length cells ≡ pausedLength → May i s row → Agrees i (startedIn i s row (rowTaken cells)) none (some (begunScan i s row))
   started row l y =
-      let o = begun i s row in
+      let o = begunScan i s row in
       let a = apart-taken cells in
-      let f = forms i s (taken cells) (a .long ∙ l) (placed i (y .sound)) (y .names) in
+      let f = forms i s (rowTaken cells) (a .long ∙ l) (placed i (y .sound)) (y .names) in
       let z = first-sized o y in
       let first = machine false false [] (withInputs s row) in
-      let k = kept-left 0 (codeLength o) 0 0 (length s) (formed i s (taken cells)) (f .long) (few-names o y) (ok first) z in
+      let k = kept-left 0 (codeLength o) 0 0 (length s) (formed i s (rowTaken cells)) (f .long) (few-names o y) (ok first) z in
       record {
         long = k .long ∙ f .long;
         waits = k .waits ∙ f .waits ∙ waits-none cells l;
@@ -79,12 +79,12 @@ module _ (image : List ℕ) (cells : List ℤ) (i : List ℕ) (s : State) where
               reached = ran 0 0 (ok first);
               went = refl;
               counted = refl;
-              stands = stands-left 0 (codeLength o) 0 0 (length s) (formed i s (taken cells)) (f .long) (few-names o y) (omega arith) (omega arith) (ok first) z tt;
+              stands = stands-left 0 (codeLength o) 0 0 (length s) (formed i s (rowTaken cells)) (f .long) (few-names o y) (omega arith) (omega arith) (ok first) z tt;
             };
       }
 
   tried : (row : List ℤ) (w : Option (List ℤ)) → Agrees image cells w none → (a : Answer (Unit {0})) → beforeCode i s row ≡ a → (b : AfterCall)
-      → b ≡ orRefused a (taken cells) (afterCall (R.Done 0) (startedIn i s row (taken cells)))
+      → b ≡ orRefused a (rowTaken cells) (afterCall (R.Done 0) (startedIn i s row (rowTaken cells)))
       → Matches (played (says (b .reply)) (imageAfter (b .reply) i image) (b .cells)) (expectBegin i s row (scanOf i s row .answer) (scanOf i s row .steps))
   tried row w x (refused n p) e b q =
       let a = apart-taken cells in

@@ -14,7 +14,7 @@ use Rattle.semantics.specs.Formula.{State}
 use Rattle.bytecode.specs.Parts.{headerOf, lows, highs}
 use Rattle.paused.specs.Memory.{layoutPlace, startPlace, lowPlace, highPlace, rowPlace, waitingPlace, slice, clipped, checkpointOf, layoutOf, layoutCells, waitingLength, waitingIn, waitingOf}
 use Rattle.paused.proofs.ReadBack.{getD-sets-before, getD-sets-behind, getD-sets-same, slice-sets-before, slice-sets-behind, slice-sets-same, clipped-is, clipped-alike, layout-alike, layout-stored, waiting-alike}
-use Rattle.lifecycle.specs.Calls.{layoutFor, formed, taken, withRow, withoutScan}
+use Rattle.lifecycle.specs.Calls.{layoutFor, formed, rowTaken, withRow, withoutScan}
 use Rattle.divided.proofs.May.{Placed}
 
 checkpoint-alike : (l m : List ℤ) → ((j : ℕ) → j < 7 → getD l j (pos 0) ≡ getD m j (pos 0)) → checkpointOf l ≡ checkpointOf m
@@ -59,7 +59,7 @@ apart-row row cells h =
       lists = λ at n k. y .lists at n k ∙ x .lists at n k;
     }
 
-pub apart-taken : (cells : List ℤ) → Apart cells (taken cells)
+pub apart-taken : (cells : List ℤ) → Apart cells (rowTaken cells)
 apart-taken cells = apart-sets (pos 0 ∷ []) cells waitingPlace (omega arith) (omega arith)
 
 pub waits-row : (row cells : List ℤ) → length cells ≡ pausedLength → length row ≤ nameLimit → waitingOf (withRow row cells) ≡ some row
@@ -72,9 +72,9 @@ waits-row row cells l h =
     (rw n
     (ap some (slice-sets-behind (pos (suc (length row)) ∷ []) x waitingPlace rowPlace (length row) (omega arith) ∙ slice-sets-same row cells rowPlace (omega arith))))
 
-pub waits-none : (cells : List ℤ) → length cells ≡ pausedLength → waitingOf (taken cells) ≡ none
+pub waits-none : (cells : List ℤ) → length cells ≡ pausedLength → waitingOf (rowTaken cells) ≡ none
 unfolding waitingOf waitingLength
-waits-none cells l = rw (clipped-is (taken cells) waitingPlace 0 (nameLimit + 1) (getD-set-same cells waitingPlace (pos 0) (pos 0) (omega arith)) (omega arith))
+waits-none cells l = rw (clipped-is (rowTaken cells) waitingPlace 0 (nameLimit + 1) (getD-set-same cells waitingPlace (pos 0) (pos 0) (omega arith)) (omega arith))
 
 -- ---- a finish
 

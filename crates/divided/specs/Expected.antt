@@ -156,8 +156,8 @@ abbrev pub saidOf : AfterScan → Said
 saidOf a = saysLeaving (responseOf (a .answer) (a .steps)) (a .state)
 
 -- the scan that a start leaves
-abbrev pub begun : List ℕ → State → List ℤ → Scan
-begun image s row = record { image = image; start = s; row = row; done = 0 }
+abbrev pub begunScan : List ℕ → State → List ℤ → Scan
+begunScan image s row = record { image = image; start = s; row = row; done = 0 }
 
 -- What a start of a row says, calls that leave its scan not over, and a finish with the state of the start: the instalments did as many steps
 -- as were given, or those of the undivided scan; if these are all, the finish answers its result and total steps, and leaves its state.

@@ -26,7 +26,7 @@ use Rattle.machine.specs.Inner.Memory.{heldOf, machineOf, stepOutcome, Stack}
 use Rattle.machine.specs.Inner.Groups.{performed}
 use Rattle.machine.proofs.Translated.{yes-bit, exec, exec-C}
 use Rattle.machine.proofs.Stack.{held-top, not-none}
-use Rattle.evaluation.specs.Conditions.{free, Codes}
+use Rattle.evaluation.specs.Conditions.{free, ConditionCode}
 use Rattle.evaluation.specs.Inner.Instructions.{Calculates, CalculatesOr}
 use Rattle.evaluation.proofs.Working.{Calm, calm, Fit, fit-C}
 
@@ -53,7 +53,7 @@ pub record Going (code : List ℕ) (s t : State) (vals₀ : List ℤ) (k : Regis
   pub stack : Stack k vals
   pub deep : length vals ≡ length vals₀
   pub within : at ≤ length code
-  pub goes : (c : Condition) → Codes c (length t) code → length s ≡ length t → Rest code s t c k vals at
+  pub goes : (c : Condition) → ConditionCode c (length t) code → length s ≡ length t → Rest code s t c k vals at
 
 pub begins : (code : List ℕ) (s t : State) (vals : List ℤ) (k : Registers) → k .held ≡ 0 → k .passing ≡ false → k .picked ≡ false → 40 ≤ length vals → Going code s t vals k vals 0
 unfolding heldOf

@@ -16,7 +16,7 @@ use Rattle.watching.specs.Watching.{TracePlace, placesFrom, placesOf, isYes, im
 use Rattle.semantics.specs.Shape.{statesOf}
 use Rattle.evaluation.specs.declared.Truth.{Truth}
 use Rattle.evaluation.specs.declared.Truth.the-variants.{Yes, No, Fault}
-use Rattle.evaluation.specs.Conditions.{Codes, Tells}
+use Rattle.evaluation.specs.Conditions.{ConditionCode, Tells}
 
 -- ---- answers
 
@@ -43,15 +43,15 @@ state-length names cells at h = length-take-le names (drop at cells) (rw length-
 
 -- what `evaluate` says of two parts of the trace
 pub at-place : (code : List ℕ) (cells : List ℤ) (names before at : ℕ) (r : Truth) → before + names ≤ length cells → at + names ≤ length cells
-    → ((c : Condition) → Codes c (length (take (at + names - at) (drop at cells))) code → length (take (before + names - before) (drop before cells)) ≡ length (take (at + names - at) (drop at cells))
+    → ((c : Condition) → ConditionCode c (length (take (at + names - at) (drop at cells))) code → length (take (before + names - before) (drop before cells)) ≡ length (take (at + names - at) (drop at cells))
     → Tells r (evalC (take (before + names - before) (drop before cells)) (take (at + names - at) (drop at cells)) c))
-    → (c : Condition) → Codes c names code → Tells r (evalC (stateAt names cells before) (stateAt names cells at) c)
+    → (c : Condition) → ConditionCode c names code → Tells r (evalC (stateAt names cells before) (stateAt names cells at) c)
 at-place code cells names before at r h k f c d =
     let x : before + names - before ≡ names = omega arith in
     let y : at + names - at ≡ names = omega arith in
     let l = state-length names cells before h in
     let m = state-length names cells at k in
-    (rw (x, y) at f) c (subst (λ (n : ℕ). Codes c n code) (sym m) d) (l ∙ sym m)
+    (rw (x, y) at f) c (subst (λ (n : ℕ). ConditionCode c n code) (sym m) d) (l ∙ sym m)
 
 -- ---- the places left
 
@@ -87,7 +87,7 @@ states-next names at m cells = rw (drop-drop names at cells)
 pub record Alone (code : List ℕ) (cells : List ℤ) (names places : ℕ) (vals₀ vals : List ℤ) (n before at : ℕ) : Type 0 where
   pub places-left : Left names places (length cells) n before at
   pub deep : length vals ≡ length vals₀
-  pub goes : (c : Condition) → Codes c names code
+  pub goes : (c : Condition) → ConditionCode c names code
       → firstFailure (record { first = c; later = none }) (placesOf (statesOf places names cells))
       ≡ firstNo n (overPlaces c (placesFrom (stateAt names cells before) (statesOf (places-left .left) names (drop at cells))))
 
@@ -101,7 +101,7 @@ pub alone-begins : (code : List ℕ) (cells : List ℤ) (names places : ℕ) (va
 alone-begins code cells names places vals e =
     record { places-left = record { left = places; count = omega arith; whole = omega arith; order = omega arith }; deep = refl; goes = λ c d. alone-first c names places cells }
 
-module _ {code : List ℕ} {cells : List ℤ} {names places : ℕ} {vals₀ vals : List ℤ} {n before at : ℕ} (a : Alone code cells names places vals₀ vals n before at) (c : Condition) (d : Codes c names code) where
+module _ {code : List ℕ} {cells : List ℤ} {names places : ℕ} {vals₀ vals : List ℤ} {n before at : ℕ} (a : Alone code cells names places vals₀ vals n before at) (c : Condition) (d : ConditionCode c names code) where
   pub alone-ends : places ≤ n → none ≡ firstFailure (record { first = c; later = none }) (placesOf (statesOf places names cells))
   alone-ends h =
       let z : a .places-left .left ≡ 0 = none-left (a .places-left) h in
@@ -141,7 +141,7 @@ pub record Pairs (first later : List ℕ) (cells : List ℤ) (names places : ℕ
   pub places-left : Left names places (length cells) n before at
   pub deep : length vals ≡ length vals₀
   pub room : 40 ≤ length vals
-  pub goes : (c d : Condition) → Codes c names first → Codes d names later → Carried cells names places n before at (places-left .left) a c d
+  pub goes : (c d : Condition) → ConditionCode c names first → ConditionCode d names later → Carried cells names places n before at (places-left .left) a c d
 
 pub pairs-none : (c d : Condition) (names places : ℕ) (cells : List ℤ) → places ≡ 0 → none ≡ firstFailure (record { first = c; later = some d }) (placesOf (statesOf places names cells))
 unfolding firstFailure
@@ -158,7 +158,7 @@ start-inside names zero size e h = absurd (h refl)
 start-inside names (suc m) size e h = omega (arith, suc-mul m names)
 
 pub pairs-begin : (first later : List ℕ) (cells : List ℤ) (names places : ℕ) (vals : List ℤ) (a : Truth) → places * names ≡ length cells → (places ≡ 0 → ⊥) → 40 ≤ length vals
-    → ((c : Condition) → Codes c names first → Tells a (evalC (stateAt names cells 0) (stateAt names cells 0) c)) → Pairs first later cells names places vals vals a 1 0 names
+    → ((c : Condition) → ConditionCode c names first → Tells a (evalC (stateAt names cells 0) (stateAt names cells 0) c)) → Pairs first later cells names places vals vals a 1 0 names
 pairs-begin first later cells names zero vals a e h r t = absurd (h refl)
 pairs-begin first later cells names (suc m) vals a e h r t =
     record {
@@ -169,7 +169,7 @@ pairs-begin first later cells names (suc m) vals a e h r t =
     }
 
 module _ {first later : List ℕ} {cells : List ℤ} {names places : ℕ} {vals₀ vals : List ℤ} {a : Truth} {n before at : ℕ} (p : Pairs first later cells names places vals₀ vals a n before at)
-    (c d : Condition) (x : Codes c names first) (y : Codes d names later) where
+    (c d : Condition) (x : ConditionCode c names first) (y : ConditionCode d names later) where
   pub pairs-end : places ≤ n → none ≡ firstFailure (record { first = c; later = some d }) (placesOf (statesOf places names cells))
   pairs-end h =
       let z : p .places-left .left ≡ 0 = none-left (p .places-left) h in

@@ -16,7 +16,7 @@ abbrev pub free : ℕ → List Bool
 free names = knownFirst names names
 
 -- the bytes are the code of the condition, over so many names
-pub record Codes (c : Condition) (names : ℕ) (code : List ℕ) : Type 0 where
+pub record ConditionCode (c : Condition) (names : ℕ) (code : List ℕ) : Type 0 where
   pub spelled : code ≡ encodeAll (codeC c)
   pub usable : UsableC (free names) c
   pub shallow : depthC c ≤ stackLimit

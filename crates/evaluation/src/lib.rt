@@ -18,7 +18,7 @@ ghost use Rattle.machine.specs.Inner.Memory.{stepOutcome, Stack, Few};
 ghost use Rattle.machine.specs.Inner.Groups.{performed};
 ghost use Rattle.watching.specs.Watching.{isYes, implied, placesOf, firstFailure};
 ghost use Rattle.semantics.specs.Shape.{statesOf};
-ghost use Rattle.evaluation.specs.Conditions.{Codes, Tells};
+ghost use Rattle.evaluation.specs.Conditions.{ConditionCode, Tells};
 ghost use Rattle.evaluation.specs.Walks.{failedAt};
 ghost use Rattle.evaluation.specs.Inner.Instructions.{CalculatesOr};
 
@@ -76,7 +76,7 @@ fn answer(vals: &[i32], held: usize) -> Truth
 // The condition whose code is lent, with these previous and current values.
 pub fn evaluate(code: &[u8], prev: &[i32], cur: &[i32], vals: &mut [i32]) -> Truth
     requires { ⌜ stackLimit ≤ length (now vals) ⌝ }
-    ensures { λ r. ⌜ ((c : Condition) → Codes c (length (now (cur .entry))) (now (code .entry)) → length (now (prev .entry)) ≡ length (now (cur .entry))
+    ensures { λ r. ⌜ ((c : Condition) → ConditionCode c (length (now (cur .entry))) (now (code .entry)) → length (now (prev .entry)) ≡ length (now (cur .entry))
         → Tells r (evalC (now (prev .entry)) (now (cur .entry)) c)) ⌝ }
 {
     let mut k = Registers {
@@ -116,7 +116,7 @@ fn evaluate_at(
 ) -> Truth
     requires { ⌜ stackLimit ≤ length (now vals) ⌝ }
     requires { ⌜ (before + names ≤ length (now trace)) × (at + names ≤ length (now trace)) ⌝ }
-    ensures { λ r. ⌜ ((c : Condition) → Codes c names (now (code .entry))
+    ensures { λ r. ⌜ ((c : Condition) → ConditionCode c names (now (code .entry))
         → Tells r (evalC (take names (drop before (now (trace .entry)))) (take names (drop at (now (trace .entry)))) c)) ⌝ }
 {
     let end = before + names;
@@ -165,7 +165,7 @@ pub fn walk_alone(
     vals: &mut [i32],
 ) -> Failed
     requires { ⌜ (stackLimit ≤ length (now vals)) × (places * names ≡ length (now trace)) ⌝ }
-    ensures { λ r. ⌜ ((c : Condition) → Codes c names (now (code .entry))
+    ensures { λ r. ⌜ ((c : Condition) → ConditionCode c names (now (code .entry))
         → failedAt r ≡ firstFailure (record { first = c; later = none }) (placesOf (statesOf places names (now (trace .entry))))) ⌝ }
 {
     let mut n: usize = 0;
@@ -193,7 +193,7 @@ pub fn walk_paired(
     vals: &mut [i32],
 ) -> Failed
     requires { ⌜ (stackLimit ≤ length (now vals)) × (places * names ≡ length (now trace)) ⌝ }
-    ensures { λ r. ⌜ ((c d : Condition) → Codes c names (now (first .entry)) → Codes d names (now (later .entry))
+    ensures { λ r. ⌜ ((c d : Condition) → ConditionCode c names (now (first .entry)) → ConditionCode d names (now (later .entry))
         → failedAt r ≡ firstFailure (record { first = c; later = some d }) (placesOf (statesOf places names (now (trace .entry))))) ⌝ }
 {
     if places == 0 {

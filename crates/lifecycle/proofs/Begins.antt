@@ -19,7 +19,7 @@ use Rattle.paused.specs.declared.Checkpoint.{Checkpoint}
 use Rattle.paused.specs.declared.Response.the-variants as R
 use Rattle.paused.specs.Memory.{rowPlace, slice, checkpointOf, waitingLength, waitingOf}
 use Rattle.resumable.specs.Instalment.{afterCall}
-use Rattle.lifecycle.specs.Calls.{startedIn, taken, beginOf}
+use Rattle.lifecycle.specs.Calls.{startedIn, rowTaken, beginOf}
 use Rattle.before.specs.Inner.Known.{Begun}
 use Rattle.paused.proofs.Clipped.{clipped-most}
 use Rattle.lifecycle.specs.Inner.Parts.{keptStart}
@@ -61,13 +61,13 @@ module _ (image : List ℕ) (s : State) (cells : List ℤ) where
       begin-idle h = rw (eq-eqb (length cells) pausedLength l, ← e, eq-eqb (p .phase) 0 z, ← n, h)
 
       module _ (h : w ≡ 0 → ⊥) where
-        pub begin-refused : (k q : ℕ) → refused k q ≡ beforeCode image s (slice rowPlace (15 + w - 16) cells) → afterCall (R.Refused k q 0) (taken cells) ≡ beginOf image s cells
+        pub begin-refused : (k q : ℕ) → refused k q ≡ beforeCode image s (slice rowPlace (15 + w - 16) cells) → afterCall (R.Refused k q 0) (rowTaken cells) ≡ beginOf image s cells
         unfolding beginOf waitingOf
         begin-refused k q f = rw (eq-eqb (length cells) pausedLength l, ← e, eq-eqb (p .phase) 0 z, ← n, some-row w h, ← f)
 
         pub begin-done : (low high work left : List ℤ) (place : ℕ) → accepted tt ≡ beforeCode image s (slice rowPlace (15 + w - 16) cells)
             → Begun image s (slice rowPlace (15 + w - 16) cells) low high work place
-            → left ≡ keptStart (record { image = length image; base = place; size = length s }) s (take (length s) low) (take (length s) high) (take (length s) work) (taken cells)
+            → left ≡ keptStart (record { image = length image; base = place; size = length s }) s (take (length s) low) (take (length s) high) (take (length s) work) (rowTaken cells)
             → afterCall (R.Done 0) left ≡ beginOf image s cells
         unfolding beginOf waitingOf codeOf
         begin-done low high work left place f b g =

@@ -76,8 +76,8 @@ abbrev pub startedIn : List ℕ → State → List ℤ → List ℤ → List ℤ
 startedIn image s row cells = leftAfter 0 (length (codeOf image)) 0 0 (ok (machine false false [] (withInputs s row))) (formed image s cells)
 
 -- A start takes the waiting row
-abbrev pub taken : List ℤ → List ℤ
-taken cells = set cells waitingPlace (pos 0)
+abbrev pub rowTaken : List ℤ → List ℤ
+rowTaken cells = set cells waitingPlace (pos 0)
 
 -- a refusal and what it leaves, or what follows
 abbrev pub orRefused : Answer (Unit {0}) → List ℤ → AfterCall → AfterCall
@@ -87,7 +87,7 @@ orRefused (accepted u) left a = a
 -- and makes the scan's tests before the code; a refusal there is answered at once, and the scan is over.
 abbrev pub startWith : List ℕ → State → Option (List ℤ) → List ℤ → AfterCall
 startWith image s none cells = afterCall R.Idle cells
-startWith image s (some row) cells = orRefused (beforeCode image s row) (taken cells) (afterCall (R.Done 0) (startedIn image s row (taken cells)))
+startWith image s (some row) cells = orRefused (beforeCode image s row) (rowTaken cells) (afterCall (R.Done 0) (startedIn image s row (rowTaken cells)))
 
 -- A start before the last scan is over answers unfinished; any other without a waiting row answers idle; then nothing moves.
 unfoldable pub beginOf : List ℕ → State → List ℤ → AfterCall

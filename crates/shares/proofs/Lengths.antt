@@ -26,7 +26,7 @@ use Rattle.paused.specs.Memory.{startPlace, currentPlace, slice, checkpointOf, 
 use Rattle.paused.proofs.Clipped.{layout-within}
 use Rattle.resumable.specs.Instalment.{AfterCall, afterCall, ranFrom, leftAfter, instalment, advanced, advanceOf}
 use Rattle.resumable.proofs.Running.{length-slice}
-use Rattle.lifecycle.specs.Calls.{AfterFinish, afterFinish, withoutScan, sameValues, finishOf, taken, orRefused, formed, startedIn, startWith, beginOf}
+use Rattle.lifecycle.specs.Calls.{AfterFinish, afterFinish, withoutScan, sameValues, finishOf, rowTaken, orRefused, formed, startedIn, startWith, beginOf}
 use Rattle.lifecycle.proofs.Sameness.{same-long}
 use Rattle.rounds.specs.Visits.{shareInLimit, withSteps, given, visitFrom, visitOf}
 
@@ -62,9 +62,9 @@ begin-long image s cells =
     cond-long (eqb (length cells) pausedLength) inner (afterCall R.Idle cells) (length cells)
     (cond-long (eqb (checkpointOf cells .phase) 0) (startWith image s (waitingOf cells) cells) (afterCall (R.Unfinished 0) cells) (length cells) (with (waitingOf cells)) refl) refl
   where
-    tried : (row : List ℤ) (a : Answer (Unit {0})) → length (orRefused a (taken cells) (record { reply = R.Done 0; cells = startedIn image s row (taken cells) }) .cells) ≡ length cells
+    tried : (row : List ℤ) (a : Answer (Unit {0})) → length (orRefused a (rowTaken cells) (record { reply = R.Done 0; cells = startedIn image s row (rowTaken cells) }) .cells) ≡ length cells
     tried row (refused number place) = length-set cells 13 (pos 0)
-    tried row (accepted u) = left-long 0 (length (codeOf image)) 0 0 (ok (machine false false [] (withInputs s row))) (formed image s (taken cells)) ∙ simp (length-sets, length-set)
+    tried row (accepted u) = left-long 0 (length (codeOf image)) 0 0 (ok (machine false false [] (withInputs s row))) (formed image s (rowTaken cells)) ∙ simp (length-sets, length-set)
 
     with : (w : Option (List ℤ)) → length (startWith image s w cells .cells) ≡ length cells
     with none = refl

@@ -22,13 +22,13 @@ pub data Value : Type 0 where
 abbrev pub dintResult : ℤ → Option Value
 dintResult z = cond (isInt32 z) (some (dint z)) none
 
-abbrev pub related : Comparison → ℤ → ℤ → Bool
-related equal a b = eqZ a b
-related notEqual a b = not (eqZ a b)
-related less a b = ltZ a b
-related greater a b = ltZ b a
-related lessEqual a b = leZ a b
-related greaterEqual a b = leZ b a
+abbrev pub holdsBetween : Comparison → ℤ → ℤ → Bool
+holdsBetween equal a b = eqZ a b
+holdsBetween notEqual a b = not (eqZ a b)
+holdsBetween less a b = ltZ a b
+holdsBetween greater a b = ltZ b a
+holdsBetween lessEqual a b = leZ a b
+holdsBetween greaterEqual a b = leZ b a
 
 -- Division cuts toward zero and by zero has no result; MOD by zero is 0.
 abbrev pub calculated : Operation → ℤ → ℤ → Option Value
@@ -47,7 +47,7 @@ abbrev pub applied : Operator → Value → Value → Option Value
 applied (connects c) (truth x) (truth y) = some (truth (connected c x y))
 applied (connects c) (truth x) (dint b) = none
 applied (connects c) (dint a) v = none
-applied (relates r) (dint a) (dint b) = some (truth (related r a b))
+applied (relates r) (dint a) (dint b) = some (truth (holdsBetween r a b))
 applied (relates r) (dint a) (truth y) = none
 applied (relates r) (truth x) v = none
 applied (computes o) (dint a) (dint b) = calculated o a b
@@ -118,9 +118,9 @@ noneLeft [] = some []
 noneLeft (z ∷ zs) = none
 
 -- the inputs of a cycle, one for each variable of VAR_INPUT, in order
-unfoldable pub withRow : List ℤ → Store → Option Store
-withRow row [] = noneLeft row
-withRow row (x ∷ σ) = nextInput (x .input) x row (λ zs. withRow zs σ)
+unfoldable pub givenRow : List ℤ → Store → Option Store
+givenRow row [] = noneLeft row
+givenRow row (x ∷ σ) = nextInput (x .input) x row (λ zs. givenRow zs σ)
 
 unfoldable pub isInput : Store → Identifier → Bool
 isInput [] w = false
@@ -179,11 +179,11 @@ pub record ValuesLeft : Type 0 where
 unfoldable pub cycleLeaves : Bool → List ℕ → List Identifier → List ℤ → List ℤ → Option ValuesLeft
 cycleLeaves lazy text names state row =
     programRead text andIf λ p. holdingAll names state (freshStore p) andIf λ σ. holdingAll (map previousName names) state σ andIf λ σ.
-    withRow row σ andIf λ σ. runStatements lazy (p .body) σ andIf λ σ.
+    givenRow row σ andIf λ σ. runStatements lazy (p .body) σ andIf λ σ.
     valuesIn σ names andIf λ a. valuesIn σ (map previousName names) andIf λ b. some (record { names = a; previous = b })
 
 -- Cycle after cycle, nothing given from outside but the rows: the values of the names after each.
 unfoldable pub cycleStates : Bool → StProgram → List Identifier → Store → List (List ℤ) → Option (List (List ℤ))
 cycleStates lazy p names σ [] = some []
 cycleStates lazy p names σ (row ∷ rows) =
-    withRow row σ andIf λ τ. runStatements lazy (p .body) τ andIf λ υ. valuesIn υ names andIf λ z. cycleStates lazy p names υ rows andIf λ zs. some (z ∷ zs)
+    givenRow row σ andIf λ τ. runStatements lazy (p .body) τ andIf λ υ. valuesIn υ names andIf λ z. cycleStates lazy p names υ rows andIf λ zs. some (z ∷ zs)

@@ -119,15 +119,15 @@ abbrev pub operatorIn : List Sign → Lexemes → Option Operator
 operatorIn [] ts = none
 operatorIn (g ∷ gs) ts = cond (begins (g .spelling) ts) (some (g .operator)) (operatorIn gs ts)
 
-abbrev pub onFound : {A B : Type 0} → Option A → B → (A → B) → B
-onFound none b f = b
-onFound (some a) b f = f a
+abbrev pub ifFound : {A B : Type 0} → Option A → B → (A → B) → B
+ifFound none b f = b
+ifFound (some a) b f = f a
 
 -- operators of one level and operands behind the operand a, left to right
 unfoldable pub onward : ℕ → List Sign → (Lexemes → Reading StExpression) → StExpression → Lexemes → Reading StExpression
 onward zero signs operand a ts = read a ts
 onward (suc f) signs operand a ts =
-    onFound (operatorIn signs ts) (read a ts) (λ o. operand (behind ts) followedBy λ b us. onward f signs operand (binary o a b) us)
+    ifFound (operatorIn signs ts) (read a ts) (λ o. operand (behind ts) followedBy λ b us. onward f signs operand (binary o a b) us)
 
 unfoldable pub leveled : List (List Sign) → (Lexemes → Reading StExpression) → Lexemes → Reading StExpression
 leveled [] operand ts = operand ts

@@ -24,7 +24,7 @@ use Rattle.grammar.specs.Derivation.{IsName}
 use Rattle.grammar.specs.Spelled.{Apart, Distinct, namesOf}
 use Rattle.st.specs.Syntax.{Identifier, StProgram}
 use Rattle.st.specs.Reading.{programRead}
-use Rattle.st.specs.Meaning.{Store, freshStore, valueIn, holdingAll, withRow, isInput, runStatements, previousName, valuesIn, ValuesLeft, cycleLeaves, cycleStates}
+use Rattle.st.specs.Meaning.{Store, freshStore, valueIn, holdingAll, givenRow, isInput, runStatements, previousName, valuesIn, ValuesLeft, cycleLeaves, cycleStates}
 use Rattle.st_program.specs.Written.{nameAt, ruleInSt, savingLine, programInSt}
 use Rattle.st_program.proofs.Stores.{storeNames, inputNames, apart-turned, apart-at, Has, AllHeld, all-held, values-listed, Rowed, rowed, In, in-at}
 use Rattle.st_program.proofs.Values.{Shows}
@@ -91,7 +91,7 @@ pub record Ready (ws : List Identifier) (k : ℕ) (σ : Store) (s : State) : Typ
 pub record Cycled (ws : List Identifier) (p : StProgram) (lazy : Bool) (k : ℕ) (σ : Store) (row : List ℤ) (u : State) : Type 0 where
   pub middle : Store
   pub store : Store
-  pub given : withRow row σ ≡ some middle
+  pub given : givenRow row σ ≡ some middle
   pub ran : runStatements lazy (p .body) middle ≡ some store
   pub ready : Ready ws k store u
 

@@ -14,7 +14,7 @@ use Rattle.trace_text.specs.Row.{_andIf_}
 use Rattle.grammar.specs.Spelled.{Apart, Distinct}
 use Rattle.semantics.specs.Formula.{at}
 use Rattle.st.specs.Syntax.{Identifier}
-use Rattle.st.specs.Meaning.{Variable, Store, with, valueIn, holding, holdingAll, nextInput, withRow, isInput, valuesIn}
+use Rattle.st.specs.Meaning.{Variable, Store, with, valueIn, holding, holdingAll, nextInput, givenRow, isInput, valuesIn}
 
 -- ---- names
 
@@ -158,7 +158,7 @@ values-listed σ (w ∷ ws) (z ∷ zs) l h = rw (h zero (omega arith), values-li
 
 pub record Rowed (row : List ℤ) (σ : Store) : Type 0 where
   pub store : Store
-  pub is : withRow row σ ≡ some store
+  pub is : givenRow row σ ≡ some store
   pub here : (i : ℕ) → i < length row → valueIn store (getD (inputNames σ) i []) ≡ some (at row i)
   pub other : (u : Identifier) → isInput σ u ≡ false → valueIn store u ≡ valueIn σ u
   pub inputs : (u : Identifier) → isInput store u ≡ isInput σ u
@@ -195,7 +195,7 @@ free-here true i r e f = f
 free-here false i r e f = absurd (false≢true e)
 
 pub rowed : (σ : Store) (row : List ℤ) → Distinct (storeNames σ) → length row ≡ length (inputNames σ) → Rowed row σ
-unfolding inputNames withRow valueIn isInput
+unfolding inputNames givenRow valueIn isInput
 rowed [] [] d l = record { store = []; is = refl; here = λ i h. absurd (omega arith); other = λ u e. refl; inputs = λ u. refl; in-order = refl; names = refl }
 rowed [] (z ∷ row) d l = absurd (omega arith)
 rowed (x ∷ σ) row d l = by (x .input) refl row l (λ zs k. rowed σ zs (d .1) k) where
@@ -210,7 +210,7 @@ rowed (x ∷ σ) row d l = by (x .input) refl row l (λ zs k. rowed σ zs (d .1)
     go r =
         record {
           store = with x z ∷ r .store;
-          is = next-input (x .input) x z zs (λ ys. withRow ys σ) (r .store) q (r .is);
+          is = next-input (x .input) x z zs (λ ys. givenRow ys σ) (r .store) q (r .is);
           here = λ i h. subst (λ (ws : List Identifier). valueIn (with x z ∷ r .store) (getD ws i []) ≡ some (at (z ∷ zs) i)) (sym (input-first x σ q)) (place i h);
           other = λ u e. same-found (sameName u (x .name)) z (x .value) (valueIn (r .store) u) (valueIn σ u)
               (λ t. absurd (false≢true (sym (free-here (sameName u (x .name)) (x .input) (isInput σ u) t e) ∙ q))) (λ t. r .other u (free-later (sameName u (x .name)) (x .input) (isInput σ u) t e));
@@ -226,7 +226,7 @@ rowed (x ∷ σ) row d l = by (x .input) refl row l (λ zs k. rowed σ zs (d .1)
     go r =
         record {
           store = x ∷ r .store;
-          is = no-input (x .input) x row (λ ys. withRow ys σ) (r .store) q (r .is);
+          is = no-input (x .input) x row (λ ys. givenRow ys σ) (r .store) q (r .is);
           here = λ i h. subst (λ (ws : List Identifier). valueIn (x ∷ r .store) (getD ws i []) ≡ some (at row i)) (sym (input-later x σ q)) (rw (later i (omega arith)) (r .here i h));
           other = λ u e. same-found (sameName u (x .name)) (x .value) (x .value) (valueIn (r .store) u) (valueIn σ u) (λ t. refl) (λ t. r .other u (free-later (sameName u (x .name)) (x .input) (isInput σ u) t e));
           inputs = λ u. rw (r .inputs u);

@@ -23,7 +23,7 @@ use Rattle.semantics.proofs.Reference.{reference-next}
 use Rattle.grammar.specs.Spelled.{Distinct, namesOf}
 use Rattle.st.specs.Syntax.{Identifier}
 use Rattle.st.specs.Reading.{programRead}
-use Rattle.st.specs.Meaning.{Store, freshStore, valueIn, withRow, isInput, runStatements, previousName, valuesIn, ValuesLeft, cycleLeaves, cycleStates}
+use Rattle.st.specs.Meaning.{Store, freshStore, valueIn, givenRow, isInput, runStatements, previousName, valuesIn, ValuesLeft, cycleLeaves, cycleStates}
 use Rattle.st_program.specs.Written.{nameAt, programInSt}
 use Rattle.st_program.proofs.Stores.{AllHeld, all-held, values-listed, In}
 use Rattle.st_program.proofs.Values.{Shows}

@@ -10,7 +10,7 @@ use Rattle.arith.specs.Values.{Outcome, ok, refusal}
 use Rattle.semantics.specs.Program.{Condition}
 use Rattle.semantics.specs.Formula.{State, Trace, evalC}
 use Rattle.watching.specs.Watching.{TracePlace, placesFrom, placesOf, isYes, implied, overPlaces, overPairs, firstNo, failure}
-use Rattle.watching.specs.Failing.{IsPrevious, Unheld, false-there, refused-there, Unkept, first-refused, second-refused, not-kept, Fails}
+use Rattle.watching.specs.Failing.{PreviousAt, Unheld, false-there, refused-there, Unkept, first-refused, second-refused, not-kept, FailsBy}
 
 -- ---- one condition, and a pair of them
 
@@ -121,15 +121,15 @@ failure-is c none (s ∷ ts) = refl
 failure-is c (some d) (s ∷ ts) = refl
 
 -- the previous values at a place stand there in the states with the start put before them
-previous-in : (s : State) (ts : List State) (m : ℕ) (q : State) → getElem? (s ∷ s ∷ ts) m ≡ some q → IsPrevious (s ∷ ts) m q
+previous-in : (s : State) (ts : List State) (m : ℕ) (q : State) → getElem? (s ∷ s ∷ ts) m ≡ some q → PreviousAt (s ∷ ts) m q
 previous-in s ts zero q e = e
 previous-in s ts (suc m) q e = e
 
-previous-out : (s : State) (ts : List State) (m : ℕ) (q : State) → IsPrevious (s ∷ ts) m q → getElem? (s ∷ s ∷ ts) m ≡ some q
+previous-out : (s : State) (ts : List State) (m : ℕ) (q : State) → PreviousAt (s ∷ ts) m q → getElem? (s ∷ s ∷ ts) m ≡ some q
 previous-out s ts zero q e = e
 previous-out s ts (suc m) q e = e
 
-pub no-fails : (c : Condition) (later : Option Condition) (trace : Trace) (m : ℕ) → getElem? (holds c later trace) m ≡ some false → Fails c later trace m
+pub no-fails : (c : Condition) (later : Option Condition) (trace : Trace) (m : ℕ) → getElem? (holds c later trace) m ≡ some false → FailsBy c later trace m
 no-fails c none [] m h = none-some h
 no-fails c (some d) [] m h = none-some h
 no-fails c none (s ∷ ts) m h =
@@ -140,7 +140,7 @@ no-fails c (some d) (s ∷ ts) (suc m) h =
     let q = no-over c d s s ts m h in
     record { previous = q .previous; current = q .current; next = q .next; is-previous = previous-in s ts m _ (q .is-previous); is-current = q .is-current; is-next = q .is-next; broken = q .broken }
 
-pub fails-no : (c : Condition) (later : Option Condition) (trace : Trace) (m : ℕ) → Fails c later trace m → getElem? (holds c later trace) m ≡ some false
+pub fails-no : (c : Condition) (later : Option Condition) (trace : Trace) (m : ℕ) → FailsBy c later trace m → getElem? (holds c later trace) m ≡ some false
 fails-no c none [] m q = none-some (q .is-current)
 fails-no c (some d) [] zero q = absurd q
 fails-no c (some d) [] (suc m) q = none-some (q .is-next)

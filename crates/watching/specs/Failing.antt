@@ -14,9 +14,9 @@ abbrev pub IsState : Trace → ℕ → State → Type 0
 IsState trace m t = getElem? trace m ≡ some t
 
 -- s are the previous values at place m: those of the place before; at the start every previous value equals the current one
-abbrev pub IsPrevious : Trace → ℕ → State → Type 0
-IsPrevious trace zero s = IsState trace zero s
-IsPrevious trace (suc m) s = IsState trace m s
+abbrev pub PreviousAt : Trace → ℕ → State → Type 0
+PreviousAt trace zero s = IsState trace zero s
+PreviousAt trace (suc m) s = IsState trace m s
 
 -- a condition that does not hold: it is false, or it meets 14
 pub data Unheld (a : Outcome Bool) : Type 0 where
@@ -33,7 +33,7 @@ pub data Unkept (a b : Outcome Bool) : Type 0 where
 pub record FailsAlone (c : Condition) (trace : Trace) (m : ℕ) : Type 0 where
   pub previous : State
   pub current : State
-  pub is-previous : IsPrevious trace m previous
+  pub is-previous : PreviousAt trace m previous
   pub is-current : IsState trace m current
   pub unheld : Unheld (evalC previous current c)
 
@@ -42,7 +42,7 @@ pub record FailsOver (c d : Condition) (trace : Trace) (m : ℕ) : Type 0 where
   pub previous : State
   pub current : State
   pub next : State
-  pub is-previous : IsPrevious trace m previous
+  pub is-previous : PreviousAt trace m previous
   pub is-current : IsState trace m current
   pub is-next : IsState trace (suc m) next
   pub broken : Unkept (evalC previous current c) (evalC current next d)
@@ -52,10 +52,10 @@ abbrev pub FailsPaired : Condition → Condition → Trace → ℕ → Type 0
 FailsPaired c d trace zero = ⊥
 FailsPaired c d trace (suc m) = FailsOver c d trace m
 
-abbrev pub Fails : Condition → Option Condition → Trace → ℕ → Type 0
-Fails c none trace m = FailsAlone c trace m
-Fails c (some d) trace m = FailsPaired c d trace m
+abbrev pub FailsBy : Condition → Option Condition → Trace → ℕ → Type 0
+FailsBy c none trace m = FailsAlone c trace m
+FailsBy c (some d) trace m = FailsPaired c d trace m
 
 -- the watch fails at place m
 abbrev pub FailsAt : Watch → Trace → ℕ → Type 0
-FailsAt w trace m = Fails (w .first) (w .later) trace m
+FailsAt w trace m = FailsBy (w .first) (w .later) trace m
