@@ -6,7 +6,7 @@
 //!     bench --once WHO SERVICE INPUT CALLS          just so many calls, for bench/instructions
 //!     bench --shares                                the table of rounds of eight rule sets alone
 //!     bench --closed [NAME CALLS]                   the table of closed profiles alone, or so many calls of one
-//!     bench --instalments INPUT SIZE CALLS          just so many scans in instalments of this size
+//!     bench --instalments [INPUT SIZE CALLS]        the table of instalments alone, or so many scans in instalments of this size
 
 mod closed;
 mod input;
@@ -43,13 +43,14 @@ fn main() {
         ["--shares"] => rounds::table(&inputs(), 30),
         ["--closed"] => closed::table(30),
         ["--closed", name, calls] => closed::run(name, calls.parse().expect("a number of calls")),
+        ["--instalments"] => instalments::table(&inputs(), 30),
         ["--instalments", input, size, calls] => {
             let [size, calls] = [size, calls].map(|word| word.parse::<u32>().expect("a number"));
             instalments::run(&inputs(), input, size as usize, calls);
         }
         ["--once", who, service, input, calls] => once::run(who, service, input, calls.parse().expect("a number of calls")),
         _ => {
-            eprintln!("usage: bench [--rounds N] | --shares | --once WHO SERVICE INPUT CALLS | --closed [NAME CALLS] | --instalments INPUT SIZE CALLS");
+            eprintln!("usage: bench [--rounds N] | --shares | --once WHO SERVICE INPUT CALLS | --closed [NAME CALLS] | --instalments [INPUT SIZE CALLS]");
             std::process::exit(2);
         }
     }

@@ -2,3 +2,4 @@ pub mod Bits
 pub mod Steps
 pub mod Walking
 pub mod Checking
+pub mod Stretching

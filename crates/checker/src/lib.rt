@@ -10,10 +10,11 @@ ghost use Rattle.semantics.specs.Program.{knownFirst};
 ghost use Rattle.bytecode.specs.Check.{known as knownAs, complete as completeOf, checkCode, checkOf};
 ghost use Rattle.checker.specs.Inner.Walk.{knownOf, Small, initialWalk};
 ghost use Rattle.checker.specs.Results.{checkedAnswer, CheckedWithin, Judges, VerdictWithin};
-use advance::Advanced;
 use advance::Walk;
+use ahead::Stretch;
 
 pub mod advance;
+pub mod ahead;
 
 // Sound, or refused with document 01's number and place.
 pub enum Checked {
@@ -68,10 +69,7 @@ pub fn walk_from(code: &[u8], from: usize, first: Walk) -> Verdict
     let mut at = from;
     let mut w = first;
     while at < code.len() {
-        let bytecode::Fetched::Instruction(byte, n, next) = bytecode::fetch(code, at) else {
-            return Verdict::Broken(at);
-        };
-        let Advanced::Kept(k) = advance::advance(byte, n, w) else {
+        let Stretch::Taken(k, next) = ahead::ahead(code, at, w) else {
             return Verdict::Broken(at);
         };
         w = k;

@@ -1,8 +1,6 @@
 -- Instructions that stand ahead together: walk and machine go as many steps. Assumes nothing.
-use Prim.Native.Nat.{ℕ, _+_, _*_, _%_, _^_, _≤_, _<_}
+use Prim.Native.Nat.{ℕ, _+_, _%_, _≤_, _<_}
 use native.Mathlib.Omega.{arith}
-use native.Mathlib.Numerals.{add-one}
-use native.Mathlib.Nat.{pow-suc}
 use mathlib.Core.Path.{_≡_, refl, sym, subst, _∙_}
 use mathlib.Core.Bool.{Bool, true, false, false≢true}
 use mathlib.Core.List.{List}
@@ -11,18 +9,17 @@ use lib.IntN.{ℤ}
 use lib.ListN.{length, getD, set, length-set}
 use borrow.Author.Tests.{lt-ltb}
 use Rattle.arith.specs.Inner.Flags.{flagsOf}
-use Rattle.arith.proofs.Flags.{length-flags}
 use Rattle.semantics.specs.Program.{Range}
 use Rattle.semantics.specs.Formula.{State, at as valueAt}
 use Rattle.leb128.specs.Numbers.{unzigzag}
 use Rattle.bytecode.specs.Instructions.{Instruction, constant, current, previous, operation, comparison, operationOf, comparisonOf, instructionOf, hasOperand}
-use Rattle.bytecode.specs.Signature.{number, truth}
 use Rattle.bytecode.specs.Check.{advance}
 use Rattle.checker.specs.declared.advance.Walk.{Walk}
 use Rattle.checker.specs.declared.advance.Advanced.the-variants.{Kept}
-use Rattle.checker.specs.Inner.Walk.{openOf, knownOf, pushed, joined, outside, Small}
-use Rattle.checker.proofs.Bits.{length-sorts, sorts-cons, sorts-push, sorts-number, number-low}
+use Rattle.checker.specs.Inner.Walk.{knownOf, pushed, Small}
+use Rattle.checker.specs.Inner.Stretches.{withNumber, withTruth}
 use Rattle.checker.proofs.Steps.{operation-is, comparison-is, constant-is}
+use Rattle.checker.proofs.Stretching.{pushed-is, number-small, truth-small, two-tested, two-joined, previous-pushed, current-pushed}
 use Rattle.machine.specs.declared.Registers.{Registers}
 use Rattle.machine.specs.declared.Stepped.the-variants as S
 use Rattle.machine.specs.Step.{bit, push, perform}
@@ -63,14 +60,6 @@ module _ (code : List ℕ) (at : ℕ) where
 -- ---- a value that is put on top
 
 module _ (w : Walk) (i : ℕ) (l : i < w .names) where
-  previous-pushed : advance (previous i) (knownOf w) ≡ pushed (knownOf w)
-  unfolding pushed
-  previous-pushed = rw (length-flags (w .names) (w .known), lt-ltb i (w .names) l)
-
-  current-pushed : getD (flagsOf (w .names) (w .known)) i false ≡ true → advance (current i) (knownOf w) ≡ pushed (knownOf w)
-  unfolding pushed
-  current-pushed e = rw e
-
   module _ (ns : List Range) (s t : State) (c : Bool) (vs : List ℤ) (e : length ns ≡ w .names) where
     previous-loaded : perform ns s (previous i) c vs t ≡ push (valueAt s i) c vs t
     previous-loaded = rw (e, lt-ltb i (w .names) l)
@@ -113,38 +102,7 @@ module _ (code : List ℕ) (prev cur : List ℤ) (at : ℕ) (w : Walk) (small : 
   unfolding instructionOf hasOperand
   current-seen is known f =
       let i = getD code (at + 1) 0 in
-      seen 2 is refl (current i) refl (current-pushed w i id known) (valueAt cur i) (λ ns c vs e. current-loaded w i id ns prev cur c vs e) f
-
--- ---- the walk
-
--- a number more is held, or a yes-no
-abbrev pub withNumber : Walk → Walk
-withNumber w = record { held = w .held + 1; sorts = w .sorts * 2; gate = w .gate; picking = w .picking; known = w .known; names = w .names }
-
-abbrev pub withTruth : Walk → Walk
-withTruth w = record { held = w .held + 1; sorts = w .sorts * 2 + 1; gate = w .gate; picking = w .picking; known = w .known; names = w .names }
-
-truth-low : (n k : ℕ) → k < 2 ^ n → k * 2 + 1 < 2 ^ (n + 1)
-truth-low n k h = rw (add-one n, pow-suc) (omega arith)
-
-module _ (w : Walk) where
-  pushed-is : w .held < 40 → pushed (knownOf w) ≡ some (knownOf (withNumber w))
-  unfolding pushed
-  pushed-is h = rw (length-sorts (w .held) (w .sorts), lt-ltb (w .held) 40 h, sorts-number (w .held) (w .sorts))
-
-  number-small : Small w → w .held < 40 → Small (withNumber w)
-  number-small s h = record { few-held = omega arith; sorts-low = number-low (w .held) (w .sorts) (s .sorts-low); few-names = s .few-names; known-low = s .known-low }
-
-  truth-small : Small w → w .held < 40 → Small (withTruth w)
-  truth-small s h = record { few-held = omega arith; sorts-low = truth-low (w .held) (w .sorts) (s .sorts-low); few-names = s .few-names; known-low = s .known-low }
-
-  two-tested : w .gate ≡ 0 → outside (openOf (w .gate)) (joined number truth (knownOf (withNumber (withNumber w)))) ≡ some (knownOf (withTruth w))
-  unfolding joined
-  two-tested e = rw (e, sorts-number (w .held + 1) (w .sorts * 2), sorts-number (w .held) (w .sorts), sorts-push (w .held) (w .sorts) 1 (omega arith))
-
-  two-joined : 1 ≤ w .held → w .sorts % 2 ≡ 0 → joined number number (knownOf (withNumber w)) ≡ some (knownOf w)
-  unfolding joined
-  two-joined h e = rw (sorts-number (w .held) (w .sorts), sorts-cons (w .held) (w .sorts) h, e)
+      seen 2 is refl (current i) refl (current-pushed w i known) (valueAt cur i) (λ ns c vs e. current-loaded w i id ns prev cur c vs e) f
 
 -- ---- a comparison at once
 

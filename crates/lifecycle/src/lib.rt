@@ -22,6 +22,9 @@ ghost use Rattle.resumable.specs.Instalment.{afterCall};
 ghost use Rattle.lifecycle.specs.Calls.{sameValues, afterFinish, finishOf, orRefused, beginOf, withRow, postOf};
 ghost use Rattle.lifecycle.specs.Inner.Parts.{finishEnded, keptStart, StartKeepable, Beginning, FullScratch};
 
+// One more than its length is kept of a row that waits.
+const BEFORE_ROW: usize = paused::ROW - 1;
+
 // A count at a place of the memory.
 fn put(memory: &mut [i32], i: usize, n: usize)
     requires { ⌜ (i < length (now memory)) × (n < 2 ^ 31) ⌝ }
@@ -58,7 +61,7 @@ fn finish_ended(memory: &mut [i32], state: &mut [i32], size: usize, steps: usize
         return Response::Refused(limits::STATE_DIFFERS, 0, 0);
     }
     lists::fill(state, &memory[paused::CURRENT..paused::CURRENT + size]);
-    put(memory, paused::CHECKPOINT, 0);
+    put(memory, paused::CHECKPOINT, paused::NO_SCAN);
     Response::Done(steps)
 }
 
@@ -72,17 +75,17 @@ pub fn finish(paused: &mut [i32], state: &mut [i32]) -> Response
     }
     let p = paused::checkpoint_in(paused);
     let phase = p.phase;
-    if phase == 0 {
+    if phase == paused::NO_SCAN {
         return Response::Idle;
     }
-    if phase == 1 {
+    if phase == paused::UNDER_WAY {
         return Response::Unfinished(0);
     }
-    if phase == 2 {
+    if phase == paused::AT_END {
         let layout = paused::layout_in(paused);
         return finish_ended(paused, state, layout.size, p.steps);
     }
-    put(paused, paused::CHECKPOINT, 0);
+    put(paused, paused::CHECKPOINT, paused::NO_SCAN);
     Response::Refused(p.number, 0, p.steps)
 }
 
@@ -167,15 +170,15 @@ fn begin_in(
     }
     let p = paused::checkpoint_in(paused);
     let phase = p.phase;
-    if phase != 0 {
+    if phase != paused::NO_SCAN {
         return Response::Unfinished(0);
     }
     let w = paused::waiting(paused);
     if w == 0 {
         return Response::Idle;
     }
-    let end = 15 + w;
-    let tried = before::before_code(image, state, &paused[16..end], low, high, work);
+    let end = BEFORE_ROW + w;
+    let tried = before::before_code(image, state, &paused[paused::ROW..end], low, high, work);
     put(paused, paused::WAITING, 0);
     match tried {
         Before::Refused(number, place) => Response::Refused(number, place, 0),

@@ -29,10 +29,48 @@ pub const LOW: usize = 384;
 
 pub const HIGH: usize = 512;
 
+// The place behind the values held.
+pub const HELD_END: usize = HELD + limits::STACK_LIMIT;
+
+// Places of a checkpoint's parts, and of a layout's.
+const PHASE: usize = CHECKPOINT;
+
+const NUMBER: usize = CHECKPOINT + 1;
+
+const PLACE: usize = CHECKPOINT + 2;
+
+const STEPS: usize = CHECKPOINT + 3;
+
+const HELD_COUNT: usize = CHECKPOINT + 4;
+
+const PICKED: usize = CHECKPOINT + 5;
+
+const PASSING: usize = CHECKPOINT + 6;
+
+const IMAGE: usize = SHAPE;
+
+const BASE: usize = SHAPE + 1;
+
+const SIZE: usize = SHAPE + 2;
+
+// Phases: no scan, under way, at the end of the code, refused with a number.
+pub const NO_SCAN: usize = 0;
+
+pub const UNDER_WAY: usize = 1;
+
+pub const AT_END: usize = 2;
+
+pub const STOPPED: usize = 3;
+
 // The largest number of a refusal.
 const LARGEST_NUMBER: usize = 30;
 
-// Phase 0 is no scan, 1 under way, 2 at the end of the code, 3 refused with a number; the place in the code, the steps done, and the registers.
+// 2^56 and 2^24.
+const NUMBER_FACTOR: u64 = 72057594037927936;
+
+const PLACE_FACTOR: u64 = 16777216;
+
+// The phase, a refusal's number, the place in the code, the steps done, and the registers.
 pub struct Checkpoint {
     pub phase: usize,
     pub number: u8,
@@ -63,7 +101,7 @@ pub fn pack(number: u8, place: usize, count: u64) -> u64
     requires { ⌜ (place < 2 ^ 32) × (count < 2 ^ 24) ⌝ }
     ensures { λ r. ⌜ r ≡ packed number place count ⌝ }
 {
-    number as u64 * 72057594037927936 + place as u64 * 16777216 + count
+    number as u64 * NUMBER_FACTOR + place as u64 * PLACE_FACTOR + count
 }
 
 pub fn pack_response(r: Response) -> u64
@@ -101,13 +139,13 @@ pub fn checkpoint_in(memory: &[i32]) -> Checkpoint
     ensures { λ r. ⌜ r ≡ checkpointOf (now (memory .entry)) ⌝ }
 {
     Checkpoint {
-        phase: cell(memory, 0, 3),
-        number: cell(memory, 1, LARGEST_NUMBER) as u8,
-        place: cell(memory, 2, limits::IMAGE_LIMIT),
-        steps: cell(memory, 3, limits::IMAGE_LIMIT),
-        held: cell(memory, 4, limits::STACK_LIMIT),
-        picked: cell(memory, 5, 1) == 1,
-        passing: cell(memory, 6, 1) == 1,
+        phase: cell(memory, PHASE, STOPPED),
+        number: cell(memory, NUMBER, LARGEST_NUMBER) as u8,
+        place: cell(memory, PLACE, limits::IMAGE_LIMIT),
+        steps: cell(memory, STEPS, limits::IMAGE_LIMIT),
+        held: cell(memory, HELD_COUNT, limits::STACK_LIMIT),
+        picked: cell(memory, PICKED, 1) == 1,
+        passing: cell(memory, PASSING, 1) == 1,
     }
 }
 
@@ -115,11 +153,11 @@ pub fn layout_in(memory: &[i32]) -> Layout
     requires { ⌜ length (now memory) ≡ pausedLength ⌝ }
     ensures { λ r. ⌜ r ≡ layoutOf (now (memory .entry)) ⌝ }
 {
-    let image = cell(memory, 8, limits::IMAGE_LIMIT);
+    let image = cell(memory, IMAGE, limits::IMAGE_LIMIT);
     Layout {
         image,
-        base: cell(memory, 9, image),
-        size: cell(memory, 10, limits::NAME_LIMIT),
+        base: cell(memory, BASE, image),
+        size: cell(memory, SIZE, limits::NAME_LIMIT),
     }
 }
 

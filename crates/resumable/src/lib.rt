@@ -31,8 +31,8 @@ fn run_from(
     ensures { λ r. ⌜ ranOf r (now (vals .exit)) (now (cur .exit)) ≡ ranFrom (now (code .entry)) n p size (now (memory .entry)) ⌝ }
     ensures { λ r. ⌜ r .steps ≤ n ⌝ }
 {
-    lists::fill(cur, &memory[256..256 + size]);
-    lists::fill(vals, &memory[80..120]);
+    lists::fill(cur, &memory[paused::CURRENT..paused::CURRENT + size]);
+    lists::fill(vals, &memory[paused::HELD..paused::HELD_END]);
     let m = Registers {
         held: p.held,
         picked: p.picked,
@@ -40,9 +40,9 @@ fn run_from(
     };
     machine::run(
         code,
-        &memory[384..384 + size],
-        &memory[512..512 + size],
-        &memory[128..128 + size],
+        &memory[paused::LOW..paused::LOW + size],
+        &memory[paused::HIGH..paused::HIGH + size],
+        &memory[paused::START..paused::START + size],
         cur,
         vals,
         p.place,
@@ -56,9 +56,9 @@ pub fn phase_at(len: usize, place: usize) -> usize
     ensures { λ r. ⌜ r ≡ cond (leb len place) 2 1 ⌝ }
 {
     if len <= place {
-        return 2;
+        return paused::AT_END;
     }
-    1
+    paused::UNDER_WAY
 }
 
 // What a run that was not refused left, written back.
@@ -110,7 +110,7 @@ fn keep(
         Stepped::Next(m) => keep_going(memory, before, len, n, place, m, cur, vals),
         Stepped::Refused(number) => {
             let p = Checkpoint {
-                phase: 3,
+                phase: paused::STOPPED,
                 number,
                 place,
                 steps: before + n,
@@ -172,10 +172,10 @@ fn advance_in(
     let p = paused::checkpoint_in(paused);
     let phase = p.phase;
     let place = p.place;
-    if phase == 0 {
+    if phase == paused::NO_SCAN {
         return Response::Idle;
     }
-    if phase != 1 {
+    if phase != paused::UNDER_WAY {
         return Response::Done(0);
     }
     if steps == 0 {
