@@ -1,7 +1,7 @@
 -- Check answers sound exactly if the image is sound. Assumes nothing.
 use Prim.Native.Nat.{ℕ, zero, suc, _+_, _≤_}
 use native.Mathlib.Omega.{arith}
-use mathlib.Core.Path.{_≡_, refl, ap, _∙_}
+use mathlib.Core.Path.{_≡_, refl, ap, _∙_, subst}
 use mathlib.Core.Bool.{Bool, true, false, not, _&&_}
 use mathlib.Core.List.{List, [], _∷_, _++_}
 use mathlib.Core.Option.{Option, none, some}
@@ -17,12 +17,12 @@ use Rattle.arith.proofs.Basics.{T-true, true-T, and-left, and-right, T-not-fals
 use Rattle.leb128.specs.Numbers.{Read, got, nothing, numberAt, signedAt}
 use Rattle.bytecode.specs.Instructions.{Instruction, fetch}
 use Rattle.bytecode.specs.Translation.{RangesFit}
-use Rattle.bytecode.specs.Signature.{Sort, number, truth, Role, pushes, computes, tests, opens, picks, lets, settles, signature}
-use Rattle.bytecode.specs.Check.{Picks, Known, known, one, empty, unset, closed, fresh, opened, taking, admits, advance, complete, item, checkRange, checkRanges, checkCounts, Header, checkHeader, ends, checkCode, atStart, checkBody, checkOf}
+use Rattle.bytecode.specs.Signature.{Sort, number, truth, Role, pushes, computes, tests, opens, picks, lets, settles, times, signature}
+use Rattle.bytecode.specs.Check.{Picks, Known, known, one, empty, unset, closed, fresh, opened, taking, admits, advance, suits, complete, item, checkRange, checkRanges, checkCounts, Header, checkHeader, ends, checkCode, atStart, checkBody, checkOf}
 use Rattle.bytecode.specs.Parts.{headerOf, codeOf, counted, countFrom, instructionsIn}
 use Rattle.bytecode.specs.Sound.{RangesAt, SpellsCode}
 use Rattle.bytecode.specs.Allowed.{leftIn, leftBy, leftByAll, AllowedIn, Allowed, Finished}
-use Rattle.bytecode.specs.Inner.Places.{SoundByPlace}
+use Rattle.bytecode.specs.Inner.Places.{lastOf, SoundByPlace}
 use Rattle.bytecode.proofs.RoundTrip.{fetch-next}
 use Rattle.bytecode.proofs.Soundness.{some-inj, none≢some, guard-some}
 use Rattle.bytecode.proofs.Walk.{check-sound, Stepped, check-stepped, check-ended}
@@ -94,6 +94,14 @@ admitted (settles v) rest g o ids d e =
     let s : rest ≡ [] = empty-is rest (and-right (not g) _ p) in
     let f : g ≡ false = T-not-false g (and-left (not g) _ p) in
     record { allowed = (f, s, and-right (not g && empty rest) (unset ids v) q, and-right (not g && empty rest && unset ids v) (opened o v) (h .0)); left = rw (s, f) (h .1) }
+admitted (times t w n) rest g o ids d e =
+    let h = guard-some (not g && empty rest && unset ids t && closed o) _ d e in
+    let q = and-left (not g && empty rest && unset ids t) (closed o) (h .0) in
+    let p = and-left (not g && empty rest) (unset ids t) q in
+    let s : rest ≡ [] = empty-is rest (and-right (not g) _ p) in
+    let f : g ≡ false = T-not-false g (and-left (not g) _ p) in
+    let c : o ≡ none = closed-is o (and-right (not g && empty rest && unset ids t) (closed o) (h .0)) in
+    record { allowed = (f, s, and-right (not g && empty rest) (unset ids t) q, c); left = rw (s, f, c) (h .1) }
 
 -- an instruction of a role that is allowed keeps soundness
 admits-allowed : (r : Role) (rest : List Sort) (g : Bool) (o : Option Picks) (ids : List Bool) → AllowedIn r rest g o ids → admits r rest g o ids ≡ some (leftIn r rest g o ids)
@@ -104,6 +112,7 @@ admits-allowed opens rest g o ids a = rw (a .0, a .1)
 admits-allowed (picks side v) rest g o ids a = rw (a .0, a .1, T-true (unset ids v) (a .2), T-true (fresh o side v) (a .3))
 admits-allowed (lets v) rest g o ids a = rw (a .0, a .1, T-true (unset ids v) (a .2), a .3)
 admits-allowed (settles v) rest g o ids a = rw (a .0, a .1, T-true (unset ids v) (a .2), T-true (opened o v) (a .3))
+admits-allowed (times t w n) rest g o ids a = rw (a .0, a .1, T-true (unset ids t) (a .2), a .3)
 
 -- the values below the operands
 below : (i : Instruction) (vs rest : List Sort) → vs ≡ signature i .takes ++ rest → drop (length (signature i .takes)) vs ≡ rest
@@ -155,41 +164,60 @@ pub at-places : (is : List Instruction) (c : Known) → ((before : List Instruct
 at-places [] c h = tt
 at-places (j ∷ is) c h = (h [] j is refl, at-places is (leftBy j c) (λ before i after e. h (j ∷ before) i after (ap {B = List Instruction} (λ l. j ∷ l) e)))
 
+-- what is asked of timers, of each with the instruction before it
+abbrev pub Suited : List Range → Option Instruction → List Instruction → Type 0
+Suited ns last [] = Unit {0}
+Suited ns last (i ∷ is) = T (suits ns last i) × Suited ns (some i) is
+
+suited-at : (ns : List Range) (last : Option Instruction) (is : List Instruction) → Suited ns last is → (before : List Instruction) (i : Instruction) (after : List Instruction) → is ≡ before ++ i ∷ after → T (suits ns (lastOf last before) i)
+suited-at ns last [] p [] i after e = let z : _≡_ {A = ℕ} 0 1 = cc in let f : ⊥ = omega arith in absurd f
+suited-at ns last [] p (b ∷ before) i after e = let z : _≡_ {A = ℕ} 0 1 = cc in let f : ⊥ = omega arith in absurd f
+suited-at ns last (j ∷ is) p [] i after e = let q : j ≡ i = cc in subst (λ (x : Instruction). T (suits ns last x)) q (p .0)
+suited-at ns last (j ∷ is) p (b ∷ before) i after e =
+    let q : j ≡ b = cc in
+    let r : is ≡ before ++ i ∷ after = cc in
+    subst (λ (x : Instruction). T (suits ns (lastOf (some x) before) i)) q (suited-at ns (some j) is (p .1) before i after r)
+
+at-suited : (ns : List Range) (last : Option Instruction) (is : List Instruction) → ((before : List Instruction) (i : Instruction) (after : List Instruction) → is ≡ before ++ i ∷ after → T (suits ns (lastOf last before) i)) → Suited ns last is
+at-suited ns last [] h = tt
+at-suited ns last (j ∷ is) h = (h [] j is refl, at-suited ns (some j) is (λ before i after e. h (j ∷ before) i after (ap {B = List Instruction} (λ l. j ∷ l) e)))
+
 -- ---- the code
 
 -- what the walk found
-record Walked (code : List ℕ) (at : ℕ) (c : Known) : Type 0 where
+record Walked (ns : List Range) (code : List ℕ) (at : ℕ) (last : Option Instruction) (c : Known) : Type 0 where
   instructions : List Instruction
   spells : SpellsCode code at instructions
   places : Places instructions c
+  suited : Suited ns last instructions
   ends : Finished (leftByAll instructions c)
 
-walked-step : (base : ℕ) (code : List ℕ) (f at : ℕ) (c : Known) (x : Stepped base code f at c) → Walked code (x .next) (x .after) → Walked code at c
-walked-step base code f at c x w =
+walked-step : (ns : List Range) (base : ℕ) (code : List ℕ) (f at : ℕ) (last : Option Instruction) (c : Known) (x : Stepped ns base code f at last c) → Walked ns code (x .next) (some (x .instruction)) (x .after) → Walked ns code at last c
+walked-step ns base code f at last c x w =
     let k = kept-by (x .instruction) c (x .after) (x .advanced) in
     let p : Places (w .instructions) (leftBy (x .instruction) c) = rw (k .left) (w .places) in
     let q : Finished (leftByAll (w .instructions) (leftBy (x .instruction) c)) = rw (k .left) (w .ends) in
-    record { instructions = x .instruction ∷ w .instructions; spells = (x .next, x .fetched, w .spells); places = (k .allowed, p); ends = q }
+    record { instructions = x .instruction ∷ w .instructions; spells = (x .next, x .fetched, w .spells); places = (k .allowed, p); suited = (x .suited, w .suited); ends = q }
 
-walked : (base : ℕ) (code : List ℕ) (f at : ℕ) (c : Known) → length code ≤ at + f → checkCode base code f at c ≡ accepted tt → Walked code at c
-walked base code zero at c l e = record { instructions = []; spells = omega arith; places = tt; ends = finished-by c (check-ended base code zero at c (omega arith) e) }
-walked base code (suc f) at c l e = inside (ltb at (length code)) refl (λ next c₁ k q. walked base code f next c₁ k q)
+walked : (ns : List Range) (base : ℕ) (code : List ℕ) (f at : ℕ) (last : Option Instruction) (c : Known) → length code ≤ at + f → checkCode ns base code f at last c ≡ accepted tt → Walked ns code at last c
+walked ns base code zero at last c l e = record { instructions = []; spells = omega arith; places = tt; suited = tt; ends = finished-by c (check-ended ns base code zero at last c (omega arith) e) }
+walked ns base code (suc f) at last c l e = inside (ltb at (length code)) refl (λ next i c₁ k q. walked ns base code f next (some i) c₁ k q)
   where
-    inside : (b : Bool) → ltb at (length code) ≡ b → ((next : ℕ) (c₁ : Known) → length code ≤ next + f → checkCode base code f next c₁ ≡ accepted tt → Walked code next c₁) → Walked code at c
+    inside : (b : Bool) → ltb at (length code) ≡ b → ((next : ℕ) (i : Instruction) (c₁ : Known) → length code ≤ next + f → checkCode ns base code f next (some i) c₁ ≡ accepted tt → Walked ns code next (some i) c₁) → Walked ns code at last c
     inside true b ih =
-        let x = check-stepped base code f at c (ltb-true at (length code) b) e in
-        walked-step base code f at c x (ih (x .next) (x .after) (omega (arith, fetch-next code at (x .instruction) (x .next) (x .fetched) .1)) (x .goes))
+        let x = check-stepped ns base code f at last c (ltb-true at (length code) b) e in
+        walked-step ns base code f at last c x (ih (x .next) (x .instruction) (x .after) (omega (arith, fetch-next code at (x .instruction) (x .next) (x .fetched) .1)) (x .goes))
     inside false b ih =
         let k : length code ≤ at = ltb-false at (length code) b in
-        record { instructions = []; spells = k; places = tt; ends = finished-by c (check-ended base code (suc f) at c k e) }
+        record { instructions = []; spells = k; places = tt; suited = tt; ends = finished-by c (check-ended ns base code (suc f) at last c k e) }
 
-walks : (base : ℕ) (code : List ℕ) (f at : ℕ) (is : List Instruction) (c : Known) → length code ≤ at + f → SpellsCode code at is → Places is c → Finished (leftByAll is c) → checkCode base code f at c ≡ accepted tt
-walks base code zero at [] c l s p e = rw (complete-if c e)
-walks base code (suc f) at [] c l s p e = rw (le-ltb at (length code) s, complete-if c e)
-walks base code zero at (i ∷ is) c l s p e = let b : ⊥ = omega (arith, fetch-next code at i (s .0) (s .1) .0) in absurd b
-walks base code (suc f) at (i ∷ is) c l s p e =
+walks : (ns : List Range) (base : ℕ) (code : List ℕ) (f at : ℕ) (last : Option Instruction) (is : List Instruction) (c : Known) → length code ≤ at + f → SpellsCode code at is → Places is c → Suited ns last is → Finished (leftByAll is c) → checkCode ns base code f at last c ≡ accepted tt
+walks ns base code zero at last [] c l s p t e = rw (complete-if c e)
+walks ns base code (suc f) at last [] c l s p t e = rw (le-ltb at (length code) s, complete-if c e)
+walks ns base code zero at last (i ∷ is) c l s p t e = let b : ⊥ = omega (arith, fetch-next code at i (s .0) (s .1) .0) in absurd b
+walks ns base code (suc f) at last (i ∷ is) c l s p t e =
     let n = fetch-next code at i (s .0) (s .1) in
-    rw (lt-ltb at (length code) (n .0), s .1, allowed-advances i c (p .0)) (walks base code f (s .0) is (leftBy i c) (omega (arith, n .1)) (s .2) (p .1) e)
+    rw (lt-ltb at (length code) (n .0), s .1, T-true (suits ns last i) (t .0), allowed-advances i c (p .0)) (walks ns base code f (s .0) (some i) is (leftBy i c) (omega (arith, n .1)) (s .2) (p .1) (t .1) e)
 
 -- ---- the header
 
@@ -224,8 +252,8 @@ header-passes bytes x =
 body-passes : (bytes : List ℕ) (x : SoundByPlace bytes) → checkBody bytes (x .header) ≡ accepted tt
 unfolding checkBody
 body-passes bytes x =
-    walks (x .header .place) (drop (x .header .place) bytes) (length (drop (x .header .place) bytes)) 0 (x .code) (atStart (x .header)) (omega arith) (x .spells)
-    (at-places (x .code) (atStart (x .header)) (x .places)) (x .ends)
+    walks (x .header .ranges) (x .header .place) (drop (x .header .place) bytes) (length (drop (x .header .place) bytes)) 0 none (x .code) (atStart (x .header)) (omega arith) (x .spells)
+    (at-places (x .code) (atStart (x .header)) (x .places)) (at-suited (x .header .ranges) none (x .code) (x .suited)) (x .ends)
 
 -- a sound image is answered sound
 pub sound-accepted : (bytes : List ℕ) → SoundByPlace bytes → checkOf bytes ≡ accepted tt
@@ -234,9 +262,9 @@ sound-accepted bytes x =
     let l : leb (length bytes) 65536 ≡ true = T-true (leb (length bytes) 65536) (le→leb (length bytes) 65536 (x .short)) in
     rw (l, header-passes bytes x) (body-passes bytes x)
 
-body-walked : (bytes : List ℕ) (h : Header) → checkBody bytes h ≡ accepted tt → Walked (drop (h .place) bytes) 0 (atStart h)
+body-walked : (bytes : List ℕ) (h : Header) → checkBody bytes h ≡ accepted tt → Walked (h .ranges) (drop (h .place) bytes) 0 none (atStart h)
 unfolding checkBody
-body-walked bytes h e = walked (h .place) (drop (h .place) bytes) (length (drop (h .place) bytes)) 0 (atStart h) (omega arith) e
+body-walked bytes h e = walked (h .ranges) (h .place) (drop (h .place) bytes) (length (drop (h .place) bytes)) 0 none (atStart h) (omega arith) e
 
 -- an image that is answered sound is sound
 pub accepted-sound : (bytes : List ℕ) → checkOf bytes ≡ accepted tt → SoundByPlace bytes
@@ -258,6 +286,7 @@ accepted-sound bytes e =
       code = w .instructions;
       spells = w .spells;
       places = places-at (w .instructions) (atStart (y .header)) (w .places);
+      suited = suited-at (y .header .ranges) none (w .instructions) (w .suited);
       ends = w .ends;
     }
 

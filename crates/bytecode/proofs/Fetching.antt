@@ -1,14 +1,14 @@
 -- Where the bytes of a number and of an instruction end, and the ways in which an instruction is read. Assumes nothing.
 use Prim.Native.Nat.{ℕ, zero, suc, _+_, _-_, _^_, _≤_, _<_}
 use native.Mathlib.Omega.{arith}
-use mathlib.Core.Path.{_≡_, refl, subst}
+use mathlib.Core.Path.{_≡_, refl, sym, subst, _∙_}
 use mathlib.Core.Bool.{Bool, true, false, cond}
 use mathlib.Core.List.{List, [], _∷_}
-use lib.Dec.{ltb}
+use lib.Dec.{eqb, ltb}
 use lib.ListN.{length, getD, drop, length-drop}
-use borrow.Author.Tests.{lt-ltb, le-ltb, ltb-true}
-use Rattle.leb128.specs.Numbers.{Found, found, none, grouped, numberIn, Read, got, nothing, below32, numberAt}
-use Rattle.bytecode.specs.Instructions.{instructionOf, hasOperand, decoded, fetch}
+use borrow.Author.Tests.{lt-ltb, le-ltb, ltb-true, eqb-true}
+use Rattle.leb128.specs.Numbers.{Found, found, none, grouped, numberIn, Read, got, nothing, _then_, below32, numberAt}
+use Rattle.bytecode.specs.Instructions.{Instruction, instructionOf, hasOperand, decoded, fetchOne, fetch}
 use Rattle.bytecode.specs.Results.{Bounded}
 
 -- ---- the bytes of a number
@@ -58,22 +58,45 @@ number-within bytes at n next e = subst (ReadWithin (length bytes) at) e (read-w
 
 module _ (bytes : List ℕ) (at : ℕ) where
   -- no code byte
-  pub fetch-none : length bytes ≤ at → fetch bytes at ≡ nothing
-  unfolding fetch
+  pub fetch-none : length bytes ≤ at → fetchOne bytes at ≡ nothing
+  unfolding fetchOne
   fetch-none h = rw (le-ltb at (length bytes) h)
 
   -- a code byte alone
-  pub fetch-alone : at < length bytes → hasOperand (getD bytes at 0) ≡ false → fetch bytes at ≡ decoded (instructionOf (getD bytes at 0) 0) (at + 1)
-  unfolding fetch
+  pub fetch-alone : at < length bytes → hasOperand (getD bytes at 0) ≡ false → fetchOne bytes at ≡ decoded (instructionOf (getD bytes at 0) 0) (at + 1)
+  unfolding fetchOne
   fetch-alone h o = rw (lt-ltb at (length bytes) h, o)
 
   -- a code byte whose operand is no number
-  pub fetch-malformed : at < length bytes → hasOperand (getD bytes at 0) ≡ true → numberAt bytes (at + 1) ≡ nothing → fetch bytes at ≡ nothing
-  unfolding fetch
+  pub fetch-malformed : at < length bytes → hasOperand (getD bytes at 0) ≡ true → numberAt bytes (at + 1) ≡ nothing → fetchOne bytes at ≡ nothing
+  unfolding fetchOne
   fetch-malformed h o e = rw (lt-ltb at (length bytes) h, o, e)
 
   -- a code byte and its operand
   pub fetch-number : (n next : ℕ) → at < length bytes → hasOperand (getD bytes at 0) ≡ true → numberAt bytes (at + 1) ≡ got n next
-      → fetch bytes at ≡ decoded (instructionOf (getD bytes at 0) n) next
-  unfolding fetch
+      → fetchOne bytes at ≡ decoded (instructionOf (getD bytes at 0) n) next
+  unfolding fetchOne
   fetch-number n next h o e = rw (lt-ltb at (length bytes) h, o, e)
+
+  -- a byte that is not 23
+  pub fetch-other : eqb (getD bytes at 0) 23 ≡ false → fetch bytes at ≡ fetchOne bytes at
+  unfolding fetch
+  fetch-other e = rw e
+
+  -- 23 is no instruction of one operand
+  unfetched : (b : Bool) → eqb (getD bytes at 0) 23 ≡ true → cond b (cond (hasOperand (getD bytes at 0)) (numberAt bytes (at + 1) then λ n next. decoded (instructionOf (getD bytes at 0) n) next) (decoded (instructionOf (getD bytes at 0) 0) (at + 1))) nothing ≡ nothing
+  unfolding hasOperand instructionOf
+  unfetched true e = rw (eqb-true (getD bytes at 0) 23 e)
+  unfetched false e = refl
+
+  pub timer-unfetched : eqb (getD bytes at 0) 23 ≡ true → fetchOne bytes at ≡ nothing
+  unfolding fetchOne
+  timer-unfetched e = unfetched (ltb at (length bytes)) e
+
+  -- what is read as an instruction of one operand is the instruction there
+  pub one-fetched : (i : Instruction) (next : ℕ) → fetchOne bytes at ≡ got i next → fetch bytes at ≡ got i next
+  one-fetched i next e = go (eqb (getD bytes at 0) 23) refl
+    where
+      go : (b : Bool) → eqb (getD bytes at 0) 23 ≡ b → fetch bytes at ≡ got i next
+      go true h = let f : nothing ≡ got i next = sym (timer-unfetched h) ∙ e in let z : _≡_ {A = ℕ} 0 1 = cc in let b : ⊥ = omega arith in absurd b
+      go false h = fetch-other h ∙ e

@@ -11,7 +11,7 @@ use borrow.Author.Tests.{eqb-true, eqb-false}
 use Rattle.arith.proofs.Basics.{T-not-false, and-left, and-right}
 use Rattle.semantics.specs.Program.{Side, Sided}
 use Rattle.bytecode.specs.Instructions.{Instruction, settle}
-use Rattle.bytecode.specs.Signature.{Sort, Role, pushes, computes, tests, opens, picks, lets, settles, signature}
+use Rattle.bytecode.specs.Signature.{Sort, Role, pushes, computes, tests, opens, picks, lets, settles, times, signature}
 use Rattle.bytecode.specs.Check.{Picks, Known, known, mayFollow, mayEnd, unset, fresh, opened, atStart}
 use Rattle.bytecode.specs.Allowed.{picksBy, leftBy, leftByAll, AllowedIn, Allowed}
 use Rattle.bytecode.specs.Inner.Places.{SoundByPlace}
@@ -102,6 +102,7 @@ module _ (v : ℕ) (ids : List Bool) (l : List Side) where
   kept-in (picks side u) rest g o a k = pick-kept o side u (a .3) (a .2) k
   kept-in (lets u) rest g o a k = let-kept o u k
   kept-in (settles u) rest g o a k = settle-kept o u (a .3) (a .2) k
+  kept-in (times t w n) rest g o a k = let-kept o t k
 
 pub sides-step : (v : ℕ) (i : Instruction) (c : Known) (l : List Side) → Allowed i c → SidesIn v c l → SidesIn v (leftBy i c) (l ++ sideIn v (signature i .role))
 sides-step v i (known vs g o ids) l a k = kept-in v ids l (signature i .role) (a .rest) g o (a .in-role) k

@@ -1,20 +1,21 @@
 -- Instructions are read back from their bytes, wherever they stand. Assumes nothing.
-use Prim.Native.Nat.{ℕ, suc, _+_, _-_, _^_, _≤_, _<_}
+use Prim.Native.Nat.{ℕ, zero, suc, _+_, _-_, _^_, _≤_, _<_}
 use native.Mathlib.Omega.{arith}
 use mathlib.Core.Path.{_≡_, refl, sym, ap, _∙_}
 use mathlib.Core.Bool.{Bool, true, false, cond}
-use mathlib.Core.List.{List, [], _∷_, _++_}
+use mathlib.Core.List.{List, [], _∷_, _++_, append-assoc}
 use mathlib.Core.Option.{Option, none, some}
-use lib.Dec.{T, ltb}
+use lib.Dec.{T, eqb, ltb}
 use lib.ListN.{length, getD, drop, length-append, length-drop}
 use lib.Seq.{getD-drop}
-use borrow.Author.Tests.{lt-ltb, ltb-true}
+use borrow.Author.Tests.{lt-ltb, ltb-true, eqb-true}
 use Rattle.arith.specs.Values.{isInt32, add, subtract, multiply, divide, modulo, equal, notEqual, less, lessEqual, greater, greaterEqual}
 use Rattle.semantics.specs.Program.{changing, rising, falling}
 use Rattle.leb128.specs.Numbers.{number, zigzag, Read, got, nothing, _then_, numberAt}
 use Rattle.leb128.proofs.Signs.{unzigzag-zigzag}
 use Rattle.leb128.proofs.RoundTrip.{drop-behind, number-at, number-next, zigzag-small}
-use Rattle.bytecode.specs.Instructions.{Instruction, constant, current, previous, operation, negate, comparison, negated, both, either, gate, pick, assign, settle, encode, instructionOf, hasOperand, decoded, fetchCode, fetch}
+use Rattle.bytecode.specs.Instructions.{Instruction, constant, current, previous, operation, negate, comparison, negated, both, either, gate, pick, assign, settle, timer, encode, instructionOf, hasOperand, decoded, fetchCode, fetchOne, timerAt, fetch}
+use Rattle.bytecode.proofs.Fetching.{one-fetched}
 
 -- ---- instructions
 
@@ -33,6 +34,7 @@ Small gate = Unit {0}
 Small (pick side i) = i < 2 ^ 32
 Small (assign i) = i < 2 ^ 32
 Small (settle i) = i < 2 ^ 32
+Small (timer t w n) = (t < 2 ^ 32) × (w < 2 ^ 32) × (n < 2 ^ 32)
 
 abbrev pub AllSmall : List Instruction → Type 0
 AllSmall [] = Unit {0}
@@ -56,18 +58,28 @@ begins bytes at b rest h =
 
 alone : (bytes : List ℕ) (at c : ℕ) (i : Instruction) (rest : List ℕ) → hasOperand c ≡ false → instructionOf c 0 ≡ some i → drop at bytes ≡ c ∷ rest
     → fetch bytes at ≡ got i (at + 1)
-unfolding fetch
+unfolding fetchOne
 alone bytes at c i rest o e h =
     let b = begins bytes at c rest h in
-    rw (lt-ltb at (length bytes) (b .inside), b .first, o, e)
+    one-fetched bytes at i (at + 1) (rw (lt-ltb at (length bytes) (b .inside), b .first, o, e))
 
 with-number : (bytes : List ℕ) (at c n : ℕ) (i : Instruction) (rest : List ℕ) → hasOperand c ≡ true → n < 2 ^ 32 → instructionOf c n ≡ some i
     → drop at bytes ≡ c ∷ number n ++ rest → fetch bytes at ≡ got i (at + suc (length (number n)))
-unfolding fetch
+unfolding fetchOne
 with-number bytes at c n i rest o l e h =
     let b = begins bytes at c (number n ++ rest) h in
     let q : at + 1 + length (number n) ≡ at + suc (length (number n)) = omega arith in
-    rw (lt-ltb at (length bytes) (b .inside), b .first, o, number-at bytes (at + 1) n rest l (b .behind), e, q)
+    one-fetched bytes at i (at + suc (length (number n))) (rw (lt-ltb at (length bytes) (b .inside), b .first, o, number-at bytes (at + 1) n rest l (b .behind), e, q))
+
+timer-encoded : (bytes : List ℕ) (at t w n : ℕ) (rest : List ℕ) → t < 2 ^ 32 → w < 2 ^ 32 → n < 2 ^ 32 → drop at bytes ≡ 23 ∷ number t ++ (number w ++ (number n ++ rest))
+    → fetch bytes at ≡ got (timer t w n) (at + suc (length (number t ++ (number w ++ number n))))
+unfolding fetch timerAt
+timer-encoded bytes at t w n rest a b c h =
+    let g = begins bytes at 23 (number t ++ (number w ++ (number n ++ rest))) h in
+    let h₁ : drop (at + 1 + length (number t)) bytes ≡ number w ++ (number n ++ rest) = drop-behind bytes (at + 1) (number t) _ (g .behind) in
+    let h₂ : drop (at + 1 + length (number t) + length (number w)) bytes ≡ number n ++ rest = drop-behind bytes (at + 1 + length (number t)) (number w) _ h₁ in
+    let q : at + 1 + length (number t) + length (number w) + length (number n) ≡ at + suc (length (number t ++ (number w ++ number n))) = simp length-append (omega arith) in
+    rw (g .first, number-at bytes (at + 1) t _ a (g .behind), number-at bytes (at + 1 + length (number t)) w _ b h₁, number-at bytes (at + 1 + length (number t) + length (number w)) n rest c h₂, q)
 
 pub fetch-encoded : (bytes : List ℕ) (at : ℕ) (i : Instruction) (rest : List ℕ) → Small i → drop at bytes ≡ encode i ++ rest → fetch bytes at ≡ got i (at + length (encode i))
 unfolding instructionOf hasOperand
@@ -95,6 +107,7 @@ fetch-encoded bytes at (pick rising i) rest l h = with-number bytes at 24 i (pic
 fetch-encoded bytes at (pick falling i) rest l h = with-number bytes at 25 i (pick falling i) rest refl l refl h
 fetch-encoded bytes at (assign i) rest l h = with-number bytes at 21 i (assign i) rest refl l refl h
 fetch-encoded bytes at (settle i) rest l h = with-number bytes at 22 i (settle i) rest refl l refl h
+fetch-encoded bytes at (timer t w n) rest l h = timer-encoded bytes at t w n rest (l .0) (l .1) (l .2) (simp append-assoc at h)
 
 pub length-encode : (i : Instruction) → 1 ≤ length (encode i)
 length-encode (constant z) = omega arith
@@ -110,6 +123,7 @@ length-encode gate = omega arith
 length-encode (pick side i) = omega arith
 length-encode (assign i) = omega arith
 length-encode (settle i) = omega arith
+length-encode (timer t w n) = omega arith
 
 -- an encoded instruction stands inside the bytes
 pub encoded-inside : (bytes : List ℕ) (at : ℕ) (i : Instruction) (rest : List ℕ) → drop at bytes ≡ encode i ++ rest → at < length bytes
@@ -121,10 +135,27 @@ encoded-inside bytes at i rest h =
 
 -- ---- a place behind is behind
 
+-- the place behind a timer's operands
+timer-next : (bytes : List ℕ) (at : ℕ) (i : Instruction) (next : ℕ) → timerAt bytes at ≡ got i next → at ≤ next
+unfolding timerAt
+timer-next bytes at i next e = first (numberAt bytes at) refl e
+  where
+    third : (at₂ t w : ℕ) (r : Read ℕ) → numberAt bytes at₂ ≡ r → at ≤ at₂ → (r then λ n at₃. got (timer t w n) at₃) ≡ got i next → at ≤ next
+    third at₂ t w nothing h l q = let z : _≡_ {A = ℕ} 0 1 = cc in omega arith
+    third at₂ t w (got n at₃) h l q = let v : at₃ ≡ next = cc in omega (arith, number-next bytes at₂ n at₃ h)
+
+    second : (at₁ t : ℕ) (r : Read ℕ) → numberAt bytes at₁ ≡ r → at ≤ at₁ → (r then λ w at₂. numberAt bytes at₂ then λ n at₃. got (timer t w n) at₃) ≡ got i next → at ≤ next
+    second at₁ t nothing h l q = let z : _≡_ {A = ℕ} 0 1 = cc in omega arith
+    second at₁ t (got w at₂) h l q = third at₂ t w (numberAt bytes at₂) refl (omega (arith, number-next bytes at₁ w at₂ h)) q
+
+    first : (r : Read ℕ) → numberAt bytes at ≡ r → (r then λ t at₁. numberAt bytes at₁ then λ w at₂. numberAt bytes at₂ then λ n at₃. got (timer t w n) at₃) ≡ got i next → at ≤ next
+    first nothing h q = let z : _≡_ {A = ℕ} 0 1 = cc in omega arith
+    first (got t at₁) h q = second at₁ t (numberAt bytes at₁) refl (omega (arith, number-next bytes at t at₁ h)) q
+
 -- an instruction has at least one byte
-pub fetch-next : (bytes : List ℕ) (at : ℕ) (i : Instruction) (next : ℕ) → fetch bytes at ≡ got i next → (at < length bytes) × (at < next)
-unfolding fetch
-fetch-next bytes at i next e = inside (ltb at (length bytes)) refl e
+pub one-next : (bytes : List ℕ) (at : ℕ) (i : Instruction) (next : ℕ) → fetchOne bytes at ≡ got i next → (at < length bytes) × (at < next)
+unfolding fetchOne
+one-next bytes at i next e = inside (ltb at (length bytes)) refl e
   where
     code : ℕ
     code = getD bytes at 0
@@ -144,3 +175,16 @@ fetch-next bytes at i next e = inside (ltb at (length bytes)) refl e
     inside : (b : Bool) → ltb at (length bytes) ≡ b → cond b (fetchCode bytes (getD bytes at 0) (at + 1)) nothing ≡ got i next → (at < length bytes) × (at < next)
     inside true h q = (ltb-true at (length bytes) h, behind (hasOperand (getD bytes at 0)) q)
     inside false h q = let z : _≡_ {A = ℕ} 0 1 = cc in let f : ⊥ = omega arith in absurd f
+
+pub byte-inside : (bytes : List ℕ) (at n : ℕ) → getD bytes at 0 ≡ suc n → at < length bytes
+byte-inside [] at n e = let z : _≡_ {A = ℕ} 0 (suc n) = e in let f : ⊥ = omega arith in absurd f
+byte-inside (b ∷ bytes) zero n e = omega arith
+byte-inside (b ∷ bytes) (suc at) n e = let h : at < length bytes = byte-inside bytes at n e in omega arith
+
+pub fetch-next : (bytes : List ℕ) (at : ℕ) (i : Instruction) (next : ℕ) → fetch bytes at ≡ got i next → (at < length bytes) × (at < next)
+unfolding fetch
+fetch-next bytes at i next e = go (eqb (getD bytes at 0) 23) (eqb-true (getD bytes at 0) 23) e
+  where
+    go : (b : Bool) → (b ≡ true → getD bytes at 0 ≡ 23) → cond b (timerAt bytes (at + 1)) (fetchOne bytes at) ≡ got i next → (at < length bytes) × (at < next)
+    go true y q = let h : at + 1 ≤ next = timer-next bytes (at + 1) i next q in (byte-inside bytes at 22 (y refl), omega arith)
+    go false y q = one-next bytes at i next q

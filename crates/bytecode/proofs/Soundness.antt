@@ -18,13 +18,14 @@ use Rattle.arith.proofs.Basics.{T-true, and-left, and-right}
 use Rattle.semantics.proofs.Reference.{length-known}
 use Rattle.semantics.proofs.Untimed.{untimed-order}
 use Rattle.leb128.specs.Numbers.{number, zigzag}
-use Rattle.bytecode.specs.Instructions.{Instruction, constant, current, previous, operation, negate, comparison, negated, both, either, gate, pick, assign, settle, encode, encodeAll}
+use Rattle.bytecode.specs.Instructions.{Instruction, constant, current, previous, operation, negate, comparison, negated, both, either, gate, pick, assign, settle, timer, encode, encodeAll}
 use Rattle.bytecode.specs.Translation.{codeE, codeC, codeCase, codeK, codeR, codeRules, encodeRanges, encodeHeader, imageOf, depthE, depthC, ShallowK, ShallowR, Shallow, RangesFit, Translatable}
-use Rattle.bytecode.specs.Signature.{Sort, truth}
+use Rattle.bytecode.specs.Signature.{Sort, truth, signature}
 use Rattle.bytecode.specs.Check.{Picks, Known, known, guard, one, empty, unset, closed, mayBegin, mayFollow, mayEnd, fresh, opened, advance, complete, checkRange, checkRanges, Header, checkCounts, checkHeader, checkCode, checkBody, checkOf}
 use Rattle.bytecode.specs.Parts.{headerOf, codeOf}
 use Rattle.leb128.proofs.RoundTrip.{drop-behind, number-at, signed-at}
 use Rattle.bytecode.proofs.Sides.{Follows, sided-walks}
+use Rattle.bytecode.proofs.Timeless.{TimelessIn, Timeless, suits-timeless, timeless-rules}
 use Rattle.bytecode.proofs.RoundTrip.{Small, AllSmall, fetch-encoded, length-encode, encoded-inside}
 
 -- ---- the code keeps soundness
@@ -160,15 +161,15 @@ pub third : (a b c e : Bool) → T (a && b && c && e) → T c
 third a b c e h = and-right (a && b) c (and-left (a && b && c) e h)
 
 record Advanced (i : Instruction) (ids : List Bool) (d : Known) : Type 0 where
-  small : Small i
+  small : TimelessIn (signature i .role) → Small i
   same : length (idsOf d) ≡ length ids
 
 module _ (ids : List Bool) (few : length ids ≤ 64) where
   same-ids : (i : Instruction) (vs : List Sort) (g : Bool) (o : Option Picks) (d : Known) → Small i → known vs g o ids ≡ d → Advanced i ids d
-  same-ids i vs g o d s e = record { small = s; same = ap (λ c. length (idsOf c)) (sym e) }
+  same-ids i vs g o d s e = record { small = λ h. s; same = ap (λ c. length (idsOf c)) (sym e) }
 
   set-ids : (i : Instruction) (vs : List Sort) (g : Bool) (o : Option Picks) (v : ℕ) (d : Known) → Small i → known vs g o (set ids v true) ≡ d → Advanced i ids d
-  set-ids i vs g o v d s e = record { small = s; same = ap (λ c. length (idsOf c)) (sym e) ∙ length-set ids v true }
+  set-ids i vs g o v d s e = record { small = λ h. s; same = ap (λ c. length (idsOf c)) (sym e) ∙ length-set ids v true }
 
   advanced : (i : Instruction) (vs : List Sort) (g : Bool) (o : Option Picks) (d : Known) → advance i (known vs g o ids) ≡ some d → Advanced i ids d
   advanced (constant z) vs g o d e =
@@ -215,17 +216,20 @@ module _ (ids : List Bool) (few : length ids ≤ 64) where
       let h = guard-some (not g && empty vs && unset ids v && opened o v) _ d e in
       let l : v < length ids = unset-inside ids v (third (not g) (empty vs) (unset ids v) (opened o v) (h .0)) in
       set-ids (settle v) [] false none v d (omega arith) (h .1)
+  advanced (timer t w n) vs g o d e =
+      let h = guard-some (not g && empty vs && unset ids t && closed o) _ d e in
+      record { small = λ f. absurd f; same = ap (λ c. length (idsOf c)) (sym (h .1)) ∙ length-set ids t true }
 
-pub advance-small : (i : Instruction) (c d : Known) → length (idsOf c) ≤ 64 → advance i c ≡ some d → Small i × (length (idsOf d) ≡ length (idsOf c))
+pub advance-small : (i : Instruction) (c d : Known) → length (idsOf c) ≤ 64 → advance i c ≡ some d → (TimelessIn (signature i .role) → Small i) × (length (idsOf d) ≡ length (idsOf c))
 advance-small i (known vs g o ids) d few e = let a = advanced ids few i vs g o d e in (a .small, a .same)
 
-pub all-small : (is : List Instruction) (c d : Known) → length (idsOf c) ≤ 64 → advances is c ≡ some d → AllSmall is
-all-small [] c d few e = tt
-all-small (i ∷ is) c d few e =
+pub all-small : (is : List Instruction) (c d : Known) → length (idsOf c) ≤ 64 → Timeless is → advances is c ≡ some d → AllSmall is
+all-small [] c d few u e = tt
+all-small (i ∷ is) c d few u e =
     let a = continue-some (advance i c) _ d e in
     let b = advance-small i c (a .0) few (a .1) in
     let l : length (idsOf (a .0)) ≡ length (idsOf c) = b .1 in
-    (b .0, all-small is (a .0) d (omega arith) (a .2))
+    (b .0 (u .0), all-small is (a .0) d (omega arith) (u .1) (a .2))
 
 -- ---- the walk
 
@@ -238,17 +242,17 @@ past-end code at h =
 past : (code : List ℕ) (at : ℕ) → drop at code ≡ [] → ltb at (length code) ≡ false
 past code at h = le-ltb at (length code) (past-end code at h)
 
-pub check-code : (base : ℕ) (code : List ℕ) (f at : ℕ) (is : List Instruction) (c d : Known) → drop at code ≡ encodeAll is → length (encodeAll is) ≤ f → length (idsOf c) ≤ 64
-    → advances is c ≡ some d → complete d ≡ true → checkCode base code f at c ≡ accepted tt
-check-code base code zero at [] c d h l few e k = let q : c ≡ d = cc in rw (q, k)
-check-code base code (suc f) at [] c d h l few e k = let q : c ≡ d = cc in rw (past code at h, q, k)
-check-code base code zero at (i ∷ is) c d h l few e k = let b : ⊥ = omega (arith, length-encode i, simp length-append at l) in absurd b
-check-code base code (suc f) at (i ∷ is) c d h l few e k =
+pub check-code : (ns : List Range) (base : ℕ) (code : List ℕ) (f at : ℕ) (last : Option Instruction) (is : List Instruction) (c d : Known) → drop at code ≡ encodeAll is → length (encodeAll is) ≤ f → length (idsOf c) ≤ 64
+    → Timeless is → advances is c ≡ some d → complete d ≡ true → checkCode ns base code f at last c ≡ accepted tt
+check-code ns base code zero at last [] c d h l few u e k = let q : c ≡ d = cc in rw (q, k)
+check-code ns base code (suc f) at last [] c d h l few u e k = let q : c ≡ d = cc in rw (past code at h, q, k)
+check-code ns base code zero at last (i ∷ is) c d h l few u e k = let b : ⊥ = omega (arith, length-encode i, simp length-append at l) in absurd b
+check-code ns base code (suc f) at last (i ∷ is) c d h l few u e k =
     let a = continue-some (advance i c) _ d e in
     let b = advance-small i c (a .0) few (a .1) in
     let m : length (idsOf (a .0)) ≡ length (idsOf c) = b .1 in
-    rw (lt-ltb at (length code) (encoded-inside code at i (encodeAll is) h), fetch-encoded code at i (encodeAll is) (b .0) h, a .1)
-    (check-code base code f (at + length (encode i)) is (a .0) d (drop-behind code at (encode i) (encodeAll is) h) (omega (arith, length-encode i, simp length-append at l)) (omega arith) (a .2) k)
+    rw (lt-ltb at (length code) (encoded-inside code at i (encodeAll is) h), fetch-encoded code at i (encodeAll is) (b .0 (u .0)) h, suits-timeless ns last (signature i .role) (u .0), a .1)
+    (check-code ns base code f (at + length (encode i)) (some i) is (a .0) d (drop-behind code at (encode i) (encodeAll is) h) (omega (arith, length-encode i, simp length-append at l)) (omega arith) (u .1) (a .2) k)
 
 -- ---- the header
 
@@ -324,7 +328,7 @@ translated-small p t =
     let l : length (knownFirst (p .inputs) (length (rangesOf p))) ≡ length (rangesOf p) = length-known (p .inputs) (length (rangesOf p)) in
     let f : length (rangesOf p) ≤ 64 = t .few in
     let r = adv-rules (p .rules) (knownFirst (p .inputs) (length (rangesOf p))) (t .well-formed .sided) (untimed-order p (t .untimed) (t .well-formed .ordered)) (t .shallow) in
-    all-small (codeRules (p .rules)) (known [] false none (knownFirst (p .inputs) (length (rangesOf p)))) (known [] false none (r .0)) (omega arith) (r .1)
+    all-small (codeRules (p .rules)) (known [] false none (knownFirst (p .inputs) (length (rangesOf p)))) (known [] false none (r .0)) (omega arith) (timeless-rules (p .rules)) (r .1)
 
 check-body : (p : Program) → Translatable p → checkBody (imageOf p) (programHeader p) ≡ accepted tt
 unfolding checkBody imageOf
@@ -334,7 +338,7 @@ check-body p t =
     let code = encodeAll (codeRules (p .rules)) in
     let r = adv-rules (p .rules) (knownFirst (p .inputs) (length (rangesOf p))) (t .well-formed .sided) (untimed-order p (t .untimed) (t .well-formed .ordered)) (t .shallow) in
     let e : drop (length (encodeHeader p)) (encodeHeader p ++ code) ≡ code = drop-append-seam (encodeHeader p) code in
-    rw e (check-code (length (encodeHeader p)) code (length code) 0 (codeRules (p .rules)) _ (known [] false none (r .0)) refl (omega arith) (omega arith) (r .1) (rw (r .2)))
+    rw e (check-code (rangesOf p) (length (encodeHeader p)) code (length code) 0 none (codeRules (p .rules)) _ (known [] false none (r .0)) refl (omega arith) (omega arith) (timeless-rules (p .rules)) (r .1) (rw (r .2)))
 
 -- check answers sound
 pub check-translated : (p : Program) → Translatable p → checkOf (imageOf p) ≡ accepted tt

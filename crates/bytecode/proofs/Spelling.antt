@@ -2,7 +2,7 @@
 use Prim.Native.Nat.{ℕ, zero, suc, _+_, _-_, _≤_, _<_}
 use native.Mathlib.Numerals.{add-one}
 use native.Mathlib.Omega.{arith}
-use mathlib.Core.Path.{_≡_, refl, ap, _∙_, subst}
+use mathlib.Core.Path.{_≡_, refl, sym, ap, _∙_, subst}
 use mathlib.Core.Bool.{Bool, true, false, _&&_, cond}
 use mathlib.Core.List.{List, [], _∷_, _++_, append-assoc}
 use mathlib.Core.Option.{Option, none, some}
@@ -17,9 +17,10 @@ use Rattle.leb128.specs.Numbers.{number, zigzag, unzigzag, Read, got, nothing, 
 use Rattle.leb128.proofs.Laws.{Bytes}
 use Rattle.leb128.proofs.Signs.{zigzag-unzigzag}
 use Rattle.leb128.proofs.RoundTrip.{one-spelling}
-use Rattle.bytecode.specs.Instructions.{Instruction, constant, current, previous, operation, negate, comparison, negated, both, either, gate, pick, assign, settle, operationCode, comparisonCode, encode, encodeAll, operationOf, comparisonOf, instructionOf, hasOperand, decoded, fetchCode, fetch}
+use Rattle.bytecode.specs.Instructions.{Instruction, constant, current, previous, operation, negate, comparison, negated, both, either, gate, pick, assign, settle, timer, operationCode, comparisonCode, encode, encodeAll, operationOf, comparisonOf, instructionOf, hasOperand, decoded, fetchCode, fetchOne, timerAt, fetch}
 use Rattle.bytecode.specs.Translation.{encodeRanges}
 use Rattle.bytecode.specs.Sound.{RangesAt, SpellsCode}
+use Rattle.bytecode.proofs.RoundTrip.{byte-inside}
 
 -- ---- the encoding of an instruction is its code byte and its operand
 
@@ -115,9 +116,9 @@ first-byte : (bytes : List ℕ) (at : ℕ) → at < length bytes → drop at byt
 first-byte bytes at l = rw (add-one, drop-cons bytes at 0 l)
 
 module _ (bytes : List ℕ) (at : ℕ) (h : Bytes bytes) where
-  pub fetch-spelled : (i : Instruction) (next : ℕ) → fetch bytes at ≡ got i next → drop at bytes ≡ encode i ++ drop next bytes
-  unfolding fetch
-  fetch-spelled i next e = inside (ltb at (length bytes)) (ltb-true at (length bytes)) e
+  one-spelled : (i : Instruction) (next : ℕ) → fetchOne bytes at ≡ got i next → drop at bytes ≡ encode i ++ drop next bytes
+  unfolding fetchOne
+  one-spelled i next e = inside (ltb at (length bytes)) (ltb-true at (length bytes)) e
     where
       alone : at < length bytes → (o : Option Instruction) → instructionOf (getD bytes at 0) 0 ≡ o → hasOperand (getD bytes at 0) ≡ false → decoded o (at + 1) ≡ got i next → drop at bytes ≡ encode i ++ drop next bytes
       alone l none d t q = let f : _≡_ {A = ℕ} 0 1 = cc in let b : ⊥ = omega arith in absurd b
@@ -149,6 +150,42 @@ module _ (bytes : List ℕ) (at : ℕ) (h : Bytes bytes) where
       inside : (t : Bool) → (t ≡ true → at < length bytes) → cond t (fetchCode bytes (getD bytes at 0) (at + 1)) nothing ≡ got i next → drop at bytes ≡ encode i ++ drop next bytes
       inside true y q = behind (y refl) (hasOperand (getD bytes at 0)) refl q
       inside false y q = let f : _≡_ {A = ℕ} 0 1 = cc in let b : ⊥ = omega arith in absurd b
+
+  timer-spelled : (i : Instruction) (next : ℕ) → getD bytes at 0 ≡ 23 → timerAt bytes (at + 1) ≡ got i next → drop at bytes ≡ encode i ++ drop next bytes
+  unfolding timerAt
+  timer-spelled i next b e = first (numberAt bytes (at + 1)) refl e
+    where
+      whole : (t at₁ w at₂ n at₃ : ℕ) → numberAt bytes (at + 1) ≡ got t at₁ → numberAt bytes at₁ ≡ got w at₂ → numberAt bytes at₂ ≡ got n at₃ → drop at bytes ≡ encode (timer t w n) ++ drop at₃ bytes
+      whole t at₁ w at₂ n at₃ h₁ h₂ h₃ =
+          rw (first-byte bytes at (byte-inside bytes at 22 b), b)
+          (ap (λ (l : List ℕ). 23 ∷ l) (one-spelling bytes (at + 1) h t at₁ h₁ ∙ rw (one-spelling bytes at₁ h w at₂ h₂, one-spelling bytes at₂ h n at₃ h₃)
+          (sym (append-assoc (number t) (number w ++ number n) (drop at₃ bytes) ∙ ap (λ (l : List ℕ). number t ++ l) (append-assoc (number w) (number n) (drop at₃ bytes))))))
+
+      third : (t at₁ w at₂ : ℕ) → numberAt bytes (at + 1) ≡ got t at₁ → numberAt bytes at₁ ≡ got w at₂ → (r : Read ℕ) → numberAt bytes at₂ ≡ r → (r then λ n at₃. got (timer t w n) at₃) ≡ got i next
+          → drop at bytes ≡ encode i ++ drop next bytes
+      third t at₁ w at₂ h₁ h₂ nothing h₃ q = let f : _≡_ {A = ℕ} 0 1 = cc in let z : ⊥ = omega arith in absurd z
+      third t at₁ w at₂ h₁ h₂ (got n at₃) h₃ q =
+          let a : timer t w n ≡ i = cc in
+          let c : at₃ ≡ next = cc in
+          rw (← a, ← c) (whole t at₁ w at₂ n at₃ h₁ h₂ h₃)
+
+      second : (t at₁ : ℕ) → numberAt bytes (at + 1) ≡ got t at₁ → (r : Read ℕ) → numberAt bytes at₁ ≡ r → (r then λ w at₂. numberAt bytes at₂ then λ n at₃. got (timer t w n) at₃) ≡ got i next
+          → drop at bytes ≡ encode i ++ drop next bytes
+      second t at₁ h₁ nothing h₂ q = let f : _≡_ {A = ℕ} 0 1 = cc in let z : ⊥ = omega arith in absurd z
+      second t at₁ h₁ (got w at₂) h₂ q = third t at₁ w at₂ h₁ h₂ (numberAt bytes at₂) refl q
+
+      first : (r : Read ℕ) → numberAt bytes (at + 1) ≡ r → (r then λ t at₁. numberAt bytes at₁ then λ w at₂. numberAt bytes at₂ then λ n at₃. got (timer t w n) at₃) ≡ got i next
+          → drop at bytes ≡ encode i ++ drop next bytes
+      first nothing h₁ q = let f : _≡_ {A = ℕ} 0 1 = cc in let z : ⊥ = omega arith in absurd z
+      first (got t at₁) h₁ q = second t at₁ h₁ (numberAt bytes at₁) refl q
+
+  pub fetch-spelled : (i : Instruction) (next : ℕ) → fetch bytes at ≡ got i next → drop at bytes ≡ encode i ++ drop next bytes
+  unfolding fetch
+  fetch-spelled i next e = go (eqb (getD bytes at 0) 23) (eqb-true (getD bytes at 0) 23) e
+    where
+      go : (b : Bool) → (b ≡ true → getD bytes at 0 ≡ 23) → cond b (timerAt bytes (at + 1)) (fetchOne bytes at) ≡ got i next → drop at bytes ≡ encode i ++ drop next bytes
+      go true y q = timer-spelled i next (y refl) q
+      go false y q = one-spelled i next q
 
   pub signed-spelled : (z : ℤ) (next : ℕ) → signedAt bytes at ≡ got z next → drop at bytes ≡ number (zigzag z) ++ drop next bytes
   unfolding signedAt

@@ -17,7 +17,7 @@ use Rattle.arith.proofs.Basics.{true-T}
 use Rattle.leb128.specs.Numbers.{Read, got, nothing, numberAt, signedAt}
 use Rattle.bytecode.specs.Instructions.{Instruction, fetch}
 use Rattle.bytecode.specs.Translation.{RangesFit}
-use Rattle.bytecode.specs.Check.{Known, advance, complete, tested, item, Placed, checkRange, checkRanges, Counts, checkCounts, Header, checkHeader, ends, ifSome, checkCode, checkBody, checkOf}
+use Rattle.bytecode.specs.Check.{Known, advance, complete, suits, tested, item, Placed, checkRange, checkRanges, Counts, checkCounts, Header, checkHeader, ends, ifSome, checkCode, checkBody, checkOf}
 use Rattle.bytecode.specs.Sound.{RangesAt}
 
 pub refused≢accepted : {A X : Type 0} (a : A) (n k : ℕ) → refused n k ≡ accepted a → X
@@ -46,25 +46,26 @@ if-accepted (some c) at k e = (c, refl, e)
 -- ---- the code
 
 -- an instruction stands at the place, keeps soundness, and the walk goes on behind it
-pub record Stepped (base : ℕ) (code : List ℕ) (f at : ℕ) (c : Known) : Type 0 where
+pub record Stepped (ns : List Range) (base : ℕ) (code : List ℕ) (f at : ℕ) (last : Option Instruction) (c : Known) : Type 0 where
   pub instruction : Instruction
   pub next : ℕ
   pub after : Known
   pub fetched : fetch code at ≡ got instruction next
+  pub suited : T (suits ns last instruction)
   pub advanced : advance instruction c ≡ some after
-  pub goes : checkCode base code f next after ≡ accepted tt
+  pub goes : checkCode ns base code f next (some instruction) after ≡ accepted tt
 
-pub check-stepped : (base : ℕ) (code : List ℕ) (f at : ℕ) (c : Known) → at < length code → checkCode base code (suc f) at c ≡ accepted tt → Stepped base code f at c
-check-stepped base code f at c l e = go (item-accepted (fetch code at) (base + at) (λ i. true) (λ i next. ifSome (advance i c) (base + at) λ c₁. checkCode base code f next c₁) tt (rw (lt-ltb at (length code) l) at e))
+pub check-stepped : (ns : List Range) (base : ℕ) (code : List ℕ) (f at : ℕ) (last : Option Instruction) (c : Known) → at < length code → checkCode ns base code (suc f) at last c ≡ accepted tt → Stepped ns base code f at last c
+check-stepped ns base code f at last c l e = go (item-accepted (fetch code at) (base + at) (suits ns last) (λ i next. ifSome (advance i c) (base + at) λ c₁. checkCode ns base code f next (some i) c₁) tt (rw (lt-ltb at (length code) l) at e))
   where
-    go : Item (fetch code at) (λ i. true) (λ i next. ifSome (advance i c) (base + at) λ c₁. checkCode base code f next c₁) tt → Stepped base code f at c
+    go : Item (fetch code at) (suits ns last) (λ i next. ifSome (advance i c) (base + at) λ c₁. checkCode ns base code f next (some i) c₁) tt → Stepped ns base code f at last c
     go (passes i next h t q) =
         let a = if-accepted (advance i c) (base + at) _ q in
-        record { instruction = i; next = next; after = a .0; fetched = h; advanced = a .1; goes = a .2 }
+        record { instruction = i; next = next; after = a .0; fetched = h; suited = t; advanced = a .1; goes = a .2 }
 
-pub check-ended : (base : ℕ) (code : List ℕ) (f at : ℕ) (c : Known) → length code ≤ at → checkCode base code f at c ≡ accepted tt → complete c ≡ true
-check-ended base code zero at c l e = ends-accepted (complete c) (base + length code) e
-check-ended base code (suc f) at c l e = ends-accepted (complete c) (base + length code) (rw (le-ltb at (length code) l) at e)
+pub check-ended : (ns : List Range) (base : ℕ) (code : List ℕ) (f at : ℕ) (last : Option Instruction) (c : Known) → length code ≤ at → checkCode ns base code f at last c ≡ accepted tt → complete c ≡ true
+check-ended ns base code zero at last c l e = ends-accepted (complete c) (base + length code) e
+check-ended ns base code (suc f) at last c l e = ends-accepted (complete c) (base + length code) (rw (le-ltb at (length code) l) at e)
 
 -- ---- the header
 

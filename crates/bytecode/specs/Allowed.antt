@@ -10,7 +10,7 @@ use lib.ListN.{length, drop}
 use Rattle.limits.specs.Limits.{stackLimit}
 use Rattle.semantics.specs.Program.{allTrue}
 use Rattle.bytecode.specs.Instructions.{Instruction}
-use Rattle.bytecode.specs.Signature.{Sort, Role, pushes, computes, tests, opens, picks, lets, settles, signature, giving}
+use Rattle.bytecode.specs.Signature.{Sort, Role, pushes, computes, tests, opens, picks, lets, settles, times, signature, giving}
 use Rattle.bytecode.specs.Check.{Picks, Known, known, unset, fresh, opened}
 use Rattle.bytecode.specs.Sound.{idsIn}
 
@@ -25,6 +25,7 @@ gateBy opens g = true
 gateBy (picks side v) g = false
 gateBy (lets v) g = g
 gateBy (settles v) g = g
+gateBy (times t w n) g = g
 
 -- the picks that await their settle
 abbrev pub picksBy : Role → Option Picks → Option Picks
@@ -35,6 +36,7 @@ picksBy opens o = o
 picksBy (picks side v) o = some (record { side = side; id = v })
 picksBy (lets v) o = o
 picksBy (settles v) o = none
+picksBy (times t w n) o = o
 
 -- all that is known after an instruction of a role, of the values below its operands
 abbrev pub leftIn : Role → List Sort → Bool → Option Picks → List Bool → Known
@@ -64,6 +66,8 @@ AllowedIn (picks side v) rest g o ids = (g ≡ true) × (rest ≡ []) × T (unse
 AllowedIn (lets v) rest g o ids = (g ≡ false) × (rest ≡ []) × T (unset ids v) × (o ≡ none)
 -- settle none; picks of the same id, at least one, before it, that may end
 AllowedIn (settles v) rest g o ids = (g ≡ false) × (rest ≡ []) × T (unset ids v) × T (opened o v)
+-- a timer as a let, but that it takes nothing
+AllowedIn (times t w n) rest g o ids = (g ≡ false) × (rest ≡ []) × T (unset ids t) × (o ≡ none)
 
 -- operands of the right sort, numbers or yes-no, then what the role asks for
 pub record AllowedOn (i : Instruction) (vs : List Sort) (g : Bool) (o : Option Picks) (ids : List Bool) : Type 0 where

@@ -1,18 +1,19 @@
--- Sound images, and the place where an image breaks soundness. Document 01, "The image" (Sound) and refusal 11. Assumes nothing.
+-- Sound images, and the place where an image breaks soundness. Document 01, "The image" (Sound) and refusal 11; document 02, A.6 and A.7. Assumes nothing.
 use Prim.Native.Nat.{ℕ, zero, suc, _+_}
 use mathlib.Core.Bool.{Bool, true, false, not, _&&_, cond}
 use mathlib.Core.List.{List, [], _∷_}
 use mathlib.Core.Option.{Option, none, some}
 use lib.Dec.{eqb, leb, ltb}
+use lib.IntN.{pos}
 use lib.ListN.{length, getD, set, drop}
 use lib.Signed.{leZ}
-use Rattle.limits.specs.Limits.{stackLimit, nameLimit, imageLimit, tooLong, brokenImage}
+use Rattle.limits.specs.Limits.{stackLimit, nameLimit, imageLimit, timeLimit, tooLong, brokenImage}
 use Rattle.limits.specs.Answer.{Answer, accepted, refused, _andThen_}
-use Rattle.arith.specs.Values.{isInt32}
-use Rattle.semantics.specs.Program.{Range, Side, changing, rising, falling, allTrue, knownFirst}
+use Rattle.arith.specs.Values.{isInt32, eqZ}
+use Rattle.semantics.specs.Program.{Range, rangeAt, Side, changing, rising, falling, allTrue, knownFirst, isBinary}
 use Rattle.leb128.specs.Numbers.{Read, got, nothing, numberAt, signedAt}
 use Rattle.bytecode.specs.Instructions.{Instruction, fetch}
-use Rattle.bytecode.specs.Signature.{Sort, number, truth, Role, pushes, computes, tests, opens, picks, lets, settles, signature}
+use Rattle.bytecode.specs.Signature.{Sort, number, truth, Role, pushes, computes, tests, opens, picks, lets, settles, times, signature}
 
 -- ---- the header
 
@@ -165,6 +166,8 @@ admits (picks side v) rest g o ids = guard (g && empty rest && unset ids v && fr
 admits (lets v) rest g o ids = guard (not g && empty rest && unset ids v && closed o) (known [] false none (set ids v true))
 -- settle none; each variable settled or let once, no input ever; picks of the same id before it, at least one, that may end
 admits (settles v) rest g o ids = guard (not g && empty rest && unset ids v && opened o v) (known [] false none (set ids v true))
+-- a timer's one instruction 23 replaces a let
+admits (times t w n) rest g o ids = guard (not g && empty rest && unset ids t && closed o) (known [] false none (set ids t true))
 
 -- One instruction keeps soundness, or breaks it: operands of the right sort, numbers or yes-no, then what its role asks for.
 abbrev pub advance : Instruction → Known → Option Known
@@ -173,6 +176,45 @@ advance i (known vs g o ids) = taking (signature i .takes) vs λ rest. admits (s
 -- nothing missing at the end: no value held, no gate without its pick, no picks without their settle, no variable without its rule
 abbrev pub complete : Known → Bool
 complete (known vs g o ids) = empty vs && not g && closed o && allTrue ids
+
+-- ---- timers
+
+-- directly after w's settle or let, timers of one w by id: what the instruction before must be
+abbrev pub followsIn : Role → ℕ → ℕ → Bool
+followsIn (pushes fits) t w = false
+followsIn computes t w = false
+followsIn tests t w = false
+followsIn opens t w = false
+followsIn (picks side v) t w = false
+followsIn (lets v) t w = eqb v w
+followsIn (settles v) t w = eqb v w
+followsIn (times u v n) t w = eqb v w && ltb u t
+
+abbrev pub follows : Option Instruction → ℕ → ℕ → Bool
+follows none t w = false
+follows (some i) t w = followsIn (signature i .role) t w
+
+-- t of range 0..1, starting at 0
+unfoldable pub isTimerRange : Range → Bool
+isTimerRange n = isBinary n && eqZ (n .start) (pos 0)
+
+-- No 23 is sound until start and scan work timers.
+abbrev pub timersWork : Bool
+timersWork = false
+
+-- A 23 keeps its limits, w is of range 0..1, N from 1 to 2,147,483,647; of other instructions nothing is asked. `last` is the instruction before.
+abbrev pub suitsIn : List Range → Option Instruction → Role → Bool
+suitsIn ns last (pushes fits) = true
+suitsIn ns last computes = true
+suitsIn ns last tests = true
+suitsIn ns last opens = true
+suitsIn ns last (picks side v) = true
+suitsIn ns last (lets v) = true
+suitsIn ns last (settles v) = true
+suitsIn ns last (times t w n) = timersWork && (isTimerRange (rangeAt ns t) && isBinary (rangeAt ns w) && (leb 1 n && leb n timeLimit) && follows last t w)
+
+abbrev pub suits : List Range → Option Instruction → Instruction → Bool
+suits ns last i = suitsIn ns last (signature i .role)
 
 -- ---- the code
 
@@ -187,11 +229,11 @@ ifSome (some c) at k = k c
 
 -- The walk over at most f instructions of the code, from a place on; the code begins at `base` of the image. Only the codes listed:
 -- `fetch` finds no others. A fault of an operand (cut short, not the shortest form, over 32 bits) is at the instruction's code byte.
-abbrev pub checkCode : ℕ → List ℕ → ℕ → ℕ → Known → Answer (Unit {0})
-checkCode base code zero at c = ends (complete c) (base + length code)
-checkCode base code (suc f) at c =
+abbrev pub checkCode : List Range → ℕ → List ℕ → ℕ → ℕ → Option Instruction → Known → Answer (Unit {0})
+checkCode ns base code zero at last c = ends (complete c) (base + length code)
+checkCode ns base code (suc f) at last c =
     cond (ltb at (length code))
-    (item (fetch code at) (base + at) (λ i. true) λ i next. ifSome (advance i c) (base + at) λ c₁. checkCode base code f next c₁)
+    (item (fetch code at) (base + at) (suits ns last) λ i next. ifSome (advance i c) (base + at) λ c₁. checkCode ns base code f next (some i) c₁)
     (ends (complete c) (base + length code))
 
 -- nothing held, no gate, no picks; the inputs known
@@ -200,7 +242,7 @@ atStart h = known [] false none (knownFirst (h .inputs) (length (h .ranges)))
 
 -- The code is the rest of the image after the header; each instruction has at least one byte.
 unfoldable pub checkBody : List ℕ → Header → Answer (Unit {0})
-checkBody bytes h = let code = drop (h .place) bytes in checkCode (h .place) code (length code) 0 (atStart h)
+checkBody bytes h = let code = drop (h .place) bytes in checkCode (h .ranges) (h .place) code (length code) 0 none (atStart h)
 
 -- Check tests 9 (place 0), then 11, with the place of the first header number or instruction that breaks soundness. Its success
 -- carries nothing.

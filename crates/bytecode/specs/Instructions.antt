@@ -1,4 +1,4 @@
--- Instructions and their bytes. Document 01, "The image". Assumes nothing.
+-- Instructions and their bytes. Document 01, "The image"; document 02, A.6 and A.7. Assumes nothing.
 use Prim.Native.Nat.{ℕ, _+_}
 use mathlib.Core.Bool.{Bool, true, cond, _&&_}
 use mathlib.Core.List.{List, [], _∷_, _++_}
@@ -12,7 +12,7 @@ use Rattle.leb128.specs.Numbers.{number, zigzag, unzigzag, Read, got, nothing, 
 
 -- Instructions (decimal code byte): 1 constant (signed), 2 current id, 3 previous id, 4 + 5 − 6 × 7 / 8 mod 9 negate, 10 = 11 <>
 -- 12 < 13 <= 14 > 15 >=, 16 not 17 and 18 or, 19 gate, 20 pick id, 21 let id, 22 settle id. Instructions 24 id and 25 id pick a rising and a
--- falling value (document 02, A.6).
+-- falling value (document 02, A.6). Instruction 23 carries timer id, w's id and N, unsigned (document 02, A.7).
 pub data Instruction : Type 0 where
   constant : ℤ → Instruction
   current : ℕ → Instruction
@@ -27,6 +27,7 @@ pub data Instruction : Type 0 where
   pick : Side → ℕ → Instruction
   assign : ℕ → Instruction
   settle : ℕ → Instruction
+  timer : ℕ → ℕ → ℕ → Instruction
 
 -- ---- from instructions to bytes
 
@@ -64,6 +65,7 @@ encode gate = 19 ∷ []
 encode (pick side i) = pickCode side ∷ number i
 encode (assign i) = 21 ∷ number i
 encode (settle i) = 22 ∷ number i
+encode (timer t w n) = 23 ∷ number t ++ (number w ++ number n)
 
 abbrev pub encodeAll : List Instruction → List ℕ
 encodeAll [] = []
@@ -108,6 +110,14 @@ decoded (some i) next = got i next
 abbrev pub fetchCode : List ℕ → ℕ → ℕ → Read Instruction
 fetchCode bytes code at = cond (hasOperand code) (numberAt bytes at then λ n next. decoded (instructionOf code n) next) (decoded (instructionOf code 0) at)
 
+-- an instruction of one operand at most
+unfoldable pub fetchOne : List ℕ → ℕ → Read Instruction
+fetchOne bytes at = cond (ltb at (length bytes)) (fetchCode bytes (getD bytes at 0) (at + 1)) nothing
+
+-- the three operands of 23
+unfoldable pub timerAt : List ℕ → ℕ → Read Instruction
+timerAt bytes at = numberAt bytes at then λ t at₁. numberAt bytes at₁ then λ w at₂. numberAt bytes at₂ then λ n at₃. got (timer t w n) at₃
+
 -- the instruction at a place, and the place behind it: every definition reads code through it
 unfoldable pub fetch : List ℕ → ℕ → Read Instruction
-fetch bytes at = cond (ltb at (length bytes)) (fetchCode bytes (getD bytes at 0) (at + 1)) nothing
+fetch bytes at = cond (eqb (getD bytes at 0) 23) (timerAt bytes (at + 1)) (fetchOne bytes at)

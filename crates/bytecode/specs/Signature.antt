@@ -7,7 +7,7 @@ use lib.Dec.{ltb}
 use lib.ListN.{length, getD, drop}
 use Rattle.arith.specs.Values.{isInt32}
 use Rattle.semantics.specs.Program.{Side}
-use Rattle.bytecode.specs.Instructions.{Instruction, constant, current, previous, operation, negate, comparison, negated, both, either, gate, pick, assign, settle}
+use Rattle.bytecode.specs.Instructions.{Instruction, constant, current, previous, operation, negate, comparison, negated, both, either, gate, pick, assign, settle, timer}
 
 -- operands of the right sort, numbers or yes-no
 pub data Sort : Type 0 where
@@ -24,6 +24,8 @@ pub data Role : Type 0 where
   opens : Role
   picks : Side → ℕ → Role
   lets settles : ℕ → Role
+  -- 23, of t, w and N
+  times : ℕ → ℕ → ℕ → Role
 
 pub record Signature : Type 0 where
   pub takes : List Sort
@@ -44,6 +46,7 @@ signature gate = record { takes = truth ∷ []; role = opens }
 signature (pick side v) = record { takes = number ∷ []; role = picks side v }
 signature (assign v) = record { takes = number ∷ []; role = lets v }
 signature (settle v) = record { takes = []; role = settles v }
+signature (timer t w n) = record { takes = []; role = times t w n }
 
 -- the sort given, put on the values below the operands
 abbrev pub giving : Role → List Sort → List Sort
@@ -54,6 +57,7 @@ giving opens rest = rest
 giving (picks side v) rest = rest
 giving (lets v) rest = rest
 giving (settles v) rest = rest
+giving (times t w n) rest = rest
 
 -- the sorts of the values held after an instruction, the last first
 abbrev pub heldBy : Instruction → List Sort → List Sort

@@ -1,17 +1,17 @@
--- Sound images: the properties of document 01's paragraph, over the whole code. Document 01, "The image" (Sound). Assumes nothing.
+-- Sound images: the properties of document 01's paragraph, over the whole code. Document 01, "The image" (Sound); document 02, A.6 and A.7. Assumes nothing.
 use Prim.Native.Nat.{ℕ, _+_, _≤_, _<_}
 use mathlib.Core.Path.{_≡_}
 use mathlib.Core.Bool.{Bool, true, cond}
 use mathlib.Core.List.{List, [], _∷_, _++_}
 use lib.Dec.{T, eqb}
 use lib.ListN.{length, set, drop}
-use Rattle.limits.specs.Limits.{stackLimit, nameLimit, imageLimit}
-use Rattle.semantics.specs.Program.{Range, Side, Sided, allTrue, knownFirst}
+use Rattle.limits.specs.Limits.{stackLimit, nameLimit, imageLimit, timeLimit}
+use Rattle.semantics.specs.Program.{Range, rangeAt, Side, Sided, allTrue, knownFirst, bitRange, isBinary}
 use Rattle.leb128.specs.Numbers.{got, numberAt, signedAt}
-use Rattle.bytecode.specs.Instructions.{Instruction, gate, pick, settle, fetch}
-use Rattle.bytecode.specs.Signature.{Sort, Role, pushes, computes, tests, opens, picks, lets, settles, signature, heldBy}
+use Rattle.bytecode.specs.Instructions.{Instruction, gate, pick, settle, timer, fetch}
+use Rattle.bytecode.specs.Signature.{Sort, Role, pushes, computes, tests, opens, picks, lets, settles, times, signature, heldBy}
 use Rattle.bytecode.specs.Translation.{RangesFit}
-use Rattle.bytecode.specs.Check.{unset, Header}
+use Rattle.bytecode.specs.Check.{unset, Header, timersWork}
 
 -- the sorts of the values held after instructions, the last first
 abbrev pub heldAfter : List Instruction → List Sort → List Sort
@@ -27,6 +27,7 @@ idsIn opens ids = ids
 idsIn (picks side v) ids = ids
 idsIn (lets v) ids = set ids v true
 idsIn (settles v) ids = set ids v true
+idsIn (times t w n) ids = set ids t true
 
 abbrev pub idsAfter : List Instruction → List Bool → List Bool
 idsAfter [] ids = ids
@@ -41,6 +42,7 @@ PlainIn opens = ⊥
 PlainIn (picks side v) = ⊥
 PlainIn (lets v) = ⊥
 PlainIn (settles v) = ⊥
+PlainIn (times t w n) = ⊥
 
 abbrev pub Plain : Instruction → Type 0
 Plain i = PlainIn (signature i .role)
@@ -54,6 +56,7 @@ WithinIn v opens = Unit {0}
 WithinIn v (picks side u) = u ≡ v
 WithinIn v (lets u) = ⊥
 WithinIn v (settles u) = ⊥
+WithinIn v (times t w n) = ⊥
 
 abbrev pub Within : ℕ → Instruction → Type 0
 Within v i = WithinIn v (signature i .role)
@@ -102,6 +105,7 @@ sideIn v opens = []
 sideIn v (picks side u) = cond (eqb u v) (side ∷ []) []
 sideIn v (lets u) = []
 sideIn v (settles u) = []
+sideIn v (times t w n) = []
 
 abbrev pub sidesOf : ℕ → List Instruction → List Side
 sidesOf v [] = []
@@ -120,6 +124,8 @@ FittingIn opens rest ids = rest ≡ []
 FittingIn (picks side v) rest ids = (rest ≡ []) × T (unset ids v)
 FittingIn (lets v) rest ids = (rest ≡ []) × T (unset ids v)
 FittingIn (settles v) rest ids = (rest ≡ []) × T (unset ids v)
+-- a timer's one instruction 23 replaces a let, and finds nothing held
+FittingIn (times t w n) rest ids = (rest ≡ []) × T (unset ids t)
 
 -- what must hold at an instruction: operands of the right sort, numbers or yes-no, and what its role asks for
 pub record Fitting (i : Instruction) (vs : List Sort) (ids : List Bool) : Type 0 where
@@ -127,7 +133,31 @@ pub record Fitting (i : Instruction) (vs : List Sort) (ids : List Bool) : Type 0
   pub operands : vs ≡ signature i .takes ++ rest
   pub in-role : FittingIn (signature i .role) rest ids
 
-pub record SoundCode (first : List Bool) (code : List Instruction) : Type 0 where
+-- w's settle or let, or a timer of w of smaller id than t
+abbrev pub RuleIn : ℕ → ℕ → Role → Type 0
+RuleIn t w (pushes fits) = ⊥
+RuleIn t w computes = ⊥
+RuleIn t w tests = ⊥
+RuleIn t w opens = ⊥
+RuleIn t w (picks side v) = ⊥
+RuleIn t w (lets v) = v ≡ w
+RuleIn t w (settles v) = v ≡ w
+RuleIn t w (times u v n) = (v ≡ w) × (u < t)
+
+-- A 23 keeps these limits: t of range 0..1, starting at 0, w of range 0..1, N from 1 to 2,147,483,647; and stands directly after w's settle or
+-- let, timers of one w by id. (None is sound until start and scan work timers.)
+pub record TimerStands (ns : List Range) (before : List Instruction) (t w n : ℕ) : Type 0 where
+  pub landed : T timersWork
+  pub own : rangeAt ns t ≡ bitRange
+  pub watched : T (isBinary (rangeAt ns w))
+  pub least : 1 ≤ n
+  pub most : n ≤ timeLimit
+  pub earlier : List Instruction
+  pub last : Instruction
+  pub directly : before ≡ earlier ++ last ∷ []
+  pub rule : RuleIn t w (signature last .role)
+
+pub record SoundCode (ns : List Range) (first : List Bool) (code : List Instruction) : Type 0 where
   -- what must hold at each instruction, after those before it
   pub fitting : (before : List Instruction) (i : Instruction) (after : List Instruction) → code ≡ before ++ i ∷ after → Fitting i (heldAfter before []) (idsAfter before first)
   -- each gate has its pick and each pick its gate, with only codes 1 to 9 between
@@ -138,6 +168,8 @@ pub record SoundCode (first : List Bool) (code : List Instruction) : Type 0 wher
   pub picked : (before : List Instruction) (v : ℕ) (after : List Instruction) → code ≡ before ++ settle v ∷ after → HasPicks v before
   -- the picks before one settle are all code 20, or some 24 and then some 25 (document 02, A.6)
   pub sided : (before : List Instruction) (v : ℕ) (after : List Instruction) → code ≡ before ++ settle v ∷ after → Sided (sidesOf v before)
+  -- a timer's instruction keeps its limits and its place (document 02, A.7)
+  pub timed : (before : List Instruction) (t w n : ℕ) (after : List Instruction) → code ≡ before ++ timer t w n ∷ after → TimerStands ns before t w n
   -- nothing missing at the end: no value held, each variable settled or let
   pub none-held : heldAfter code [] ≡ []
   pub all-set : T (allTrue (idsAfter code first))
@@ -174,4 +206,4 @@ pub record Sound (bytes : List ℕ) : Type 0 where
   -- only the codes listed: the rest of the image after the header is these instructions
   pub code : List Instruction
   pub spells : SpellsCode (drop (header .place) bytes) 0 code
-  pub sound : SoundCode (knownFirst (header .inputs) (length (header .ranges))) code
+  pub sound : SoundCode (header .ranges) (knownFirst (header .inputs) (length (header .ranges))) code

@@ -32,6 +32,6 @@ module _ (bytes : List ℕ) where
 
     -- with the counts that were read
     pub walked-header : (inputs names place : ℕ) (ns : List Range) → checkHeader bytes ≡ accepted (record { inputs = inputs; ranges = ns; place = place }) → length ns ≡ names
-        → checkOf bytes ≡ checkCode place (drop place bytes) (length (drop place bytes)) 0 (known [] false none (knownFirst inputs names))
+        → checkOf bytes ≡ checkCode ns place (drop place bytes) (length (drop place bytes)) 0 none (known [] false none (knownFirst inputs names))
     unfolding checkBody
     walked-header inputs names place ns e n = whole-header _ e ∙ rw n

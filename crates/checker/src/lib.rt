@@ -1,12 +1,12 @@
 // Whether an image is sound.
-ghost use mathlib.Core.List.{[]};
+ghost use mathlib.Core.List.{List, []};
 ghost use mathlib.Core.Path.{_≡_};
 ghost use mathlib.Core.Option.{none};
 ghost use mathlib.Core.Bool.{false};
 ghost use Prim.Native.Nat.{_+_, _≤_};
 ghost use lib.ListN.{length};
 ghost use Rattle.limits.specs.Limits.{imageLimit, nameLimit};
-ghost use Rattle.semantics.specs.Program.{knownFirst};
+ghost use Rattle.semantics.specs.Program.{Range, knownFirst};
 ghost use Rattle.bytecode.specs.Check.{known as knownAs, complete as completeOf, checkCode, checkOf};
 ghost use Rattle.checker.specs.Inner.Walk.{knownOf, Small, initialWalk};
 ghost use Rattle.checker.specs.Results.{checkedAnswer, CheckedWithin, Judges, VerdictWithin};
@@ -84,7 +84,8 @@ pub fn walk_from(code: &[u8], from: usize, first: Walk) -> Verdict
 // The walk over the whole code, which begins at `base` of the image.
 fn check_code(code: &[u8], base: usize, inputs: usize, names: usize) -> Checked
     requires { ⌜ (inputs ≤ names) × (names ≤ nameLimit) × (base + length (now code) ≤ imageLimit) ⌝ }
-    ensures { λ r. ⌜ checkedAnswer r ≡ checkCode base (now (code .entry)) (length (now (code .entry))) 0 (knownAs [] false none (knownFirst inputs names)) ⌝ }
+    ensures { λ r. ⌜ ((ns : List Range) → checkedAnswer r ≡ checkCode ns base (now (code .entry)) (length (now (code .entry))) 0 none
+        (knownAs [] false none (knownFirst inputs names))) ⌝ }
     ensures { λ r. ⌜ CheckedWithin r ⌝ }
 {
     match walk_from(code, 0, initial(inputs, names)) {

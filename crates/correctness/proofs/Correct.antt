@@ -23,6 +23,7 @@ use Rattle.bytecode.specs.Instructions.{encodeAll}
 use Rattle.bytecode.specs.Translation.{codeRules, imageOf, Translatable}
 use Rattle.bytecode.specs.Check.{checkOf}
 use Rattle.bytecode.specs.Parts.{headerOf, codeOf, instructionsIn}
+use Rattle.bytecode.proofs.Timeless.{timeless-rules}
 use Rattle.bytecode.proofs.Soundness.{header-of, code-of, translated-small, check-translated}
 use Rattle.machine.specs.Step.{Machine, machine}
 use Rattle.machine.proofs.Ranges.{currentOf}
@@ -55,7 +56,7 @@ module _ (p : Program) (t : Translatable p) where
   run-reference s row =
       let code = encodeAll (codeRules (p .rules)) in
       rw (header-of p t, code-of p t)
-      (run-exec (rangesOf p) s code (codeRules (p .rules)) (length code) 0 0 (machine false false [] (withInputs s row)) refl (translated-small p t) (omega arith)
+      (run-exec (rangesOf p) s code (codeRules (p .rules)) (length code) 0 0 (machine false false [] (withInputs s row)) refl (translated-small p t) (timeless-rules (p .rules)) (omega arith)
       ∙ exec-rules (rangesOf p) s (p .rules) (knownFirst (p .inputs) (length (rangesOf p))) (withInputs s row) (length-known (p .inputs) (length (rangesOf p))) (untimed-order p (t .untimed) (t .well-formed .ordered)) (t .shallow))
 
   code-reply : (s : State) (row : List ℤ) → replyOf (scanCode (imageOf p) s row) ≡ reply s (plainRules (rangesOf p) s (withInputs s row) (p .rules))

@@ -15,9 +15,11 @@ use Rattle.semantics.specs.Program.{noRange}
 use Rattle.semantics.proofs.Reference.{length-known}
 use Rattle.leb128.specs.Numbers.{Read, got, nothing}
 use Rattle.leb128.proofs.RoundTrip.{drop-behind}
-use Rattle.bytecode.specs.Instructions.{Instruction, encode, encodeAll, decoded, fetch}
+use Rattle.bytecode.specs.Instructions.{Instruction, encode, encodeAll, decoded, fetchOne}
 use Rattle.bytecode.specs.Translation.{codeC}
+use Rattle.bytecode.specs.Signature.{signature}
 use Rattle.bytecode.proofs.RoundTrip.{fetch-encoded, encoded-inside}
+use Rattle.bytecode.proofs.Timeless.{timeless-one}
 use Rattle.machine.specs.declared.Registers.{Registers}
 use Rattle.machine.specs.declared.Stepped.{Stepped}
 use Rattle.machine.specs.declared.Stepped.the-variants.{Next, Refused}
@@ -28,7 +30,7 @@ use Rattle.machine.proofs.Translated.{yes-bit, exec, exec-C}
 use Rattle.machine.proofs.Stack.{held-top, not-none}
 use Rattle.evaluation.specs.Conditions.{free, ConditionCode}
 use Rattle.evaluation.specs.Inner.Instructions.{Calculates, CalculatesOr}
-use Rattle.evaluation.proofs.Working.{Calm, calm, Fit, fit-C}
+use Rattle.evaluation.proofs.Working.{Calm, calm, calculates-timeless, Fit, fit-C}
 
 -- as many ranges as names: no condition looks at one
 abbrev pub unranged : State → List Range
@@ -129,21 +131,24 @@ module _ {code : List ℕ} {s t : State} {c : Condition} {k : Registers} {vals :
       go [] d e = value (evalC s t c) refl e
       go (i ∷ is) d e = let b : ⊥ = omega (arith, encoded-inside code at i (encodeAll is) d) in absurd b
 
+  one-encoded : (i : Instruction) (is : List Instruction) → drop at code ≡ encodeAll (i ∷ is) → Fit (i ∷ is) → fetchOne code at ≡ got i (at + length (encode i))
+  one-encoded i is d q = timeless-one code at i (at + length (encode i)) (fetch-encoded code at i (encodeAll is) (q .0) d) (calculates-timeless (signature i .role) (q .1))
+
   -- an instruction that is malformed is never met
-  pub broken : at < length code → nothing ≡ fetch code at → ⊥
+  pub broken : at < length code → nothing ≡ fetchOne code at → ⊥
   broken h f = go (r .rest) (r .spelled) (r .fit)
     where
       go : (is : List Instruction) → drop at code ≡ encodeAll is → Fit is → ⊥
       go [] d q = no-rest code at h d
-      go (i ∷ is) d q = none-got (f ∙ fetch-encoded code at i (encodeAll is) (q .0) d)
+      go (i ∷ is) d q = none-got (f ∙ one-encoded i is d q)
 
-  pub taken : at < length code → (o : Option Instruction) (next : ℕ) → decoded o next ≡ fetch code at → Taken code s t c k vals o next
+  pub taken : at < length code → (o : Option Instruction) (next : ℕ) → decoded o next ≡ fetchOne code at → Taken code s t c k vals o next
   taken h o next f = go (r .rest) (r .spelled) (r .fit) (r .same)
     where
       go : (is : List Instruction) → drop at code ≡ encodeAll is → Fit is → exec (unranged t) s is (machineOf k vals t) ≡ left s t c → Taken code s t c k vals o next
       go [] d q e = absurd (no-rest code at h d)
       go (i ∷ is) d q e =
-          let g = got-some o next i (at + length (encode i)) (f ∙ fetch-encoded code at i (encodeAll is) (q .0) d) in
+          let g = got-some o next i (at + length (encode i)) (f ∙ one-encoded i is d q) in
           let p : k .passing ≡ false = r .calmly in
           record { one = i; more = is; is-one = g .0; spelled = ap (λ (n : ℕ). drop n code) (g .1) ∙ drop-behind code at (encode i) (encodeAll is) d; plain = q .1; fit = q .2; same = rw p at e }
 

@@ -3,7 +3,7 @@
 use Prim.Native.Nat.{ℕ, zero, suc, _+_, _≤_, _<_}
 use native.Mathlib.Omega.{arith}
 use mathlib.Core.Path.{_≡_, refl, ap, sym, _∙_, subst}
-use mathlib.Core.Bool.{Bool, true, false, _&&_, cond}
+use mathlib.Core.Bool.{Bool, true, false, _&&_, cond, false≢true}
 use mathlib.Core.List.{List, [], _∷_}
 use mathlib.Core.Option.{Option, none, some}
 use lib.Dec.{T, leb, leb→le, le→leb, ltb}
@@ -19,7 +19,7 @@ use Rattle.semantics.specs.Program.{Range}
 use Rattle.leb128.specs.Numbers.{Read, got, nothing, numberAt, signedAt}
 use Rattle.bytecode.specs.Instructions.{Instruction, fetch}
 use Rattle.bytecode.specs.Translation.{RangesFit}
-use Rattle.bytecode.specs.Check.{Known, advance, complete, tested, item, Placed, checkRange, checkRanges, Counts, checkCounts, Header, headerWith, checkHeader, ends, ifSome, checkCode, atStart, checkBody, checkOf}
+use Rattle.bytecode.specs.Check.{Known, advance, suits, complete, tested, item, Placed, checkRange, checkRanges, Counts, checkCounts, Header, headerWith, checkHeader, ends, ifSome, checkCode, atStart, checkBody, checkOf}
 use Rattle.bytecode.specs.Sound.{RangesAt, Sound}
 use Rattle.bytecode.specs.Allowed.{leftBy, Allowed, Finished}
 use Rattle.bytecode.proofs.Fetching.{number-within}
@@ -173,78 +173,99 @@ kept-header bytes h e =
 
 -- ---- the code
 
-module _ (base : ℕ) (code : List ℕ) where
-  step-of : (f at : ℕ) (c : Known) → at < length code → checkCode base code (suc f) at c ≡ item (fetch code at) (base + at) (λ i. true) (λ i next. ifSome (advance i c) (base + at) λ c₁. checkCode base code f next c₁)
-  step-of f at c l = rw (lt-ltb at (length code) l)
+module _ (ns : List Range) (base : ℕ) (code : List ℕ) where
+  abbrev goesOn : ℕ → ℕ → Known → Instruction → ℕ → Answer (Unit {0})
+  goesOn f at c i next = ifSome (advance i c) (base + at) λ c₁. checkCode ns base code f next (some i) c₁
 
-  code-kept : (f : ℕ) {at to : ℕ} {c d : Known} → CodeKept code at c to d → length code ≤ at + f → (g : ℕ) × (length code ≤ to + g) × (checkCode base code f at c ≡ checkCode base code g to d)
+  step-of : (f at : ℕ) (last : Option Instruction) (c : Known) → at < length code → checkCode ns base code (suc f) at last c ≡ item (fetch code at) (base + at) (suits ns last) (goesOn f at c)
+  step-of f at last c l = rw (lt-ltb at (length code) l)
+
+  code-kept : (f : ℕ) {at to : ℕ} {last end : Option Instruction} {c d : Known} → CodeKept ns code at last c to end d → length code ≤ at + f
+      → (g : ℕ) × (length code ≤ to + g) × (checkCode ns base code f at last c ≡ checkCode ns base code g to end d)
   code-kept f I.none l = (f, l, refl)
-  code-kept zero {at} (I.more i next e a r) l = absurd (omega (arith, fetch-next code at i next e .0))
-  code-kept (suc f) {at} {to} {c} {d} (I.more i next e a r) l =
+  code-kept zero {at} (I.more i next e a s r) l = absurd (omega (arith, fetch-next code at i next e .0))
+  code-kept (suc f) {at} {to} {last} {end} {c} {d} (I.more i next e a s r) l =
       let n = fetch-next code at i next e in
-      let x = code-kept f {to = to} {d = d} r (omega (arith, n .1)) in
-      (x .0, x .1, step-of f at c (n .0) ∙ rw (e, allowed-advances i c a) (x .2))
+      let x = code-kept f {to = to} {end = end} {d = d} r (omega (arith, n .1)) in
+      (x .0, x .1, step-of f at last c (n .0) ∙ rw (e, T-true (suits ns last i) s, allowed-advances i c a) (x .2))
 
-  ends-broken : (f at : ℕ) (c : Known) → length code ≤ at → (Finished c → ⊥) → checkCode base code f at c ≡ refused 11 (base + length code)
-  ends-broken f at c l n = go (complete c) refl f
+  ends-broken : (f at : ℕ) (last : Option Instruction) (c : Known) → length code ≤ at → (Finished c → ⊥) → checkCode ns base code f at last c ≡ refused 11 (base + length code)
+  ends-broken f at last c l n = go (complete c) refl f
     where
-      go : (t : Bool) → complete c ≡ t → (f : ℕ) → checkCode base code f at c ≡ refused 11 (base + length code)
+      go : (t : Bool) → complete c ≡ t → (f : ℕ) → checkCode ns base code f at last c ≡ refused 11 (base + length code)
       go true e f = absurd (n (finished-by c e))
       go false e zero = rw e
       go false e (suc f) = rw (le-ltb at (length code) l, e)
 
-  one-broken : (f at : ℕ) (c : Known) → length code ≤ at + f → at < length code → (Keeps (fetch code at) (λ i. Allowed i c) → ⊥) → checkCode base code f at c ≡ refused 11 (base + at)
-  one-broken zero at c l h n = absurd (omega arith)
-  one-broken (suc f) at c l h n = step-of f at c h ∙ go (fetch code at) refl
+  one-broken : (f at : ℕ) (last : Option Instruction) (c : Known) → length code ≤ at + f → at < length code → (Keeps (fetch code at) (λ i. Allowed i c × T (suits ns last i)) → ⊥)
+      → checkCode ns base code f at last c ≡ refused 11 (base + at)
+  one-broken zero at last c l h n = absurd (omega arith)
+  one-broken (suc f) at last c l h n = step-of f at last c h ∙ go (fetch code at) refl
     where
-      inner : (i : Instruction) (next : ℕ) → fetch code at ≡ got i next → (o : Option Known) → advance i c ≡ o → ifSome o (base + at) (λ c₁. checkCode base code f next c₁) ≡ refused 11 (base + at)
-      inner i next e none q = refl
-      inner i next e (some d) q = absurd (n (record { what = i; next = next; read = e; kept = kept-by i c d q .allowed }))
+      inner : (i : Instruction) (next : ℕ) → fetch code at ≡ got i next → T (suits ns last i) → (o : Option Known) → advance i c ≡ o → ifSome o (base + at) (λ c₁. checkCode ns base code f next (some i) c₁) ≡ refused 11 (base + at)
+      inner i next e s none q = refl
+      inner i next e s (some d) q = absurd (n (record { what = i; next = next; read = e; kept = (kept-by i c d q .allowed, s) }))
 
-      go : (o : Read Instruction) → fetch code at ≡ o → item o (base + at) (λ i. true) (λ i next. ifSome (advance i c) (base + at) λ c₁. checkCode base code f next c₁) ≡ refused 11 (base + at)
+      suited : (i : Instruction) (next : ℕ) → fetch code at ≡ got i next → (t : Bool) → suits ns last i ≡ t → tested t (base + at) (goesOn f at c i next) ≡ refused 11 (base + at)
+      suited i next e true s = inner i next e (true-T _ s) (advance i c) refl
+      suited i next e false s = refl
+
+      go : (o : Read Instruction) → fetch code at ≡ o → item o (base + at) (suits ns last) (goesOn f at c) ≡ refused 11 (base + at)
       go nothing e = refl
-      go (got i next) e = inner i next e (advance i c) refl
+      go (got i next) e = suited i next e (suits ns last i) refl
 
   -- what the walk met
-  data Met (at : ℕ) (c : Known) (place : ℕ) : Type 0 where
-    one : (to : ℕ) (d : Known) → CodeKept code at c to d → to < length code → (Keeps (fetch code to) (λ i. Allowed i d) → ⊥) → base + to ≡ place → Met at c place
-    end : (to : ℕ) (d : Known) → CodeKept code at c to d → length code ≤ to → (Finished d → ⊥) → base + length code ≡ place → Met at c place
+  data Met (at : ℕ) (last : Option Instruction) (c : Known) (place : ℕ) : Type 0 where
+    one : (to : ℕ) (end : Option Instruction) (d : Known) → CodeKept ns code at last c to end d → to < length code → (Keeps (fetch code to) (λ i. Allowed i d × T (suits ns end i)) → ⊥) → base + to ≡ place → Met at last c place
+    end : (to : ℕ) (end : Option Instruction) (d : Known) → CodeKept ns code at last c to end d → length code ≤ to → (Finished d → ⊥) → base + length code ≡ place → Met at last c place
 
-  met-more : (at place : ℕ) (c : Known) (i : Instruction) (next : ℕ) → fetch code at ≡ got i next → Allowed i c → Met next (leftBy i c) place → Met at c place
-  met-more at place c i next e a (one to d r l n q) = one to d (I.more i next e a r) l n q
-  met-more at place c i next e a (end to d r l n q) = end to d (I.more i next e a r) l n q
+  met-more : (at place : ℕ) (last : Option Instruction) (c : Known) (i : Instruction) (next : ℕ) → fetch code at ≡ got i next → Allowed i c → T (suits ns last i) → Met next (some i) (leftBy i c) place → Met at last c place
+  met-more at place last c i next e a s (one to far d r l n q) = one to far d (I.more i next e a s r) l n q
+  met-more at place last c i next e a s (end to far d r l n q) = end to far d (I.more i next e a s r) l n q
 
-  ends-met : (at place : ℕ) (c : Known) → length code ≤ at → ends (complete c) (base + length code) ≡ refused 11 place → Met at c place
-  ends-met at place c l e = go (complete c) refl e
+  ends-met : (at place : ℕ) (last : Option Instruction) (c : Known) → length code ≤ at → ends (complete c) (base + length code) ≡ refused 11 place → Met at last c place
+  ends-met at place last c l e = go (complete c) refl e
     where
-      go : (t : Bool) → complete c ≡ t → ends t (base + length code) ≡ refused 11 place → Met at c place
+      go : (t : Bool) → complete c ≡ t → ends t (base + length code) ≡ refused 11 place → Met at last c place
       go true h q = refused≢accepted tt 11 place (sym q)
-      go false h q = end at c I.none l (λ x. let z : true ≡ false = sym (complete-if c x) ∙ h in let y : _≡_ {A = ℕ} 0 1 = cc in omega arith) (cc)
+      go false h q = end at last c I.none l (λ x. let z : true ≡ false = sym (complete-if c x) ∙ h in let y : _≡_ {A = ℕ} 0 1 = cc in omega arith) (cc)
 
-  stuck : (at : ℕ) (c : Known) (i : Instruction) (next : ℕ) → fetch code at ≡ got i next → advance i c ≡ none → Keeps (fetch code at) (λ i. Allowed i c) → ⊥
-  stuck at c i next r a x =
+  stuck : (at : ℕ) (last : Option Instruction) (c : Known) (i : Instruction) (next : ℕ) → fetch code at ≡ got i next → advance i c ≡ none → Keeps (fetch code at) (λ i. Allowed i c × T (suits ns last i)) → ⊥
+  stuck at last c i next r a x =
       let g : got i next ≡ got (x .what) (x .next) = sym r ∙ x .read in
       let w : i ≡ x .what = cc in
-      none≢some (leftBy (x .what) c) (sym a ∙ (ap (λ (y : Instruction). advance y c) w ∙ allowed-advances (x .what) c (x .kept)))
+      none≢some (leftBy (x .what) c) (sym a ∙ (ap (λ (y : Instruction). advance y c) w ∙ allowed-advances (x .what) c (x .kept .0)))
 
-  module _ (f at place : ℕ) (c : Known) (l : length code ≤ at + suc f) (h : at < length code) (ih : (next : ℕ) (d : Known) → length code ≤ next + f → checkCode base code f next d ≡ refused 11 place → Met next d place) where
-    advanced : (i : Instruction) (next : ℕ) → fetch code at ≡ got i next → (o : Option Known) → advance i c ≡ o → ifSome o (base + at) (λ c₁. checkCode base code f next c₁) ≡ refused 11 place → Met at c place
-    advanced i next r none a q = one at c I.none h (stuck at c i next r a) (cc)
-    advanced i next r (some d) a q =
+  unsuited : (at : ℕ) (last : Option Instruction) (c : Known) (i : Instruction) (next : ℕ) → fetch code at ≡ got i next → suits ns last i ≡ false → Keeps (fetch code at) (λ i. Allowed i c × T (suits ns last i)) → ⊥
+  unsuited at last c i next r s x =
+      let g : got i next ≡ got (x .what) (x .next) = sym r ∙ x .read in
+      let w : i ≡ x .what = cc in
+      false≢true (sym s ∙ (ap (λ (y : Instruction). suits ns last y) w ∙ T-true (suits ns last (x .what)) (x .kept .1)))
+
+  module _ (f at place : ℕ) (last : Option Instruction) (c : Known) (l : length code ≤ at + suc f) (h : at < length code)
+      (ih : (next : ℕ) (i : Instruction) (d : Known) → length code ≤ next + f → checkCode ns base code f next (some i) d ≡ refused 11 place → Met next (some i) d place) where
+    advanced : (i : Instruction) (next : ℕ) → fetch code at ≡ got i next → T (suits ns last i) → (o : Option Known) → advance i c ≡ o → ifSome o (base + at) (λ c₁. checkCode ns base code f next (some i) c₁) ≡ refused 11 place → Met at last c place
+    advanced i next r s none a q = one at last c I.none h (stuck at last c i next r a) (cc)
+    advanced i next r s (some d) a q =
         let k = kept-by i c d a in
-        met-more at place c i next r (k .allowed) (subst (λ (y : Known). Met next y place) (sym (k .left)) (ih next d (omega (arith, fetch-next code at i next r .1)) q))
+        met-more at place last c i next r (k .allowed) s (subst (λ (y : Known). Met next (some i) y place) (sym (k .left)) (ih next i d (omega (arith, fetch-next code at i next r .1)) q))
 
-    fetched : (o : Read Instruction) → fetch code at ≡ o → item o (base + at) (λ i. true) (λ i next. ifSome (advance i c) (base + at) λ c₁. checkCode base code f next c₁) ≡ refused 11 place → Met at c place
-    fetched nothing r q = one at c I.none h (λ x. nothing≢got (x .what) (x .next) (sym r ∙ x .read)) (cc)
-    fetched (got i next) r q = advanced i next r (advance i c) refl q
+    suited : (i : Instruction) (next : ℕ) → fetch code at ≡ got i next → (t : Bool) → suits ns last i ≡ t → tested t (base + at) (goesOn f at c i next) ≡ refused 11 place → Met at last c place
+    suited i next r true s q = advanced i next r (true-T _ s) (advance i c) refl q
+    suited i next r false s q = one at last c I.none h (unsuited at last c i next r s) (cc)
 
-  code-fails : (f at place : ℕ) (c : Known) → length code ≤ at + f → checkCode base code f at c ≡ refused 11 place → Met at c place
-  code-fails zero at place c l e = ends-met at place c (omega arith) e
-  code-fails (suc f) at place c l e = inside (ltb at (length code)) refl (λ next d m q. code-fails f next place d m q)
+    fetched : (o : Read Instruction) → fetch code at ≡ o → item o (base + at) (suits ns last) (goesOn f at c) ≡ refused 11 place → Met at last c place
+    fetched nothing r q = one at last c I.none h (λ x. nothing≢got (x .what) (x .next) (sym r ∙ x .read)) (cc)
+    fetched (got i next) r q = suited i next r (suits ns last i) refl q
+
+  code-fails : (f at place : ℕ) (last : Option Instruction) (c : Known) → length code ≤ at + f → checkCode ns base code f at last c ≡ refused 11 place → Met at last c place
+  code-fails zero at place last c l e = ends-met at place last c (omega arith) e
+  code-fails (suc f) at place last c l e = inside (ltb at (length code)) refl (λ next i d m q. code-fails f next place (some i) d m q)
     where
-      inside : (b : Bool) → ltb at (length code) ≡ b → ((next : ℕ) (d : Known) → length code ≤ next + f → checkCode base code f next d ≡ refused 11 place → Met next d place) → Met at c place
-      inside true b ih = let h = ltb-true at (length code) b in fetched f at place c l h ih (fetch code at) refl (sym (step-of f at c h) ∙ e)
-      inside false b ih = let k = ltb-false at (length code) b in ends-met at place c k (rw (le-ltb at (length code) k) at e)
+      inside : (b : Bool) → ltb at (length code) ≡ b
+          → ((next : ℕ) (i : Instruction) (d : Known) → length code ≤ next + f → checkCode ns base code f next (some i) d ≡ refused 11 place → Met next (some i) d place) → Met at last c place
+      inside true b ih = let h = ltb-true at (length code) b in fetched f at place last c l h ih (fetch code at) refl (sym (step-of f at last c h) ∙ e)
+      inside false b ih = let k = ltb-false at (length code) b in ends-met at place last c k (rw (le-ltb at (length code) k) at e)
 
 -- ---- the image
 
@@ -261,11 +282,11 @@ ends-at bytes h x =
 
 body-fails : (bytes : List ℕ) (place : ℕ) (h : Header) → HeaderKept bytes h → checkBody bytes h ≡ refused 11 place → Breaks bytes place
 unfolding checkBody
-body-fails bytes place h x e = go (code-fails (h .place) (drop (h .place) bytes) (length (drop (h .place) bytes)) 0 place (atStart h) (omega arith) e)
+body-fails bytes place h x e = go (code-fails (h .ranges) (h .place) (drop (h .place) bytes) (length (drop (h .place) bytes)) 0 place none (atStart h) (omega arith) e)
   where
-    go : Met (h .place) (drop (h .place) bytes) 0 (atStart h) place → Breaks bytes place
-    go (one to d r l n q) = subst (Breaks bytes) q (I.instruction h to d x r l n)
-    go (end to d r l n q) = subst (Breaks bytes) (sym (ends-at bytes h x) ∙ q) (I.end h to d x r l n)
+    go : Met (h .ranges) (h .place) (drop (h .place) bytes) 0 none (atStart h) place → Breaks bytes place
+    go (one to last d r l n q) = subst (Breaks bytes) q (I.instruction h to last d x r l n)
+    go (end to last d r l n q) = subst (Breaks bytes) (sym (ends-at bytes h x) ∙ q) (I.end h to last d x r l n)
 
 fails : (bytes : List ℕ) (place : ℕ) → (checkHeader bytes andThen λ h. checkBody bytes h) ≡ refused 11 place → Breaks bytes place
 fails bytes place e = go (checkHeader bytes) refl e
@@ -279,7 +300,7 @@ counts-stop : (bytes : List ℕ) (place : ℕ) → checkCounts bytes ≡ refused
 unfolding checkHeader
 counts-stop bytes place e = rw e
 
-body-is : (bytes : List ℕ) (h : Header) → HeaderKept bytes h → (checkHeader bytes andThen λ h. checkBody bytes h) ≡ checkCode (h .place) (drop (h .place) bytes) (length (drop (h .place) bytes)) 0 (atStart h)
+body-is : (bytes : List ℕ) (h : Header) → HeaderKept bytes h → (checkHeader bytes andThen λ h. checkBody bytes h) ≡ checkCode (h .ranges) (h .place) (drop (h .place) bytes) (length (drop (h .place) bytes)) 0 none (atStart h)
 unfolding checkBody
 body-is bytes h x = rw (header-of bytes h x)
 
@@ -289,14 +310,14 @@ broken-answer bytes place (I.inputs f) = counts-stop bytes 0 (inputs-broken byte
 broken-answer bytes place (I.variables k at e l f) = counts-stop bytes at (variables-broken bytes k at e l f)
 broken-answer bytes place (I.range k m ns at x l b) =
     rw (counts-pass bytes k m (x .at₁) (x .at₂) (x .inputs-read) (x .variables-read) (x .few)) (rw (ranges-broken bytes (k + m) (x .at₂) ns at place (headerWith k) (x .ranges-read) (x .fit) l b))
-broken-answer bytes place (I.instruction h at c x r l n) =
+broken-answer bytes place (I.instruction h at last c x r l n) =
     let code = drop (h .place) bytes in
-    let g = code-kept (h .place) code (length code) r (omega arith) in
-    body-is bytes h x ∙ g .2 ∙ one-broken (h .place) code (g .0) at c (g .1) l n
-broken-answer bytes place (I.end h at c x r l n) =
+    let g = code-kept (h .ranges) (h .place) code (length code) r (omega arith) in
+    body-is bytes h x ∙ g .2 ∙ one-broken (h .ranges) (h .place) code (g .0) at last c (g .1) l n
+broken-answer bytes place (I.end h at last c x r l n) =
     let code = drop (h .place) bytes in
-    let g = code-kept (h .place) code (length code) r (omega arith) in
-    body-is bytes h x ∙ g .2 ∙ ends-broken (h .place) code (g .0) at c l n ∙ ap (refused 11) (ends-at bytes h x)
+    let g = code-kept (h .ranges) (h .place) code (length code) r (omega arith) in
+    body-is bytes h x ∙ g .2 ∙ ends-broken (h .ranges) (h .place) code (g .0) at last c l n ∙ ap (refused 11) (ends-at bytes h x)
 
 pub broken-images : BrokenImages
 unfolding checkOf

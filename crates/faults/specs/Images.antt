@@ -5,6 +5,8 @@ use Prim.Native.Nat.{ℕ, _+_, _≤_, _<_}
 use mathlib.Core.Path.{_≡_}
 use mathlib.Core.Bool.{_&&_}
 use mathlib.Core.List.{List}
+use mathlib.Core.Option.{Option}
+use mathlib.Core.Option as O
 use lib.Dec.{T}
 use lib.IntN.{ℤ}
 use lib.ListN.{length, drop}
@@ -16,7 +18,7 @@ use Rattle.semantics.specs.Program.{Range}
 use Rattle.leb128.specs.Numbers.{Read, got, numberAt, signedAt}
 use Rattle.bytecode.specs.Instructions.{Instruction, fetch}
 use Rattle.bytecode.specs.Translation.{RangesFit}
-use Rattle.bytecode.specs.Check.{Known, Header, atStart, checkOf}
+use Rattle.bytecode.specs.Check.{Known, Header, atStart, suits, checkOf}
 use Rattle.bytecode.specs.Sound.{RangesAt, Sound}
 use Rattle.bytecode.specs.Allowed.{leftBy, Allowed, Finished}
 
@@ -54,10 +56,12 @@ pub record HeaderKept (bytes : List ℕ) (header : Header) : Type 0 where
 
 -- ---- the code
 
--- from a place of the code up to another stand instructions, each allowed after those before it; what is known before them and after
-pub data CodeKept (code : List ℕ) : ℕ → Known → ℕ → Known → Type 0 where
-  none : {at : ℕ} {c : Known} → CodeKept code at c at c
-  more : {at to : ℕ} {c d : Known} (i : Instruction) (next : ℕ) → fetch code at ≡ got i next → Allowed i c → CodeKept code next (leftBy i c) to d → CodeKept code at c to d
+-- from a place of the code up to another stand instructions, each allowed after those before it, and timers keep their limits and their place; what is known
+-- before them and after, and the last instruction there
+pub data CodeKept (ns : List Range) (code : List ℕ) : ℕ → Option Instruction → Known → ℕ → Option Instruction → Known → Type 0 where
+  none : {at : ℕ} {last : Option Instruction} {c : Known} → CodeKept ns code at last c at last c
+  more : {at to : ℕ} {last end : Option Instruction} {c d : Known} (i : Instruction) (next : ℕ) → fetch code at ≡ got i next → Allowed i c → T (suits ns last i)
+      → CodeKept ns code next (O.some i) (leftBy i c) to end d → CodeKept ns code at last c to end d
 
 -- ---- the image
 
@@ -69,10 +73,10 @@ pub data Breaks (bytes : List ℕ) : ℕ → Type 0 where
   -- low ≤ start ≤ high, all in signed 32-bit range
   range : {place : ℕ} (k m : ℕ) (ranges : List Range) (at : ℕ) → RangesKept bytes k m ranges at → length ranges < k + m → RangeBreaks bytes at place → Breaks bytes place
   -- only the codes listed, and the sentences from "operands of the right sort" on
-  instruction : (h : Header) (at : ℕ) (c : Known) → HeaderKept bytes h → CodeKept (drop (h .place) bytes) 0 (atStart h) at c → at < length (drop (h .place) bytes)
-      → (Keeps (fetch (drop (h .place) bytes) at) (λ i. Allowed i c) → ⊥) → Breaks bytes (h .place + at)
+  instruction : (h : Header) (at : ℕ) (last : Option Instruction) (c : Known) → HeaderKept bytes h → CodeKept (h .ranges) (drop (h .place) bytes) 0 O.none (atStart h) at last c → at < length (drop (h .place) bytes)
+      → (Keeps (fetch (drop (h .place) bytes) at) (λ i. Allowed i c × T (suits (h .ranges) last i)) → ⊥) → Breaks bytes (h .place + at)
   -- nothing missing at the end
-  end : (h : Header) (at : ℕ) (c : Known) → HeaderKept bytes h → CodeKept (drop (h .place) bytes) 0 (atStart h) at c → length (drop (h .place) bytes) ≤ at
+  end : (h : Header) (at : ℕ) (last : Option Instruction) (c : Known) → HeaderKept bytes h → CodeKept (h .ranges) (drop (h .place) bytes) 0 O.none (atStart h) at last c → length (drop (h .place) bytes) ≤ at
       → (Finished c → ⊥) → Breaks bytes (length bytes)
 
 pub record BrokenImages : Type 0 where

@@ -8,9 +8,9 @@ use mathlib.Core.List.{List, []}
 use mathlib.Core.Option.{none, some}
 use lib.IntN.{ℤ}
 use lib.ListN.{length}
-use Rattle.semantics.specs.Program.{knownFirst}
+use Rattle.semantics.specs.Program.{Range, knownFirst}
 use Rattle.bytecode.specs.Check.{complete, known, checkCode}
-use Rattle.bytecode.proofs.RoundTrip.{fetch-next}
+use Rattle.bytecode.proofs.RoundTrip.{one-next}
 use Rattle.bytecode.proofs.Soundness.{advance-small}
 use Rattle.arith.specs.Inner.Flags.{flagsOf}
 use Rattle.arith.proofs.Flags.{length-flags}
@@ -79,7 +79,7 @@ module _ {code : List ℕ} {low high prev : List ℤ} {inputs : ℕ} {cur₀ val
       → Fusing code low high prev inputs cur₀ vals₀ cur₁ vals₁ k (steps + 1)
   fusing-goes vals₁ cur₁ k l m deeper wider =
       let i = m .instruction in
-      let behind : b .at < k .at = fetch-next code (b .at) i (k .at) (m .fetched) .1 in
+      let behind : b .at < k .at = one-next code (b .at) i (k .at) (m .fetched) .1 in
       let names : length (flagsOf (k .walk .names) (k .walk .known)) ≡ length (flagsOf (b .walk .names) (b .walk .known)) = advance-small i (knownOf (b .walk)) (knownOf (k .walk)) (omega (arith, length-flags (b .walk .names) (b .walk .known), f .ready .small .few-names)) (m .advanced) .1 in
       let c = one-done code low high prev (b .at) (registersOf b) vals cur l (some i) (k .at) (m .fetched) vals₁ cur₁ (Next (registersOf k)) (few-held (k .passing) (k .walk .held) (m .small .few-held))
       (λ ns q. sym (m .acted ns q)) (dispatchedOf (k .at) (Next (registersOf k))) refl in
@@ -98,21 +98,21 @@ module _ {code : List ℕ} {low high prev : List ℤ} {inputs : ℕ} {cur₀ val
 
   -- what the walk finds from here on
   module _ (r : Verdict) (j : Judges code (b .at) (knownOf (b .walk)) r) where
-    whole : (base : ℕ) → verdictAnswer base r ≡ checkCode base code (length code) 0 (known [] false none (knownFirst inputs (length low)))
+    whole : (ns : List Range) (base : ℕ) → verdictAnswer base r ≡ checkCode ns base code (length code) 0 none (known [] false none (knownFirst inputs (length low)))
     whole = judges-whole code inputs (length low) (initialWalk inputs (length low)) r refl (judges-on code 0 _ (b .at) (knownOf (b .walk)) r (f .walks) j)
 
   pub fusing-breaks : (at : ℕ) → Judges code (b .at) (knownOf (b .walk)) (J.Broken at) → BrokenCode code inputs (length low) at
-  fusing-breaks at j base = sym (whole (J.Broken at) j base)
+  fusing-breaks at j ns base = sym (whole (J.Broken at) j ns base)
 
   fusing-sound : Judges code (b .at) (knownOf (b .walk)) J.Sound → CheckedCode code inputs (length low)
-  fusing-sound j base = sym (whole J.Sound j base)
+  fusing-sound j ns base = sym (whole J.Sound j ns base)
 
   -- with what is answered of the rest of the code
   module _ (k : Progress) (number : ℕ) (l : b .at < length code) (m : Refuses code low high prev b vals cur k number) where
     behind : (r : Verdict) → Judges code (k .at) (knownOf (k .walk)) r → Judges code (b .at) (knownOf (b .walk)) r
     behind r j =
         judges-on code (b .at) (knownOf (b .walk)) (k .at) (knownOf (k .walk)) r
-        (walks-step code (b .at) (knownOf (b .walk)) l (some (m .instruction)) (k .at) (m .fetched) (knownOf (k .walk)) (m .advanced) (fetch-next code (b .at) (m .instruction) (k .at) (m .fetched) .1)) j
+        (walks-step code (b .at) (knownOf (b .walk)) l (some (m .instruction)) (k .at) (m .fetched) (knownOf (k .walk)) (m .advanced) (one-next code (b .at) (m .instruction) (k .at) (m .fetched) .1)) j
 
     fusing-refused : Judges code (k .at) (knownOf (k .walk)) J.Sound → Fails code low high prev inputs cur₀ number (steps + 1)
     unfolding heldOf
@@ -152,17 +152,17 @@ module _ {code : List ℕ} {low high prev : List ℤ} {inputs : ℕ} {cur₀ val
 -- each has a byte at least, and ends inside the code
 pub goes-far : {code : List ℕ} {low high prev : List ℤ} (n : ℕ) (b : Progress) (vals cur : List ℤ) (k : Progress) (vals₁ cur₁ : List ℤ) → Goes code low high prev n b vals cur k vals₁ cur₁
     → (b .at + n ≤ k .at) × (k .at ≤ length code) × (1 ≤ n)
-goes-far {code} _ _ _ _ _ _ _ (lastly b vals cur vals₁ cur₁ k m) = (omega (arith, fetch-next code (b .at) (m .instruction) (k .at) (m .fetched) .1), m .inside, omega arith)
+goes-far {code} _ _ _ _ _ _ _ (lastly b vals cur vals₁ cur₁ k m) = (omega (arith, one-next code (b .at) (m .instruction) (k .at) (m .fetched) .1), m .inside, omega arith)
 goes-far {code} _ _ _ _ _ _ _ (first n b vals cur vals₁ cur₁ m vals₂ cur₂ k o deeper wider rest) =
     let far = goes-far n m vals₁ cur₁ k vals₂ cur₂ rest in
-    (omega (arith, far .0, fetch-next code (b .at) (o .instruction) (m .at) (o .fetched) .1), far .1, omega arith)
+    (omega (arith, far .0, one-next code (b .at) (o .instruction) (m .at) (o .fetched) .1), far .1, omega arith)
 
 pub fusing-leaps : {code : List ℕ} {low high prev : List ℤ} {inputs : ℕ} {cur₀ vals₀ : List ℤ} {steps : ℕ} (n : ℕ) (b : Progress) (vals cur : List ℤ) (k : Progress) (vals₁ cur₁ : List ℤ)
     → Goes code low high prev n b vals cur k vals₁ cur₁ → Fusing code low high prev inputs cur₀ vals₀ cur vals b steps → length vals₁ ≡ length vals → length cur₁ ≡ length cur
     → Fusing code low high prev inputs cur₀ vals₀ cur₁ vals₁ k (steps + n)
 fusing-leaps {code} _ _ _ _ _ _ _ (lastly b vals cur vals₁ cur₁ k m) f deeper wider =
-    fusing-goes f vals₁ cur₁ k (fetch-next code (b .at) (m .instruction) (k .at) (m .fetched) .0) m deeper wider
+    fusing-goes f vals₁ cur₁ k (one-next code (b .at) (m .instruction) (k .at) (m .fetched) .0) m deeper wider
 fusing-leaps {code} {low} {high} {prev} {inputs} {cur₀} {vals₀} {steps} _ _ _ _ _ _ _ (first n b vals cur vals₁ cur₁ m vals₂ cur₂ k o deep wide rest) f deeper wider =
-    let on = fusing-goes f vals₁ cur₁ m (fetch-next code (b .at) (o .instruction) (m .at) (o .fetched) .0) o deep wide in
+    let on = fusing-goes f vals₁ cur₁ m (one-next code (b .at) (o .instruction) (m .at) (o .fetched) .0) o deep wide in
     let e : steps + 1 + n ≡ steps + (1 + n) = omega arith in
     subst (λ (s : ℕ). Fusing code low high prev inputs cur₀ vals₀ cur₂ vals₂ k s) e (fusing-leaps n m vals₁ cur₁ k vals₂ cur₂ rest on (deeper ∙ sym deep) (wider ∙ sym wide))

@@ -10,9 +10,11 @@ use lib.ListN.{length, getD}
 use Rattle.arith.specs.Values.{ok}
 use Rattle.semantics.specs.Program.{Range}
 use Rattle.leb128.specs.Numbers.{Read, got, nothing, numberAt}
-use Rattle.bytecode.specs.Instructions.{Instruction, instructionOf, hasOperand, decoded, fetch}
+use Rattle.bytecode.specs.Instructions.{Instruction, instructionOf, hasOperand, decoded, fetchOne}
 use Rattle.bytecode.specs.Check.{advance}
 use Rattle.bytecode.proofs.Soundness.{none≢some, idsOf}
+use Rattle.bytecode.specs.Signature.{signature}
+use Rattle.bytecode.proofs.Timeless.{TimelessIn, one-timeless}
 use Rattle.bytecode.proofs.Fetching.{fetch-alone, fetch-number, fetch-malformed}
 use Rattle.checker.specs.declared.advance.Walk.{Walk}
 use Rattle.checker.specs.declared.advance.Advanced.{Advanced}
@@ -70,10 +72,10 @@ module _ {low high prev cur vals : List ℤ} {b : Progress} (r : Ready low high 
   here = ranges-by low high (r .named .highs)
 
   -- the machine goes on as the walk does
-  pub kept : (i : Instruction) (k : Walk) (ns : List Range) → RangesIn ns low high → advance i (knownOf (b .walk)) ≡ some (knownOf k) → KeptBy (knownOf k) (step ns prev i (machineOf (registersOf b) vals cur))
-  kept i k ns q e =
+  pub kept : (i : Instruction) (k : Walk) → TimelessIn (signature i .role) → (ns : List Range) → RangesIn ns low high → advance i (knownOf (b .walk)) ≡ some (knownOf k) → KeptBy (knownOf k) (step ns prev i (machineOf (registersOf b) vals cur))
+  kept i k y ns q e =
       let size : length (idsOf (knownOf (b .walk))) ≡ length ns = length-flags (b .walk .names) (b .walk .known) ∙ r .sized ∙ sym (names-length ns low high q) in
-      step-keeps ns prev i (knownOf (b .walk)) (knownOf k) (machineOf (registersOf b) vals cur) size e (matches (b .walk) (b .passing) (b .picked) vals cur (r .opened))
+      step-keeps ns prev i (knownOf (b .walk)) (knownOf k) (machineOf (registersOf b) vals cur) y size e (matches (b .walk) (b .passing) (b .picked) vals cur (r .opened))
 
   -- ---- an instruction that is not passed over
 
@@ -84,7 +86,7 @@ module _ {low high prev cur vals : List ℤ} {b : Progress} (r : Ready low high 
     not-passing : machineOf doing vals cur ≡ machineOf (registersOf b) vals cur
     not-passing = rw go
 
-    module _ (i : Instruction) (f : fetch code (b .at) ≡ got i next) (inside : next ≤ length code) (e : advance i (knownOf (b .walk)) ≡ some (knownOf k)) (small : Small k) where
+    module _ (i : Instruction) (f : fetchOne code (b .at) ≡ got i next) (inside : next ≤ length code) (e : advance i (knownOf (b .walk)) ≡ some (knownOf k)) (small : Small k) where
       takes : (t : Registers) → ((ns : List Range) → RangesIn ns low high → ok (machineOf t vals₁ cur₁) ≡ step ns prev i (machineOf doing vals cur))
           → Moves code low high prev b vals cur vals₁ cur₁ (record { walk = k; at = next; picked = t .picked; passing = t .passing })
       takes t a =
@@ -102,7 +104,7 @@ module _ {low high prev cur vals : List ℤ} {b : Progress} (r : Ready low high 
           acts ns q = a ns q ∙ ap (λ (m : Machine). step ns prev i m) not-passing
 
           matched : (ns : List Range) → RangesIn ns low high → Matches (knownOf k) (machineOf t vals₁ cur₁)
-          matched ns q = subst (λ o. KeptBy (knownOf k) o) (sym (acts ns q)) (kept i k ns q e)
+          matched ns q = subst (λ o. KeptBy (knownOf k) o) (sym (acts ns q)) (kept i k (one-timeless code (b .at) i next f) ns q e)
 
       done : (s : Stepped) → ((ns : List Range) → RangesIn ns low high → stepOutcome s vals₁ cur₁ ≡ step ns prev i (machineOf doing vals cur))
           → MovesBy code low high prev b vals cur vals₁ cur₁ (movedOf k next s)
@@ -111,7 +113,7 @@ module _ {low high prev cur vals : List ℤ} {b : Progress} (r : Ready low high 
           record { instruction = i; fetched = f; inside = inside; advanced = e; small = small; acted = λ ns q. sym (a ns q ∙ ap (λ (m : Machine). step ns prev i m) not-passing) }
 
     -- read as this instruction, with this place behind it
-    pub arrives : (o : Option Instruction) → fetch code (b .at) ≡ decoded o next → next ≤ length code → (a : Advanced) → a ≡ Kept k → advancedKnown a ≡ advanceBy o (knownOf (b .walk)) → SmallAfter a
+    pub arrives : (o : Option Instruction) → fetchOne code (b .at) ≡ decoded o next → next ≤ length code → (a : Advanced) → a ≡ Kept k → advancedKnown a ≡ advanceBy o (knownOf (b .walk)) → SmallAfter a
         → (s : Stepped) → ((ns : List Range) → RangesIn ns low high → stepOutcome s vals₁ cur₁ ≡ stepped ns prev o (machineOf doing vals cur))
         → (m : Moved) → m ≡ movedOf k next s → MovesBy code low high prev b vals cur vals₁ cur₁ m
     arrives none f inside a is e small s acts m q = none≢some _ (sym e ∙ ap advancedKnown is)
@@ -121,7 +123,7 @@ module _ {low high prev cur vals : List ℤ} {b : Progress} (r : Ready low high 
 -- ---- the instruction at hand
 
 module _ (code : List ℕ) (b : Progress) (inside : b .at < length code) where
-  pub breaks : (o : Option Instruction) (next : ℕ) → fetch code (b .at) ≡ decoded o next → (a : Advanced) → a ≡ Broken → advancedKnown a ≡ advanceBy o (knownOf (b .walk)) → BreaksAt code b
+  pub breaks : (o : Option Instruction) (next : ℕ) → fetchOne code (b .at) ≡ decoded o next → (a : Advanced) → a ≡ Broken → advancedKnown a ≡ advanceBy o (knownOf (b .walk)) → BreaksAt code b
   breaks o next f a is e = judges-broken code (b .at) (knownOf (b .walk)) inside o next f (sym e ∙ ap advancedKnown is)
 
   -- whatever its operand, the code byte breaks
@@ -137,11 +139,11 @@ module _ (code : List ℕ) (b : Progress) (inside : b .at < length code) where
       by false t = judges-broken code (b .at) (knownOf (b .walk)) inside (instructionOf (getD code (b .at) 0) 0) (b .at + 1) (fetch-alone code (b .at) inside t) (h 0)
 
   module _ (byte : ℕ) (is : getD code (b .at) 0 ≡ byte) where
-    pub alone : hasOperand byte ≡ false → fetch code (b .at) ≡ decoded (instructionOf byte 0) (b .at + 1)
+    pub alone : hasOperand byte ≡ false → fetchOne code (b .at) ≡ decoded (instructionOf byte 0) (b .at + 1)
     alone has = fetch-alone code (b .at) inside (ap hasOperand is ∙ has) ∙ rw is
 
     module _ (has : hasOperand byte ≡ true) where
-      pub with-operand : (n next : ℕ) → numberAt code (b .at + 1) ≡ got n next → fetch code (b .at) ≡ decoded (instructionOf byte n) next
+      pub with-operand : (n next : ℕ) → numberAt code (b .at + 1) ≡ got n next → fetchOne code (b .at) ≡ decoded (instructionOf byte n) next
       with-operand n next e = fetch-number code (b .at) n next inside (ap hasOperand is ∙ has) e ∙ rw is
 
       pub malformed : numberAt code (b .at + 1) ≡ nothing → BreaksAt code b

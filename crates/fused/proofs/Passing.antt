@@ -12,8 +12,9 @@ use borrow.Author.Tests.{eqb-true, eqb-false, ltb-true, ltb-false}
 use Rattle.arith.specs.Inner.Flags.{flagsOf}
 use Rattle.arith.specs.Values.{ok}
 use Rattle.semantics.specs.Program.{Range}
-use Rattle.bytecode.specs.Instructions.{Instruction, instructionOf, decoded, fetch}
+use Rattle.bytecode.specs.Instructions.{Instruction, instructionOf, decoded, fetchOne}
 use Rattle.bytecode.specs.Signature.{Sort}
+use Rattle.bytecode.proofs.Timeless.{one-timeless}
 use Rattle.bytecode.specs.Check.{Picks, known}
 use Rattle.bytecode.proofs.Soundness.{none≢some}
 use Rattle.bytecode.proofs.Codes.{comparison-of, none-above, past}
@@ -39,13 +40,13 @@ GoesOn (some i) p = p ≡ not (isPick i)
 
 module _ (code : List ℕ) (b : Progress) (within : b .at < length code) where
   -- read as this instruction, with this place behind it
-  by-walk : (o : Option Instruction) (next : ℕ) (p : Bool) → fetch code (b .at) ≡ decoded o next → next ≤ length code → GoesOn o p → (a : Advanced)
+  by-walk : (o : Option Instruction) (next : ℕ) (p : Bool) → fetchOne code (b .at) ≡ decoded o next → next ≤ length code → GoesOn o p → (a : Advanced)
       → advancedKnown a ≡ advanceBy o (knownOf (b .walk)) → SmallAfter a → PassesBy code b (passedOver b next p a)
   by-walk o next p f i g Broken e s = judges-broken code (b .at) (knownOf (b .walk)) within o next f (sym e)
   by-walk none next p f i g (Kept k) e s = none≢some _ (sym e)
   by-walk (some x) next p f i g (Kept k) e s = record { instruction = x; fetched = f; inside = i; advanced = sym e; small = s; same-picked = refl; passing-is = g }
 
-  pub passes : (o : Option Instruction) (next : ℕ) (p : Bool) → fetch code (b .at) ≡ decoded o next → next ≤ length code → GoesOn o p → (a : Advanced)
+  pub passes : (o : Option Instruction) (next : ℕ) (p : Bool) → fetchOne code (b .at) ≡ decoded o next → next ≤ length code → GoesOn o p → (a : Advanced)
       → advancedKnown a ≡ advanceBy o (knownOf (b .walk)) → SmallAfter a → (m : Moved) → m ≡ passedOver b next p a → PassesBy code b m
   passes o next p f i g a e s m q = subst (λ x. PassesBy code b x) (sym q) (by-walk o next p f i g a e s)
 
@@ -103,7 +104,7 @@ module _ (code : List ℕ) {low high prev cur vals : List ℤ} {b : Progress} (r
       acts ns = rw go
 
       matched : (ns : List Range) → RangesIn ns low high → Matches (knownOf (k .walk)) (machine (not (isPick (p .instruction))) (b .picked) (heldOf vals 0) cur)
-      matched ns q = subst (λ o. KeptBy (knownOf (k .walk)) o) (acts ns) (kept r (p .instruction) (k .walk) ns q (p .advanced))
+      matched ns q = subst (λ o. KeptBy (knownOf (k .walk)) o) (acts ns) (kept r (p .instruction) (k .walk) (one-timeless code (b .at) (p .instruction) (k .at) (p .fetched)) ns q (p .advanced))
 
   pub over-moves-by : (m : Moved) → PassesBy code b m → MovesBy code low high prev b vals cur vals cur m
   over-moves-by M.Broken p = p

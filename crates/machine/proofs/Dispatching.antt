@@ -12,7 +12,7 @@ use Rattle.arith.specs.Values.{Outcome, Comparison, ok, compares}
 use Rattle.semantics.specs.Program.{Range}
 use Rattle.semantics.specs.Formula.{State, at as valueAt}
 use Rattle.leb128.specs.Numbers.{Read, got, nothing, numberAt, unzigzag}
-use Rattle.bytecode.specs.Instructions.{Instruction, constant, current, previous, comparison, comparisonOf, instructionOf, hasOperand, decoded, fetch}
+use Rattle.bytecode.specs.Instructions.{Instruction, constant, current, previous, comparison, comparisonOf, instructionOf, hasOperand, decoded, fetchOne}
 use Rattle.machine.specs.declared.Registers.{Registers}
 use Rattle.machine.specs.declared.Stepped.{Stepped}
 use Rattle.machine.specs.declared.Stepped.the-variants as S
@@ -34,10 +34,10 @@ module _ (code : List ℕ) (low high prev : List ℤ) (at : ℕ) where
   -- ---- one instruction
 
   module _ (m : Registers) (vals cur : List ℤ) (l : at < length code) where
-    pub none-stops : fetch code at ≡ nothing → Stops code low high prev at m vals cur 11
+    pub none-stops : fetchOne code at ≡ nothing → Stops code low high prev at m vals cur 11
     none-stops f ns budget done q p = run-broken ns prev code budget at done (machineOf m vals cur) l f p
 
-    module _ (o : Option Instruction) (next : ℕ) (f : fetch code at ≡ decoded o next) (vals₁ cur₁ : List ℤ) where
+    module _ (o : Option Instruction) (next : ℕ) (f : fetchOne code at ≡ decoded o next) (vals₁ cur₁ : List ℤ) where
       after-one : (s : Stepped) → ((ns : List Range) → RangesIn ns low high → stepOutcome s vals₁ cur₁ ≡ stepped ns prev o (machineOf m vals cur))
           → (ns : List Range) (budget done : ℕ) → RangesIn ns low high → 0 < budget
           → run ns prev code budget at done (machineOf m vals cur) ≡ afterStep (stepOutcome s vals₁ cur₁) (done + 1) at (λ m₁. run ns prev code (budget - 1) next (done + 1) m₁)

@@ -9,7 +9,7 @@ use lib.ListN.{length, getD}
 use borrow.Author.Tests.{le-leb, lt-leb}
 use Rattle.leb128.specs.Numbers.{Read, got, nothing, numberAt, unzigzag}
 use Rattle.leb128.proofs.Laws.{one-group}
-use Rattle.bytecode.specs.Instructions.{Instruction, constant, operation, comparison, operationOf, comparisonOf, instructionOf, hasOperand, decoded, fetch}
+use Rattle.bytecode.specs.Instructions.{Instruction, constant, operation, comparison, operationOf, comparisonOf, instructionOf, hasOperand, decoded, fetchOne}
 use Rattle.bytecode.proofs.Codes.{operation-of, comparison-of}
 use Rattle.bytecode.proofs.Fetching.{fetch-alone, fetch-number, fetch-malformed}
 
@@ -31,61 +31,61 @@ high-operand code l h = rw (le-leb 1 code (omega arith), lt-leb code 3 (omega ar
 
 module _ (code : List ℕ) (at : ℕ) (inside : at < length code) where
   -- a code byte that is not listed
-  pub fetch-unlisted : ((n : ℕ) → instructionOf (getD code at 0) n ≡ none) → fetch code at ≡ nothing
+  pub fetch-unlisted : ((n : ℕ) → instructionOf (getD code at 0) n ≡ none) → fetchOne code at ≡ nothing
   fetch-unlisted h = by (hasOperand (getD code at 0)) refl
     where
-      read : hasOperand (getD code at 0) ≡ true → (r : Read ℕ) → numberAt code (at + 1) ≡ r → fetch code at ≡ nothing
+      read : hasOperand (getD code at 0) ≡ true → (r : Read ℕ) → numberAt code (at + 1) ≡ r → fetchOne code at ≡ nothing
       read t nothing e = fetch-malformed code at inside t e
       read t (got n next) e = fetch-number code at n next inside t e ∙ ap (λ o. decoded o next) (h n)
 
-      by : (t : Bool) → hasOperand (getD code at 0) ≡ t → fetch code at ≡ nothing
+      by : (t : Bool) → hasOperand (getD code at 0) ≡ t → fetchOne code at ≡ nothing
       by true t = read t (numberAt code (at + 1)) refl
       by false t = fetch-alone code at inside t ∙ ap (λ o. decoded o (at + 1)) (h 0)
 
   module _ (byte : ℕ) (is : getD code at 0 ≡ byte) where
-    pub read-alone : hasOperand byte ≡ false → fetch code at ≡ decoded (instructionOf byte 0) (at + 1)
+    pub read-alone : hasOperand byte ≡ false → fetchOne code at ≡ decoded (instructionOf byte 0) (at + 1)
     read-alone has = fetch-alone code at inside (ap hasOperand is ∙ has) ∙ rw is
 
     module _ (has : hasOperand byte ≡ true) where
-      pub read-with : (n next : ℕ) → numberAt code (at + 1) ≡ got n next → fetch code at ≡ decoded (instructionOf byte n) next
+      pub read-with : (n next : ℕ) → numberAt code (at + 1) ≡ got n next → fetchOne code at ≡ decoded (instructionOf byte n) next
       read-with n next e = fetch-number code at n next inside (ap hasOperand is ∙ has) e ∙ rw is
 
-      pub read-malformed : numberAt code (at + 1) ≡ nothing → fetch code at ≡ nothing
+      pub read-malformed : numberAt code (at + 1) ≡ nothing → fetchOne code at ≡ nothing
       read-malformed e = fetch-malformed code at inside (ap hasOperand is ∙ has) e
 
 -- ---- operands of one byte
 
 module _ (code : List ℕ) (at byte : ℕ) (is : getD code at 0 ≡ byte) (i : Instruction) where
   -- a code byte and an operand of one byte
-  pub short-fetch : at + 1 < length code → hasOperand byte ≡ true → getD code (at + 1) 0 < 128 → instructionOf byte (getD code (at + 1) 0) ≡ some i → fetch code at ≡ got i (at + 2)
+  pub short-fetch : at + 1 < length code → hasOperand byte ≡ true → getD code (at + 1) 0 < 128 → instructionOf byte (getD code (at + 1) 0) ≡ some i → fetchOne code at ≡ got i (at + 2)
   short-fetch l has s e =
       let two : at + 1 + 1 ≡ at + 2 = omega arith in
       fetch-number code at (getD code (at + 1) 0) (at + 1 + 1) (omega arith) (ap hasOperand is ∙ has) (one-group code (at + 1) l s) ∙ rw (is, e, two)
 
   -- a code byte alone
-  lone-fetch : at < length code → hasOperand byte ≡ false → instructionOf byte 0 ≡ some i → fetch code at ≡ got i (at + 1)
+  lone-fetch : at < length code → hasOperand byte ≡ false → instructionOf byte 0 ≡ some i → fetchOne code at ≡ got i (at + 1)
   lone-fetch l has e = fetch-alone code at l (ap hasOperand is ∙ has) ∙ rw (is, e)
 
 module _ (code : List ℕ) (at : ℕ) where
-  pub constant-ahead : at + 1 < length code → getD code at 0 ≡ 1 → getD code (at + 1) 0 < 128 → fetch code at ≡ got (constant (unzigzag (getD code (at + 1) 0))) (at + 2)
+  pub constant-ahead : at + 1 < length code → getD code at 0 ≡ 1 → getD code (at + 1) 0 < 128 → fetchOne code at ≡ got (constant (unzigzag (getD code (at + 1) 0))) (at + 2)
   unfolding instructionOf hasOperand
   constant-ahead l is s = short-fetch code at 1 is (constant (unzigzag (getD code (at + 1) 0))) l refl s refl
 
 module _ (code : List ℕ) (at : ℕ) where
-  pub second-is : at + 4 < length code → getD code (at + 2) 0 ≡ 1 → getD code (at + 3) 0 < 128 → fetch code (at + 2) ≡ got (constant (unzigzag (getD code (at + 3) 0))) (at + 4)
+  pub second-is : at + 4 < length code → getD code (at + 2) 0 ≡ 1 → getD code (at + 3) 0 < 128 → fetchOne code (at + 2) ≡ got (constant (unzigzag (getD code (at + 3) 0))) (at + 4)
   second-is l is s =
       let p : at + 2 + 1 ≡ at + 3 = omega arith in
       let q : at + 2 + 2 ≡ at + 4 = omega arith in
       let s₁ : getD code (at + 2 + 1) 0 < 128 = rw p s in
       rw (p, q) at (constant-ahead code (at + 2) (omega arith) is s₁)
 
-  pub third-is : at + 4 < length code → 10 ≤ getD code (at + 4) 0 → getD code (at + 4) 0 ≤ 15 → fetch code (at + 4) ≡ got (comparison (comparisonOf (getD code (at + 4) 0))) (at + 5)
+  pub third-is : at + 4 < length code → 10 ≤ getD code (at + 4) 0 → getD code (at + 4) 0 ≤ 15 → fetchOne code (at + 4) ≡ got (comparison (comparisonOf (getD code (at + 4) 0))) (at + 5)
   third-is l a z =
       let q : at + 4 + 1 ≡ at + 5 = omega arith in
       let has : hasOperand (getD code (at + 4) 0) ≡ false = no-operand (getD code (at + 4) 0) (omega arith) (omega arith) in
       rw q at (lone-fetch code (at + 4) (getD code (at + 4) 0) refl (comparison (comparisonOf (getD code (at + 4) 0))) l has (comparison-of (getD code (at + 4) 0) 0 a z))
 
-  pub operation-third : at + 2 < length code → 4 ≤ getD code (at + 2) 0 → getD code (at + 2) 0 ≤ 8 → fetch code (at + 2) ≡ got (operation (operationOf (getD code (at + 2) 0))) (at + 3)
+  pub operation-third : at + 2 < length code → 4 ≤ getD code (at + 2) 0 → getD code (at + 2) 0 ≤ 8 → fetchOne code (at + 2) ≡ got (operation (operationOf (getD code (at + 2) 0))) (at + 3)
   operation-third l a z =
       let q : at + 2 + 1 ≡ at + 3 = omega arith in
       let has : hasOperand (getD code (at + 2) 0) ≡ false = no-operand (getD code (at + 2) 0) a (omega arith) in

@@ -11,7 +11,7 @@ use lib.ListN.{length}
 use Rattle.arith.specs.Values.{ok, refusal}
 use Rattle.semantics.specs.Program.{Range}
 use Rattle.semantics.specs.Formula.{State}
-use Rattle.bytecode.specs.Instructions.{Instruction, decoded, fetch}
+use Rattle.bytecode.specs.Instructions.{Instruction, decoded, fetchOne}
 use Rattle.machine.specs.declared.Registers.{Registers}
 use Rattle.machine.specs.Step.{Machine}
 use Rattle.machine.specs.Runs.{ran, afterStep, run}
@@ -31,7 +31,7 @@ pub record Going (code : List ℕ) (low high prev cur₀ vals₀ : List ℤ) (fr
   pub goes : (ns : List Range) → RangesIn ns low high → run ns prev code budget from 0 (machineOf m vals₀ cur₀) ≡ run ns prev code (budget - done) at done (machineOf k vals cur)
 
 -- one instruction of a run, given the bytes that were fetched
-pub run-fetched : (ns : List Range) (s : State) (code : List ℕ) (budget at n : ℕ) (m : Machine) (o : Option Instruction) (next : ℕ) → decoded o next ≡ fetch code at → at < length code → 0 < budget
+pub run-fetched : (ns : List Range) (s : State) (code : List ℕ) (budget at n : ℕ) (m : Machine) (o : Option Instruction) (next : ℕ) → decoded o next ≡ fetchOne code at → at < length code → 0 < budget
     → run ns s code budget at n m ≡ afterStep (stepped ns s o m) (n + 1) at (λ m₁. run ns s code (budget - 1) next (n + 1) m₁)
 run-fetched ns s code zero at n m o next f l p = absurd (omega arith)
 run-fetched ns s code (suc budget) at n m none next f l p = run-broken ns s code (suc budget) at n m l (sym f) p

@@ -14,7 +14,7 @@ use Rattle.semantics.specs.ReferenceScan.{ranged, moves, stays, picked}
 use Rattle.arith.proofs.Basics.{Bound, bound, unbind, passed}
 use Rattle.semantics.proofs.Unique.{allWithin-at, allWithin-set}
 use Rattle.leb128.specs.Numbers.{Read, got, nothing}
-use Rattle.bytecode.specs.Instructions.{Instruction, constant, current, previous, operation, negate, comparison, negated, both, either, gate, pick, assign, settle, fetch}
+use Rattle.bytecode.specs.Instructions.{Instruction, constant, current, previous, operation, negate, comparison, negated, both, either, gate, pick, assign, settle, timer, fetchOne}
 use Rattle.machine.specs.Step.{Machine, machine, yes, push, pop, gated, settled, perform, step}
 use Rattle.machine.specs.Runs.{Ran, ran, afterStep, afterFetch, run}
 
@@ -82,6 +82,7 @@ module _ (ns : List Range) (s : State) (old : Within ns s) where
   perform-within (pick side v) c vs t w = pop-within vs _ λ x vs₁. cond-within (ltb v (length ns)) _ (bind-within (picked side ns s v x) _ λ z e. set-within t v z w (picked-within side v x z e))
   perform-within (assign v) c vs t w = pop-within vs _ λ x vs₁. cond-within (ltb v (length ns)) _ (bind-within (ranged ns v x) _ λ z e. set-within t v z w (ranged-within v x z e))
   perform-within (settle v) c vs t w = cond-within (ltb v (length ns)) _ (settled-within v c vs t w)
+  perform-within (timer u v n) c vs t w = tt
 
   pub step-within : (i : Instruction) (m : Machine) → Within ns (currentOf m) → AllWithin ns (step ns s i m)
   step-within i (machine false c vs t) w = perform-within i c vs t w
@@ -89,7 +90,7 @@ module _ (ns : List Range) (s : State) (old : Within ns s) where
 
   pub run-within : (code : List ℕ) (budget at n : ℕ) (m : Machine) → Within ns (currentOf m) → AllWithin ns (run ns s code budget at n m .last)
   run-within code zero at n m w = w
-  run-within code (suc budget) at n m w = inside (ltb at (length code)) _ (fetched (fetch code at) (λ next m₁ w₁. run-within code budget next (n + 1) m₁ w₁))
+  run-within code (suc budget) at n m w = inside (ltb at (length code)) _ (fetched (fetchOne code at) (λ next m₁ w₁. run-within code budget next (n + 1) m₁ w₁))
     where
       stepped : (o : Outcome Machine) (next : ℕ) → AllWithin ns o → ((m₁ : Machine) → Within ns (currentOf m₁) → AllWithin ns (run ns s code budget next (n + 1) m₁ .last))
           → AllWithin ns (afterStep o (n + 1) at (λ m₁. run ns s code budget next (n + 1) m₁) .last)

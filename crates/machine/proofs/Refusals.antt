@@ -17,9 +17,10 @@ use Rattle.semantics.specs.Program.{Range, Side, changing, rising, falling, wit
 use Rattle.semantics.specs.Formula.{State, at}
 use Rattle.semantics.specs.ReferenceScan.{ranged, moves, stays, picked}
 use Rattle.arith.proofs.Basics.{T-true, and-left, and-right, ok≢refusal}
-use Rattle.bytecode.specs.Instructions.{Instruction, constant, current, previous, operation, negate, comparison, negated, both, either, gate, pick, assign, settle}
-use Rattle.bytecode.specs.Signature.{Sort, Role, pushes, computes, tests, opens, picks, lets, settles, signature}
+use Rattle.bytecode.specs.Instructions.{Instruction, constant, current, previous, operation, negate, comparison, negated, both, either, gate, pick, assign, settle, timer}
+use Rattle.bytecode.specs.Signature.{Sort, Role, pushes, computes, tests, opens, picks, lets, settles, times, signature}
 use Rattle.bytecode.specs.Check.{Picks, Known, known, one, empty, unset, closed, fresh, opened, admits, advance, checkCode}
+use Rattle.bytecode.proofs.Timeless.{TimelessIn, timeless-one, suits-no-timer}
 use Rattle.bytecode.proofs.RoundTrip.{fetch-next}
 use Rattle.bytecode.proofs.Soundness.{some-inj, none≢some, guard-some, idsOf, known-inside, advance-small, third}
 use Rattle.bytecode.proofs.Exactly.{taking-shape}
@@ -142,6 +143,7 @@ over-in opens rest o ids d c ms t e h = none≢some d e
 over-in (picks side v) rest o ids d c ms t e h = moved (known [] false (some (record { side = side; id = v })) ids) d (machine false c ms t) (guard-some (true && empty rest && unset ids v && fresh o side v) _ d e .1) (rw h)
 over-in (lets v) rest o ids d c ms t e h = none≢some d e
 over-in (settles v) rest o ids d c ms t e h = none≢some d e
+over-in (times u v n) rest o ids d c ms t e h = none≢some d e
 
 over-keeps : (i : Instruction) (vs : List Sort) (o : Option Picks) (ids : List Bool) (d : Known) (c : Bool) (ms : List ℤ) (t : State)
     → advance i (known vs true o ids) ≡ some d → ms ≡ [] → Matches d (machine (not (isPick i)) c ms t)
@@ -173,82 +175,85 @@ module _ (ns : List Range) (s : State) where
     unset-declared v h = omega (arith, ltb→lt v (length ids) (and-left (ltb v (length ids)) (not (getD ids v false)) h))
 
     -- an instruction that is not passed over
-    perform-keeps : (i : Instruction) (vs : List Sort) (g : Bool) (o : Option Picks) (d : Known) (c : Bool) (ms : List ℤ) (t : State) → length ms ≡ length vs
+    perform-keeps : (i : Instruction) (vs : List Sort) (g : Bool) (o : Option Picks) (d : Known) (c : Bool) (ms : List ℤ) (t : State) → TimelessIn (signature i .role) → length ms ≡ length vs
         → advance i (known vs g o ids) ≡ some d → Kept d (perform ns s i c ms t)
-    perform-keeps (constant z) vs g o d c ms t l e = held-kept z c ms t vs g o ids (λ flags. isInt32 z) d l e
-    perform-keeps (current i) vs g o d c ms t l e =
+    perform-keeps (constant z) vs g o d c ms t y l e = held-kept z c ms t vs g o ids (λ flags. isInt32 z) d l e
+    perform-keeps (current i) vs g o d c ms t y l e =
         let h = guard-some (getD ids i false && ltb (length vs) 40) _ d e in
         let k : i < length ids = known-inside ids i (T-true _ (and-left (getD ids i false) _ (h .0))) in
         declared-kept i _ d (omega arith) (held-kept (at t i) c ms t vs g o ids (λ flags. getD flags i false) d l e)
-    perform-keeps (previous i) vs g o d c ms t l e =
+    perform-keeps (previous i) vs g o d c ms t y l e =
         let h = guard-some (ltb i (length ids) && ltb (length vs) 40) _ d e in
         let k : i < length ids = ltb→lt i (length ids) (and-left (ltb i (length ids)) _ (h .0)) in
         declared-kept i _ d (omega arith) (held-kept (at s i) c ms t vs g o ids (λ flags. ltb i (length flags)) d l e)
-    perform-keeps (operation x) vs g o d c ms t l e =
+    perform-keeps (operation x) vs g o d c ms t y l e =
         popped Sort.number ms vs _ _ d l e λ b ms₁ vs₁ l₁ e₁. popped Sort.number ms₁ vs₁ _ _ d l₁ e₁ λ a ms₂ vs₂ l₂ e₂.
         kept-bind (arithmetic x a b) _ d (λ k h. arithmetic-rules x a b k h) λ z.
         moved (known (Sort.number ∷ vs₂) g o ids) d (machine false c (z ∷ ms₂) t) (some-inj e₂) (ap suc l₂)
-    perform-keeps negate vs g o d c ms t l e =
+    perform-keeps negate vs g o d c ms t y l e =
         popped Sort.number ms vs _ _ d l e λ a ms₁ vs₁ l₁ e₁.
         kept-bind (negation a) _ d (λ k h. negation-rules a k h) λ z.
         moved (known (Sort.number ∷ vs₁) g o ids) d (machine false c (z ∷ ms₁) t) (some-inj e₁) (ap suc l₁)
-    perform-keeps (comparison x) vs g o d c ms t l e =
+    perform-keeps (comparison x) vs g o d c ms t y l e =
         popped Sort.number ms vs _ _ d l e λ b ms₁ vs₁ l₁ e₁. popped Sort.number ms₁ vs₁ _ _ d l₁ e₁ λ a ms₂ vs₂ l₂ e₂.
         moved (known (Sort.truth ∷ vs₂) g o ids) d (machine false c (bit (compares x a b) ∷ ms₂) t) (guard-some (not g) _ d e₂ .1) (ap suc l₂)
-    perform-keeps negated vs g o d c ms t l e =
+    perform-keeps negated vs g o d c ms t y l e =
         popped Sort.truth ms vs _ _ d l e λ a ms₁ vs₁ l₁ e₁.
         moved (known (Sort.truth ∷ vs₁) g o ids) d (machine false c (bit (not (yes a)) ∷ ms₁) t) (guard-some (not g) _ d e₁ .1) (ap suc l₁)
-    perform-keeps both vs g o d c ms t l e =
+    perform-keeps both vs g o d c ms t y l e =
         popped Sort.truth ms vs _ _ d l e λ b ms₁ vs₁ l₁ e₁. popped Sort.truth ms₁ vs₁ _ _ d l₁ e₁ λ a ms₂ vs₂ l₂ e₂.
         moved (known (Sort.truth ∷ vs₂) g o ids) d (machine false c (bit (yes a && yes b) ∷ ms₂) t) (guard-some (not g) _ d e₂ .1) (ap suc l₂)
-    perform-keeps either vs g o d c ms t l e =
+    perform-keeps either vs g o d c ms t y l e =
         popped Sort.truth ms vs _ _ d l e λ b ms₁ vs₁ l₁ e₁. popped Sort.truth ms₁ vs₁ _ _ d l₁ e₁ λ a ms₂ vs₂ l₂ e₂.
         moved (known (Sort.truth ∷ vs₂) g o ids) d (machine false c (bit (yes a || yes b) ∷ ms₂) t) (guard-some (not g) _ d e₂ .1) (ap suc l₂)
-    perform-keeps gate vs g o d c ms t l e = popped Sort.truth ms vs _ _ d l e λ a ms₁ vs₁ l₁ e₁.
+    perform-keeps gate vs g o d c ms t y l e = popped Sort.truth ms vs _ _ d l e λ a ms₁ vs₁ l₁ e₁.
         let q = guard-some (not g && empty vs₁) _ d e₁ in
         gate-kept (yes a) c ms₁ t o ids d (q .1) (empty-nil vs₁ ms₁ l₁ (and-right (not g) _ (q .0)))
-    perform-keeps (pick side v) vs g o d c ms t l e = popped Sort.number ms vs _ _ d l e λ x ms₁ vs₁ l₁ e₁.
+    perform-keeps (pick side v) vs g o d c ms t y l e = popped Sort.number ms vs _ _ d l e λ x ms₁ vs₁ l₁ e₁.
         let q = guard-some (g && empty vs₁ && unset ids v && fresh o side v) _ d e₁ in
         let nil : ms₁ ≡ [] = empty-nil vs₁ ms₁ l₁ (second g (empty vs₁) (unset ids v) (fresh o side v) (q .0)) in
         declared-kept v _ d (unset-declared v (third g (empty vs₁) (unset ids v) (fresh o side v) (q .0)))
         (kept-bind (picked side ns s v x) _ d (λ k h. picked-rules side ns s v x k h) λ z.
         moved (known [] false (some (record { side = side; id = v })) ids) d (machine false true ms₁ (set t v z)) (q .1) (none-held ms₁ nil))
-    perform-keeps (assign v) vs g o d c ms t l e = popped Sort.number ms vs _ _ d l e λ x ms₁ vs₁ l₁ e₁.
+    perform-keeps (assign v) vs g o d c ms t y l e = popped Sort.number ms vs _ _ d l e λ x ms₁ vs₁ l₁ e₁.
         let q = guard-some (not g && empty vs₁ && unset ids v && closed o) _ d e₁ in
         let nil : ms₁ ≡ [] = empty-nil vs₁ ms₁ l₁ (second (not g) (empty vs₁) (unset ids v) (closed o) (q .0)) in
         declared-kept v _ d (unset-declared v (third (not g) (empty vs₁) (unset ids v) (closed o) (q .0)))
         (kept-bind (ranged ns v x) _ d (λ k h. ranged-rules ns v x k h) λ z.
         moved (known [] false none (set ids v true)) d (machine false c ms₁ (set t v z)) (q .1) (none-held ms₁ nil))
-    perform-keeps (settle v) vs g o d c ms t l e =
+    perform-keeps (settle v) vs g o d c ms t y l e =
         let q = guard-some (not g && empty vs && unset ids v && opened o v) _ d e in
         let nil : ms ≡ [] = empty-nil vs ms l (second (not g) (empty vs) (unset ids v) (opened o v) (q .0)) in
         declared-kept v _ d (unset-declared v (third (not g) (empty vs) (unset ids v) (opened o v) (q .0)))
         (settled-kept v (at s v) c ms t d none (set ids v true) (q .1) nil)
+    perform-keeps (timer u v n) vs g o d c ms t y l e = absurd y
 
-  pub step-keeps : (i : Instruction) (c d : Known) (m : Machine) → length (idsOf c) ≡ length ns → advance i c ≡ some d → Matches c m → Kept d (step ns s i m)
-  step-keeps i (known vs g o ids) d (machine false c ms t) l e h = perform-keeps ids l i vs g o d c ms t h e
-  step-keeps i (known vs g o ids) d (machine true c ms t) l e h = over-keeps i vs o ids d c ms t (subst (λ b. advance i (known vs b o ids) ≡ some d) (h .0) e) (h .1)
+  pub step-keeps : (i : Instruction) (c d : Known) (m : Machine) → TimelessIn (signature i .role) → length (idsOf c) ≡ length ns → advance i c ≡ some d → Matches c m → Kept d (step ns s i m)
+  step-keeps i (known vs g o ids) d (machine false c ms t) y l e h = perform-keeps ids l i vs g o d c ms t y h e
+  step-keeps i (known vs g o ids) d (machine true c ms t) y l e h = over-keeps i vs o ids d c ms t (subst (λ b. advance i (known vs b o ids) ≡ some d) (h .0) e) (h .1)
 
   -- the run of code that the walk finds sound, with any budget
-  pub run-by-rules : (base : ℕ) (code : List ℕ) (budget f at n : ℕ) (c : Known) (m : Machine) → length (idsOf c) ≡ length ns → length ns ≤ 64 → length code ≤ at + f
-      → checkCode base code f at c ≡ accepted tt → Matches c m → RefusedByRules (run ns s code budget at n m .last)
-  run-by-rules base code zero f at n c m i few l e h = tt
-  run-by-rules base code (suc budget) f at n c m i few l e h = inside (ltb at (length code)) refl f l e (λ f₁ next c₁ m₁ i₁ l₁ e₁ h₁. run-by-rules base code budget f₁ next (n + 1) c₁ m₁ i₁ few l₁ e₁ h₁)
+  pub run-by-rules : (base : ℕ) (code : List ℕ) (budget f at n : ℕ) (last : Option Instruction) (c : Known) (m : Machine) → length (idsOf c) ≡ length ns → length ns ≤ 64 → length code ≤ at + f
+      → checkCode ns base code f at last c ≡ accepted tt → Matches c m → RefusedByRules (run ns s code budget at n m .last)
+  run-by-rules base code zero f at n last c m i few l e h = tt
+  run-by-rules base code (suc budget) f at n last c m i few l e h =
+      inside (ltb at (length code)) refl f l e (λ f₁ next last₁ c₁ m₁ i₁ l₁ e₁ h₁. run-by-rules base code budget f₁ next (n + 1) last₁ c₁ m₁ i₁ few l₁ e₁ h₁)
     where
       stepped : (f₁ next : ℕ) (c₁ : Known) (o : Outcome Machine) → Kept c₁ o
           → ((m₁ : Machine) → Matches c₁ m₁ → RefusedByRules (run ns s code budget next (n + 1) m₁ .last)) → RefusedByRules (afterStep o (n + 1) at (λ m₁. run ns s code budget next (n + 1) m₁) .last)
       stepped f₁ next c₁ (ok m₁) k ih = ih m₁ k
       stepped f₁ next c₁ (refusal r) k ih = k
 
-      inside : (b : Bool) → ltb at (length code) ≡ b → (f : ℕ) → length code ≤ at + f → checkCode base code f at c ≡ accepted tt
-          → ((f₁ next : ℕ) (c₁ : Known) (m₁ : Machine) → length (idsOf c₁) ≡ length ns → length code ≤ next + f₁ → checkCode base code f₁ next c₁ ≡ accepted tt → Matches c₁ m₁ → RefusedByRules (run ns s code budget next (n + 1) m₁ .last))
+      inside : (b : Bool) → ltb at (length code) ≡ b → (f : ℕ) → length code ≤ at + f → checkCode ns base code f at last c ≡ accepted tt
+          → ((f₁ next : ℕ) (last₁ : Option Instruction) (c₁ : Known) (m₁ : Machine) → length (idsOf c₁) ≡ length ns → length code ≤ next + f₁ → checkCode ns base code f₁ next last₁ c₁ ≡ accepted tt → Matches c₁ m₁ → RefusedByRules (run ns s code budget next (n + 1) m₁ .last))
           → RefusedByRules (run ns s code (suc budget) at n m .last)
       inside false b f l e ih = rw b tt
       inside true b zero l e ih = let x : ⊥ = omega (arith, ltb-true at (length code) b) in absurd x
       inside true b (suc f₁) l e ih =
-          let x = check-stepped base code f₁ at c (ltb-true at (length code) b) e in
+          let x = check-stepped ns base code f₁ at last c (ltb-true at (length code) b) e in
+          let y = suits-no-timer ns last (signature (x .instruction) .role) (x .suited) in
           let a = advance-small (x .instruction) c (x .after) (omega arith) (x .advanced) in
           let j : length (idsOf (x .after)) ≡ length (idsOf c) = a .1 in
-          rw (b, x .fetched)
-          (stepped f₁ (x .next) (x .after) (step ns s (x .instruction) m) (step-keeps (x .instruction) c (x .after) m i (x .advanced) h)
-          λ m₁ h₁. ih f₁ (x .next) (x .after) m₁ (j ∙ i) (omega (arith, fetch-next code at (x .instruction) (x .next) (x .fetched) .1)) (x .goes) h₁)
+          rw (b, timeless-one code at (x .instruction) (x .next) (x .fetched) y)
+          (stepped f₁ (x .next) (x .after) (step ns s (x .instruction) m) (step-keeps (x .instruction) c (x .after) m y i (x .advanced) h)
+          λ m₁ h₁. ih f₁ (x .next) (some (x .instruction)) (x .after) m₁ (j ∙ i) (omega (arith, fetch-next code at (x .instruction) (x .next) (x .fetched) .1)) (x .goes) h₁)

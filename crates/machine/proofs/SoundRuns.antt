@@ -2,6 +2,7 @@
 use mathlib.Core.Path.{_≡_, refl}
 use mathlib.Core.Bool.{false}
 use mathlib.Core.List.{List, []}
+use mathlib.Core.Option.{none}
 use Prim.Native.Nat.{ℕ}
 use native.Mathlib.Omega.{arith}
 use lib.ListN.{length}
@@ -17,7 +18,7 @@ use Rattle.machine.specs.Runs.{Ran, run}
 use Rattle.machine.proofs.Refusals.{RefusedByRules, run-by-rules}
 use Rattle.machine.proofs.Ranges.{Within, AllWithin, run-within}
 
-body-code : (image : List ℕ) (h : Header) → headerOf image ≡ h → checkBody image h ≡ accepted tt → checkCode (h .place) (codeOf image) (length (codeOf image)) 0 (atStart h) ≡ accepted tt
+body-code : (image : List ℕ) (h : Header) → headerOf image ≡ h → checkBody image h ≡ accepted tt → checkCode (h .ranges) (h .place) (codeOf image) (length (codeOf image)) 0 none (atStart h) ≡ accepted tt
 unfolding checkBody codeOf
 body-code image h e b = rw e b
 
@@ -31,7 +32,7 @@ sound-by-rules image e s t budget =
     let y = check-sound image e in
     let q : headerOf image ≡ y .header = header-is image y in
     rw q
-    (run-by-rules (y .header .ranges) s (y .header .place) (codeOf image) budget (length (codeOf image)) 0 0 (atStart (y .header)) (machine false false [] t)
+    (run-by-rules (y .header .ranges) s (y .header .place) (codeOf image) budget (length (codeOf image)) 0 0 none (atStart (y .header)) (machine false false [] t)
     (length-known (y .header .inputs) (length (y .header .ranges))) (y .fits .few) (omega arith) (body-code image (y .header) q (y .body)) refl)
 
 -- ranges are preserved

@@ -23,6 +23,7 @@ use Rattle.semantics.proofs.Untimed.{plainRules}
 use Rattle.bytecode.specs.Instructions.{Instruction, constant, current, previous, operation, negate, comparison, negated, both, either, gate, pick, encode, encodeAll}
 use Rattle.bytecode.specs.Translation.{codeE, codeC, codeCase, codeK, codeR, codeRules, depthE, depthC, ShallowK, ShallowR, Shallow}
 use Rattle.leb128.proofs.RoundTrip.{drop-behind}
+use Rattle.bytecode.proofs.Timeless.{Timeless, timeless-one}
 use Rattle.bytecode.proofs.RoundTrip.{AllSmall, fetch-encoded, length-encode, encoded-inside}
 use Rattle.bytecode.proofs.Soundness.{known-inside}
 use Rattle.machine.specs.Step.{Machine, machine, bit, yes, push, gated, settled, step}
@@ -166,17 +167,17 @@ module _ (ns : List Range) (s : State) where
       ∙ sym (bind-assoc (newValue ns s t r) (λ z. plainRules ns s (set t (target r) z) rs) _)
 
   -- the bytes of instructions run as the instructions
-  pub run-exec : (code : List ℕ) (is : List Instruction) (budget at n : ℕ) (m : Machine) → drop at code ≡ encodeAll is → AllSmall is → length (encodeAll is) ≤ budget
+  pub run-exec : (code : List ℕ) (is : List Instruction) (budget at n : ℕ) (m : Machine) → drop at code ≡ encodeAll is → AllSmall is → Timeless is → length (encodeAll is) ≤ budget
       → run ns s code budget at n m .last ≡ exec ns s is m
-  run-exec code [] zero at n m h a l = refl
-  run-exec code [] (suc budget) at n m h a l =
+  run-exec code [] zero at n m h a u l = refl
+  run-exec code [] (suc budget) at n m h a u l =
       let k : length (drop at code) ≡ 0 = ap length h in
       let j : length code - at ≡ 0 = rw length-drop at k in
       rw (le-ltb at (length code) (omega arith))
-  run-exec code (i ∷ is) zero at n m h a l = let b : ⊥ = omega (arith, length-encode i, simp length-append at l) in absurd b
-  run-exec code (i ∷ is) (suc budget) at n m h a l =
-      rw (lt-ltb at (length code) (encoded-inside code at i (encodeAll is) h), fetch-encoded code at i (encodeAll is) (a .0) h)
-      (go (step ns s i m) λ m₁. run-exec code is budget (at + length (encode i)) (n + 1) m₁ (drop-behind code at (encode i) (encodeAll is) h) (a .1) (omega (arith, length-encode i, simp length-append at l)))
+  run-exec code (i ∷ is) zero at n m h a u l = let b : ⊥ = omega (arith, length-encode i, simp length-append at l) in absurd b
+  run-exec code (i ∷ is) (suc budget) at n m h a u l =
+      rw (lt-ltb at (length code) (encoded-inside code at i (encodeAll is) h), timeless-one code at i (at + length (encode i)) (fetch-encoded code at i (encodeAll is) (a .0) h) (u .0))
+      (go (step ns s i m) λ m₁. run-exec code is budget (at + length (encode i)) (n + 1) m₁ (drop-behind code at (encode i) (encodeAll is) h) (a .1) (u .1) (omega (arith, length-encode i, simp length-append at l)))
     where
       go : (o : Outcome Machine) → ((m₁ : Machine) → run ns s code budget (at + length (encode i)) (n + 1) m₁ .last ≡ exec ns s is m₁)
           → afterStep o (n + 1) at (λ m₁. run ns s code budget (at + length (encode i)) (n + 1) m₁) .last ≡ (o >>= λ m₁. exec ns s is m₁)

@@ -12,8 +12,8 @@ use Rattle.arith.specs.Values.{Outcome, ok, refusal, _>>=_, eqZ, arithmetic, ne
 use Rattle.semantics.specs.Program.{Range}
 use Rattle.semantics.specs.Formula.{State, at}
 use Rattle.semantics.specs.ReferenceScan.{ranged, picked}
-use Rattle.bytecode.specs.Instructions.{Instruction, constant, current, previous, operation, negate, comparison, negated, both, either, gate, pick, assign, settle}
-use Rattle.bytecode.specs.Signature.{Role, pushes, computes, tests, opens, picks, lets, settles, signature}
+use Rattle.bytecode.specs.Instructions.{Instruction, constant, current, previous, operation, negate, comparison, negated, both, either, gate, pick, assign, settle, timer}
+use Rattle.bytecode.specs.Signature.{Role, pushes, computes, tests, opens, picks, lets, settles, times, signature}
 
 -- Whether instructions are passed over up to the next pick; whether the variable at hand was picked; the values held, the last
 -- first; the current values.
@@ -57,6 +57,7 @@ endsPassing opens = false
 endsPassing (picks side v) = true
 endsPassing (lets v) = false
 endsPassing (settles v) = false
+endsPassing (times t w n) = false
 
 abbrev pub isPick : Instruction → Bool
 isPick i = endsPassing (signature i .role)
@@ -82,6 +83,8 @@ module _ (ns : List Range) (s : State) where
   perform (pick side v) c vs t = pop vs λ x vs₁. declared v (picked side ns s v x >>= λ z. ok (machine false true vs₁ (set t v z)))
   perform (assign v) c vs t = pop vs λ x vs₁. declared v (ranged ns v x >>= λ z. ok (machine false c vs₁ (set t v z)))
   perform (settle v) c vs t = declared v (ok (settled v (at s v) c vs t))
+  -- timers are not worked yet: no 23 is sound
+  perform (timer u w n) c vs t = refusal brokenImage
 
   -- If the gate's condition is false, all instructions up to and including the next pick count a step each and do nothing else.
   abbrev pub step : Instruction → Machine → Outcome Machine

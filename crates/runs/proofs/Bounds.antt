@@ -13,7 +13,7 @@ use Rattle.semantics.specs.Program.{Side, Range, within, noRange, rangeAt}
 use Rattle.semantics.specs.Formula.{State, at}
 use Rattle.semantics.specs.ReferenceScan.{ranged, moves, stays, picked}
 use Rattle.leb128.specs.Numbers.{Read, got, nothing}
-use Rattle.bytecode.specs.Instructions.{Instruction, constant, current, previous, operation, negate, comparison, negated, both, either, gate, pick, assign, settle, fetch}
+use Rattle.bytecode.specs.Instructions.{Instruction, constant, current, previous, operation, negate, comparison, negated, both, either, gate, pick, assign, settle, timer, fetchOne}
 use Rattle.bytecode.specs.Parts.{lows, highs}
 use Rattle.machine.specs.Step.{Machine, machine, pop, declared, perform, step}
 use Rattle.machine.specs.Runs.{ran, afterStep, afterFetch, run}
@@ -72,6 +72,7 @@ module _ (ns ms : List Range) (a : Alike ns ms) (s : State) where
   perform-alike (assign v) c [] t = refl
   perform-alike (assign v) c (x ∷ vs) t = rw (count-alike, ranged-alike v x)
   perform-alike (settle v) c vs t = rw count-alike
+  perform-alike (timer u v n) c vs t = refl
 
   step-alike : (i : Instruction) (m : Machine) → step ns s i m ≡ step ms s i m
   step-alike i (machine false c vs t) = perform-alike i c vs t
@@ -93,7 +94,7 @@ module _ (ns ms : List Range) (a : Alike ns ms) (s : State) where
       fetched (got i next) ih = rw (step-alike i m) (stepped (step ms s i m) next (ih next))
 
       inside : (t : Bool) → ((next : ℕ) (m₁ : Machine) → run ns s code b next (n + 1) m₁ ≡ run ms s code b next (n + 1) m₁)
-          → cond t (afterFetch (fetch code at) (n + 1) at λ i next. afterStep (step ns s i m) (n + 1) at λ m₁. run ns s code b next (n + 1) m₁) (ran n at (ok m))
-          ≡ cond t (afterFetch (fetch code at) (n + 1) at λ i next. afterStep (step ms s i m) (n + 1) at λ m₁. run ms s code b next (n + 1) m₁) (ran n at (ok m))
-      inside true ih = fetched (fetch code at) ih
+          → cond t (afterFetch (fetchOne code at) (n + 1) at λ i next. afterStep (step ns s i m) (n + 1) at λ m₁. run ns s code b next (n + 1) m₁) (ran n at (ok m))
+          ≡ cond t (afterFetch (fetchOne code at) (n + 1) at λ i next. afterStep (step ms s i m) (n + 1) at λ m₁. run ms s code b next (n + 1) m₁) (ran n at (ok m))
+      inside true ih = fetched (fetchOne code at) ih
       inside false ih = refl

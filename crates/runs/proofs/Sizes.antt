@@ -13,7 +13,7 @@ use Rattle.arith.specs.Values.{Outcome, ok, refusal, _>>=_, arithmetic, negatio
 use Rattle.semantics.specs.Program.{Range}
 use Rattle.semantics.specs.Formula.{State, at}
 use Rattle.semantics.specs.ReferenceScan.{ranged, picked}
-use Rattle.bytecode.specs.Instructions.{Instruction, constant, current, previous, operation, negate, comparison, negated, both, either, gate, pick, assign, settle}
+use Rattle.bytecode.specs.Instructions.{Instruction, constant, current, previous, operation, negate, comparison, negated, both, either, gate, pick, assign, settle, timer}
 use Rattle.machine.specs.Step.{Machine, machine, yes, push, pop, gated, settled, perform, step}
 use Rattle.machine.specs.Runs.{run}
 use Rattle.machine.proofs.Laws.{run-end}
@@ -74,6 +74,7 @@ module _ (ns : List Range) (s : State) (w : ℕ) where
   perform-sized (assign v) c vs t l e =
       pop-sized vs _ l λ x vs₁ l₁. cond-sized (ltb v (length ns)) _ (bind-sized (ranged ns v x) _ λ z. (omega arith, length-set t v z ∙ e))
   perform-sized (settle v) c vs t l e = cond-sized (ltb v (length ns)) _ (settled-sized v (at s v) c vs t (l, e))
+  perform-sized (timer u v n) c vs t l e = tt
 
   step-sized : (i : Instruction) (m : Machine) → Sized w m → SizedIn w (step ns s i m)
   step-sized i (machine false c vs t) h = perform-sized i c vs t (h .0) (h .1)

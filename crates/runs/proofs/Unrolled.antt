@@ -12,18 +12,18 @@ use Rattle.arith.specs.Values.{Outcome, ok, refusal}
 use Rattle.semantics.specs.Program.{Range}
 use Rattle.semantics.specs.Formula.{State}
 use Rattle.leb128.specs.Numbers.{Read, got, nothing, numberAt}
-use Rattle.bytecode.specs.Instructions.{Instruction, instructionOf, hasOperand, decoded, fetch}
-use Rattle.bytecode.proofs.RoundTrip.{fetch-next}
+use Rattle.bytecode.specs.Instructions.{Instruction, instructionOf, hasOperand, decoded, fetchOne}
+use Rattle.bytecode.proofs.RoundTrip.{one-next}
 use Rattle.bytecode.proofs.Fetching.{number-within, fetch-alone, fetch-malformed, fetch-number}
 use Rattle.machine.specs.Step.{Machine, step}
 use Rattle.machine.specs.Runs.{ran, afterStep, afterFetch, run}
 
 -- an instruction ends inside the code
-pub fetch-inside : (code : List ℕ) (at : ℕ) (i : Instruction) (next : ℕ) → fetch code at ≡ got i next → next ≤ length code
+pub fetch-inside : (code : List ℕ) (at : ℕ) (i : Instruction) (next : ℕ) → fetchOne code at ≡ got i next → next ≤ length code
 fetch-inside code at i next e = by (hasOperand (getD code at 0)) refl
   where
     l : at < length code
-    l = fetch-next code at i next e .0
+    l = one-next code at i next e .0
 
     plain : (o : Option Instruction) (to : ℕ) → decoded o to ≡ got i next → to ≤ length code → next ≤ length code
     plain none to q h = let z : _≡_ {A = ℕ} 0 1 = cc in absurd (omega arith)
@@ -35,7 +35,7 @@ fetch-inside code at i next e = by (hasOperand (getD code at 0)) refl
 
     by : (b : Bool) → hasOperand (getD code at 0) ≡ b → next ≤ length code
     by true o = numbered (numberAt code (at + 1)) refl o
-    by false o = plain (instructionOf (getD code at 0) 0) (at + 1) (cc (fetch-alone code at l o)) (omega (arith, fetch-next code at i next e .0))
+    by false o = plain (instructionOf (getD code at 0) 0) (at + 1) (cc (fetch-alone code at l o)) (omega (arith, one-next code at i next e .0))
 
 -- at the end of the code; an instruction that is refused; one that goes on, at a place behind it
 pub data Unrolled (ns : List Range) (s : State) (code : List ℕ) (at : ℕ) (m : Machine) : Type 0 where
@@ -47,14 +47,14 @@ pub data Unrolled (ns : List Range) (s : State) (code : List ℕ) (at : ℕ) (m 
 pub unrolled : (ns : List Range) (s : State) (code : List ℕ) (at : ℕ) (m : Machine) → Unrolled ns s code at m
 unrolled ns s code at m = inside (ltb at (length code)) refl
   where
-    stepped : (o : Outcome Machine) (i : Instruction) (next : ℕ) → step ns s i m ≡ o → fetch code at ≡ got i next → at < length code → Unrolled ns s code at m
-    stepped (ok m₁) i next h f l = goes next m₁ i l (fetch-next code at i next f .1) (fetch-inside code at i next f) h (λ b n. rw (lt-ltb at (length code) l, f, h))
+    stepped : (o : Outcome Machine) (i : Instruction) (next : ℕ) → step ns s i m ≡ o → fetchOne code at ≡ got i next → at < length code → Unrolled ns s code at m
+    stepped (ok m₁) i next h f l = goes next m₁ i l (one-next code at i next f .1) (fetch-inside code at i next f) h (λ b n. rw (lt-ltb at (length code) l, f, h))
     stepped (refusal k) i next h f l = stops k l (λ b n. rw (lt-ltb at (length code) l, f, h))
 
-    fetched : (f : Read Instruction) → fetch code at ≡ f → at < length code → Unrolled ns s code at m
+    fetched : (f : Read Instruction) → fetchOne code at ≡ f → at < length code → Unrolled ns s code at m
     fetched nothing f l = stops 11 l (λ b n. rw (lt-ltb at (length code) l, f))
     fetched (got i next) f l = stepped (step ns s i m) i next refl f l
 
     inside : (t : Bool) → ltb at (length code) ≡ t → Unrolled ns s code at m
-    inside true e = fetched (fetch code at) refl (ltb-true at (length code) e)
+    inside true e = fetched (fetchOne code at) refl (ltb-true at (length code) e)
     inside false e = over (ltb-false at (length code) e)

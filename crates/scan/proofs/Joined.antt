@@ -13,6 +13,7 @@ use Rattle.semantics.specs.Formula.{State}
 use Rattle.semantics.specs.Shape.{allWithin}
 use Rattle.semantics.specs.ReferenceScan.{withInputs}
 use Rattle.bytecode.specs.Check.{known, checkHeader, checkCode, checkOf}
+use Rattle.bytecode.proofs.Timeless.{check-alike}
 use Rattle.bytecode.specs.Results.{HeaderStands}
 use Rattle.bytecode.proofs.SoundHeader.{SoundCounts, header-found}
 use Rattle.checker.proofs.Checking.{broken-header, walked-header}
@@ -34,7 +35,7 @@ use Rattle.scan.proofs.Images.{scan-refused, scan-wrong-state, scan-wro
 -- the copy before the run and behind it
 module _ (base : ℕ) (code : List ℕ) (low high found row w ws : List ℤ) (r : Ended) (copy : w ≡ withInputs found row) (lows : length low ≡ length found) (went : RunBy code low high found (length row) w ws r)
     (ns : List Range) (q : RangesIn ns low high) where
-  sized : (a : Answer (Unit {0})) → checkCode base code (length code) 0 (known [] false none (knownFirst (length row) (length low))) ≡ a → checkCode base code (length code) 0 (known [] false none (knownFirst (length row) (length found))) ≡ a
+  sized : (a : Answer (Unit {0})) → checkCode ns base code (length code) 0 none (known [] false none (knownFirst (length row) (length low))) ≡ a → checkCode ns base code (length code) 0 none (known [] false none (knownFirst (length row) (length found))) ≡ a
   sized a e = rw (← lows) e
 
   ran-is : ranOn ns code found row ≡ run ns found code (length code) 0 0 (machine false false [] w)
@@ -45,17 +46,17 @@ module _ (base : ℕ) (code : List ℕ) (low high found row w ws : List ℤ) (r 
   one-done n e left rows k o =
       let s : Succeeds code low high found (length row) w ws n = subst (λ x. RunBy code low high found (length row) w ws x) e went in
       let l : left ≡ ws = o ∙ over-all ws found (k ∙ ap length copy ∙ length-over row found rows) in
-      rw (sized (accepted tt) (s .sound base), ran-is ∙ s .went ns q, l)
+      rw (sized (accepted tt) (s .sound ns base), ran-is ∙ s .went ns q, l)
 
   pub one-refused : (k n : ℕ) → r ≡ E.Refused k n → afterScan (R.Refused k 0 n) found ≡ scannedAt base ns code found row
   one-refused k n e =
       let s : Fails code low high found (length row) w k n = subst (λ x. RunBy code low high found (length row) w ws x) e went in
-      rw (sized (accepted tt) (s .sound base), ran-is ∙ s .went ns q)
+      rw (sized (accepted tt) (s .sound ns base), ran-is ∙ s .went ns q)
 
   pub one-broken : (at : ℕ) → r ≡ E.Broken at → afterScan (R.Refused 11 (base + at) 0) found ≡ scannedAt base ns code found row
   one-broken at e =
       let s : BrokenCode code (length row) (length low) at × (at ≤ length code) = subst (λ x. RunBy code low high found (length row) w ws x) e went in
-      rw (sized (refused 11 (base + at)) (s .0 base))
+      rw (sized (refused 11 (base + at)) (s .0 ns base))
 
 -- how large steps and places are
 module _ (code : List ℕ) (low high found row w ws : List ℤ) (r : Ended) (went : RunBy code low high found (length row) w ws r) where
@@ -72,7 +73,8 @@ module _ (code : List ℕ) (low high found row w ws : List ℤ) (r : Ended) (wen
 
 pub values-joined : (image : List ℕ) (place : ℕ) (found : State) (row : List ℤ) → KnownHeader image place (length row) (length found) → (ns : List Range) → allWithin ns found ≡ true → allWithin ns row ≡ true
     → scannedAt place ns (drop place image) found row ≡ scannedBy (checkOf image) found (scannedIn ns (drop place image) found row)
-values-joined image place found row k ns a b = rw (walked-header image (k .short) (length row) (length found) place (k .ranges) (k .read) (k .many), a, b)
+values-joined image place found row k ns a b =
+    rw (walked-header image (k .short) (length row) (length found) place (k .ranges) (k .read) (k .many), a, b, check-alike (k .ranges) ns place (drop place image) (length (drop place image)) 0 none _)
 
 -- ---- the header
 

@@ -1,15 +1,22 @@
 -- Soundness place by place, as a walk meets it, of a whole image: for proofs. Document 01, "The image" (Sound). Assumes nothing.
 use Prim.Native.Nat.{ℕ, _+_, _≤_}
 use mathlib.Core.Path.{_≡_}
-use mathlib.Core.List.{List, _∷_, _++_}
+use mathlib.Core.List.{List, [], _∷_, _++_}
+use mathlib.Core.Option.{Option, none, some}
+use lib.Dec.{T}
 use lib.ListN.{length, drop}
 use Rattle.limits.specs.Limits.{nameLimit, imageLimit}
 use Rattle.leb128.specs.Numbers.{got, numberAt}
 use Rattle.bytecode.specs.Instructions.{Instruction}
 use Rattle.bytecode.specs.Translation.{RangesFit}
-use Rattle.bytecode.specs.Check.{Header, atStart}
+use Rattle.bytecode.specs.Check.{Header, atStart, suits}
 use Rattle.bytecode.specs.Sound.{RangesAt, SpellsCode}
 use Rattle.bytecode.specs.Allowed.{leftByAll, Allowed, Finished}
+
+-- the last of instructions
+abbrev pub lastOf : Option Instruction → List Instruction → Option Instruction
+lastOf last [] = last
+lastOf last (i ∷ is) = lastOf (some i) is
 
 pub record SoundByPlace (bytes : List ℕ) : Type 0 where
   -- at most 65,536 bytes
@@ -32,4 +39,5 @@ pub record SoundByPlace (bytes : List ℕ) : Type 0 where
   pub spells : SpellsCode (drop (header .place) bytes) 0 code
   -- what must hold at every instruction, after those before it
   pub places : (before : List Instruction) (i : Instruction) (after : List Instruction) → code ≡ before ++ i ∷ after → Allowed i (leftByAll before (atStart header))
+  pub suited : (before : List Instruction) (i : Instruction) (after : List Instruction) → code ≡ before ++ i ∷ after → T (suits (header .ranges) (lastOf none before) i)
   pub ends : Finished (leftByAll code (atStart header))

@@ -28,7 +28,7 @@ returns-3 : tie.Need-returns-3
 returns-3 c =
     let h = headed-stands (c .before .before .before .before .before .before .before .before .header .ensures) (c .before .before .before .inputs .given .1) in
     let n = c .before .before .before .inputs .given .0 in
-    (rw (walked-header (c .before .before .before .before .before .before .before .before .before .before .before .before .before .before .args .image .now) (c .before .before .before .before .before .before .before .before .before .before .before .before .if1 .left) (n .0) (n .1 .0) (n .1 .1 .0) (h .ranges) (h .read) (h .many), ← (rest-of (c .before .before .before .before .before .before .before .before .before .before .before .before .before .before .args .image .now) (n .1 .1 .0))) (c .check-code .ensures .0), c .check-code .ensures .1)
+    (rw (walked-header (c .before .before .before .before .before .before .before .before .before .before .before .before .before .before .args .image .now) (c .before .before .before .before .before .before .before .before .before .before .before .before .if1 .left) (n .0) (n .1 .0) (n .1 .1 .0) (h .ranges) (h .read) (h .many), ← (rest-of (c .before .before .before .before .before .before .before .before .before .before .before .before .before .before .args .image .now) (n .1 .1 .0))) (c .check-code .ensures .0 (h .ranges)), c .check-code .ensures .1)
 
 pub check-spec : {M : Type 1} → statement M
 check-spec =

@@ -15,11 +15,11 @@ add-t9 : tie.Need-add-t9
 add-t9 c = omega (arith, c .before .before .before .before .before .before .pre .2, subst (VerdictWithin (length (c .before .before .before .before .before .before .args .code .now))) (c .before .at .given .1) (c .before .before .before .walk-from .ensures .1))
 
 returns : tie.Need-returns
-returns c = (sym (ap (verdictAnswer (c .before .before .before .before .before .args .base)) (c .enum-told .given .1)) ∙ judges-whole _ _ _ (c .before .before .before .initial .result) (c .before .before .walk-from .result) (c .before .before .before .initial .ensures) (c .before .before .walk-from .ensures .0) (c .before .before .before .before .before .args .base), tt)
+returns c = (λ ns. sym (ap (verdictAnswer (c .before .before .before .before .before .args .base)) (c .enum-told .given .1)) ∙ judges-whole _ _ _ (c .before .before .before .initial .result) (c .before .before .walk-from .result) (c .before .before .before .initial .ensures) (c .before .before .walk-from .ensures .0) ns (c .before .before .before .before .before .args .base), tt)
 
 returns-2 : tie.Need-returns-2
 returns-2 c = (
-  sym (ap (verdictAnswer (c .before .before .before .before .before .before .args .base)) (c .before .at .given .1)) ∙ judges-whole _ _ _ (c .before .before .before .before .initial .result) (c .before .before .before .walk-from .result) (c .before .before .before .before .initial .ensures) (c .before .before .before .walk-from .ensures .0) (c .before .before .before .before .before .before .args .base),
+  λ ns. sym (ap (verdictAnswer (c .before .before .before .before .before .before .args .base)) (c .before .at .given .1)) ∙ judges-whole _ _ _ (c .before .before .before .before .initial .result) (c .before .before .before .walk-from .result) (c .before .before .before .before .initial .ensures) (c .before .before .before .walk-from .ensures .0) ns (c .before .before .before .before .before .before .args .base),
   omega (arith, c .before .before .before .before .before .before .pre .2, subst (VerdictWithin (length (c .before .before .before .before .before .before .args .code .now))) (c .before .at .given .1) (c .before .before .before .walk-from .ensures .1)),
 )
 

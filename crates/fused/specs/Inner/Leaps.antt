@@ -9,7 +9,7 @@ use Rattle.limits.specs.Limits.{stackLimit}
 use Rattle.arith.specs.Values.{Operation, Comparison, compares}
 use Rattle.semantics.specs.Program.{Range}
 use Rattle.leb128.specs.Numbers.{got, unzigzag}
-use Rattle.bytecode.specs.Instructions.{Instruction, constant, operation, comparison, fetch}
+use Rattle.bytecode.specs.Instructions.{Instruction, constant, operation, comparison, fetchOne}
 use Rattle.bytecode.specs.Check.{advance}
 use Rattle.checker.specs.declared.advance.Walk.{Walk}
 use Rattle.checker.specs.Inner.Walk.{knownOf, pushed}
@@ -31,9 +31,9 @@ pub record ComparisonSeen (code : List ℕ) (prev cur : List ℤ) (at : ℕ) (w 
   pub x : ℤ
   pub operand : ℕ
   pub relation : Comparison
-  pub first : fetch code at ≡ got loading (at + 2)
-  pub second : fetch code (at + 2) ≡ got (constant (unzigzag operand)) (at + 4)
-  pub third : fetch code (at + 4) ≡ got (comparison relation) (at + 5)
+  pub first : fetchOne code at ≡ got loading (at + 2)
+  pub second : fetchOne code (at + 2) ≡ got (constant (unzigzag operand)) (at + 4)
+  pub third : fetchOne code (at + 4) ≡ got (comparison relation) (at + 5)
   pub inside : at + 5 ≤ length code
   pub short : operand < 128
   pub room : w .held + 2 ≤ stackLimit
@@ -50,8 +50,8 @@ SeenBy code prev cur at w N.Other = Unit {0}
 pub record OperationSeen (code : List ℕ) (at : ℕ) (w : Walk) : Type 0 where
   pub operand : ℕ
   pub operator : Operation
-  pub first : fetch code at ≡ got (constant (unzigzag operand)) (at + 2)
-  pub second : fetch code (at + 2) ≡ got (operation operator) (at + 3)
+  pub first : fetchOne code at ≡ got (constant (unzigzag operand)) (at + 2)
+  pub second : fetchOne code (at + 2) ≡ got (operation operator) (at + 3)
   pub inside : at + 3 ≤ length code
   pub short : operand < 128
   pub some-held : 1 ≤ w .held

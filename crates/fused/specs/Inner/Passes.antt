@@ -11,7 +11,7 @@ use Rattle.limits.specs.Answer.{accepted, refused}
 use Rattle.arith.specs.Values.{ok, refusal}
 use Rattle.semantics.specs.Program.{Range, knownFirst}
 use Rattle.leb128.specs.Numbers.{got}
-use Rattle.bytecode.specs.Instructions.{Instruction, fetch}
+use Rattle.bytecode.specs.Instructions.{Instruction, fetchOne}
 use Rattle.bytecode.specs.Check.{known, advance, checkCode}
 use Rattle.checker.specs.declared.advance.Walk.{Walk}
 use Rattle.checker.specs.declared.advance.Advanced.{Advanced}
@@ -62,7 +62,7 @@ BreaksAt code b = Judges code (b .at) (knownOf (b .walk)) (J.Broken (b .at))
 -- the instruction at hand is passed over: the walk moves, and passing over ends at a pick
 pub record Passes (code : List ℕ) (b k : Progress) : Type 0 where
   pub instruction : Instruction
-  pub fetched : fetch code (b .at) ≡ got instruction (k .at)
+  pub fetched : fetchOne code (b .at) ≡ got instruction (k .at)
   pub inside : k .at ≤ length code
   pub advanced : advance instruction (knownOf (b .walk)) ≡ some (knownOf (k .walk))
   pub small : Small (k .walk)
@@ -77,7 +77,7 @@ PassesBy code b M.Broken = BreaksAt code b
 -- the walk moves, and the machine does the instruction, passed over or not
 pub record Moves (code : List ℕ) (low high prev : List ℤ) (b : Progress) (vals cur vals₁ cur₁ : List ℤ) (k : Progress) : Type 0 where
   pub instruction : Instruction
-  pub fetched : fetch code (b .at) ≡ got instruction (k .at)
+  pub fetched : fetchOne code (b .at) ≡ got instruction (k .at)
   pub inside : k .at ≤ length code
   pub advanced : advance instruction (knownOf (b .walk)) ≡ some (knownOf (k .walk))
   pub small : Small (k .walk)
@@ -87,7 +87,7 @@ pub record Moves (code : List ℕ) (low high prev : List ℤ) (b : Progress) (va
 -- the walk moves, and the machine refuses the instruction
 pub record Refuses (code : List ℕ) (low high prev : List ℤ) (b : Progress) (vals cur : List ℤ) (k : Progress) (number : ℕ) : Type 0 where
   pub instruction : Instruction
-  pub fetched : fetch code (b .at) ≡ got instruction (k .at)
+  pub fetched : fetchOne code (b .at) ≡ got instruction (k .at)
   pub inside : k .at ≤ length code
   pub advanced : advance instruction (knownOf (b .walk)) ≡ some (knownOf (k .walk))
   pub small : Small (k .walk)
@@ -108,11 +108,11 @@ RefusedBy code behind w number steps (E.Broken at) = Judges code behind (knownOf
 
 -- the walk finds the code sound
 abbrev pub CheckedCode : List ℕ → ℕ → ℕ → Type 0
-CheckedCode code inputs names = (base : ℕ) → checkCode base code (length code) 0 (known [] false none (knownFirst inputs names)) ≡ accepted tt
+CheckedCode code inputs names = (ns : List Range) (base : ℕ) → checkCode ns base code (length code) 0 none (known [] false none (knownFirst inputs names)) ≡ accepted tt
 
 -- the walk finds it broken at a place
 abbrev pub BrokenCode : List ℕ → ℕ → ℕ → ℕ → Type 0
-BrokenCode code inputs names at = (base : ℕ) → checkCode base code (length code) 0 (known [] false none (knownFirst inputs names)) ≡ refused brokenImage (base + at)
+BrokenCode code inputs names at = (ns : List Range) (base : ℕ) → checkCode ns base code (length code) 0 none (known [] false none (knownFirst inputs names)) ≡ refused brokenImage (base + at)
 
 -- sound code, and its run succeeds after n steps and leaves these current values
 pub record Succeeds (code : List ℕ) (low high prev : List ℤ) (inputs : ℕ) (cur cur₁ : List ℤ) (n : ℕ) : Type 0 where

@@ -9,7 +9,7 @@ use Rattle.limits.specs.Limits.{stackLimit, brokenImage}
 use Rattle.arith.specs.Values.{refusal, Comparison, compares}
 use Rattle.semantics.specs.Program.{Range}
 use Rattle.leb128.specs.Numbers.{Read, got, nothing, unzigzag}
-use Rattle.bytecode.specs.Instructions.{Instruction, constant, comparison, fetch}
+use Rattle.bytecode.specs.Instructions.{Instruction, constant, comparison, fetchOne}
 use Rattle.machine.specs.declared.Registers.{Registers}
 use Rattle.machine.specs.declared.Stepped.{Stepped}
 use Rattle.machine.specs.declared.Stepped.the-variants as S
@@ -67,9 +67,9 @@ pub record Comparing (code : List ℕ) (prev cur : List ℤ) (at held left : ℕ
   pub x : ℤ
   pub operand : ℕ
   pub relation : Comparison
-  pub first : fetch code at ≡ got loading (at + 2)
-  pub second : fetch code (at + 2) ≡ got (constant (unzigzag operand)) (at + 4)
-  pub third : fetch code (at + 4) ≡ got (comparison relation) (at + 5)
+  pub first : fetchOne code at ≡ got loading (at + 2)
+  pub second : fetchOne code (at + 2) ≡ got (constant (unzigzag operand)) (at + 4)
+  pub third : fetchOne code (at + 4) ≡ got (comparison relation) (at + 5)
   pub inside : at + 5 ≤ length code
   pub room : held + 2 ≤ stackLimit
   pub enough : 3 ≤ left

@@ -55,7 +55,7 @@ scannedBy (accepted u) found r = r
 -- a code that begins at `base` of the image, checked and run
 abbrev pub scannedAt : ℕ → List Range → List ℕ → State → List ℤ → AfterScan
 scannedAt base ns code found row =
-    scannedBy (checkCode base code (length code) 0 (known [] false none (knownFirst (length row) (length found)))) found (scannedCode ns code found row)
+    scannedBy (checkCode ns base code (length code) 0 none (known [] false none (knownFirst (length row) (length found)))) found (scannedCode ns code found row)
 
 -- ---- the header
 
