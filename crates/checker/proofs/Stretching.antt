@@ -13,11 +13,11 @@ use Rattle.arith.specs.Inner.Flags.{flagsOf}
 use Rattle.arith.proofs.Flags.{length-flags}
 use Rattle.leb128.specs.Numbers.{got, unzigzag}
 use Rattle.leb128.proofs.Laws.{one-group}
-use Rattle.bytecode.specs.Instructions.{Instruction, constant, current, previous, operation, comparison, operationOf, comparisonOf, instructionOf, hasOperand, decoded, fetch}
+use Rattle.bytecode.specs.Instructions.{Instruction, constant, current, previous, operation, comparison, operationOf, comparisonOf, instructionOf, hasOperand, decoded, fetchOne}
 use Rattle.bytecode.specs.Signature.{number, truth}
 use Rattle.bytecode.specs.Check.{Known, advance}
 use Rattle.bytecode.proofs.Codes.{operation-of, comparison-of}
-use Rattle.bytecode.proofs.Fetching.{fetch-alone, fetch-number}
+use Rattle.bytecode.proofs.Fetching.{fetch-alone, fetch-number, one-fetched}
 use Rattle.bytecode.proofs.RoundTrip.{fetch-next}
 use Rattle.bytecode.proofs.Soundness.{none≢some, known-inside}
 use Rattle.checker.specs.declared.advance.Walk.{Walk}
@@ -64,12 +64,12 @@ module _ (w : Walk) where
 
 module _ (code : List ℕ) (at : ℕ) (i : Instruction) where
   with-byte : (next : ℕ) → at + 2 ≡ next → at + 1 < length code → hasOperand (getD code at 0) ≡ true → getD code (at + 1) 0 < 128 → instructionOf (getD code at 0) (getD code (at + 1) 0) ≡ some i
-      → fetch code at ≡ got i next
+      → fetchOne code at ≡ got i next
   with-byte next q l has s e =
       let two : at + 1 + 1 ≡ next = omega arith in
       fetch-number code at (getD code (at + 1) 0) (at + 1 + 1) (omega arith) has (one-group code (at + 1) l s) ∙ rw (e, two)
 
-  by-itself : (next : ℕ) → at + 1 ≡ next → at < length code → hasOperand (getD code at 0) ≡ false → instructionOf (getD code at 0) 0 ≡ some i → fetch code at ≡ got i next
+  by-itself : (next : ℕ) → at + 1 ≡ next → at < length code → hasOperand (getD code at 0) ≡ false → instructionOf (getD code at 0) 0 ≡ some i → fetchOne code at ≡ got i next
   by-itself next q l has e = fetch-alone code at l has ∙ rw (e, q)
 
 no-operand : (code : ℕ) → 4 ≤ code → code < 20 → hasOperand code ≡ false
@@ -156,16 +156,19 @@ module _ (code : List ℕ) (at : ℕ) (w : Walk) (small : Small w) where
 
 -- ---- one instruction
 
-pub single-leads : (code : List ℕ) (at : ℕ) (w : Walk) (next : ℕ) (k : Walk) (o : Option Instruction) → fetch code at ≡ decoded o next → advanceBy o (knownOf w) ≡ some (knownOf k) → next ≤ length code → Small k
+pub single-leads : (code : List ℕ) (at : ℕ) (w : Walk) (next : ℕ) (k : Walk) (o : Option Instruction) → fetchOne code at ≡ decoded o next → advanceBy o (knownOf w) ≡ some (knownOf k) → next ≤ length code → Small k
     → LeadsTo code at w next k
 single-leads code at w next k none e q l s = none≢some _ q
 single-leads code at w next k (some i) e q l s = record { steps = lastStep at (knownOf w) next (knownOf k) record { instruction = i; fetched = e; advanced = q }; inside = l; small = s }
 
 -- ---- the walk goes on behind them
 
+onward : (code : List ℕ) (at : ℕ) (i : Instruction) (next : ℕ) → fetchOne code at ≡ got i next → (at < length code) × (at < next)
+onward code at i next e = fetch-next code at i next (one-fetched code at i next e)
+
 keeps-walks : (code : List ℕ) (at : ℕ) (c : Known) (next : ℕ) (c₁ : Known) → KeepsTo code at c next c₁ → WalksTo code at c next c₁
 keeps-walks code at c next c₁ k =
-    let n = fetch-next code at (k .instruction) next (k .fetched) in
+    let n = onward code at (k .instruction) next (k .fetched) in
     walks-step code at c (n .0) (some (k .instruction)) next (k .fetched) c₁ (k .advanced) (n .1)
 
 steps-walk : {code : List ℕ} (at : ℕ) (c : Known) (at₁ : ℕ) (c₁ : Known) → StepsTo code at c at₁ c₁ → WalksTo code at c at₁ c₁
@@ -176,8 +179,8 @@ pub stretch-walks : {code : List ℕ} {at : ℕ} {w : Walk} {next : ℕ} {k : Wa
 stretch-walks {code} {at} {w} {next} {k} s = steps-walk at (knownOf w) next (knownOf k) (s .steps)
 
 steps-onward : {code : List ℕ} (at : ℕ) (c : Known) (at₁ : ℕ) (c₁ : Known) → StepsTo code at c at₁ c₁ → at < at₁
-steps-onward {code} _ _ _ _ (lastStep at c next c₁ k) = fetch-next code at (k .instruction) next (k .fetched) .1
-steps-onward {code} _ _ _ _ (firstStep at c next c₁ at₂ c₂ k r) = omega (arith, fetch-next code at (k .instruction) next (k .fetched) .1, steps-onward next c₁ at₂ c₂ r)
+steps-onward {code} _ _ _ _ (lastStep at c next c₁ k) = onward code at (k .instruction) next (k .fetched) .1
+steps-onward {code} _ _ _ _ (firstStep at c next c₁ at₂ c₂ k r) = omega (arith, onward code at (k .instruction) next (k .fetched) .1, steps-onward next c₁ at₂ c₂ r)
 
 pub stretch-onward : {code : List ℕ} {at : ℕ} {w : Walk} {next : ℕ} {k : Walk} → LeadsTo code at w next k → at < next
 stretch-onward {code} {at} {w} {next} {k} s = steps-onward at (knownOf w) next (knownOf k) (s .steps)

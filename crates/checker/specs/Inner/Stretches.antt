@@ -5,7 +5,7 @@ use mathlib.Core.List.{List}
 use mathlib.Core.Option.{some}
 use lib.ListN.{length}
 use Rattle.leb128.specs.Numbers.{got}
-use Rattle.bytecode.specs.Instructions.{Instruction, fetch}
+use Rattle.bytecode.specs.Instructions.{Instruction, fetchOne}
 use Rattle.bytecode.specs.Check.{Known, advance}
 use Rattle.checker.specs.declared.advance.Walk.{Walk}
 use Rattle.checker.specs.declared.ahead.Stretch.{Stretch}
@@ -28,7 +28,7 @@ withTruth w = record { held = w .held + 1; sorts = w .sorts * 2 + 1; gate = w .g
 -- the instruction at a place keeps soundness
 pub record KeepsTo (code : List ℕ) (at : ℕ) (c : Known) (next : ℕ) (c₁ : Known) : Type 0 where
   pub instruction : Instruction
-  pub fetched : fetch code at ≡ got instruction next
+  pub fetched : fetchOne code at ≡ got instruction next
   pub advanced : advance instruction c ≡ some c₁
 
 -- some instructions do, one after the other
