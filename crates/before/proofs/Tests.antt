@@ -16,6 +16,7 @@ use Rattle.semantics.specs.ReferenceScan.{withInputs}
 use Rattle.leb128.proofs.Stores.{take-sets}
 use Rattle.bytecode.specs.Check.{checkOf}
 use Rattle.bytecode.specs.Parts.{headerOf, lows, highs}
+use Rattle.bytecode.proofs.Limits.{no-times, no-timer}
 use Rattle.bytecode.proofs.SoundHeader.{SoundCounts}
 use Rattle.before.specs.Before.{beforeCode}
 use Rattle.before.specs.declared.Before.{Before}
@@ -36,23 +37,23 @@ module _ (image : List ℕ) (s : State) (row : List ℤ) where
   module _ (sound : checkOf image ≡ accepted tt) {inputs names : ℕ} (k : SoundCounts image inputs names) where
     pub before-state : (length s ≡ names → ⊥) → refused 12 0 ≡ beforeCode image s row
     unfolding beforeCode
-    before-state h = rw (sound, k .names-are, ne-eqb (length s) names h)
+    before-state h = rw (sound, no-times image sound, k .names-are, ne-eqb (length s) names h)
 
     pub before-row : length s ≡ names → (length row ≡ inputs → ⊥) → refused 12 0 ≡ beforeCode image s row
     unfolding beforeCode
-    before-row h n = rw (sound, k .names-are, eq-eqb (length s) names h, k .inputs-are, ne-eqb (length row) inputs n)
+    before-row h n = rw (sound, no-times image sound, no-timer image sound, k .names-are, eq-eqb (length s) names h, k .inputs-are, ne-eqb (length row) inputs n)
 
     pub before-rest : length s ≡ names → length row ≡ inputs → inRanges (headerOf image .ranges) s row ≡ beforeCode image s row
     unfolding beforeCode
-    before-rest h n = rw (sound, k .names-are, k .inputs-are, eq-eqb (length s) names h, eq-eqb (length row) inputs n)
+    before-rest h n = rw (sound, no-times image sound, no-timer image sound, k .names-are, k .inputs-are, eq-eqb (length s) names h, eq-eqb (length row) inputs n)
 
 -- what a start keeps, by the answer
-pub begun-by : (image : List ℕ) (s : State) (row low high work part : List ℤ) (names place : ℕ) → length s ≡ names → SoundCounts image (length row) names → place ≡ headerOf image .place → place ≤ length image
+pub begun-by : (image : List ℕ) (s : State) (row low high work part : List ℤ) (names place : ℕ) → checkOf image ≡ accepted tt → length s ≡ names → SoundCounts image (length row) names → place ≡ headerOf image .place → place ≤ length image
     → take names low ≡ lows (headerOf image .ranges) → take names high ≡ highs (headerOf image .ranges) → take names work ≡ part → (r : Before) → CopiedBy place s row part r
     → BegunBy image s row low high work r
-begun-by image s row low high work part names place n k e i l h w (T.Code at) c =
+begun-by image s row low high work part names place sound n k e i l h w (T.Code at) c =
     record {
-      names = n ∙ sym (k .names-are);
+      names = rw (no-times image sound) (n ∙ sym (k .names-are));
       few = omega (arith, k .few);
       code = c .0 ∙ e;
       inside = omega (arith, c .0, i);
@@ -60,4 +61,4 @@ begun-by image s row low high work part names place n k e i l h w (T.Code at) c 
       highest = rw n h;
       copied = rw n w ∙ c .1;
     }
-begun-by image s row low high work part names place n k e i l h w (T.Refused number at) c = omega (arith, c)
+begun-by image s row low high work part names place sound n k e i l h w (T.Refused number at) c = omega (arith, c)

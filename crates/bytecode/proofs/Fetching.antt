@@ -5,10 +5,10 @@ use mathlib.Core.Path.{_≡_, refl, sym, subst, _∙_}
 use mathlib.Core.Bool.{Bool, true, false, cond}
 use mathlib.Core.List.{List, [], _∷_}
 use lib.Dec.{eqb, ltb}
-use lib.ListN.{length, getD, drop, length-drop}
+use lib.ListN.{length, getD, drop, length-drop, List·getD-eq-default}
 use borrow.Author.Tests.{lt-ltb, le-ltb, ltb-true, eqb-true}
 use Rattle.leb128.specs.Numbers.{Found, found, none, grouped, numberIn, Read, got, nothing, _then_, below32, numberAt}
-use Rattle.bytecode.specs.Instructions.{Instruction, instructionOf, hasOperand, decoded, fetchOne, fetch}
+use Rattle.bytecode.specs.Instructions.{Instruction, timer, instructionOf, hasOperand, decoded, fetchOne, timerAt, fetch}
 use Rattle.bytecode.specs.Results.{Bounded}
 
 -- ---- the bytes of a number
@@ -83,6 +83,11 @@ module _ (bytes : List ℕ) (at : ℕ) where
   unfolding fetch
   fetch-other e = rw e
 
+  -- behind the end
+  pub fetch-end : length bytes ≤ at → fetch bytes at ≡ nothing
+  unfolding fetch
+  fetch-end h = rw (List·getD-eq-default bytes 0 h) (fetch-none h)
+
   -- 23 is no instruction of one operand
   unfetched : (b : Bool) → eqb (getD bytes at 0) 23 ≡ true → cond b (cond (hasOperand (getD bytes at 0)) (numberAt bytes (at + 1) then λ n next. decoded (instructionOf (getD bytes at 0) n) next) (decoded (instructionOf (getD bytes at 0) 0) (at + 1))) nothing ≡ nothing
   unfolding hasOperand instructionOf
@@ -100,3 +105,24 @@ module _ (bytes : List ℕ) (at : ℕ) where
       go : (b : Bool) → eqb (getD bytes at 0) 23 ≡ b → fetch bytes at ≡ got i next
       go true h = let f : nothing ≡ got i next = sym (timer-unfetched h) ∙ e in let z : _≡_ {A = ℕ} 0 1 = cc in let b : ⊥ = omega arith in absurd b
       go false h = fetch-other h ∙ e
+
+-- ---- the operands of a 23
+
+module _ (bytes : List ℕ) (at : ℕ) where
+  pub timer-first : numberAt bytes at ≡ nothing → timerAt bytes at ≡ nothing
+  unfolding timerAt
+  timer-first e = rw e
+
+  module _ (t second : ℕ) (e : numberAt bytes at ≡ got t second) where
+    pub timer-second : numberAt bytes second ≡ nothing → timerAt bytes at ≡ nothing
+    unfolding timerAt
+    timer-second f = rw (e, f)
+
+    module _ (w third : ℕ) (f : numberAt bytes second ≡ got w third) where
+      pub timer-third : numberAt bytes third ≡ nothing → timerAt bytes at ≡ nothing
+      unfolding timerAt
+      timer-third g = rw (e, f, g)
+
+      pub timer-read : (n next : ℕ) → numberAt bytes third ≡ got n next → timerAt bytes at ≡ got (timer t w n) next
+      unfolding timerAt
+      timer-read n next g = rw (e, f, g)

@@ -9,6 +9,8 @@ use Rattle.semantics.specs.Program.{Range}
 use Rattle.leb128.specs.Numbers.{Read, got, nothing}
 use Rattle.bytecode.specs.declared.Fetched.{Fetched}
 use Rattle.bytecode.specs.declared.Fetched.the-variants as F
+use Rattle.bytecode.specs.declared.Operands.{Operands}
+use Rattle.bytecode.specs.declared.Operands.the-variants as O
 use Rattle.bytecode.specs.declared.Counted.{Counted}
 use Rattle.bytecode.specs.declared.Counted.the-variants as C
 use Rattle.bytecode.specs.declared.Ranged.{Ranged}
@@ -17,7 +19,7 @@ use Rattle.bytecode.specs.declared.Headed.{Headed}
 use Rattle.bytecode.specs.declared.Headed.the-variants as H
 use Rattle.limits.specs.Limits.{brokenImage, nameLimit}
 use Rattle.limits.specs.Answer.{Answer, accepted, refused}
-use Rattle.bytecode.specs.Instructions.{Instruction, instructionOf, decoded}
+use Rattle.bytecode.specs.Instructions.{Instruction, timer, instructionOf, decoded}
 use Rattle.bytecode.specs.Check.{Counts, checkRange, Header}
 use Rattle.bytecode.specs.Parts.{lows, highs, starts}
 
@@ -37,6 +39,24 @@ pub record Bounded (length at n next : ℕ) : Type 0 where
 abbrev pub FetchedWithin : ℕ → ℕ → Fetched → Type 0
 FetchedWithin length at (F.Instruction code n next) = Bounded length at n next
 FetchedWithin length at F.Malformed = Unit {0}
+
+-- ---- a timer
+
+abbrev pub operandsRead : Operands → Read Instruction
+operandsRead (O.Timer t w n next) = got (timer t w n) next
+operandsRead O.Malformed = nothing
+
+-- operands are below 2 ^ 32 and end inside a code of this length
+pub record TimerBounded (length at t w n next : ℕ) : Type 0 where
+  pub id : t < 2 ^ 32
+  pub watched : w < 2 ^ 32
+  pub limit : n < 2 ^ 32
+  pub behind : at < next
+  pub inside : next ≤ length
+
+abbrev pub OperandsWithin : ℕ → ℕ → Operands → Type 0
+OperandsWithin length at (O.Timer t w n next) = TimerBounded length at t w n next
+OperandsWithin length at O.Malformed = Unit {0}
 
 -- ---- the header: what breaks it is refusal 11, with its place
 

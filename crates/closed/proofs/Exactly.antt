@@ -18,8 +18,9 @@ use Rattle.semantics.specs.Program.{Range, within}
 use Rattle.semantics.specs.Formula.{State}
 use Rattle.semantics.specs.ReferenceScan.{withInputs}
 use Rattle.bytecode.specs.Check.{checkOf}
-use Rattle.bytecode.specs.Parts.{headerOf, codeOf, shapeIn}
+use Rattle.bytecode.specs.Parts.{headerOf, codeOf, limitsOf, shapeIn}
 use Rattle.bytecode.specs.Translation.{RangesFit}
+use Rattle.bytecode.proofs.Limits.{no-times, no-timer}
 use Rattle.bytecode.proofs.CheckNumbers.{CheckRefusal, too-long, broken, check-numbers}
 use Rattle.semantics.specs.Shape.{allWithin, stateLength}
 use Rattle.machine.specs.Step.{Machine, machine}
@@ -98,19 +99,19 @@ closed-stopped (accepted u) true image state row n h e = (refl, refl, refused-by
 
 -- ---- exactly
 
-state-within : {inputs : ℕ} {ns : List Range} {s : List ℤ} → InRangeState (record { inputs = inputs; ranges = ns; limits = [] }) s → Within ns s
-state-within h = record { size = h .size; ranges = h .ranges }
+state-within : (image : List ℕ) → checkOf image ≡ accepted tt → (s : State) → InRangeState (shapeIn image) s → Within (headerOf image .ranges) s
+state-within image sound s h = record { size = rw (no-times image sound) at (h .size); ranges = rw (no-times image sound) at (h .ranges) }
 
-state-in-range : {inputs : ℕ} {ns : List Range} {s : List ℤ} → Within ns s → InRangeState (record { inputs = inputs; ranges = ns; limits = [] }) s
-state-in-range h = record { size = h .size; ranges = h .ranges }
+state-in-range : (image : List ℕ) → checkOf image ≡ accepted tt → (s : State) → Within (headerOf image .ranges) s → InRangeState (shapeIn image) s
+state-in-range image sound s h = record { size = rw (no-times image sound) (h .size); ranges = rw (no-times image sound) (h .ranges) }
 
 -- every in-range state with every in-range row is a combination
 combination-of : (image : List ℕ) → checkOf image ≡ accepted tt → (s : State) (row : List ℤ) → InRangeState (shapeIn image) s → InRangeRow (shapeIn image) row
     → record { state = s; row = row } ∈ combinationsOf (shapeIn image)
 unfolding combinationsOf
 combination-of image sound s row w v =
-    in-paired s row (combinations (headerOf image .ranges)) (combinations (inputRanges (shapeIn image))) (combinations-complete (headerOf image .ranges) s (state-within w))
-    (combinations-complete (inputRanges (shapeIn image)) row (row-within (headerOf image .inputs) (headerOf image .ranges) (inputs-among image sound) row v))
+    in-paired s row (combinations (headerOf image .ranges)) (combinations (inputRanges (shapeIn image))) (combinations-complete (headerOf image .ranges) s (state-within image sound s w))
+    (combinations-complete (inputRanges (shapeIn image)) row (row-within (headerOf image .inputs) (headerOf image .ranges) (limitsOf image) (no-timer image sound) (inputs-among image sound) row v))
 
 pub closed-exactly : (image : List ℕ) → (closedOf image .answer ≡ accepted tt) ↔ Closed image
 unfolding closedOf closedIn isSmall
@@ -131,7 +132,7 @@ closed-exactly image = (forth, back)
         let small = le-leb (productOfSizes (headerOf image .ranges) * productOfSizes (inputRanges (shapeIn image))) 65536 (k .small) in
         let all =
         all-weaker (λ c. Within (headerOf image .ranges) (c .state) × Within (inputRanges (shapeIn image)) (c .row)) (λ c. scanning image c ≡ accepted tt) (combinationsOf (shapeIn image))
-        (λ c w. k .accepts (c .state) (c .row) (state-in-range (w .0)) (row-in-range (headerOf image .inputs) (headerOf image .ranges) (inputs-among image (k .sound)) (c .row) (w .1))) (combinations-in image (k .sound)) in
+        (λ c w. k .accepts (c .state) (c .row) (state-in-range image (k .sound) (c .state) (w .0)) (row-in-range (headerOf image .inputs) (headerOf image .ranges) (limitsOf image) (no-timer image (k .sound)) (inputs-among image (k .sound)) (c .row) (w .1))) (combinations-in image (k .sound)) in
         rw (k .sound, small, walked-all (scanning image) (combinationsOf (shapeIn image)) 0 all)
 
 -- ---- runs
@@ -147,7 +148,7 @@ starts-within (n ∷ ns) f =
 
 scans-accepted : (image : List ℕ) → Closed image → (rows : List (List ℤ)) (s : State) → Within (headerOf image .ranges) s → InRangeRows (shapeIn image) rows → AllAccepted (scansOf image s rows)
 scans-accepted image k [] s w h = tt
-scans-accepted image k (r ∷ rs) s w h = (k .accepts s r (state-in-range w) (h .0), scans-accepted image k rs (scanOf image s r .state) (scan-within image (k .sound) s r w) (h .1))
+scans-accepted image k (r ∷ rs) s w h = (k .accepts s r (state-in-range image (k .sound) s w) (h .0), scans-accepted image k rs (scanOf image s r .state) (scan-within image (k .sound) s r w) (h .1))
 
 -- No list of in-range rows from the fresh start ever meets a refusal.
 pub closed-runs : (image : List ℕ) → Closed image → (lent : State) → length lent ≡ stateLength (shapeIn image) → (rows : List (List ℤ)) → InRangeRows (shapeIn image) rows
@@ -156,7 +157,7 @@ unfolding startOf
 closed-runs image k lent e rows h =
     let ns = headerOf image .ranges in
     let w : Within ns (map (λ n. n .start) ns) = record { size = length-map ns (λ n. n .start); ranges = starts-within ns (header-fits image (k .sound)) } in
-    rw (k .sound, eq-eqb (length lent) (length ns) e) (scans-accepted image k rows (map (λ n. n .start) ns) w h)
+    rw (k .sound, no-times image (k .sound), eq-eqb (length lent) (length ns) (rw (no-times image (k .sound)) at e)) (scans-accepted image k rows (map (λ n. n .start) ns) w h)
 
 -- ---- the first refused scan
 
@@ -199,8 +200,8 @@ module _ (image : List ℕ) (sound : checkOf image ≡ accepted tt) where
       let w = within-at (s .at) c (s .stands) in
       record {
         combination = c;
-        state-in = state-in-range (w .0);
-        row-in = row-in-range (headerOf image .inputs) (headerOf image .ranges) (inputs-among image sound) (c .row) (w .1);
+        state-in = state-in-range image sound (c .state) (w .0);
+        row-in = row-in-range (headerOf image .inputs) (headerOf image .ranges) (limitsOf image) (no-timer image sound) (inputs-among image sound) (c .row) (w .1);
         number = s .number;
         refuses = s .refuses ∙ ap (refused (s .number)) (r .1);
         before = λ t row u v l. earlier-accepted (scanning image) all 0 n c (record { state = t; row = row }) all-rise e (combination-of image sound t row u v) l;

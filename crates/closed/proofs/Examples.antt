@@ -12,7 +12,7 @@ use Rattle.machine.specs.Step.{bit, yes}
 use Rattle.leb128.specs.Numbers.{unzigzag, numberAt, signedAt, groups, grouped, numberIn, below32}
 use Rattle.bytecode.specs.Instructions.{instructionOf, hasOperand, fetchOne, timerAt, fetch}
 use Rattle.bytecode.specs.Check.{checkCounts, checkRange, checkHeader, checkBody, checkOf}
-use Rattle.bytecode.specs.Parts.{headerOf, codeOf}
+use Rattle.bytecode.specs.Parts.{headerOf, codeOf, limitsOf}
 use Rattle.scan.specs.Services.{scanCode, scanOf}
 use Rattle.closed.specs.Closed.{sizeBetween, isSmall, combinationsOf, AfterClosed, leaves, closedIn, closedOf, combinationOf}
 
@@ -60,7 +60,7 @@ examples =
 
 -- the definition gives what the table says
 pub profiles-hold : map (λ (e : Example). closedOf (e .image)) examples ≡ map expected examples
-unfolding examples adds unzigzag groups grouped numberIn below32 numberAt signedAt instructionOf hasOperand fetchOne timerAt fetch checkCounts checkRange checkHeader checkBody checkOf headerOf codeOf scanCode scanOf sizeBetween isSmall combinationsOf closedIn closedOf bit yes within moves picked arithmetic compares
+unfolding examples adds unzigzag groups grouped numberIn below32 numberAt signedAt instructionOf hasOperand fetchOne timerAt fetch checkCounts checkRange checkHeader checkBody checkOf headerOf codeOf limitsOf scanCode scanOf sizeBetween isSmall combinationsOf closedIn closedOf bit yes within moves picked arithmetic compares
 profiles-hold = refl
 
 -- combinations of `adds` by their numbers: the one that 27 names, the last, one past it; a row too long; 11
@@ -69,5 +69,5 @@ pub combinations-hold : (combinationOf adds 7 two one ≡ leaves (accepted tt) (
     × (combinationOf adds 16 two one ≡ leaves (refused 12 0) two one)
     × (combinationOf adds 7 two two ≡ leaves (refused 12 0) two two)
     × (combinationOf (0 ∷ []) 16 two two ≡ leaves (refused 11 1) two two)
-unfolding adds unzigzag groups grouped numberIn below32 numberAt signedAt instructionOf hasOperand fetchOne timerAt fetch checkCounts checkRange checkHeader checkBody checkOf headerOf sizeBetween isSmall combinationsOf combinationOf
+unfolding adds unzigzag groups grouped numberIn below32 numberAt signedAt instructionOf hasOperand fetchOne timerAt fetch checkCounts checkRange checkHeader checkBody checkOf headerOf codeOf limitsOf sizeBetween isSmall combinationsOf combinationOf
 combinations-hold = (refl, refl, refl, refl, refl)

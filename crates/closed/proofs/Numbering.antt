@@ -15,6 +15,7 @@ use Rattle.semantics.specs.Program.{Range}
 use Rattle.semantics.specs.Formula.{State}
 use Rattle.bytecode.specs.Check.{checkOf}
 use Rattle.bytecode.specs.Parts.{headerOf, shapeIn}
+use Rattle.bytecode.proofs.Limits.{no-times, no-timer}
 use Rattle.bytecode.proofs.SoundHeader.{SoundCounts}
 use Rattle.closed.specs.Closed.{productOfSizes, inputRanges, isSmall, combinations, Combination, withRows, paired, combinationsOf, leaves, combined, combinedAs, combinationOf}
 use Rattle.closed.specs.Results.{afterClosing}
@@ -97,5 +98,5 @@ combination-from image sound k index state row = rw (sound, ← (k .inputs-are))
   where
     by : (b : Bool) → cond b (cond (eqb (length state) (length (headerOf image .ranges)) && eqb (length row) (headerOf image .inputs)) (combined (getElem? (paired (combinations (headerOf image .ranges)) (combinations (inputRanges (shapeIn image)))) index) state row) (leaves (refused 12 0) state row)) (leaves (refused 26 0) state row)
         ≡ combinedAs (accepted tt) b (shapeIn image) index state row
-    by true = refl
+    by true = rw (no-times image sound, no-timer image sound)
     by false = refl

@@ -15,10 +15,11 @@ use Rattle.arith.specs.Values.{isInt32}
 use Rattle.arith.proofs.Basics.{T-true, and-left, and-right, and-T}
 use Rattle.semantics.specs.Program.{Range, within}
 use Rattle.semantics.specs.Formula.{State}
-use Rattle.semantics.specs.Shape.{Shape, allWithin}
+use Rattle.semantics.specs.Shape.{Shape, hasTimer, allWithin}
 use Rattle.bytecode.specs.Check.{checkOf}
-use Rattle.bytecode.specs.Parts.{headerOf, codeOf, shapeIn}
+use Rattle.bytecode.specs.Parts.{headerOf, codeOf, limitsOf, shapeIn}
 use Rattle.bytecode.specs.Translation.{RangesFit}
+use Rattle.bytecode.proofs.Limits.{no-times, no-timer}
 use Rattle.bytecode.proofs.Walk.{check-sound}
 use Rattle.bytecode.proofs.SoundHeader.{header-is}
 use Rattle.machine.proofs.Ranges.{Within}
@@ -62,15 +63,15 @@ all-within-taken (suc k) (n ∷ ns) (z ∷ zs) t =
     and-T (within n z) (allWithin (take k ns) zs) (and-left (within n z) (allWithin ns zs) t) (all-within-taken k ns zs (and-right (within n z) (allWithin ns zs) t))
 
 -- an in-range row is within the ranges of the inputs
-module _ (inputs : ℕ) (ns : List Range) (among : inputs ≤ length ns) (row : List ℤ) where
+module _ (inputs : ℕ) (ns : List Range) (limits : List ℕ) (untimed : hasTimer limits ≡ false) (among : inputs ≤ length ns) (row : List ℤ) where
   abbrev h : Shape
-  h = record { inputs = inputs; ranges = ns; limits = [] }
+  h = record { inputs = inputs; ranges = ns; limits = limits }
 
   pub row-within : InRangeRow h row → Within (inputRanges h) row
-  row-within r = record { size = r .size ∙ sym (length-take-le inputs ns among); ranges = all-within-taken inputs ns row (r .ranges) }
+  row-within r = record { size = (rw untimed at (r .size)) ∙ sym (length-take-le inputs ns among); ranges = all-within-taken inputs ns row (rw untimed at (r .ranges)) }
 
   pub row-in-range : Within (inputRanges h) row → InRangeRow h row
-  row-in-range w = record { size = w .size ∙ length-take-le inputs ns among; ranges = all-within-take inputs ns row (w .ranges) (w .size) }
+  row-in-range w = record { size = rw untimed (w .size ∙ length-take-le inputs ns among); ranges = rw untimed (all-within-take inputs ns row (w .ranges) (w .size)) }
 
 module _ (image : List ℕ) (sound : checkOf image ≡ accepted tt) where
   pub inputs-among : headerOf image .inputs ≤ length (headerOf image .ranges)
@@ -92,12 +93,12 @@ module _ (image : List ℕ) (sound : checkOf image ≡ accepted tt) where
       → scanOf image s row .answer ≡ scannedCode (headerOf image .ranges) (codeOf image) s row .answer
   unfolding scanOf scanCode
   scanning-is s row w v =
-      let r = row-in-range (headerOf image .inputs) (headerOf image .ranges) inputs-among row v in
+      let r = row-in-range (headerOf image .inputs) (headerOf image .ranges) (limitsOf image) (no-timer image sound) inputs-among row v in
       let a = eq-eqb (length s) (length (headerOf image .ranges)) (w .size) in
-      let b = eq-eqb (length row) (headerOf image .inputs) (r .size) in
+      let b = eq-eqb (length row) (headerOf image .inputs) (rw (no-timer image sound) at (r .size)) in
       let d = T-true (allWithin (headerOf image .ranges) s) (w .ranges) in
-      let e = T-true (allWithin (headerOf image .ranges) row) (r .ranges) in
-      rw (sound, a, b, d, e)
+      let e = T-true (allWithin (headerOf image .ranges) row) (rw (no-timer image sound) at (r .ranges)) in
+      rw (sound, no-times image sound, no-timer image sound, a, b, d, e)
 
 -- ---- one scan, on a copy of the state
 

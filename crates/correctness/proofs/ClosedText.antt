@@ -18,6 +18,7 @@ use Rattle.semantics.proofs.Untimed.{plain-cells, plain-states, plain-length, p
 use Rattle.semantics.proofs.Reference.{starts-in-range}
 use Rattle.bytecode.specs.Translation.{imageOf, Translatable}
 use Rattle.bytecode.specs.Parts.{shapeIn}
+use Rattle.bytecode.proofs.Limits.{no-times, no-timer}
 use Rattle.bytecode.proofs.Soundness.{header-of}
 use Rattle.grammar.proofs.Accepted.{program-translatable}
 use Rattle.translate.specs.Services.{translationOf}
@@ -40,11 +41,18 @@ none-refused (a ∷ l) h = (ap verdictOf (h .0), none-refused l (h .1))
 
 module _ (p : Program) (t : Translatable p) (k : Closed (imageOf p)) where
   state-in : (s : State) → InRanges p s → InRangeState (shapeIn (imageOf p)) s
-  state-in s g = rw (header-of p t) (record { size = g .size ∙ plain-states p (t .untimed); ranges = subst (λ (l : List Range). T (allWithin l s)) (plain-cells p (t .untimed)) (g .ranges) })
+  state-in s g =
+      record {
+        size = rw (header-of p t, no-times (imageOf p) (k .sound)) (g .size ∙ plain-states p (t .untimed));
+        ranges = rw (header-of p t, no-times (imageOf p) (k .sound)) (subst (λ (l : List Range). T (allWithin l s)) (plain-cells p (t .untimed)) (g .ranges));
+      }
 
   row-in : (row : List ℤ) → RowInRanges p row → InRangeRow (shapeIn (imageOf p)) row
   row-in row g =
-      rw (header-of p t) (record { size = g .size ∙ plain-length p (t .untimed); ranges = subst (λ (b : Bool). T b) (plain-row p (t .untimed) row) (g .ranges) })
+      record {
+        size = rw (header-of p t, no-timer (imageOf p) (k .sound)) (g .size ∙ plain-length p (t .untimed));
+        ranges = rw (header-of p t, no-timer (imageOf p) (k .sound)) (subst (λ (b : Bool). T b) (plain-row p (t .untimed) row) (g .ranges));
+      }
 
   rows-in : (rows : List (List ℤ)) → RowsInRanges p rows → InRangeRows (shapeIn (imageOf p)) rows
   rows-in [] g = tt
@@ -58,7 +66,7 @@ module _ (p : Program) (t : Translatable p) (k : Closed (imageOf p)) where
   image-runs rows h =
       let size : length (startsOf p) ≡ stateLength (shapeOf p) = length-map (cells (shapeOf p)) (λ n. n .start) in
       let q : startOf (imageOf p) (startsOf p) .state ≡ startsOf p = ap {A = AfterStart} (λ r. r .state) (start-translated p t (startsOf p) size) in
-      let all : AllAccepted (scansOf (imageOf p) (startOf (imageOf p) (startsOf p) .state) rows) = closed-runs (imageOf p) k (startsOf p) (rw (header-of p t) (size ∙ plain-states p (t .untimed))) rows (rows-in rows h) in
+      let all : AllAccepted (scansOf (imageOf p) (startOf (imageOf p) (startsOf p) .state) rows) = closed-runs (imageOf p) k (startsOf p) (rw (header-of p t, no-times (imageOf p) (k .sound)) (size ∙ plain-states p (t .untimed))) rows (rows-in rows h) in
       let here : AllAccepted (scansOf (imageOf p) (startsOf p) rows) = subst (λ (s : State). AllAccepted (scansOf (imageOf p) s rows)) q all in
       subst NoneRefused (scans-agree p t rows (startsOf p) (starts-in-range p (t .well-formed))) (none-refused (scansOf (imageOf p) (startsOf p) rows) here)
 

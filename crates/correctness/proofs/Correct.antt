@@ -24,6 +24,7 @@ use Rattle.bytecode.specs.Translation.{codeRules, imageOf, Translatable}
 use Rattle.bytecode.specs.Check.{checkOf}
 use Rattle.bytecode.specs.Parts.{headerOf, codeOf, instructionsIn}
 use Rattle.bytecode.proofs.Timeless.{timeless-rules}
+use Rattle.bytecode.proofs.Limits.{no-times, no-timer}
 use Rattle.bytecode.proofs.Soundness.{header-of, code-of, translated-small, check-translated}
 use Rattle.machine.specs.Step.{Machine, machine}
 use Rattle.machine.proofs.Ranges.{currentOf}
@@ -77,7 +78,7 @@ module _ (p : Program) (t : Translatable p) where
       let outer : replyOf (testedScan (eqb (length row) (p .inputs)) 12 s (testedScan (allWithin (rangesOf p) row) 13 s (scanCode (imageOf p) s row)))
       ≡ reply s (check (eqb (length row) (p .inputs)) 12 (check (allWithin (rangesOf p) row) 13 (plainRules (rangesOf p) s (withInputs s row) (p .rules))))
       = reply-tested (eqb (length row) (p .inputs)) 12 s _ _ inner in
-      rw (plain-scan p (t .untimed) s row) (rw (check-translated p t, header-of p t, l, r) outer)
+      rw (plain-scan p (t .untimed) s row) (rw (check-translated p t, no-times (imageOf p) (check-translated p t), no-timer (imageOf p) (check-translated p t), header-of p t, l, r) outer)
 
   kept : (s : State) → InRanges p s → (row : List ℤ) (o : Outcome State) → referenceScan p s row ≡ o → InRanges p (reply s o .state)
   kept s g row (ok u) e = reference-next p (t .well-formed) s g row u e .kept
@@ -106,7 +107,7 @@ module _ (p : Program) (t : Translatable p) where
   pub start-translated : (lent : State) → length lent ≡ stateLength (shapeOf p) → startOf (imageOf p) lent ≡ record { answer = accepted tt; state = startsOf p }
   unfolding startOf
   start-translated lent l =
-      rw (check-translated p t, header-of p t, plain-cells p (t .untimed), eq-eqb (length lent) (length (rangesOf p)) (l ∙ plain-states p (t .untimed)))
+      rw (check-translated p t, no-times (imageOf p) (check-translated p t), header-of p t, plain-cells p (t .untimed), eq-eqb (length lent) (length (rangesOf p)) (l ∙ plain-states p (t .untimed)))
 
   pub image-correct : (lent : State) → length lent ≡ stateLength (shapeOf p) → (rows : List (List ℤ)) → TraceCorrect p (imageOf p) lent rows
   image-correct lent l rows =

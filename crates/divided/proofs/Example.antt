@@ -12,7 +12,7 @@ use Rattle.semantics.specs.ReferenceScan.{moves, picked}
 use Rattle.leb128.specs.Numbers.{unzigzag, numberAt, signedAt, groups, grouped, numberIn, below32}
 use Rattle.bytecode.specs.Instructions.{instructionOf, hasOperand, fetchOne, timerAt, fetch}
 use Rattle.bytecode.specs.Check.{checkCounts, checkRange, checkHeader, checkBody, checkOf}
-use Rattle.bytecode.specs.Parts.{headerOf, codeOf}
+use Rattle.bytecode.specs.Parts.{headerOf, codeOf, limitsOf}
 use Rattle.machine.specs.Step.{bit, yes}
 use Rattle.scan.specs.Services.{scanCode, scanOf}
 use Rattle.paused.specs.declared.Response.the-variants as R
@@ -39,7 +39,7 @@ answers =
 
 -- what is expected, computed
 latch-expected : expectedSaid calls (waitingOf zeros) none ≡ answers
-unfolding unzigzag grouped groups numberIn below32 numberAt signedAt instructionOf hasOperand fetchOne timerAt fetch checkCounts checkRange checkHeader checkBody checkOf headerOf codeOf bit yes within moves picked arithmetic negation compares scanCode scanOf clipped waitingLength waitingOf
+unfolding unzigzag grouped groups numberIn below32 numberAt signedAt instructionOf hasOperand fetchOne timerAt fetch checkCounts checkRange checkHeader checkBody checkOf headerOf codeOf limitsOf bit yes within moves picked arithmetic negation compares scanCode scanOf clipped waitingLength waitingOf
 latch-expected = refl
 
 no-scan : checkpointOf zeros .phase ≡ 0

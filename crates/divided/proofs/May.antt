@@ -19,6 +19,7 @@ use Rattle.bytecode.specs.Sound.{RangesAt}
 use Rattle.bytecode.proofs.Walk.{refused≢accepted, check-sound}
 use Rattle.bytecode.proofs.Heading.{signed-within}
 use Rattle.bytecode.proofs.Fetching.{number-within}
+use Rattle.bytecode.proofs.Limits.{no-times, no-timer}
 use Rattle.bytecode.proofs.SoundHeader.{header-is}
 use Rattle.semantics.specs.Shape.{Shape, stateLength, rowLength, stateInRange, rowInRange}
 use Rattle.scan.specs.Services.{refusedScan, scanCode, scanOf}
@@ -75,8 +76,8 @@ module _ (image : List ℕ) (s : State) (row : List ℤ) where
           let l = lengths (eqb (length s) (stateLength h)) (eqb (length row) (rowLength h)) t in
           record {
             sound = k;
-            names = eqb-true (length s) (stateLength h) (l .0);
-            rows = eqb-true (length row) (rowLength h) (l .1);
+            names = rw (no-times image k) at (eqb-true (length s) (stateLength h) (l .0));
+            rows = rw (no-timer image k) at (eqb-true (length row) (rowLength h) (l .1));
             whole = whole-scan e;
           }
       ranged k t true false x y q = refused≢accepted tt 13 0 q

@@ -12,6 +12,7 @@ use Rattle.limits.specs.Limits.{wrongLength, pausedLength}
 use Rattle.limits.specs.Answer.{accepted, refused}
 use Rattle.bytecode.specs.Check.{checkOf}
 use Rattle.bytecode.specs.Parts.{shapeIn}
+use Rattle.bytecode.proofs.Limits.{no-timer}
 use Rattle.bytecode.proofs.SoundHeader.{SoundCounts}
 use Rattle.semantics.specs.Shape.{rowLength}
 use Rattle.paused.specs.declared.Response.the-variants as R
@@ -36,9 +37,9 @@ module _ (image : List ℕ) (row cells : List ℤ) where
   unfolding postOf
   post-sound l e = rw (eq-eqb (length cells) pausedLength l, e)
 
-  module _ {inputs names : ℕ} (k : SoundCounts image inputs names) where
+  module _ (sound : checkOf image ≡ accepted tt) {inputs names : ℕ} (k : SoundCounts image inputs names) where
     pub post-wrong : (length row ≡ inputs → ⊥) → afterCall (R.Refused 12 0 0) cells ≡ postSound image row cells
-    post-wrong h = rw (k .inputs-are, ne-eqb (length row) inputs h)
+    post-wrong h = rw (no-timer image sound, k .inputs-are, ne-eqb (length row) inputs h)
 
     pub post-done : length row ≡ inputs → (a b : List ℤ) → a ≡ sets cells rowPlace row → b ≡ set a waitingPlace (pos (length row + 1)) → afterCall (R.Done 0) b ≡ postSound image row cells
-    post-done h a b e f = rw (k .inputs-are, eq-eqb (length row) inputs h, f, e)
+    post-done h a b e f = rw (no-timer image sound, k .inputs-are, eq-eqb (length row) inputs h, f, e)

@@ -16,6 +16,7 @@ use Rattle.semantics.specs.Shape.{allWithin}
 use Rattle.bytecode.specs.Check.{Header, checkOf}
 use Rattle.bytecode.specs.Parts.{headerOf, codeOf, lows, highs, starts}
 use Rattle.bytecode.proofs.SoundHeader.{SoundCounts, header-found}
+use Rattle.bytecode.proofs.Limits.{no-times, no-timer}
 use Rattle.bytecode.proofs.Walk.{check-sound}
 use Rattle.machine.specs.Inner.Memory.{RangesIn}
 use Rattle.scan.specs.Services.{startOf, scanCode, scanOf}
@@ -51,14 +52,14 @@ start-refused image found number place e = rw (← e)
 module _ (image : List ℕ) (found : State) (sound : checkOf image ≡ accepted tt) {inputs names : ℕ} (k : SoundCounts image inputs names) where
   pub start-wrong-length : (length found ≡ names → ⊥) → afterStart (S.Refused 12 0) found ≡ startOf image found
   unfolding startOf
-  start-wrong-length h = rw (sound, k .names-are, ne-eqb (length found) names h)
+  start-wrong-length h = rw (sound, no-times image sound, k .names-are, ne-eqb (length found) names h)
 
   -- the declared starts are stored in the whole of the state
   pub start-done : (left : State) → length found ≡ names → left ≡ sets found 0 (starts (headerOf image .ranges)) → afterStart S.Done left ≡ startOf image found
   unfolding startOf
   start-done left h e =
       let n : length (starts (headerOf image .ranges)) ≡ length found = length-map (headerOf image .ranges) (λ n. n .start) ∙ k .names-are ∙ sym h in
-      rw (sound, k .names-are, eq-eqb (length found) names h, e, sets-all (starts (headerOf image .ranges)) found n)
+      rw (sound, no-times image sound, k .names-are, eq-eqb (length found) names h, e, sets-all (starts (headerOf image .ranges)) found n)
 
 -- ---- scan
 
@@ -69,17 +70,17 @@ scan-refused image found row number place e = rw (← e)
 module _ (image : List ℕ) (found : State) (row : List ℤ) (sound : checkOf image ≡ accepted tt) {inputs names : ℕ} (k : SoundCounts image inputs names) where
   pub scan-wrong-state : (length found ≡ names → ⊥) → afterScan (R.Refused 12 0 0) found ≡ scanOf image found row
   unfolding scanOf
-  scan-wrong-state h = rw (sound, k .names-are, ne-eqb (length found) names h)
+  scan-wrong-state h = rw (sound, no-times image sound, k .names-are, ne-eqb (length found) names h)
 
   pub scan-wrong-row : length found ≡ names → (length row ≡ inputs → ⊥) → afterScan (R.Refused 12 0 0) found ≡ scanOf image found row
   unfolding scanOf
-  scan-wrong-row h n = rw (sound, k .names-are, eq-eqb (length found) names h, k .inputs-are, ne-eqb (length row) inputs n)
+  scan-wrong-row h n = rw (sound, no-times image sound, no-timer image sound, k .names-are, eq-eqb (length found) names h, k .inputs-are, ne-eqb (length row) inputs n)
 
 -- the header that was read, and the code behind it
 pub scan-from : (image : List ℕ) (found : State) (row : List ℤ) → checkOf image ≡ accepted tt → (ns : List Range) (place : ℕ)
     → headerOf image ≡ record { inputs = length row; ranges = ns; place = place } → length found ≡ length ns → scannedIn ns (drop place image) found row ≡ scanOf image found row
 unfolding scanOf scanCode codeOf
-scan-from image found row sound ns place e n = rw (sound, e, eq-eqb (length found) (length ns) n, eq-eqb (length row) (length row) refl)
+scan-from image found row sound ns place e n = rw (sound, no-times image sound, no-timer image sound, e, eq-eqb (length found) (length ns) n, eq-eqb (length row) (length row) refl)
 
 -- ---- an image known to be sound
 

@@ -17,6 +17,7 @@ use Rattle.semantics.specs.ReferenceScan.{withInputs}
 use Rattle.semantics.proofs.Unique.{allWithin-inputs}
 use Rattle.bytecode.specs.Check.{checkOf}
 use Rattle.bytecode.specs.Parts.{headerOf, codeOf, shapeIn}
+use Rattle.bytecode.proofs.Limits.{no-timer}
 use Rattle.bytecode.proofs.Walk.{check-sound}
 use Rattle.machine.specs.Step.{Machine, machine}
 use Rattle.semantics.specs.Shape.{stateLength, rowLength, stateInRange, rowInRange}
@@ -85,6 +86,6 @@ scan-within image e found row w =
     (tested-within (k .ranges) (eqb (length found) (stateLength k) && eqb (length row) (rowLength k)) 12 found _ w λ a.
     tested-within (k .ranges) (stateInRange k found) 18 found _ w λ b.
     tested-within (k .ranges) (rowInRange k row) 13 found _ w λ c.
-    let l : length row ≡ headerOf image .inputs = eqb→eq (length row) (headerOf image .inputs) (and-right (eqb (length found) (stateLength k)) _ a) in
+    let l : length row ≡ headerOf image .inputs = rw (no-timer image e) at (eqb→eq (length row) (rowLength k) (and-right (eqb (length found) (stateLength k)) _ a)) in
     let n : length (withInputs found row) ≡ length (headerOf image .ranges) = simp (length-append, length-drop) (omega arith) in
-    code-within image found row w (record { size = n; ranges = allWithin-inputs (k .ranges) row found c (w .ranges) }))
+    code-within image found row w (record { size = n; ranges = allWithin-inputs (k .ranges) row found (rw (no-timer image e) at c) (w .ranges) }))

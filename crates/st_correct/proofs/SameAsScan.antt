@@ -20,6 +20,7 @@ use Rattle.semantics.specs.ReferenceScan.{referenceScan}
 use Rattle.semantics.specs.Rows.{Reply, reply, referenceReplies, startsOf, acceptedStates, acceptedRows, InRanges}
 use Rattle.semantics.proofs.Reference.{starts-in-range}
 use Rattle.bytecode.specs.Translation.{imageOf, Translatable}
+use Rattle.bytecode.proofs.Limits.{no-times, no-timer}
 use Rattle.bytecode.proofs.Soundness.{header-of, check-translated}
 use Rattle.grammar.specs.Parse.{programOf}
 use Rattle.grammar.specs.Spelled.{namesOf}
@@ -56,7 +57,7 @@ accepted-reply s a (refusal k) e f =
 module _ (p : Program) (t : Translatable p) where
   scan-tests : (s : State) (row : List ℤ) → scanOf (imageOf p) s row ≡ scanned (accepted tt) (record { inputs = p .inputs; ranges = rangesOf p; limits = [] }) (imageOf p) s row
   unfolding scanOf
-  scan-tests s row = rw (check-translated p t, header-of p t)
+  scan-tests s row = rw (check-translated p t, no-times (imageOf p) (check-translated p t), no-timer (imageOf p) (check-translated p t), header-of p t)
 
   -- its state is in range: 12 and 18 are tested
   scanned-in-range : (s : State) (row : List ℤ) → scanOf (imageOf p) s row .answer ≡ accepted tt → InRanges p s

@@ -82,7 +82,7 @@ returns-4 c =
     let n = c .before .before .before .before .before .before .if1 .left in (
       c .before .before-ranges .ensures .0 (headerOf (c .before .before .before .before .before .before .before .before .before .before .before .before .before .before .before .before .before .before .args .image .now) .ranges) (record { lows = sym (low-stored (c .before .before .before .before .before)); highs = sym (high-stored (c .before .before .before .before .before)) })
           ∙ before-rest (c .before .before .before .before .before .before .before .before .before .before .before .before .before .before .before .before .before .before .args .image .now) (c .before .before .before .before .before .before .before .before .before .before .before .before .before .before .before .before .before .before .args .state .now) (c .before .before .before .before .before .before .before .before .before .before .before .before .before .before .before .before .before .before .args .row .now) (c .before .before .before .before .before .before .before .before .before .before .before .before .before .before .before .before .before .before .pre .0) k n (c .before .before .before .before .before .if2 .left),
-      begun-by (c .before .before .before .before .before .before .before .before .before .before .before .before .before .before .before .before .before .before .args .image .now) (c .before .before .before .before .before .before .before .before .before .before .before .before .before .before .before .before .before .before .args .state .now) (c .before .before .before .before .before .before .before .before .before .before .before .before .before .before .before .before .before .before .args .row .now) _ _ _ _ (c .before .before .before .before .before .before .before .before .headed .given .0 .1 .0) (c .before .before .before .before .before .before .before .before .headed .given .0 .1 .1 .0) n (subst (λ (m : ℕ). SoundCounts (c .before .before .before .before .before .before .before .before .before .before .before .before .before .before .before .before .before .before .args .image .now) m (c .before .before .before .before .before .before .before .before .headed .given .0 .1 .0)) (sym (c .before .before .before .before .before .if2 .left)) k) (header-place (c .before .before .before .before .before .before .before .before .before .before .before .before .before .before .before .before .before .before .args .image .now) h) (h .extends .inside)
+      begun-by (c .before .before .before .before .before .before .before .before .before .before .before .before .before .before .before .before .before .before .args .image .now) (c .before .before .before .before .before .before .before .before .before .before .before .before .before .before .before .before .before .before .args .state .now) (c .before .before .before .before .before .before .before .before .before .before .before .before .before .before .before .before .before .before .args .row .now) _ _ _ _ (c .before .before .before .before .before .before .before .before .headed .given .0 .1 .0) (c .before .before .before .before .before .before .before .before .headed .given .0 .1 .1 .0) (c .before .before .before .before .before .before .before .before .before .before .before .before .before .before .before .before .before .before .pre .0) n (subst (λ (m : ℕ). SoundCounts (c .before .before .before .before .before .before .before .before .before .before .before .before .before .before .before .before .before .before .args .image .now) m (c .before .before .before .before .before .before .before .before .headed .given .0 .1 .0)) (sym (c .before .before .before .before .before .if2 .left)) k) (header-place (c .before .before .before .before .before .before .before .before .before .before .before .before .before .before .before .before .before .before .args .image .now) h) (h .extends .inside)
           (low-stored (c .before .before .before .before .before)) (high-stored (c .before .before .before .before .before)) (take-at (c .before .before-ranges .last .1 .1 .1 .1 .1 .0) _ _ (c .before .before-ranges .kept .1 .1 .1 .1 .1 .0 ∙ length-take-le _ _ (work-room (c .before .before .before .before .before)))) (c .before .before-ranges .result) (c .before .before-ranges .ensures .1),
     )
 

@@ -23,7 +23,7 @@ counted c =
     (subst (CountedWithin (length (c .before .before .before .before .before .args .image .now))) (k .1) (c .before .before .before .counts .ensures .1))
 
 returns-2 : tie.Need-returns-2
-returns-2 c = (post-wrong (c .before .before .before .before .before .before .args .image .now) (c .before .before .before .before .before .before .args .row .now) (c .before .before .before .before .before .before .args .memory .now) (counted (c .before)) (c .if1 .taken), (omega arith, omega arith))
+returns-2 c = (post-wrong (c .before .before .before .before .before .before .args .image .now) (c .before .before .before .before .before .before .args .row .now) (c .before .before .before .before .before .before .args .memory .now) (c .before .before .before .before .before .before .pre .1) (counted (c .before)) (c .if1 .taken), (omega arith, omega arith))
 
 store-requires : tie.Need-store-requires
 store-requires c κs =
@@ -39,7 +39,7 @@ put-requires c κs =
 returns-3 : tie.Need-returns-3
 returns-3 c =
     let k = counted (c .before .before .before .before .before .before .before) in (
-      post-done (c .before .before .before .before .before .before .before .before .before .before .before .before .args .image .now) (c .before .before .before .before .before .before .before .before .before .before .before .before .args .row .now) (c .before .before .before .before .before .before .before .before .before .before .before .before .args .memory .now) k (c .before .before .before .before .before .before .if1 .left) (c .before .before .before .before .store .last .0) (c .before .put .last .0) (c .before .before .before .before .store .ensures .1) (c .before .put .ensures),
+      post-done (c .before .before .before .before .before .before .before .before .before .before .before .before .args .image .now) (c .before .before .before .before .before .before .before .before .before .before .before .before .args .row .now) (c .before .before .before .before .before .before .before .before .before .before .before .before .args .memory .now) (c .before .before .before .before .before .before .before .before .before .before .before .before .pre .1) k (c .before .before .before .before .before .before .if1 .left) (c .before .before .before .before .store .last .0) (c .before .put .last .0) (c .before .before .before .before .store .ensures .1) (c .before .put .ensures),
       omega arith,
     )
 
