@@ -12,7 +12,7 @@ use Rattle.lexer.specs.Lexer.{runOn, runEnd, tokenPast, tokenAt}
 use Rattle.lexer.specs.Token.{is, kindNumber}
 use Rattle.bytecode.specs.Translation.{imageOf}
 use Rattle.grammar.specs.Spelled.{Spelled}
-use Rattle.grammar.specs.Parse.{program, parse, programOf}
+use Rattle.grammar.specs.Parse.{endAt, program, parse, programOf}
 use Rattle.grammar.specs.Rules.{rulesFrom}
 use Rattle.grammar.specs.Declarations.{declarationsFrom, declarations}
 use Rattle.grammar.proofs.Accepted.{parse-growth, parse-short, program-parsed}
@@ -40,7 +40,7 @@ too-short text buffer fits place = go (translationOf text buffer) (way text buff
     go r (fault k q e) a = let i : k ≡ bufferTooShort = cc in let x = program-refused text k q e in omega (arith, i, x .1)
 
 empty-accepted : (p : Program) × (programOf [] ≡ accepted p) × (2 * length (imageOf p) ≡ 4)
-unfolding kindNumber is runOn runEnd tokenPast tokenAt number groups grouped program parse programOf rulesFrom declarationsFrom declarations imageOf
+unfolding kindNumber is runOn runEnd tokenPast tokenAt number groups grouped program parse programOf rulesFrom endAt declarationsFrom declarations imageOf
 empty-accepted = (_, refl, refl)
 
 pub buffer-bound : BufferBound

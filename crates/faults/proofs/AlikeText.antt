@@ -25,7 +25,7 @@ use Rattle.grammar.specs.Forms.{changeOpening, noChangeOpening, ruleOpening}
 use Rattle.grammar.specs.Parsed.{followed}
 use Rattle.grammar.specs.Inner.Names.{Named}
 use Rattle.grammar.proofs.Combine.{token-prop, then-prop}
-use Rattle.grammar.specs.Parse.{program}
+use Rattle.grammar.specs.Parse.{endAt, program}
 use Rattle.grammar.proofs.Lists.{CasesIn, cases-in}
 use Rattle.grammar.proofs.Whole.{Ends, Names, First, rule-fits, declarations-fit, spellings-length, named}
 use Rattle.grammar.proofs.ConverseRules.{unruled, rule-counts, few-unruled}
@@ -257,7 +257,11 @@ rules-alike S (suc f) names known few lengths good fuel done at =
     let c = rule-counts known (target r) (g .0 .1) (g .0 .2) in
     let l : length names ≡ length (set known (target r) true) = lengths ∙ sym (length-set known (target r) true) in
     only (λ t h. read-within (rule .reads t (h .0)) (h .1) (h .0 .0)) (rules-alike S f names (set known (target r) true) few l good (omega arith) (done ++ (r ∷ [])) m))))
-    (cond-alike (is k ending) (cond-alike (allTrue known) (only (λ t h. h .1) (past-alike done)) (only (λ t h. h .1) (here-alike 6 (omega arith) (omega arith)))) (only (λ t h. h .1) not-allowed)))
+    (done-alike _))
+
+end-alike : (S : Setting) (known : List Bool) (at : ℕ) → Alike S Any at (λ t. endAt t known at)
+unfolding endAt
+end-alike S known at = token-alike at (λ k s n. cond-alike (is k ending) (cond-alike (allTrue known) (past-alike tt) (here-alike 6 (omega arith) (omega arith))) not-allowed)
 
 -- both texts are answered the same, or beyond
 pub program-alike : (S : Setting) → Alike S Any 0 (λ t. program t)
@@ -273,4 +277,4 @@ program-alike S =
     then-alike
     (only (λ t h. read-within (declarations-alike S 65 varWord inputs n1 .reads t tt) (h .1) (read-within (declarations-alike S 65 inputWord [] 0 .reads t tt) (h .0 .1) (omega arith)))
     (rules-alike S 65 (spellings names) (knownFirst (length inputs) (length names)) few l (named names (g2 .0 .0) (g2 .0 .3)) (few-unruled (knownFirst (length inputs) (length names)) (omega (arith, l))) [] n2))
-    (λ rules n3. done-alike _))))
+    (λ ruled n3. then-alike (end-alike S (ruled .known) n3) (λ u n4. done-alike _)))))

@@ -25,7 +25,7 @@ use Rattle.grammar.specs.Parsed.{Parsed, accepted, refused}
 use Rattle.grammar.specs.Expressions.{Scope}
 use Rattle.grammar.specs.Declarations.{inRange, signedDigits, boundAt, spellings, newName, startAt, declaration, declarationsFrom, declarations}
 use Rattle.grammar.specs.Rules.{Spanned, caseAt, casesFrom, listFrom, plainList, Compared, agrees, differs, onCompared, onFound, partFrom, kindAt, partsFrom, firstFound, agreeingList, functionAt, changeAt, pairAt, formulaAt, formulas, ruleAt, ruled, rulesFrom}
-use Rattle.grammar.specs.Parse.{program, parse}
+use Rattle.grammar.specs.Parse.{endAt, program, parse}
 use Rattle.grammar.specs.Derivation.{Tokens, Spells, normal}
 use Rattle.grammar.specs.Inner.Names.{Named}
 use Rattle.grammar.proofs.Standing.{stands-in, spells-in, is-read, normally}
@@ -269,9 +269,13 @@ rules-reads (suc f) sc few lengths good fuel done at h =
     let c = rule-counts (sc .known) (target r) (g .0 .1) (g .0 .2) in
     let l : length (sc .names) ≡ length (set (sc .known) (target r) true) = lengths ∙ sym (length-set (sc .known) (target r) true) in
     rules-reads f (ruled sc (target r)) few l good (omega arith) (done ++ (r ∷ [])) m (read-within (rule-reads sc few lengths good at k s n h e) q h)))
-    (cond-reads (is k ending) (cond-reads (allTrue (sc .known)) (past done e) (here 6 e (omega arith) (omega arith))) (not-allowed e)))
+    (ends-at _ Reach.none))
 
 -- ---- the whole text
+
+end-reads : (text : List ℕ) (known : List Bool) (at : ℕ) → ReadsFrom text at (endAt text known at)
+unfolding endAt
+end-reads text known at = token-reads text at (λ k s n e. cond-reads (is k ending) (cond-reads (allTrue known) (past tt e) (here 6 e (omega arith) (omega arith))) (not-allowed e))
 
 program-reads : (text : List ℕ) → ReadsFrom text 0 (program text)
 unfolding program declarations
@@ -285,7 +289,8 @@ program-reads text =
     let sc : Scope = record { text = text; names = spellings names; known = knownFirst (length inputs) (length names) } in
     let l : length (spellings names) ≡ length (knownFirst (length inputs) (length names)) = spellings-length names ∙ sym (length-known (length inputs) (length names)) in
     let few : length (spellings names) ≤ 64 = omega (arith, spellings-length names, g2 .0 .1) in
-    then-reads (rules-reads 65 sc few l (named names (g2 .0 .0) (g2 .0 .3)) (few-unruled (knownFirst (length inputs) (length names)) (omega (arith, l))) [] n2 (g2 .1)) (λ rules n3 e3. ends-at _ Reach.none)))
+    then-reads (rules-reads 65 sc few l (named names (g2 .0 .0) (g2 .0 .3)) (few-unruled (knownFirst (length inputs) (length names)) (omega (arith, l))) [] n2 (g2 .1))
+    (λ ruled n3 e3. then-reads (end-reads text (ruled .known) n3) (λ u n4 e4. ends-at _ Reach.none))))
 
 -- a text within the limit reads token by token
 pub parse-reads : (text : List ℕ) → length text ≤ textLimit → ReadsFrom text 0 (parse text)

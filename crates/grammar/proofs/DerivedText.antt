@@ -1,28 +1,33 @@
 -- A text that is accepted spells its program, and the two lists of each of its rules agree. Assumes nothing.
-use mathlib.Core.Path.{_≡_, refl, sym, _∙_, subst}
+use mathlib.Core.Path.{_≡_, refl, ap, sym, _∙_, subst}
 use mathlib.Core.List.{List, []}
 use mathlib.Core.Bool.{Bool, true, false, cond}
 use Prim.Native.Nat.{ℕ, _≤_}
 use native.Mathlib.Nat.{le-refl}
 use native.Mathlib.Omega.{arith}
 use lib.ListN.{length, length-map}
-use lib.Dec.{ltb}
+use lib.Dec.{T, ltb}
 use borrow.Author.Tests.{ltb-false}
 use Rattle.limits.specs.Limits.{textLimit}
 use Rattle.lexer.specs.Bytes.{bytes}
-use Rattle.lexer.specs.Token.{kindNumber, inputWord, varWord}
-use Rattle.semantics.specs.Program.{Name, Rule, Program, knownFirst, AgreesAll}
+use Rattle.lexer.specs.Token.{Kind, kindNumber, ending, inputWord, varWord, is, token}
+use Rattle.lexer.specs.Lexer.{tokenAt}
+use Rattle.lexer.specs.Spelling.{Separated}
+use Rattle.lexer.proofs.Laws.{cond-prop}
+use Rattle.lexer.proofs.Same.{same-kind}
+use Rattle.arith.proofs.Basics.{true-T}
+use Rattle.semantics.specs.Program.{Name, Program, knownFirst, allTrue, AgreesAll}
 use Rattle.semantics.proofs.Reference.{length-known}
 use Rattle.grammar.specs.Parsed.{Parsed, accepted, refused, itemBound}
 use Rattle.grammar.specs.Expressions.{Scope}
 use Rattle.grammar.specs.Declarations.{spellings, declarations}
-use Rattle.grammar.specs.Rules.{rulesFrom}
-use Rattle.grammar.specs.Parse.{program, parse}
+use Rattle.grammar.specs.Rules.{Ruled, rulesFrom}
+use Rattle.grammar.specs.Parse.{endAt, program, parse}
 use Rattle.grammar.specs.Derivation.{normals}
 use Rattle.grammar.specs.Spelled.{DeclareAll, Distinct, SpellsRules, Spelled}
-use Rattle.grammar.proofs.Combine.{Holds, then-prop, never}
+use Rattle.grammar.proofs.Combine.{Holds, token-prop, then-prop, never}
 use Rattle.lexer.proofs.Spellings.{isFixed}
-use Rattle.grammar.proofs.Standing.{written, spells-append}
+use Rattle.grammar.proofs.Standing.{written, normally, spells-in, spells-append, end-separated}
 use Rattle.grammar.proofs.Whole.{Ends, Names, declarations-fit, spellings-length, named}
 use Rattle.grammar.proofs.DerivedDeclarations.{DeclaredFrom, DeclaresFrom, declarations-derive}
 use Rattle.grammar.proofs.DerivedRules.{RulesRead, RulesReads, rules-derive}
@@ -31,18 +36,33 @@ use Rattle.grammar.proofs.DerivedRules.{RulesRead, RulesReads, rules-de
 abbrev Reads : List ℕ → Parsed Program → Type 0
 Reads text r = Holds (λ (p : Program). (length text ≤ textLimit → Spelled text p) × AgreesAll (p .rules)) r
 
-read : (text : List ℕ) (inputs names : List Name) (rules : List Rule) (a b : ℕ) → DeclaredFrom text (bytes "input") [] 0 a inputs → DeclaredFrom text (bytes "var") inputs a b names → Distinct (spellings names) → length names ≤ 64 → RulesRead text (spellings names) (knownFirst (length inputs) (length names)) [] b rules → length text ≤ textLimit → Spelled text (record { inputs = length inputs; names = names; timers = []; rules = rules })
-read text inputs names rules a b d e distinct few r short =
+-- the end of the text, where every variable has its rule
+abbrev Ended : List ℕ → List Bool → ℕ → Parsed (Unit {0}) → Type 0
+Ended text known at (accepted u n) = Separated text at (length text) × T (allTrue known)
+Ended text known at (refused k q) = Unit {0}
+
+end-ends : (text : List ℕ) (known : List Bool) (at : ℕ) → at ≤ length text → Ended text known at (endAt text known at)
+unfolding endAt
+end-ends text known at h =
+    token-prop (Ended text known at) (tokenAt text at) _ (λ k q. tt)
+    (λ k s n et. cond-prop (Ended text known at) (is k ending) _ _
+    (λ e. cond-prop (Ended text known at) (allTrue known) _ _
+    (λ t. (end-separated text at s n h (et ∙ ap (λ (x : Kind). token x s n) (same-kind k ending e)), true-T (allTrue known) t))
+    (λ t. tt))
+    (λ e. tt))
+
+read : (text : List ℕ) (inputs names : List Name) (ruled : Ruled) (a b c : ℕ) → DeclaredFrom text (bytes "input") [] 0 a inputs → DeclaredFrom text (bytes "var") inputs a b names → Distinct (spellings names) → length names ≤ 64 → RulesRead text (spellings names) (knownFirst (length inputs) (length names)) [] b c ruled → Separated text c (length text) × T (allTrue (ruled .known)) → length text ≤ textLimit → Spelled text (record { inputs = length inputs; names = names; timers = []; rules = ruled .rules })
+read text inputs names ruled a b c d e distinct few r x short =
     record {
       short = short;
       input-tokens = d .tokens;
       variable-tokens = e .tokens;
       rule-tokens = r .tokens;
       rules-from = b;
-      end = r .end;
+      end = c;
       spells-declarations = spells-append written text 0 a b (d .tokens) (e .tokens) (d .spells) (e .spells);
       spells-tokens = r .spells;
-      ends = r .ends;
+      ends = x .0;
       inputs = inputs;
       variables = e .more;
       declares-inputs = subst (DeclareAll (bytes "input") (d .tokens)) (sym (d .is-more)) (d .derives);
@@ -53,7 +73,7 @@ read text inputs names rules a b d e distinct few r short =
       few = few;
       untimed = refl;
       spells-rules = subst (SpellsRules (normals (spellings names)) (r .tokens)) (sym (r .is-more)) (r .derives);
-      ordered = rw (length-map names (λ n. n .range), r .is-more) (r .ordered);
+      ordered = rw (length-map names (λ n. n .range), r .is-more) (r .ordered (x .1));
     }
 
 program-reads : (text : List ℕ) → Reads text (program text)
@@ -70,9 +90,13 @@ program-reads text =
     let known = knownFirst (length inputs) (length names) in
     let sc : Scope = record { text = text; names = spellings names; known = known } in
     then-prop (Reads text) (rulesFrom itemBound sc [] n2) _ (λ k q. tt)
-    (λ rules n3 e3.
-    let r : RulesRead text (spellings names) known [] n2 rules = subst (RulesReads text (spellings names) known [] n2) e3 (rules-derive itemBound sc (omega (arith, spellings-length names, g2 .0 .1)) (spellings-length names ∙ sym (length-known (length inputs) (length names))) (named names (g2 .0 .0) (g2 .0 .3)) [] n2 (g2 .1)) in
-    (read text inputs names rules n1 n2 d1 d2 (g2 .0 .3) (g2 .0 .1) r, subst AgreesAll (sym (r .is-more)) (r .agrees)))))
+    (λ ruled n3 e3.
+    let r : RulesRead text (spellings names) known [] n2 n3 ruled = subst (RulesReads text (spellings names) known [] n2) e3 (rules-derive itemBound sc (omega (arith, spellings-length names, g2 .0 .1)) (spellings-length names ∙ sym (length-known (length inputs) (length names))) (named names (g2 .0 .0) (g2 .0 .3)) [] n2 (g2 .1)) in
+    let h3 = spells-in normally text n2 n3 (r .tokens) (g2 .1) (r .spells) .1 in
+    then-prop (Reads text) (endAt text (ruled .known) n3) _ (λ k q. tt)
+    (λ u n4 e4.
+    let x = subst (Ended text (ruled .known) n3) e4 (end-ends text (ruled .known) n3 h3) in
+    (read text inputs names ruled n1 n2 n3 d1 d2 (g2 .0 .3) (g2 .0 .1) r x, subst AgreesAll (sym (r .is-more)) (r .agrees))))))
 
 pub parse-reads : (text : List ℕ) (p : Program) (n : ℕ) → parse text ≡ accepted p n → Spelled text p × AgreesAll (p .rules)
 unfolding parse

@@ -19,7 +19,7 @@ use Rattle.grammar.specs.Expressions.{withId, currentAt, previousValueAt
 use Rattle.grammar.specs.Conditions.{comparisonBy, compared, comparisonAt, opposite, inverted, atom, connect, andOf, orOf, conjunction, condition, square, wholeCondition, listed}
 use Rattle.grammar.specs.Declarations.{inRange, signedDigits, boundAt, newName, startAt, declaration, declarationsFrom, declarations}
 use Rattle.grammar.specs.Rules.{caseAt, casesFrom, listFrom, plainList, partFrom, kindAt, partsFrom, firstFound, agreeingList, functionAt, changeAt, pairAt, formulaAt, formulas, ruleAt, rulesFrom}
-use Rattle.grammar.specs.Parse.{program, parse, programOf}
+use Rattle.grammar.specs.Parse.{endAt, program, parse, programOf}
 use Rattle.grammar.proofs.ExampleTexts.{Example, numberOrder, afterChange, otherTokens, longNames, manyNames, missingRules, numbers, longestMatch, manyBrackets, manyCases, letterCases, recasedRule, pairTexts, examples, round, computing}
 use Rattle.grammar.proofs.Bytes.{heads, tails}
 
@@ -66,7 +66,7 @@ hold (e ∷ es) h = (heads h, hold es (tails h))
 
 -- what a computation opens
 opened : Unit {0}
-unfolding isSpace isDigit isLetter isAlphanumeric runOn runEnd capital capitals sameName sameBytes grammarWord exactWord wordOf overLong pairOf signOf readOf signAt wordAt digitsAt previousAt tokenOf tokenPast tokenAt sameSpelling sameToken valueOn valueOf is kindNumber idFrom idOf expected phrase followed rest chain withId currentAt previousIn constantAt primary negative factor productOf sumOf term expression bracket wholeExpression comparisonBy compared comparisonAt opposite inverted atom connect andOf orOf conjunction condition square wholeCondition listed inRange signedDigits boundAt newName startAt declaration declarationsFrom declarations caseAt casesFrom listFrom plainList partFrom kindAt partsFrom firstFound agreeingList functionAt changeAt pairAt formulaAt formulas ruleAt rulesFrom program parse programOf imageOf number groups zigzag
+unfolding isSpace isDigit isLetter isAlphanumeric runOn runEnd capital capitals sameName sameBytes grammarWord exactWord wordOf overLong pairOf signOf readOf signAt wordAt digitsAt previousAt tokenOf tokenPast tokenAt sameSpelling sameToken valueOn valueOf is kindNumber idFrom idOf expected phrase followed rest chain withId currentAt previousIn constantAt primary negative factor productOf sumOf term expression bracket wholeExpression comparisonBy compared comparisonAt opposite inverted atom connect andOf orOf conjunction condition square wholeCondition listed inRange signedDigits boundAt newName startAt declaration declarationsFrom declarations caseAt casesFrom listFrom plainList partFrom kindAt partsFrom firstFound agreeingList functionAt changeAt pairAt formulaAt formulas ruleAt rulesFrom endAt program parse programOf imageOf number groups zigzag
 opened = tt
 
 numberOrder-computed : answersOf numberOrder ≡ wanted numberOrder

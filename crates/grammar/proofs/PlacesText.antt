@@ -24,7 +24,7 @@ use Rattle.grammar.specs.Expressions.{Scope, wholeExpression}
 use Rattle.grammar.specs.Conditions.{listed}
 use Rattle.grammar.specs.Declarations.{inRange, signedDigits, boundAt, spellings, newName, startAt, declaration, declarationsFrom, declarations}
 use Rattle.grammar.specs.Rules.{Spanned, caseAt, casesFrom, listFrom, plainList, Compared, agrees, differs, onCompared, onFound, onWanted, partFrom, kindAt, partsFrom, firstFound, agreeingList, functionAt, changeAt, pairAt, formulaAt, formulas, ruleAt, ruled, rulesFrom}
-use Rattle.grammar.specs.Parse.{program, parse, answerOf, programOf}
+use Rattle.grammar.specs.Parse.{endAt, program, parse, answerOf, programOf}
 use Rattle.grammar.proofs.Places.{Within, then-within, cond-within, option-within, token-within, phrase-within, followed-within, id-within, whole-expression-within, listed-within}
 
 -- ---- declarations
@@ -220,16 +220,23 @@ rules-within (suc f) sc done at h =
     (λ k s n l m.
     cond-within (length (sc .text)) (is k name) _ _
     (then-within (length (sc .text)) (ruleAt sc s n) _ (rule-within sc s n l m) (λ r e i. rules-within f (ruled sc (target r)) (done ++ (r ∷ [])) e i))
-    (cond-within (length (sc .text)) (is k ending) _ _ (cond-within (length (sc .text)) (allTrue (sc .known)) _ _ m (omega arith, omega arith, l)) (omega arith, omega arith, l)))
+    h)
 
 -- ---- the whole text
+
+end-within : (text : List ℕ) (known : List Bool) (at : ℕ) → at ≤ length text → Within (length text) (endAt text known at)
+unfolding endAt
+end-within text known at h =
+    token-within text at _ h
+    (λ k s n l m. cond-within (length text) (is k ending) _ _ (cond-within (length text) (allTrue known) _ _ m (omega arith, omega arith, l)) (omega arith, omega arith, l))
 
 program-within : (text : List ℕ) → Within (length text) (program text)
 unfolding program declarations
 program-within text =
     then-within (length text) (declarations inputWord text [] 0) _ (declarations-within text itemBound inputWord [] 0 (omega arith))
     (λ inputs n1 h1. then-within (length text) (declarations varWord text inputs n1) _ (declarations-within text itemBound varWord inputs n1 h1)
-    (λ names n2 h2. then-within (length text) (rulesFrom itemBound _ [] n2) _ (rules-within itemBound _ [] n2 h2) (λ rules n3 h3. h3)))
+    (λ names n2 h2. then-within (length text) (rulesFrom itemBound _ [] n2) _ (rules-within itemBound _ [] n2 h2)
+    (λ ruled n3 h3. then-within (length text) (endAt text (ruled .known) n3) _ (end-within text (ruled .known) n3 h3) (λ u n4 h4. h4))))
 
 -- what is accepted ends within the text; a refusal has a number of 1 to 9 and its place is within the text, or at its end
 pub parse-within : (text : List ℕ) → Within (length text) (parse text)
