@@ -106,7 +106,7 @@ aloneForm c = bytes "watch" ∷ bytes ":" ∷ bytes "G" ∷ bytes "(" ∷ square
 -- `watch: G([c] -> X([c]));`
 abbrev pub pairedForm : Tokens → Tokens → Tokens
 pairedForm c d =
-    bytes "watch" ∷ bytes ":" ∷ bytes "G" ∷ bytes "(" ∷ squared c ++ bytes "->" ∷ bytes "X" ∷ bytes "(" ∷ squared d ++ bytes ")" ∷ bytes ")" ∷ bytes ";" ∷ []
+    bytes "watch" ∷ bytes ":" ∷ bytes "G" ∷ bytes "(" ∷ squared c ++ (bytes "->" ∷ bytes "X" ∷ bytes "(" ∷ squared d ++ bytes ")" ∷ bytes ")" ∷ bytes ";" ∷ [])
 
 -- They may use any current and previous value.
 pub data SpellsWatch (names : List (List ℕ)) : Tokens → Watch → Type 0 where

@@ -23,7 +23,7 @@ use Rattle.grammar.proofs.Growth.{laterBytes, bytesOf, bytes-append, token-byte
 use Rattle.grammar.proofs.Normal.{normal-length}
 use Rattle.grammar.proofs.Standing.{written, normally, spells-in}
 use Rattle.grammar.proofs.Accepted.{name-length}
-use Rattle.grammar.proofs.PlacesText.{program-refused}
+use Rattle.grammar.proofs.PlacesText.{program-refused, not-ten}
 use Rattle.grammar.proofs.ConverseText.{accepted-exactly}
 use Rattle.translate.specs.Services.{AfterTranslation}
 use Rattle.translate.proofs.Kept.{never}
@@ -214,7 +214,7 @@ room-enough text buffer h place = go (structuredTextOf text buffer) (st-way text
     go r (printed-whole p e i l) a = never (length (stBytes p)) bufferTooShort place a
     go r (too-short p e i l) a = let g = st-growth text p e in let s = accepted-exactly .accepted-spelled text p e .short in omega arith
     go r (reserved p e i) a = let x : notInSt ≡ bufferTooShort = cc in omega arith
-    go r (faulty k q e) a = let i : k ≡ bufferTooShort = cc in let x = program-refused text k q e in omega (arith, i, x .1)
+    go r (faulty k q e) a = let i : k ≡ bufferTooShort = cc in not-ten k (program-refused text k q e .0) i
 
 pub st-bound : StBound
 st-bound = record { bound = λ text p s. st-growth text p (accepted-exactly .spelled-accepted text p s); room = room-enough }
