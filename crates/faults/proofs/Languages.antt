@@ -96,11 +96,11 @@ module _ (names : List (List ℕ)) where
   abbrev pub Later : Tokens → Type 0
   Later = Joins (These (wantedTokens laterOpening)) (Joins InSquare (These (wantedTokens functionClosing)))
 
-  -- what follows `watch: G([c]`
-  pub data AfterFirst : Tokens → Type 0 where
-    alone : AfterFirst (wantedTokens formulaClosing)
-    paired : (us : Tokens) → Later us → AfterFirst (bytes "->" ∷ us)
+-- what follows `watch: G([c]`
+pub data AfterFirst (names : List (List ℕ)) : Tokens → Type 0 where
+  alone : AfterFirst names (wantedTokens formulaClosing)
+  paired : (us : Tokens) → Later names us → AfterFirst names (bytes "->" ∷ us)
 
-  -- what follows `watch`
-  abbrev pub WatchRest : Tokens → Type 0
-  WatchRest = Joins (These (wantedTokens watchOpening)) (Joins InSquare AfterFirst)
+-- what follows `watch`
+abbrev pub WatchRest : List (List ℕ) → Tokens → Type 0
+WatchRest names = Joins (These (wantedTokens watchOpening)) (Joins (InSquare names) (AfterFirst names))

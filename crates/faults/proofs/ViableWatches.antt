@@ -52,7 +52,7 @@ module _ (sc : Scope) where
       token-viable (sc .text) at
       (λ k s n e. cond-viable (is k arrow)
       (λ t. behind {M = Later given} (bytes "->" ∷ []) (n, fixed-stands normally (sc .text) arrow refl at k s n h e t, refl) (λ us x. paired us x) (later-viable c n (token-at-moved (sc .text) at k s n h e .2)))
-      (λ t. wider (λ ts q. rw q (alone {names = given})) (followed-by (sc .text) formulaClosing refl tt _ at h)))
+      (λ t. wider (λ ts q. rw q alone) (followed-by (sc .text) formulaClosing refl tt _ at h)))
 
   watch-viable : (at : ℕ) → at ≤ length (sc .text) → Viable (WatchRest given) (sc .text) at (watchAt sc at)
   unfolding watchAt signs isFixed kindNumber

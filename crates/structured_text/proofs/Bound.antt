@@ -180,8 +180,9 @@ st-growth text p e =
     let count : length (p .names) ≡ length (s .inputs) + length (s .variables) = ap {A = List Name} length (s .names) ∙ length-append (s .inputs) (s .variables) in
     let declared = spells-bytes written text 0 (s .rules-from) front (omega arith) (s .spells-declarations) in
     let before = spells-in written text 0 (s .rules-from) front (omega arith) (s .spells-declarations) .1 in
-    let ruled = spells-bytes normally text (s .rules-from) (s .end) (s .rule-tokens) before (s .spells-tokens) in
-    let within = spells-in normally text (s .rules-from) (s .end) (s .rule-tokens) before (s .spells-tokens) .1 in
+    let back = s .rule-tokens ++ s .watch-tokens in
+    let ruled = spells-bytes normally text (s .rules-from) (s .end) back before (s .spells-tokens) in
+    let within = spells-in normally text (s .rules-from) (s .end) back before (s .spells-tokens) .1 in
     omega (
       arith,
       section-length "VAR_INPUT" (map currentLine is) second,
@@ -204,6 +205,7 @@ st-growth text p e =
       ruled,
       within,
       bytes-append (s .input-tokens) (s .variable-tokens),
+      bytes-append (s .rule-tokens) (s .watch-tokens),
     )
 
 -- 10 comes only of an accepted text whose Structured Text is longer than the buffer
