@@ -1,26 +1,27 @@
 -- A token refused by 2 begins no text of the bare grammar: the record `NoneGoOn`. Assumes nothing.
-use mathlib.Core.Path.{_≡_, refl, ap, sym, _∙_, subst}
+use mathlib.Core.Path.{_≡_, refl, ap, ap₂, sym, _∙_, subst}
 use mathlib.Core.List.{List, [], _∷_, _++_, append-assoc, append-nil}
-use mathlib.Core.Bool.{cond, true, false}
+use mathlib.Core.Bool.{Bool, cond, true, false}
 use Prim.Native.Nat.{ℕ, zero, suc, _-_, _≤_, _<_}
 use native.Mathlib.Omega.{arith}
 use lib.ListN.{length, getD}
 use lib.Dec.{ltb}
 use borrow.Author.Tests.{ltb-false}
-use Rattle.limits.specs.Limits.{textLimit}
+use Rattle.limits.specs.Limits.{textLimit, watchLimit}
 use Rattle.lexer.specs.Bytes.{bytes, part}
-use Rattle.lexer.specs.Token.{Kind, kindNumber, ending, name, inputWord, varWord, is, TokenRead, token, fault, spellingOf}
+use Rattle.lexer.specs.Token.{Kind, kindNumber, ending, name, inputWord, varWord, watchWord, is, TokenRead, token, fault, spellingOf}
 use Rattle.lexer.specs.Lexer.{overLong, tokenAt}
 use Rattle.lexer.proofs.Laws.{cond-prop, token-at-moved}
-use Rattle.semantics.specs.Program.{Rule, target, allTrue, knownFirst}
+use Rattle.semantics.specs.Program.{Rule, target, allTrue, knownFirst, free}
 use Rattle.grammar.specs.Parsed.{Parsed, accepted, refused, andThen, onToken}
 use Rattle.grammar.specs.Expressions.{Scope}
 use Rattle.grammar.specs.Declarations.{spellings, declarations}
 use Rattle.grammar.specs.Rules.{ruleAt, ruled, rulesFrom}
-use Rattle.grammar.specs.Parse.{program, parse}
+use Rattle.grammar.specs.Watches.{watchesFrom}
+use Rattle.grammar.specs.Parse.{endAt, program, parse}
 use Rattle.grammar.specs.Derivation.{Tokens, Stands, Spells, normal}
 use Rattle.grammar.proofs.Bytes.{part-length, heads}
-use Rattle.lexer.specs.Spelling.{Spelling}
+use Rattle.lexer.specs.Spelling.{SpellsName, Spelling}
 use Rattle.lexer.proofs.Spellings.{isFixed}
 use Rattle.grammar.proofs.Standing.{stands-in, spells-in, is-read, Seen, seen-capitals, written, normally}
 use Rattle.grammar.proofs.Derived.{sign-stands}
@@ -28,15 +29,16 @@ use Rattle.grammar.proofs.Whole.{Ends, Names, declarations-fit}
 use Rattle.grammar.proofs.Normal.{name-seen, normal-twice, normal-length}
 use Rattle.grammar.proofs.SameRule.{formulas-same}
 use Rattle.faults.specs.Grammar as G
-use Rattle.faults.specs.Grammar.{AreNames, AreDeclarations, IsRule, AreRules, IsText, BeginsNone, NoneGoOn}
+use Rattle.faults.specs.Grammar.{AreNames, AreDeclarations, IsRule, AreRules, AreWatches, IsText, BeginsNone, NoneGoOn}
 use Rattle.faults.proofs.TextPlaces.{refused-parse}
 use Rattle.faults.proofs.ViableText.{allowed-before}
 use Rattle.faults.proofs.Languages.{Joins}
-use Rattle.faults.proofs.Sole.{Ahead, AheadAt, BlockedAt, Sole, by-other, behind, narrow, second, then-sole, cond-sole, NoSign, not-sign, first-ahead}
+use Rattle.faults.proofs.Sole.{Ahead, BlockedAt, Sole, by-other, nothing-sole, behind, narrow, second, then-sole, cond-sole, token-sole, NoSign, not-sign, first-ahead}
 use Rattle.faults.proofs.SoleParts.{Anything, apart, id-sole, whole-expression-sole}
 use Rattle.faults.proofs.SoleConditions.{whole-condition-sole}
 use Rattle.faults.proofs.SoleForms.{Word, declared-of, declarations-sole}
 use Rattle.faults.proofs.SoleRules.{RuleRest, rule-of, formulas-sole}
+use Rattle.faults.proofs.SoleWatches.{watches-ends, watches-sole}
 
 -- ---- of what is accepted nothing is said
 
@@ -46,10 +48,6 @@ Empty ys = ys ≡ []
 abbrev Failing : {A : Type 0} → (Tokens → Type 0) → (Tokens → Type 0) → List ℕ → ℕ → Parsed A → Type 0
 Failing L S text at (accepted a n) = Unit {0}
 Failing L S text at (refused number place) = number ≡ 2 → BlockedAt L S text at place
-
-narrow-failing : {A : Type 0} (L M S : Tokens → Type 0) (text : List ℕ) (at : ℕ) (r : Parsed A) → at ≤ length text → ((us xs ys : Tokens) → AheadAt text at us → us ≡ xs ++ ys → M xs → S ys → L xs) → Failing L S text at r → Failing M S text at r
-narrow-failing {A} L M S text at (accepted a n) h f x = tt
-narrow-failing {A} L M S text at (refused k q) h f x = narrow {A = A} {L = L} {M = M} {S = S} {r = refused k q} h f (record { says = x }) .says
 
 module _ {A B : Type 0} (L M N S S2 : Tokens → Type 0) (text : List ℕ) (at : ℕ) (h : at ≤ length text) (inv : (zs : Tokens) → N zs → Joins L M zs) (follow : (xs ys : Tokens) → M xs → S2 ys → S (xs ++ ys)) where
   then-failing : (p : Parsed A) (f : A → ℕ → Parsed B) → Sole L S text at p → ((a : A) (n : ℕ) → n ≤ length text → p ≡ accepted a n → Failing M S2 text n (f a n)) → Failing N S2 text at (andThen p f)
@@ -88,62 +86,83 @@ module _ (names : List (List ℕ)) (good : AreNames names) where
           let i : normal (part (sc .text) s n) ≡ x .0 = heads (q ∙ ap (λ (y : Tokens). y ++ ys) (x .2)) in
           (x .1, x .2 ∙ ap (λ (v : List ℕ). v ∷ x .1) (sym i), subst (λ (v : List ℕ). RuleRest names good v (x .1)) (sym i) (x .4))
 
-  -- the rules that begin with a token that is there
-  some-rules : (text : List ℕ) (at : ℕ) (k : Kind) (s n : ℕ) → tokenAt text at ≡ token k s n → (k ≡ ending → ⊥) → (us xs ys : Tokens) → AheadAt text at us → us ≡ xs ++ ys → AreRules names xs → Empty ys → Joins (IsRule names) (AreRules names) xs
-  some-rules text at k s n e ne us xs ys ah q G.AreRules.none z =
-      let y = ah k s n e .1 ne in
-      let r : normal (part text s n) ∷ y .0 ≡ [] = sym (y .1) ∙ (q ∙ z) in
-      let w : _≡_ {A = ℕ} 0 1 = cc in
-      absurd (omega arith)
-  some-rules text at k s n e ne us xs ys ah q (G.AreRules.more ts vs x r) z = (ts, vs, refl, x, r)
-
-  rules-failing : (f : ℕ) (sc : Scope) (done : List Rule) (at : ℕ) → at ≤ length (sc .text) → Failing (AreRules names) Empty (sc .text) at (rulesFrom f sc done at)
+  -- what follows the rules begins with no name
+  rules-sole : (f : ℕ) (sc : Scope) (done : List Rule) (at : ℕ) → at ≤ length (sc .text) → Sole (AreRules names) (NoSign SpellsName) (sc .text) at (rulesFrom f sc done at)
   unfolding rulesFrom is kindNumber
-  rules-failing zero sc done at h = λ e. absurd (omega (arith, e))
-  rules-failing (suc f) sc done at h = go (tokenAt (sc .text) at) refl (λ r m i. rules-failing f (ruled sc (target r)) (done ++ (r ∷ [])) m i)
+  rules-sole zero sc done at h = by-other 6 (λ e. omega (arith, e))
+  rules-sole (suc f) sc done at h =
+      token-sole (sc .text) at
+      (λ k s n e. cond-sole (is k name)
+      (λ t.
+      let st = sign-stands normally (sc .text) name refl at k s n h e t in
+      narrow h (λ us xs ys ah q l z. some-rules k s n e (name-end k t) us xs ys (ah k s n e) q l z (st .1))
+      (then-sole {L = IsRule names} {M = AreRules names} {N = Joins (IsRule names) (AreRules names)} {S = Anything} {S2 = NoSign SpellsName} h (λ zs j. j) (λ xs ys l z. tt) (rule-sole sc at k s n h e t)
+      (λ r m i j q. rules-sole f (ruled sc (target r)) (done ++ (r ∷ [])) m j)))
+      (λ t. nothing-sole _ (λ us xs ys ah q l z. none-left k s n e t us xs ys (ah k s n e) q l)))
     where
-      P : Parsed (List Rule) → Type 0
-      P r = Failing (AreRules names) Empty (sc .text) at r
+      name-end : (k : Kind) → is k name ≡ true → k ≡ ending → ⊥
+      name-end k t z = let r : true ≡ false = sym t ∙ ap (λ (x : Kind). is x name) z in let w : _≡_ {A = ℕ} 0 1 = cc in omega arith
 
-      Ih : Type 0
-      Ih = (r : Rule) (m : ℕ) → m ≤ length (sc .text) → Failing (AreRules names) Empty (sc .text) m (rulesFrom f (ruled sc (target r)) (done ++ (r ∷ [])) m)
+      -- with a name some rules begin
+      some-rules : (k : Kind) (s n : ℕ) → tokenAt (sc .text) at ≡ token k s n → (k ≡ ending → ⊥) → (us xs ys : Tokens) → Ahead k (normal (part (sc .text) s n)) us → us ≡ xs ++ ys → AreRules names xs → NoSign SpellsName ys → SpellsName (normal (part (sc .text) s n)) → Joins (IsRule names) (AreRules names) xs
+      some-rules k s n e ne us xs ys ah q G.AreRules.none z nm = absurd (subst (NoSign SpellsName) (sym q ∙ ah .1 ne .1) z nm)
+      some-rules k s n e ne us xs ys ah q (G.AreRules.more ts vs x r) z nm = (ts, vs, refl, x, r)
 
-      blocks : (k : Kind) (s n : ℕ) → tokenAt (sc .text) at ≡ token k s n → is k name ≡ false → (k ≡ ending → ⊥) → (us xs ys : Tokens) → Ahead k (normal (part (sc .text) s n)) us → us ≡ xs ++ ys → AreRules names xs → Empty ys → ⊥
-      blocks k s n e t ne us xs ys ah q G.AreRules.none z = let y = ah .1 ne in let r : normal (part (sc .text) s n) ∷ y .0 ≡ [] = sym (y .1) ∙ (q ∙ z) in let w : _≡_ {A = ℕ} 0 1 = cc in omega arith
-      blocks k s n e t ne us xs ys ah q (G.AreRules.more ts vs x r) z =
+      none-left : (k : Kind) (s n : ℕ) → tokenAt (sc .text) at ≡ token k s n → is k name ≡ false → (us xs ys : Tokens) → Ahead k (normal (part (sc .text) s n)) us → us ≡ xs ++ ys → AreRules names xs → xs ≡ []
+      none-left k s n e t us xs ys ah q G.AreRules.none = refl
+      none-left k s n e t us xs ys ah q (G.AreRules.more ts vs x r) =
           let y = rule-of names good ts x in
-          first-ahead (sc .text) at k s n h e us ((y .1 ++ vs) ++ ys) (y .0) ah (q ∙ ap (λ (l : Tokens). (l ++ vs) ++ ys) (y .2)) name (y .3) (apart k name refl t)
+          absurd (first-ahead (sc .text) at k s n h e us ((y .1 ++ vs) ++ ys) (y .0) ah (q ∙ ap (λ (l : Tokens). (l ++ vs) ++ ys) (y .2)) name (y .3) (apart k name refl t))
 
-      go : (x : TokenRead) → tokenAt (sc .text) at ≡ x → Ih → P (onToken x (λ k s n. cond (is k name) (andThen (ruleAt sc s n) (λ r m. rulesFrom f (ruled sc (target r)) (done ++ (r ∷ [])) m)) (cond (is k ending) (cond (allTrue (sc .known)) (accepted done n) (refused 6 s)) (refused 2 s))))
-      go (fault p) e ih = λ q. absurd (omega (arith, q))
-      go (token k s n) e ih =
-          cond-prop P (is k name) _ _
-          (λ t. narrow-failing (Joins (IsRule names) (AreRules names)) (AreRules names) Empty (sc .text) at (andThen (ruleAt sc s n) (λ r m. rulesFrom f (ruled sc (target r)) (done ++ (r ∷ [])) m)) h (some-rules (sc .text) at k s n e (name-end t))
-          (then-failing (IsRule names) (AreRules names) (Joins (IsRule names) (AreRules names)) Anything Empty (sc .text) at h (λ zs j. j) (λ xs ys l z. tt) (ruleAt sc s n) _ (rule-sole sc at k s n h e t) (λ r m i q. ih r m i)))
-          (λ t. cond-prop P (is k ending) _ _ (λ u. cond-prop P (allTrue (sc .known)) _ _ (λ v. tt) (λ v q. absurd (omega (arith, q))))
-          (λ u q. record { before = []; end = at; spells = refl; kind = k; next = n; stands = e; blocked = blocks k s n e t (apart k ending refl u) }))
-        where
-          name-end : is k name ≡ true → k ≡ ending → ⊥
-          name-end t z = let r : true ≡ false = sym t ∙ ap (λ (x : Kind). is x name) z in let w : _≡_ {A = ℕ} 0 1 = cc in omega arith
+  -- ---- the end
+
+  end-failing : (text : List ℕ) (known : List Bool) (at : ℕ) → Failing Empty Empty text at (endAt text known at)
+  unfolding endAt is kindNumber
+  end-failing text known at = go (tokenAt text at) refl
+    where
+      P : Parsed (Unit {0}) → Type 0
+      P r = Failing Empty Empty text at r
+
+      blocks : (k : Kind) (s n : ℕ) → (k ≡ ending → ⊥) → (us xs ys : Tokens) → Ahead k (normal (part text s n)) us → us ≡ xs ++ ys → Empty xs → Empty ys → ⊥
+      blocks k s n ne us xs ys ah q l z =
+          let y = ah .1 ne in
+          let r : normal (part text s n) ∷ y .0 ≡ [] = sym (y .1) ∙ (q ∙ (ap (λ (v : Tokens). v ++ ys) l ∙ z)) in
+          let w : _≡_ {A = ℕ} 0 1 = cc in
+          omega arith
+
+      go : (x : TokenRead) → tokenAt text at ≡ x → P (onToken x (λ k s n. cond (is k ending) (cond (allTrue known) (accepted tt n) (refused 6 s)) (refused 2 s)))
+      go (fault p) e = λ q. absurd (omega (arith, q))
+      go (token k s n) e =
+          cond-prop P (is k ending) _ _ (λ u. cond-prop P (allTrue known) _ _ (λ v. tt) (λ v q. absurd (omega (arith, q))))
+          (λ u q. record { before = []; end = at; spells = refl; kind = k; next = n; stands = e; blocked = blocks k s n (apart k ending refl u) })
 
   -- ---- the whole text
 
+  abbrev Rules : Tokens → Type 0
+  Rules = Joins (AreRules names) (AreWatches names)
+
   abbrev Variables : Tokens → Type 0
-  Variables = Joins (AreDeclarations (bytes "var")) (AreRules names)
+  Variables = Joins (AreDeclarations (bytes "var")) Rules
 
   abbrev TextOf : Tokens → Type 0
   TextOf = Joins (AreDeclarations (bytes "input")) Variables
 
-  -- rules begin with a name
-  rules-ends : (k : Kind) → Spelling k (spellingOf k) → (name ≡ k → ⊥) → (xs ys : Tokens) → AreRules names xs → Empty ys → NoSign (Word k) (xs ++ ys)
-  rules-ends k sp un xs ys G.AreRules.none z = subst (NoSign (Word k)) (sym z) tt
-  rules-ends k sp un xs ys (G.AreRules.more ts vs x r) z =
+  -- rules begin with a name, watches with `watch`
+  rules-ends : (k : Kind) → Spelling k (spellingOf k) → (name ≡ k → ⊥) → (watchWord ≡ k → ⊥) → (xs ys : Tokens) → Rules xs → Empty ys → NoSign (Word k) (xs ++ ys)
+  rules-ends k sp un wn xs ys (rs, ws, q, G.AreRules.none, w) z =
+      subst (λ (l : Tokens). NoSign (Word k) (l ++ ys)) (sym q) (watches-ends names good (Word k) (λ e. not-sign watchWord k (bytes "watch") (spellingOf k) refl sp wn e) ws ys w z)
+  rules-ends k sp un wn xs ys (rs, ws, q, G.AreRules.more ts vs x r, w) z =
       let y = rule-of names good ts x in
-      subst (λ (l : Tokens). NoSign (Word k) ((l ++ vs) ++ ys)) (sym (y .2)) (λ e. not-sign name k (y .0) (spellingOf k) (y .3) sp un e)
+      subst (λ (l : Tokens). NoSign (Word k) (l ++ ys)) (sym (q ∙ ap (λ (l : Tokens). (l ++ vs) ++ ws) (y .2))) (λ e. not-sign name k (y .0) (spellingOf k) (y .3) sp un e)
+
+  -- `watch` is no name
+  no-name : SpellsName (bytes "watch") → ⊥
+  unfolding is kindNumber
+  no-name nm = not-sign name watchWord (bytes "watch") (bytes "watch") nm refl (apart name watchWord refl refl) refl
 
   variables-end : (xs ys : Tokens) → Variables xs → Empty ys → NoSign (Word inputWord) (xs ++ ys)
   unfolding is kindNumber
-  variables-end xs ys (vs, rs, q, G.AreDeclarations.none, r) z = subst (λ (l : Tokens). NoSign (Word inputWord) (l ++ ys)) (sym q) (rules-ends inputWord refl (apart name inputWord refl refl) rs ys r z)
+  variables-end xs ys (vs, rs, q, G.AreDeclarations.none, r) z = subst (λ (l : Tokens). NoSign (Word inputWord) (l ++ ys)) (sym q) (rules-ends inputWord refl (apart name inputWord refl refl) (apart watchWord inputWord refl refl) rs ys r z)
   variables-end xs ys (vs, rs, q, G.AreDeclarations.more ts us d m, r) z =
       let y = declared-of [] (bytes "var") ts d in
       subst (λ (l : Tokens). NoSign (Word inputWord) (l ++ ys)) (sym (q ∙ ap (λ (l : Tokens). (l ++ us) ++ rs) (y .1))) (λ e. not-sign varWord inputWord (bytes "var") (bytes "input") refl refl (apart varWord inputWord refl refl) e)
@@ -154,11 +173,14 @@ module _ (names : List (List ℕ)) (good : AreNames names) where
       then-failing (AreDeclarations (bytes "input")) Variables TextOf (NoSign (Word inputWord)) Empty text 0 (omega arith) (λ zs j. j) variables-end (declarations inputWord text [] 0) _ (declarations-sole text 65 inputWord refl refl [] (omega arith) (omega arith) 0 (omega arith))
       (λ inputs n1 h1 e1.
       let g1 = subst (Ends (length text) (Names text 0)) e1 (declarations-fit text 65 inputWord [] 0 0 (omega arith) (tt, omega arith, omega arith, tt)) in
-      then-failing (AreDeclarations (bytes "var")) (AreRules names) Variables (NoSign (Word varWord)) Empty text n1 h1 (λ zs j. j) (rules-ends varWord refl (apart name varWord refl refl)) (declarations varWord text inputs n1) _
+      then-failing (AreDeclarations (bytes "var")) Rules Variables (NoSign (Word varWord)) Empty text n1 h1 (λ zs j. j) (rules-ends varWord refl (apart name varWord refl refl) (apart watchWord varWord refl refl)) (declarations varWord text inputs n1) _
       (declarations-sole text 65 varWord refl refl inputs (g1 .0 .1) (omega arith) n1 h1)
       (λ declared n2 h2 e2.
       let sc : Scope = record { text = text; names = spellings declared; known = knownFirst (length inputs) (length declared) } in
-      same-failing (AreRules names) Empty text n2 (rulesFrom 65 sc [] n2) _ (rules-failing 65 sc [] n2 h2)))
+      let sw : Scope = record { text = text; names = spellings declared; known = free (length declared) } in
+      then-failing (AreRules names) (AreWatches names) Rules (NoSign SpellsName) Empty text n2 h2 (λ zs j. j) (watches-ends names good SpellsName no-name) (rulesFrom 65 sc [] n2) _ (rules-sole 65 sc [] n2 h2)
+      (λ ruled n3 h3 e3. then-failing (AreWatches names) Empty (AreWatches names) (NoSign (Word watchWord)) Empty text n3 h3 (λ zs l. (zs, [], sym (append-nil zs), l, refl)) (λ xs ys l z. subst (NoSign (Word watchWord)) (ap₂ (λ (u v : Tokens). u ++ v) (sym l) (sym z)) tt) (watchesFrom watchLimit sw [] n3) _ (watches-sole names good sw watchLimit [] n3 h3)
+      (λ watches n4 h4 e4. same-failing Empty Empty text n4 (endAt text (ruled .known) n4) _ (end-failing text (ruled .known) n4)))))
 
   parse-failing : (text : List ℕ) → Failing TextOf Empty text 0 (parse text)
   unfolding parse
@@ -210,7 +232,9 @@ begins-none L S text at place s b =
     }
 
 text-of : (ts : Tokens) (x : IsText ts) → TextOf (x .names) (x .are-names) ts
-text-of ts x = (x .inputs, x .variables ++ x .rules, x .in-order ∙ append-assoc (x .inputs) (x .variables) (x .rules), x .are-inputs, (x .variables, x .rules, refl, x .are-variables, x .are-rules))
+text-of ts x =
+    let rest = x .rules ++ x .watches in
+    (x .inputs, x .variables ++ rest, x .in-order ∙ (append-assoc (x .inputs ++ x .variables) (x .rules) (x .watches) ∙ append-assoc (x .inputs) (x .variables) rest), x .are-inputs, (x .variables, rest, refl, x .are-variables, (x .rules, x .watches, refl, x .are-rules, x .are-watches)))
 
 texts : (text : List ℕ) (place : ℕ) → parse text ≡ refused 2 place → (before : Tokens) (end : ℕ) → Spells normal text 0 end before → (kind : Kind) (next : ℕ) → tokenAt text end ≡ token kind place next → (us : Tokens) → Ahead kind (normal (part text place next)) us → IsText (before ++ us) → ⊥
 texts text place e before end sp kind next st us ah x =

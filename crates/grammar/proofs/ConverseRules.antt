@@ -1,5 +1,5 @@
 -- Tokens that spell rules in the order of work are read as them. Assumes nothing.
-use mathlib.Core.Path.{_≡_, refl, ap, sym, _∙_, subst}
+use mathlib.Core.Path.{_≡_, refl, ap, ap₂, sym, _∙_, subst}
 use mathlib.Core.List.{List, [], _∷_, _++_, append-assoc, append-nil}
 use mathlib.Core.Bool.{Bool, true, false}
 use mathlib.Core.Option.{none, some}
@@ -8,18 +8,17 @@ use native.Mathlib.Omega.{arith}
 use lib.ListN.{length, getD, set, getElem?}
 use lib.Dec.{ltb→lt}
 use Rattle.limits.specs.Limits.{caseLimit, bracketLimit}
-use Rattle.arith.proofs.Basics.{T-true}
 use Rattle.lexer.specs.Bytes.{bytes, part, capitals}
 use Rattle.lexer.specs.Spelling.{SpellsName}
-use Rattle.lexer.specs.Token.{kindNumber, ending, name, colon, closeRound, tilde, greater, plus, is, token}
+use Rattle.lexer.specs.Token.{Kind, kindNumber, name, colon, closeRound, tilde, greater, plus, is, token}
 use Rattle.lexer.specs.Lexer.{tokenAt}
 use Rattle.lexer.proofs.Laws.{token-at-moved}
-use Rattle.semantics.specs.Program.{Expression, Condition, Case, Rule, function, change, target, allTrue, UsableE, UsableK, UsableR, OrderedRules}
+use Rattle.semantics.specs.Program.{Expression, Condition, Case, Rule, function, change, target, UsableE, UsableK, UsableR, OrderedRules}
 use Rattle.grammar.specs.Parsed.{accepted, phrase, followed, itemBound}
 use Rattle.grammar.specs.Expressions.{Scope, productOf, sumOf, wholeExpression}
 use Rattle.grammar.specs.Forms.{valueOpening, functionClosing, formulaClosing, changeOpening, noChangeOpening, ruleOpening, turnedOpening, fallingOpening}
 use Rattle.grammar.specs.Pairs.{pairCases, pairRule}
-use Rattle.grammar.specs.Rules.{Spanned, casesFrom, plainList, agrees, partsFrom, firstFound, agreeingList, casesOf, functionAt, changeAt, pairAt, formulaAt, formulas, ruleAt, ruled, rulesFrom}
+use Rattle.grammar.specs.Rules.{Spanned, casesFrom, plainList, agrees, partsFrom, firstFound, agreeingList, casesOf, functionAt, changeAt, pairAt, formulaAt, formulas, ruleAt, ruled, Ruled, rulesFrom}
 use Rattle.grammar.specs.Derivation.{Spells, IsName, SpellsE, normal, normals}
 use Rattle.grammar.specs.Derivation as D
 use Rattle.grammar.specs.Spelled.{SpellsCases, SpellsList, SpellsR, a-change, a-function, a-pair, SpellsRules}
@@ -29,6 +28,7 @@ use Rattle.lexer.proofs.Spellings.{isFixed}
 use Rattle.grammar.proofs.Standing.{split, stands-in, spells-in, spells-append, is-read, normally, stands-raw}
 use Rattle.grammar.proofs.Phrases.{signs, fixed-at, name-at, phrase-reads, followed-reads, headTokens, middleTokens, riseTokens, fallTokens}
 use Rattle.grammar.proofs.Normal.{normal-twice, each-normal}
+use Rattle.grammar.proofs.Known.{knownAfter}
 use Rattle.grammar.proofs.SameRule.{formulas-same}
 use Rattle.grammar.proofs.Pairing.{counted-cases, ups-usable, downs-usable}
 use Rattle.grammar.proofs.Listed.{spells-parts}
@@ -233,21 +233,24 @@ rules-on : (sc : Scope) (f a s n m : ℕ) (done : List Rule) (r : Rule) → toke
 unfolding rulesFrom is kindNumber
 rules-on sc f a s n m done r e1 e2 = rw (e1, e2)
 
-rules-end : (sc : Scope) (f a s n : ℕ) (done : List Rule) → tokenAt (sc .text) a ≡ token ending s n → allTrue (sc .known) ≡ true → rulesFrom (suc f) sc done a ≡ accepted done n
-unfolding rulesFrom is kindNumber
-rules-end sc f a s n done e1 e2 = rw (e1, e2)
+-- up to a token that is no name
+rules-end : (sc : Scope) (f a : ℕ) (k : Kind) (s n : ℕ) (done : List Rule) → tokenAt (sc .text) a ≡ token k s n → is k name ≡ false → rulesFrom (suc f) sc done a ≡ accepted (record { rules = done; known = sc .known }) a
+unfolding rulesFrom
+rules-end sc f a k s n done e1 e2 = rw (e1, e2)
 
-pub rules-read : (f : ℕ) (sc : Scope) → Named (sc .names) → (done : List Rule) (ts : List (List ℕ)) (rs : List Rule) → SpellsRules (normals (sc .names)) ts rs → OrderedRules [] (sc .known) rs → unruled (sc .known) < f → (a n : ℕ) → a ≤ length (sc .text) → Spells normal (sc .text) a n ts → (s m : ℕ) → tokenAt (sc .text) n ≡ token ending s m → rulesFrom f sc done a ≡ accepted (done ++ rs) m
-rules-read zero sc good done ts rs d o fuel a n h g s m et = absurd (omega arith)
-rules-read (suc f) sc good done ts rs S.SpellsRules.none o fuel a n h g s m et =
-    rules-end sc f a s m done (subst (λ (y : ℕ). tokenAt (sc .text) y ≡ token ending s m) (sym g) et) (T-true (allTrue (sc .known)) o) ∙ ap (λ (y : List Rule). accepted y m) (sym (append-nil done))
-rules-read (suc f) sc good done ts rs (S.SpellsRules.more us vs r qs d e) o fuel a n h g s m et =
+pub rules-read : (f : ℕ) (sc : Scope) → Named (sc .names) → (done : List Rule) (ts : List (List ℕ)) (rs : List Rule) → SpellsRules (normals (sc .names)) ts rs → OrderedRules [] (sc .known) rs → unruled (sc .known) < f → (a n : ℕ) → a ≤ length (sc .text) → Spells normal (sc .text) a n ts → (k : Kind) (s m : ℕ) → tokenAt (sc .text) n ≡ token k s m → is k name ≡ false → rulesFrom f sc done a ≡ accepted (record { rules = done ++ rs; known = knownAfter (sc .known) rs }) n
+rules-read zero sc good done ts rs d o fuel a n h g k s m et other = absurd (omega arith)
+rules-read (suc f) sc good done ts rs S.SpellsRules.none o fuel a n h g k s m et other =
+    rules-end sc f a k s m done (subst (λ (y : ℕ). tokenAt (sc .text) y ≡ token k s m) (sym g) et) other
+    ∙ ap₂ (λ (y : List Rule) (z : ℕ). accepted (record { rules = y; known = sc .known }) z) (sym (append-nil done)) g
+rules-read (suc f) sc good done ts rs (S.SpellsRules.more us vs r qs d e) o fuel a n h g k s m et other =
     let p = split normally (sc .text) a n us vs g in
     let i = spells-in normally (sc .text) a (p .place) us h (p .first) .1 in
     let x = rule-reads sc good us r d (o .0) (o .2) a (p .place) h (p .first) in
     let c = rule-counts (sc .known) (target r) (ltb→lt (target r) (length (sc .known)) (o .1)) (o .2) in
     rules-on sc f a (x .start) (x .place) (p .place) done r (x .is-name) (x .reads)
-    ∙ (rules-read f (ruled sc (target r)) good (done ++ (r ∷ [])) vs qs e (o .3) (omega arith) (p .place) n i (p .second) s m et ∙ ap (λ (y : List Rule). accepted y m) (append-assoc done (r ∷ []) qs))
+    ∙ (rules-read f (ruled sc (target r)) good (done ++ (r ∷ [])) vs qs e (o .3) (omega arith) (p .place) n i (p .second) k s m et other
+    ∙ ap (λ (y : List Rule). accepted (record { rules = y; known = knownAfter (sc .known) (r ∷ qs) }) n) (append-assoc done (r ∷ []) qs))
 
 -- `itemBound` rules are enough
 pub few-unruled : (known : List Bool) → length known ≤ 64 → unruled known < itemBound

@@ -6,21 +6,19 @@ use mathlib.Core.Option.{none, some}
 use Prim.Native.Nat.{ℕ, zero, suc, _+_, _-_, _≤_, _<_}
 use native.Mathlib.Omega.{arith}
 use lib.ListN.{length, getD, set, getElem?, length-set}
-use lib.Dec.{lt→ltb}
+use lib.Dec.{T, lt→ltb}
 use Rattle.limits.specs.Limits.{caseLimit, bracketLimit}
 use Rattle.lexer.specs.Bytes.{bytes, part, capitals}
-use Rattle.lexer.specs.Token.{Kind, kindNumber, ending, name, tilde, greater, plus, is, token}
+use Rattle.lexer.specs.Token.{kindNumber, name, tilde, greater, plus, is}
 use Rattle.lexer.specs.Lexer.{tokenAt, overLong}
 use Rattle.lexer.specs.Names.{idOf}
 use Rattle.lexer.proofs.Laws.{cond-prop, token-at-moved}
-use Rattle.lexer.proofs.Same.{same-kind}
-use Rattle.arith.proofs.Basics.{true-T}
 use Rattle.semantics.specs.Program.{Condition, Case, Rule, change, target, allTrue, UsableK, UsableR, AgreesR, AgreesAll, OrderedRules}
 use Rattle.grammar.specs.Parsed.{Parsed, accepted, refused, phrase, followed}
 use Rattle.grammar.specs.Expressions.{Scope, withId, wholeExpression}
 use Rattle.grammar.specs.Forms.{valueOpening, functionClosing, formulaClosing, changeOpening, noChangeOpening, ruleOpening, turnedOpening, fallingOpening}
 use Rattle.grammar.specs.Pairs.{pairRule}
-use Rattle.grammar.specs.Rules.{Spanned, casesFrom, agreeingList, casesOf, functionAt, changeAt, pairAt, formulaAt, formulas, ruleAt, ruled, rulesFrom}
+use Rattle.grammar.specs.Rules.{Spanned, casesFrom, agreeingList, casesOf, functionAt, changeAt, pairAt, formulaAt, formulas, ruleAt, ruled, Ruled, rulesFrom}
 use Rattle.grammar.specs.Derivation.{Stands, Spells, normal, normals}
 use Rattle.grammar.specs.Derivation as D
 use Rattle.grammar.specs.Spelled.{SpellsCases, SpellsList, SpellsR, a-change, a-function, a-pair, SpellsRules}
@@ -28,9 +26,8 @@ use Rattle.grammar.specs.Spelled as S
 use Rattle.grammar.specs.Inner.Names.{Named}
 use Rattle.grammar.proofs.Combine.{token-prop, then-prop, option-prop}
 use Rattle.grammar.proofs.Bytes.{id-of}
-use Rattle.lexer.specs.Spelling.{Separated}
 use Rattle.lexer.proofs.Spellings.{isFixed}
-use Rattle.grammar.proofs.Standing.{spells-in, split, spells-append, end-separated, Seen, normally, seen-capitals}
+use Rattle.grammar.proofs.Standing.{spells-in, split, spells-append, Seen, normally, seen-capitals}
 use Rattle.grammar.proofs.Phrases.{signs, fixed-stands, phrase-spells, headTokens, middleTokens, riseTokens, fallTokens}
 use Rattle.lexer.proofs.Capitals.{capitals-twice}
 use Rattle.grammar.proofs.Normal.{normal-capitals, id-word, id-names}
@@ -233,20 +230,18 @@ module _ (sc : Scope) (few : length (sc .names) ≤ 64) (lengths : length (sc .n
       (weaker normally (sc .text) (λ ts r. SpellsR (normals (sc .names)) (w ∷ ts) r × ScopedR w big v at-v r) (λ ts r. SpellsR (normals (sc .names)) (w ∷ ts) r × First r)
       (λ ts r d. (d .0, ((d .1 .0, d .1 .1), subst (λ (x : ℕ). x < length (sc .known)) (sym (d .1 .2)) l, subst (λ (x : ℕ). getD (sc .known) x false ≡ false) (sym (d .1 .2)) t))) n (formulas sc w v n) (formulas-derive w big v at-v n h)))))
 
--- rules from a place to the end of the text, after those done
-pub record RulesRead (text : List ℕ) (names : List (List ℕ)) (known : List Bool) (done : List Rule) (at : ℕ) (rs : List Rule) : Type 0 where
+-- rules from a place to another, after those done: in the order of work, if every variable has its rule in the end
+pub record RulesRead (text : List ℕ) (names : List (List ℕ)) (known : List Bool) (done : List Rule) (at end : ℕ) (read : Ruled) : Type 0 where
   pub more : List Rule
-  pub is-more : rs ≡ done ++ more
+  pub is-more : read .rules ≡ done ++ more
   pub tokens : List (List ℕ)
-  pub end : ℕ
   pub spells : Spells normal text at end tokens
-  pub ends : Separated text end (length text)
   pub derives : SpellsRules (normals names) tokens more
-  pub ordered : OrderedRules [] known more
+  pub ordered : T (allTrue (read .known)) → OrderedRules [] known more
   pub agrees : AgreesAll more
 
-abbrev pub RulesReads : List ℕ → List (List ℕ) → List Bool → List Rule → ℕ → Parsed (List Rule) → Type 0
-RulesReads text names known done at (accepted rs n) = RulesRead text names known done at rs
+abbrev pub RulesReads : List ℕ → List (List ℕ) → List Bool → List Rule → ℕ → Parsed Ruled → Type 0
+RulesReads text names known done at (accepted read n) = RulesRead text names known done at n read
 RulesReads text names known done at (refused k q) = Unit {0}
 
 pub rules-derive : (f : ℕ) (sc : Scope) → length (sc .names) ≤ 64 → length (sc .names) ≡ length (sc .known) → Named (sc .names) → (done : List Rule) (at : ℕ) → at ≤ length (sc .text) → RulesReads (sc .text) (sc .names) (sc .known) done at (rulesFrom f sc done at)
@@ -264,39 +259,21 @@ rules-derive (suc f) sc few lengths good done at h =
     let l = lengths ∙ sym (length-set (sc .known) (target r) true) in
     next (normal (part (sc .text) s n)) n m r (sign-stands normally (sc .text) name refl at k s n h et e .0) d
     (rulesFrom f (ruled sc (target r)) (done ++ (r ∷ [])) m) (rules-derive f (ruled sc (target r)) few l good (done ++ (r ∷ [])) m i)))
-    (λ n1. cond-prop R (is k ending) _ _
-    (λ e.
-    let et2 : tokenAt (sc .text) at ≡ token ending s n = et ∙ ap (λ (x : Kind). token x s n) (same-kind k ending e) in
-    cond-prop R (allTrue (sc .known)) _ _
-    (λ t. record {
-      more = [];
-      is-more = sym (append-nil done);
-      tokens = [];
-      end = at;
-      spells = refl;
-      ends = end-separated (sc .text) at s n h et2;
-      derives = S.SpellsRules.none;
-      ordered = true-T (allTrue (sc .known)) t;
-      agrees = tt;
-    })
-    (λ t. tt))
-    (λ n2. tt)))
+    (λ e. record { more = []; is-more = sym (append-nil done); tokens = []; spells = refl; derives = S.SpellsRules.none; ordered = λ t. t; agrees = tt }))
   where
-    R : Parsed (List Rule) → Type 0
+    R : Parsed Ruled → Type 0
     R p = RulesReads (sc .text) (sc .names) (sc .known) done at p
 
-    next : (w : List ℕ) (n m : ℕ) (r : Rule) → Stands normal (sc .text) at n w → Derived normally (sc .text) (λ ts r. SpellsR (normals (sc .names)) (w ∷ ts) r × First sc few lengths good r) n m r → (p : Parsed (List Rule)) → RulesReads (sc .text) (sc .names) (set (sc .known) (target r) true) (done ++ (r ∷ [])) m p → R p
-    next w n m r st d (accepted rs i) q =
+    next : (w : List ℕ) (n m : ℕ) (r : Rule) → Stands normal (sc .text) at n w → Derived normally (sc .text) (λ ts r. SpellsR (normals (sc .names)) (w ∷ ts) r × First sc few lengths good r) n m r → (p : Parsed Ruled) → RulesReads (sc .text) (sc .names) (set (sc .known) (target r) true) (done ++ (r ∷ [])) m p → R p
+    next w n m r st d (accepted read i) q =
         let f = d .derives .1 in
         record {
           more = r ∷ q .more;
           is-more = q .is-more ∙ append-assoc done (r ∷ []) (q .more);
           tokens = (w ∷ d .tokens) ++ q .tokens;
-          end = q .end;
-          spells = spells-append normally (sc .text) at m (q .end) (w ∷ d .tokens) (q .tokens) (n, st, d .spells) (q .spells);
-          ends = q .ends;
+          spells = spells-append normally (sc .text) at m i (w ∷ d .tokens) (q .tokens) (n, st, d .spells) (q .spells);
           derives = S.SpellsRules.more (w ∷ d .tokens) (q .tokens) r (q .more) (d .derives .0) (q .derives);
-          ordered = (f .0 .0, lt→ltb (target r) (length (sc .known)) (f .1), f .2, q .ordered);
+          ordered = λ t. (f .0 .0, lt→ltb (target r) (length (sc .known)) (f .1), f .2, q .ordered t);
           agrees = (f .0 .1, q .agrees);
         }
     next w n m r st d (refused k p) q = tt

@@ -6,15 +6,20 @@ use Prim.Native.Nat.{ℕ, zero, suc, _<_}
 use native.Mathlib.Omega.{arith}
 use lib.ListN.{length, getD, set, length-set}
 use lib.Seq.{getD-set-same, getD-set-other}
-use lib.Dec.{eqb, ltb}
+use lib.Dec.{T, eqb, ltb}
 use borrow.Author.Tests.{eqb-true, eqb-false, ltb-true, ltb-false, lt-ltb, le-ltb}
-use Rattle.semantics.specs.Program.{Rule, target, knownFirst}
+use Rattle.semantics.specs.Program.{Rule, target, knownFirst, allTrue, OrderedRules}
 use Rattle.semantics.proofs.Reference.{length-known}
 
 -- what is known after rules, each of which makes its variable known
 abbrev pub knownAfter : List Bool → List Rule → List Bool
 knownAfter known [] = known
 knownAfter known (r ∷ rs) = knownAfter (set known (target r) true) rs
+
+-- every variable has exactly one: in the end none is left
+pub all-known : (known : List Bool) (rs : List Rule) → OrderedRules [] known rs → T (allTrue (knownAfter known rs))
+all-known known [] o = o
+all-known known (r ∷ rs) o = all-known (set known (target r) true) rs (o .3)
 
 -- one of the rules is v's
 abbrev pub hasRule : List Rule → ℕ → Bool

@@ -5,8 +5,10 @@ pub mod Declarations
 pub mod Forms
 pub mod Pairs
 pub mod Rules
+pub mod Watches
 pub mod Parse
 pub mod Derivation
 pub mod Spelled
 pub mod Accepts
+pub mod Unwatched
 pub mod Inner

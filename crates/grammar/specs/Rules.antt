@@ -7,9 +7,9 @@ use lib.ListN.{length, getD, set}
 use lib.Dec.{ltb, leb, eqb}
 use Rattle.limits.specs.Limits.{caseLimit, notAllowed, wrongRule, listsDiffer, tooMany}
 use Rattle.lexer.specs.Bytes.{part}
-use Rattle.lexer.specs.Token.{Kind, name, ending, closeRound, openSquare, tilde, bar, greater, plus, is, TokenRead, token, fault}
+use Rattle.lexer.specs.Token.{Kind, name, closeRound, openSquare, tilde, bar, greater, plus, is, TokenRead, token, fault}
 use Rattle.lexer.specs.Lexer.{tokenAt, sameToken}
-use Rattle.semantics.specs.Program.{Condition, changing, Case, Rule, function, change, target, allTrue}
+use Rattle.semantics.specs.Program.{Condition, changing, Case, Rule, function, change, target}
 use Rattle.grammar.specs.Parsed.{Parsed, accepted, refused, andThen, onToken, sign, phrase, followed}
 use Rattle.grammar.specs.Expressions.{Scope, withId, wholeExpression}
 use Rattle.grammar.specs.Conditions.{listed}
@@ -183,13 +183,16 @@ ruleAt sc s n =
 abbrev pub ruled : Scope → ℕ → Scope
 ruled sc v = record { text = sc .text; names = sc .names; known = set (sc .known) v true }
 
--- rules up to the end of the text, after those done: 6 at the end if a variable has none. No variable has two rules, so
--- `itemBound` rules are enough
-unfoldable pub rulesFrom : ℕ → Scope → List Rule → ℕ → Parsed (List Rule)
+-- rules read, and which names may be used with their current value after them: just the inputs and the variables that have a rule
+pub record Ruled : Type 0 where
+  pub rules : List Rule
+  pub known : List Bool
+
+-- rules up to the first token that is no name, after those done. No variable has two rules, so `itemBound` rules are enough
+unfoldable pub rulesFrom : ℕ → Scope → List Rule → ℕ → Parsed Ruled
 rulesFrom zero sc done at = refused wrongRule at
 rulesFrom (suc f) sc done at =
     onToken (tokenAt (sc .text) at)
     (λ k s n.
     let more = andThen (ruleAt sc s n) (λ r m. rulesFrom f (ruled sc (target r)) (done ++ (r ∷ [])) m) in
-    let end = cond (allTrue (sc .known)) (accepted done n) (refused wrongRule s) in
-    cond (is k name) more (cond (is k ending) end (refused notAllowed s)))
+    cond (is k name) more (accepted (record { rules = done; known = sc .known }) at))
