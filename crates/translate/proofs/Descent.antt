@@ -1,4 +1,4 @@
--- The ways through a whole text, once its declarations are read: the rules, then the two counts. Assumes nothing.
+-- The ways through a whole text, once its declarations are read: the rules, the end of the text, then the two counts. Assumes nothing.
 use mathlib.Core.Path.{_≡_, refl, sym, ap, subst, _∙_}
 use mathlib.Core.List.{List, [], _∷_, _++_}
 use Prim.Native.Nat.{ℕ, _+_, _-_, _*_, _≤_, _<_}
@@ -14,21 +14,23 @@ use Rattle.leb128.proofs.RoundTrip.{sets-join}
 use Rattle.grammar.specs.Parsed.{Parsed, accepted, refused, andThen}
 use Rattle.grammar.specs.Declarations.{declarations, spellings}
 use Rattle.grammar.specs.Inner.Names.{Named}
-use Rattle.grammar.specs.Rules.{rulesFrom}
+use Rattle.grammar.specs.Rules.{Ruled, rulesFrom}
 use Rattle.grammar.specs.Inner.Bytes.{header, bytesR, image}
-use Rattle.grammar.specs.Parse.{program}
+use Rattle.grammar.specs.Parse.{endAt, program}
 use Rattle.declarations.specs.Inner.Tables.{TableHolds}
 use Rattle.expressions.specs.declared.scope.Names.{Names}
 use Rattle.arith.specs.Inner.Flags.{flagsOf}
 use Rattle.expressions.specs.Inner.Scopes.{scopeOf}
-use Rattle.lexer.specs.Results.{reachedAt}
+use Rattle.expressions.proofs.Steps.{Refuses}
+use Rattle.cases.proofs.Parts.{behind-refused}
+use Rattle.lexer.specs.declared.Place.{Place}
 use Rattle.lexer.specs.declared.Step.{Step}
-use Rattle.lexer.specs.declared.Step.the-variants.{Refused}
+use Rattle.lexer.specs.declared.Step.the-variants.{Done, Refused}
 use Rattle.grammar.proofs.Combine.{same-value}
 use Rattle.phrases.proofs.Writing.{writes, refuses}
 use Rattle.translate.specs.Inner.Descent.{Declarations, headingOf, scopeAfter, Descends}
 use Rattle.translate.proofs.Stores.{counts-last}
-use Rattle.translate.proofs.Ways.{never, program-heading, names-few, HeadingRead}
+use Rattle.translate.proofs.Ways.{never, closed-fault, program-heading, names-few, HeadingRead}
 
 -- few names, few bytes, within the text; the names are names of a text
 pub record Few (text : List ℕ) (d : Declarations) (n : ℕ) : Type 0 where
@@ -77,8 +79,12 @@ module _ (text before last starts ends : List ℕ) {r : Step} where
   pub no-heading : (k p : ℕ) → r ≡ Refused k p → headingOf text ≡ refused k p → Descends text (program text) before last starts ends r
   no-heading k p d e = descends-refused k p d (program-heading text ∙ rw e)
 
-  pub no-rules : (x : Declarations) (a k p : ℕ) → headingOf text ≡ accepted x a → r ≡ Refused k p → rulesFrom 65 (scopeAfter text x) [] a ≡ refused k p → Descends text (program text) before last starts ends r
-  no-rules x a k p e d f = descends-refused k p d (program-heading text ∙ rw (e, f))
+  module _ (x : Declarations) (a : ℕ) (e : headingOf text ≡ accepted x a) where
+    pub no-rules : (k p : ℕ) → r ≡ Refused k p → Refuses text (rulesFrom 65 (scopeAfter text x) [] a) k p → Descends text (program text) before last starts ends r
+    no-rules k p d f = descends-refused k p d (program-heading text ∙ rw e (behind-refused text _ (closed-fault text x) (rulesFrom 65 (scopeAfter text x) [] a) f))
+
+    pub no-end : (y : Ruled) (b k p : ℕ) → rulesFrom 65 (scopeAfter text x) [] a ≡ accepted y b → r ≡ Refused k p → endAt text (y .known) b ≡ refused k p → Descends text (program text) before last starts ends r
+    no-end y b k p f d g = descends-refused k p d (program-heading text ∙ rw (e, f, g))
 
 -- the bytes of an image whose counts have one byte each
 pub image-bytes : (q : Program) → q .inputs < 128 → length (q .names) < 128 → image q ≡ q .inputs ∷ (length (q .names) - q .inputs) ∷ (header (q .names) ++ bytesR (q .rules))
@@ -86,12 +92,15 @@ unfolding image
 image-bytes q h i = rw (groups-one (q .inputs) h, groups-one (length (q .names) - q .inputs) (omega arith))
 
 -- all is read: the counts are stored last
-module _ (text before mid last : List ℕ) (starts ends : List ℕ) (a t c m b u : ℕ) (x : HeadingRead text before mid starts ends a t c m) (few : Few text (x .read) a) (rules : List Rule) (e : rulesFrom 65 (scopeAfter text (x .read)) [] a ≡ accepted rules b) (eu : u ≡ t + length (bytesR rules)) (w : last ≡ sets mid t (bytesR rules)) where
+module _ (text before mid last : List ℕ) (starts ends : List ℕ) (a t c m b l u : ℕ) (x : HeadingRead text before mid starts ends a t c m) (few : Few text (x .read) a) (y : Ruled) (e : rulesFrom 65 (scopeAfter text (x .read)) [] a ≡ accepted y b) (g : endAt text (y .known) b ≡ accepted tt l) (eu : u ≡ t + length (bytesR (y .rules))) (w : last ≡ sets mid t (bytesR (y .rules))) where
+  abbrev rules : List Rule
+  rules = y .rules
+
   abbrev whole : Program
   whole = record { inputs = x .read .inputs; names = x .read .names; timers = []; rules = rules }
 
-  is-whole : program text ≡ accepted whole b
-  is-whole = program-heading text ∙ rw (x .is-read, e)
+  is-whole : program text ≡ accepted whole l
+  is-whole = program-heading text ∙ rw (x .is-read, e, g)
 
   bytes : image whole ≡ x .read .inputs ∷ (length (x .read .names) - x .read .inputs) ∷ (header (x .read .names) ++ bytesR rules)
   bytes = image-bytes whole (omega (arith, few .inputs, few .names)) (omega (arith, few .names))
@@ -111,8 +120,8 @@ module _ (text before mid last : List ℕ) (starts ends : List ℕ) (a t c m b u
       let l : length (image whole) ≡ 2 + (length (header (x .read .names)) + length (bytesR rules)) = ap length bytes ∙ simp length-append (omega arith) in
       omega (arith, eu, x .ended)
 
-  pub descends-whole : {r : Step} → r ≡ reachedAt b u m → Descends text (program text) before (set (set last 0 c) 1 (m - c)) starts ends r
-  descends-whole d = record {
-    writes = writes d (record { tree = whole; is = is-whole; ended = omega (arith, size); tells-it = refl; wrote = all-stored });
-    named = λ q n g. subst (λ (y : Program). TableHolds text starts ends (length (y .names)) (y .names)) (same-value (sym is-whole ∙ g)) (subst (λ (k : ℕ). TableHolds text starts ends k (x .read .names)) (x .named) (x .held));
+  pub descends-whole : {r : Step} {z : Place} → r ≡ Done z → z .at ≡ l → z .to ≡ u → Descends text (program text) before (set (set last 0 c) 1 (m - c)) starts ends r
+  descends-whole {z = z} d ea et = record {
+    writes = writes d (record { tree = whole; is = is-whole ∙ ap (accepted whole) (sym ea); ended = omega (arith, size); tells-it = refl; wrote = all-stored });
+    named = λ q n h. subst (λ (p : Program). TableHolds text starts ends (length (p .names)) (p .names)) (same-value (sym is-whole ∙ h)) (subst (λ (k : ℕ). TableHolds text starts ends k (x .read .names)) (x .named) (x .held));
   }

@@ -6,16 +6,17 @@ use native.Mathlib.Nat.{le-refl}
 use native.Mathlib.Omega.{arith}
 use lib.ListN.{length, length-append}
 use lib.Seq.{sets}
-use Rattle.limits.specs.Limits.{textLimit, nameLimit}
-use Rattle.lexer.specs.Token.{inputWord, varWord}
+use Rattle.limits.specs.Limits.{textLimit, nameLimit, noToken}
+use Rattle.lexer.specs.Token.{inputWord, varWord, fault}
+use Rattle.lexer.specs.Lexer.{tokenAt}
 use Rattle.semantics.specs.Program.{Name, Program}
 use Rattle.leb128.proofs.RoundTrip.{sets-join}
 use Rattle.grammar.specs.Parsed.{Parsed, accepted, refused, andThen}
 use Rattle.grammar.specs.Declarations.{declarations, spellings}
 use Rattle.grammar.specs.Inner.Names.{Named}
-use Rattle.grammar.specs.Rules.{rulesFrom}
+use Rattle.grammar.specs.Rules.{Ruled, rulesFrom}
 use Rattle.grammar.specs.Inner.Bytes.{header}
-use Rattle.grammar.specs.Parse.{program}
+use Rattle.grammar.specs.Parse.{endAt, program}
 use Rattle.grammar.proofs.Whole.{Ends, Names, declarations-fit, named}
 use Rattle.grammar.proofs.Size.{Pays, declarations-pay}
 use Rattle.declarations.specs.Inner.Tables.{TableHolds, headerAfter}
@@ -25,9 +26,18 @@ use Rattle.translate.specs.Inner.Descent.{Declarations, headingOf, scope
 
 -- ---- what follows what
 
+-- the end of the text after the rules
+abbrev pub closed : List ℕ → Declarations → Ruled → ℕ → Parsed Program
+closed text d r n = andThen (endAt text (r .known) n) (λ u m. accepted (record { inputs = d .inputs; names = d .names; timers = []; rules = r .rules }) m)
+
+-- no token behind the rules
+pub closed-fault : (text : List ℕ) (d : Declarations) (r : Ruled) (n q : ℕ) → tokenAt text n ≡ fault q → closed text d r n ≡ refused noToken q
+unfolding endAt
+closed-fault text d r n q e = rw e
+
 -- the rules after the declarations
 abbrev pub ruled : List ℕ → Declarations → ℕ → Parsed Program
-ruled text d n = andThen (rulesFrom 65 (scopeAfter text d) [] n) (λ rules m. accepted (record { inputs = d .inputs; names = d .names; timers = []; rules = rules }) m)
+ruled text d n = andThen (rulesFrom 65 (scopeAfter text d) [] n) (λ r m. closed text d r m)
 
 pub program-heading : (text : List ℕ) → program text ≡ andThen (headingOf text) (λ d n. ruled text d n)
 unfolding program headingOf

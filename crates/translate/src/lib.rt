@@ -1,16 +1,21 @@
 // The translate service: one descent that checks the text and makes its image in memory of its own, which is then stored where it fits.
 // A refused text so never touches the lent buffer.
+use expressions::scope::Names;
+use lexer::Place;
 use lexer::Step;
 ghost use mathlib.Core.Path.{_≡_};
-ghost use mathlib.Core.List.{_++_};
+ghost use mathlib.Core.List.{[], _++_};
 ghost use Prim.Native.Nat.{_+_, _*_, _≤_, _<_};
 ghost use lib.ListN.{length, drop};
-ghost use Rattle.limits.specs.Limits.{textLimit};
-ghost use Rattle.grammar.specs.Parse.{program, parse};
+ghost use Rattle.limits.specs.Limits.{textLimit, nameLimit};
+ghost use Rattle.arith.specs.Inner.Flags.{flagsOf};
+ghost use Rattle.grammar.specs.Parse.{endAt, program, parse};
+ghost use Rattle.expressions.specs.Inner.Readers.{StandsAt};
+ghost use Rattle.phrases.specs.Inner.Steps.{nothing, Writes};
 ghost use Rattle.declarations.specs.Inner.Tables.{TableRoom};
 ghost use Rattle.translate.specs.Services.{translationOf};
 ghost use Rattle.translate.specs.Results.{afterTranslation, TranslatedWithin};
-ghost use Rattle.translate.specs.Inner.Descent.{Descends, Analyses};
+ghost use Rattle.translate.specs.Inner.Descent.{noCode, nothingRead, Descends, Analyses};
 
 // The image's length and the counts of inputs and of names; or a refusal's number and place.
 pub enum Analysis {
@@ -22,6 +27,19 @@ pub enum Analysis {
 pub enum Translated {
     Image(usize),
     Refused(u8, usize),
+}
+
+// The end of the text, from the token behind the rules on.
+fn tail(text: &[u8], count: usize, behind: Place) -> Step
+    requires { ⌜ count ≤ nameLimit ⌝ }
+    requires { ⌜ StandsAt (now text) behind ⌝ }
+    ensures { λ r. ⌜ Writes noCode nothing nothingRead (endAt (now (text .entry)) (flagsOf count (behind .number)) (behind .at)) (behind .to) [] [] r ⌝ }
+{
+    let names = Names {
+        count,
+        known: behind.number as u64,
+    };
+    rules::finish(behind.kind, behind.start, behind.end, names, behind.to, 0)
 }
 
 // The whole text, into lent memory as far as there is room: all inputs, then all variables, into the table; the rules; and last the
@@ -50,12 +68,16 @@ fn descend(text: &[u8], starts: &mut [usize], ends: &mut [usize], out: &mut [u8]
     };
     let names = expressions::scope::first_names(inputs.number, all.number);
     let read = rules::rules(text, starts, ends, names, all.at, out, all.to);
-    let Step::Done(end) = read else {
+    let Step::Done(behind) = read else {
         return read;
+    };
+    let ended = tail(text, all.number, behind);
+    let Step::Done(last) = ended else {
+        return ended;
     };
     leb128::put_byte(out, 0, inputs.number as u8);
     leb128::put_byte(out, 1, (all.number - inputs.number) as u8);
-    lexer::reached(end.at, end.to, all.number)
+    Step::Done(last)
 }
 
 // A count of the header.

@@ -34,6 +34,13 @@ headingOf text =
 abbrev pub scopeAfter : List ℕ → Declarations → Scope
 scopeAfter text d = record { text = text; names = spellings (d .names); known = knownFirst (d .inputs) (length (d .names)) }
 
+-- what writes no code and tells nothing
+abbrev pub noCode : {A : Type 0} → A → List ℕ
+noCode a = []
+
+abbrev pub nothingRead : {A : Type 0} → A → Unit {0}
+nothingRead a = tt
+
 -- the image's length, and the counts of inputs and of names
 pub record HeaderCounts : Type 0 where
   pub end : ℕ
@@ -54,7 +61,7 @@ measured (refused k q) = A.refused k q
 
 -- the whole text: the answer, the image's bytes, and the table with all names
 pub record Descends (text : List ℕ) (p : Parsed Program) (before after starts ends : List ℕ) (r : Step) : Type 0 where
-  pub writes : Writes image nothing (λ q. tt) p 0 before after r
+  pub writes : Writes image nothing nothingRead p 0 before after r
   pub named : (q : Program) (n : ℕ) → p ≡ accepted q n → TableHolds text starts ends (length (q .names)) (q .names)
 
 -- the same without a buffer, its limit tested first
