@@ -5,15 +5,11 @@ use mathlib.Core.Bool.{Bool, true, false}
 use mathlib.Core.List.{List}
 use Rattle.limits.specs.Limits.{stackLimit}
 use Rattle.arith.specs.Values.{Outcome, ok, refusal}
-use Rattle.semantics.specs.Program.{Condition, UsableC, knownFirst}
+use Rattle.semantics.specs.Program.{Condition, UsableC, free}
 use Rattle.bytecode.specs.Instructions.{encodeAll}
 use Rattle.bytecode.specs.Translation.{codeC, depthC}
 use Rattle.evaluation.specs.declared.Truth.{Truth}
 use Rattle.evaluation.specs.declared.Truth.the-variants.{Yes, No, Fault}
-
--- They may use any current and previous value.
-abbrev pub free : ℕ → List Bool
-free names = knownFirst names names
 
 -- the bytes are the code of the condition, over so many names
 pub record ConditionCode (c : Condition) (names : ℕ) (code : List ℕ) : Type 0 where

@@ -1,8 +1,9 @@
 -- The fixed tokens of the rule forms. Document 01, "The text": `v: GX(~(v = _v) -> [c] & v = (e) | [c] & v = (e));`,
--- `v: GX(v = _v -> ~([c] | [c]));`, `v: GX(v = (e));`; document 02, A.6: `v+: GX(v > _v -> cases);`, `v-: GX(v < _v -> cases);`. Assumes nothing.
+-- `v: GX(v = _v -> ~([c] | [c]));`, `v: GX(v = (e));`; document 02, A.6: `v+: GX(v > _v -> cases);`, `v-: GX(v < _v -> cases);`, A.13:
+-- `watch: G([c]);`, `watch: G([c] -> X([c]));`. Assumes nothing.
 use Prim.Native.Nat.{ℕ}
 use mathlib.Core.List.{List, [], _∷_}
-use Rattle.lexer.specs.Token.{Kind, nextWord, arrow, semicolon, colon, openRound, closeRound, tilde, ampersand, equals, less, minus}
+use Rattle.lexer.specs.Token.{Kind, nextWord, alwaysWord, afterWord, arrow, semicolon, colon, openRound, closeRound, openSquare, tilde, ampersand, equals, less, minus}
 use Rattle.grammar.specs.Parsed.{Wanted, sign, own, ownPrevious}
 
 -- after a rule's name: `: GX (`
@@ -50,3 +51,11 @@ turnedOpening k w = sign colon ∷ sign nextWord ∷ sign openRound ∷ turnedVa
 -- the end of a rising formula, and its falling formula up to the cases: `) ; w - : GX ( w < _w ->`
 abbrev pub fallingOpening : List ℕ → List Wanted
 fallingOpening w = sign closeRound ∷ sign semicolon ∷ own w ∷ sign minus ∷ turnedOpening less w
+
+-- after `watch`: `: G ( [`
+abbrev pub watchOpening : List Wanted
+watchOpening = sign colon ∷ sign alwaysWord ∷ sign openRound ∷ sign openSquare ∷ []
+
+-- after the `->` of a watch: `X ( [`
+abbrev pub laterOpening : List Wanted
+laterOpening = sign afterWord ∷ sign openRound ∷ sign openSquare ∷ []

@@ -5,6 +5,7 @@ pub mod Declarations
 pub mod Forms
 pub mod Pairs
 pub mod Rules
+pub mod Watches
 pub mod Parse
 pub mod Derivation
 pub mod Spelled

@@ -1,14 +1,14 @@
 -- Which texts spell a program: document 01's grammar, limits, order of work and agreement of the two lists, apart from any way of
--- reading them. Document 01, "The text". Assumes nothing.
+-- reading them. Document 01, "The text"; document 02, A.6, A.13. Assumes nothing.
 use Prim.Native.Nat.{ℕ, _+_, _≤_}
 use mathlib.Core.Path.{_≡_}
 use mathlib.Core.Bool.{false}
 use mathlib.Core.List.{List, [], _∷_, _++_, map}
-use mathlib.Core.Option.{some}
+use mathlib.Core.Option.{none, some}
 use lib.ListN.{length, getElem?}
 use lib.IntN.{ℤ, pos, negℤ}
-use Rattle.limits.specs.Limits.{textLimit, nameLimit, caseLimit, bracketLimit}
-use Rattle.semantics.specs.Program.{Range, Name, Expression, Condition, changing, Case, Rule, function, change, Program, Ordered, RangeFits}
+use Rattle.limits.specs.Limits.{textLimit, nameLimit, caseLimit, bracketLimit, watchLimit}
+use Rattle.semantics.specs.Program.{Range, Name, Expression, Condition, changing, Case, Rule, function, change, Watch, Program, Ordered, RangeFits}
 use Rattle.lexer.specs.Bytes.{bytes}
 use Rattle.lexer.specs.Lexer.{sameName, valueOf}
 use Rattle.lexer.specs.Spelling.{IsDigits, Separated}
@@ -97,6 +97,26 @@ pub data SpellsRules (names : List (List ℕ)) : Tokens → List Rule → Type 0
   none : SpellsRules names [] []
   more : (ts us : Tokens) (r : Rule) (rs : List Rule) → SpellsR names ts r → SpellsRules names us rs → SpellsRules names (ts ++ us) (r ∷ rs)
 
+-- ---- watches (document 02, A.13); the brackets shown here aren't counted
+
+-- `watch: G([c]);`
+abbrev pub aloneForm : Tokens → Tokens
+aloneForm c = bytes "watch" ∷ bytes ":" ∷ bytes "G" ∷ bytes "(" ∷ squared c ++ bytes ")" ∷ bytes ";" ∷ []
+
+-- `watch: G([c] -> X([c]));`
+abbrev pub pairedForm : Tokens → Tokens → Tokens
+pairedForm c d =
+    bytes "watch" ∷ bytes ":" ∷ bytes "G" ∷ bytes "(" ∷ squared c ++ bytes "->" ∷ bytes "X" ∷ bytes "(" ∷ squared d ++ bytes ")" ∷ bytes ")" ∷ bytes ";" ∷ []
+
+-- They may use any current and previous value.
+pub data SpellsWatch (names : List (List ℕ)) : Tokens → Watch → Type 0 where
+  alone : (ts : Tokens) (c : Condition) → SpellsC names condition bracketLimit ts c → SpellsWatch names (aloneForm ts) (record { first = c; later = none })
+  paired : (ts us : Tokens) (c d : Condition) → SpellsC names condition bracketLimit ts c → SpellsC names condition bracketLimit us d → SpellsWatch names (pairedForm ts us) (record { first = c; later = some d })
+
+pub data SpellsWatches (names : List (List ℕ)) : Tokens → List Watch → Type 0 where
+  none : SpellsWatches names [] []
+  more : (ts us : Tokens) (w : Watch) (ws : List Watch) → SpellsWatch names ts w → SpellsWatches names us ws → SpellsWatches names (ts ++ us) (w ∷ ws)
+
 -- ---- the text
 
 abbrev pub namesOf : Program → List (List ℕ)
@@ -105,14 +125,16 @@ namesOf p = map (λ x. x .spelling) (p .names)
 pub record Spelled (text : List ℕ) (p : Program) : Type 0 where
   -- At most 32,768 bytes.
   pub short : length text ≤ textLimit
-  -- All inputs, then all variables. Then the rules. A declaration's name is as it stands there; in rules only sameness counts.
+  -- All inputs, then all variables. Then the rules. Watches stand after the rules. A declaration's name is as it stands there; in rules and
+  -- watches only sameness counts.
   pub input-tokens : Tokens
   pub variable-tokens : Tokens
   pub rule-tokens : Tokens
+  pub watch-tokens : Tokens
   pub rules-from : ℕ
   pub end : ℕ
   pub spells-declarations : Spells asWritten text 0 rules-from (input-tokens ++ variable-tokens)
-  pub spells-tokens : Spells normal text rules-from end rule-tokens
+  pub spells-tokens : Spells normal text rules-from end (rule-tokens ++ watch-tokens)
   pub ends : Separated text end (length text)
   pub inputs : List Name
   pub variables : List Name
@@ -126,6 +148,9 @@ pub record Spelled (text : List ℕ) (p : Program) : Type 0 where
   -- Document 01's texts have no timers.
   pub untimed : p .timers ≡ []
   pub spells-rules : SpellsRules (normals (namesOf p)) rule-tokens (p .rules)
+  pub spells-watches : SpellsWatches (normals (namesOf p)) watch-tokens (p .watches)
+  -- At most 16.
+  pub few-watches : length (p .watches) ≤ watchLimit
   -- The rules are in the order of work; every variable has exactly one. A current value is used only for inputs and for variables
   -- whose rule stands earlier; a previous value for any name.
   pub ordered : Ordered p

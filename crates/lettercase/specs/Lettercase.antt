@@ -24,6 +24,7 @@ pub record SameProgram (p q : Program) : Type 0 where
   pub same-names : normals (namesOf q) ≡ normals (namesOf p)
   pub same-ranges : rangesOf q ≡ rangesOf p
   pub same-rules : q .rules ≡ p .rules
+  pub same-watches : q .watches ≡ p .watches
 
 -- Such a text is accepted if the other is, and has the same image.
 pub record CaseIgnored : Type 0 where

@@ -7,7 +7,7 @@ use mathlib.Core.List.{List, [], _∷_, _++_}
 use mathlib.Core.Logic.{_⊎_}
 use lib.ListN.{length, getD}
 use Rattle.lexer.specs.Bytes.{bytes, part, capitals}
-use Rattle.lexer.specs.Token.{Kind, unknown, ending, name, previous, digits, inputWord, varWord, initWord, modWord, nextWord, dots, arrow, lessEqual, greaterEqual, notEqual, semicolon, colon, openRound, closeRound, openSquare, closeSquare, tilde, ampersand, bar, equals, less, greater, plus, minus, star, slash, otherCase, spellingOf, wordKinds, TokenRead, token, fault}
+use Rattle.lexer.specs.Token.{Kind, unknown, ending, name, previous, digits, inputWord, varWord, initWord, modWord, nextWord, dots, arrow, lessEqual, greaterEqual, notEqual, semicolon, colon, openRound, closeRound, openSquare, closeSquare, tilde, ampersand, bar, equals, less, greater, plus, minus, star, slash, otherCase, watchWord, alwaysWord, afterWord, spellingOf, wordKinds, TokenRead, token, fault}
 use Rattle.lexer.specs.Lexer.{isSpace, isDigit, isLetter, isAlphanumeric, tokenAt}
 
 -- ---- spellings
@@ -92,6 +92,9 @@ Spelling minus w = w ≡ spellingOf minus
 Spelling star w = w ≡ spellingOf star
 Spelling slash w = w ≡ spellingOf slash
 Spelling otherCase w = IsOtherCase w
+Spelling watchWord w = w ≡ spellingOf watchWord
+Spelling alwaysWord w = w ≡ spellingOf alwaysWord
+Spelling afterWord w = w ≡ spellingOf afterWord
 
 -- ---- tokens in a text
 

@@ -17,8 +17,9 @@ pub data Kind : Type 0 where
   equals less greater : Kind
   plus minus star slash : Kind
   otherCase : Kind  -- a word of the grammar in another case (document 02, A.2)
+  watchWord alwaysWord afterWord : Kind  -- words of the grammar (document 02, A.13)
 
--- The table of spellings: words of the grammar, `input var init mod GX`, `..` `->` `<=` `>=` `<>`, and `; : ( ) [ ] ~ & | = < > + - * /`.
+-- The table of spellings: words of the grammar, `input var init mod GX`, and `watch`, `G` and `X` (document 02, A.13); `..` `->` `<=` `>=` `<>`, and `; : ( ) [ ] ~ & | = < > + - * /`.
 -- A kind that has more than one spelling, or none, has no bytes here.
 abbrev pub spellingOf : Kind → List ℕ
 spellingOf unknown = []
@@ -53,10 +54,13 @@ spellingOf minus = bytes "-"
 spellingOf star = bytes "*"
 spellingOf slash = bytes "/"
 spellingOf otherCase = []
+spellingOf watchWord = bytes "watch"
+spellingOf alwaysWord = bytes "G"
+spellingOf afterWord = bytes "X"
 
 -- the kinds in it: words of the grammar, signs of two bytes, signs of one byte
 abbrev pub wordKinds : List Kind
-wordKinds = inputWord ∷ varWord ∷ initWord ∷ modWord ∷ nextWord ∷ []
+wordKinds = inputWord ∷ varWord ∷ initWord ∷ modWord ∷ nextWord ∷ watchWord ∷ alwaysWord ∷ afterWord ∷ []
 
 abbrev pub pairKinds : List Kind
 pairKinds = dots ∷ arrow ∷ lessEqual ∷ greaterEqual ∷ notEqual ∷ []
@@ -99,10 +103,13 @@ kindNumber minus = 28
 kindNumber star = 29
 kindNumber slash = 30
 kindNumber otherCase = 31
+kindNumber watchWord = 32
+kindNumber alwaysWord = 33
+kindNumber afterWord = 34
 
 -- the greatest of them
 abbrev pub lastKind : ℕ
-lastKind = 31
+lastKind = 34
 
 -- the same kind
 unfoldable pub is : Kind → Kind → Bool

@@ -5,9 +5,8 @@ use mathlib.Core.Bool.{Bool, true, false}
 use mathlib.Core.Option.{Option, none, some}
 use lib.ListN.{getElem?}
 use Rattle.arith.specs.Values.{Outcome, ok, refusal}
-use Rattle.semantics.specs.Program.{Condition}
+use Rattle.semantics.specs.Program.{Condition, Watch}
 use Rattle.semantics.specs.Formula.{State, Trace, evalC}
-use Rattle.watching.specs.Watching.{Watch}
 
 -- t is the state at place m, 0 the start
 abbrev pub IsState : Trace → ℕ → State → Type 0

@@ -4,13 +4,8 @@ use mathlib.Core.Bool.{Bool, false, not, _||_, cond}
 use mathlib.Core.List.{List, [], _∷_}
 use mathlib.Core.Option.{Option, none, some}
 use Rattle.arith.specs.Values.{Outcome, ok, refusal, _>>=_}
-use Rattle.semantics.specs.Program.{Condition}
+use Rattle.semantics.specs.Program.{Condition, Watch}
 use Rattle.semantics.specs.Formula.{State, Trace, evalC}
-
--- `watch: G([c]);` has no later condition, `watch: G([c] -> X([c]));` has one
-pub record Watch : Type 0 where
-  pub first : Condition
-  pub later : Option Condition
 
 -- a place of a trace: the previous values there, and the current ones
 pub record TracePlace : Type 0 where
