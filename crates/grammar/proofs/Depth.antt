@@ -39,7 +39,7 @@ module _ (names : List (List ℕ)) where
   expression-depth v l ts e (one-term us x d) = omega (arith, expression-depth D.term _ us x d)
   expression-depth v l ts e (sum w o us ws x y ps d f) = omega (arith, expression-depth D.expression _ us x d, expression-depth D.term _ ws y f)
 
-  condition-depth : (v : LevelC) (l : ℕ) (ts : List (List ℕ)) (c : Condition) → SpellsC names v l ts c → depthC c ≤ mostC v l
+  pub condition-depth : (v : LevelC) (l : ℕ) (ts : List (List ℕ)) (c : Condition) → SpellsC names v l ts c → depthC c ≤ mostC v l
   condition-depth v l ts c (D.SpellsC.compared w o us ws x y ps d f) = omega (arith, expression-depth D.expression _ us x d, expression-depth D.expression _ ws y f)
   condition-depth v l ts c (D.SpellsC.square us x d) = omega (arith, condition-depth D.condition _ us x d)
   condition-depth v l ts c (not-square us x d) = omega (arith, condition-depth D.condition _ us x d)

@@ -245,9 +245,9 @@ pub fn falling_opening(text: &[u8], at: usize, start: usize, end: usize) -> Step
 pub fn watch_opening(text: &[u8], at: usize) -> Step
     ensures { λ r. ⌜ parsedOf nothing r ≡ phrase (now (text .entry)) watchOpening at ⌝ }
 {
-    let first = expect(text, at, lexer::COLON);
-    let Step::Done(a) = first else {
-        return first;
+    let colon = expect(text, at, lexer::COLON);
+    let Step::Done(a) = colon else {
+        return colon;
     };
     let second = expect(text, a.at, lexer::ALWAYS);
     let Step::Done(b) = second else {

@@ -17,9 +17,10 @@ ghost use Rattle.evaluation.specs.Walks.{failedAt};
 ghost use Rattle.grammar.specs.Parsed.{accepted};
 ghost use Rattle.grammar.specs.Watches.{watchesFrom};
 ghost use Rattle.declarations.specs.Inner.Tables.{TableRoom};
+ghost use Rattle.translate.specs.Inner.Descent.{freeScope};
 ghost use Rattle.watch.specs.Services.{reported as reportedOf, reportOf, watchOf};
 ghost use Rattle.watch.specs.Results.{afterWatch, WatchedWithin};
-ghost use Rattle.watch.specs.Inner.Reports.{FailedWithin, WatchCode, freeScope, WatchesStand};
+ghost use Rattle.watch.specs.Inner.Reports.{FailedWithin, WatchCode, CountedWatches};
 
 // How many watches there are, each with its report; or a refusal's number and place.
 pub enum Watched {
@@ -85,7 +86,7 @@ fn reports(
     code: &mut [u8],
     vals: &mut [i32],
 )
-    requires { ⌜ WatchesStand (now text) (now starts) (now ends) names at count ⌝ }
+    requires { ⌜ CountedWatches (now text) (now starts) (now ends) names at count ⌝ }
     requires { ⌜ isTrace names (now trace) ≡ true ⌝ }
     requires { ⌜ (count ≤ length (now report)) × (imageRoom ≤ length (now code)) × (stackLimit ≤ length (now vals)) ⌝ }
     ensures { λ _. ⌜ ((ws : List Watch) (m : ℕ) → watchesFrom watchLimit (freeScope (now (text .entry)) (now (starts .entry)) (now (ends .entry)) names) [] at ≡ accepted ws m

@@ -48,7 +48,7 @@ module _ (sc : Scope) (done : List Watch) (a : ℕ) where
       watches-full = rw (e, i)
 
       module _ (left : ℕ) where
-        watches-refused : {l q : ℕ} → watchAt sc n ≡ refused l q → watchesFrom (suc left) sc done a ≡ refused l q
+        pub watches-refused : {l q : ℕ} → watchAt sc n ≡ refused l q → watchesFrom (suc left) sc done a ≡ refused l q
         unfolding watchesFrom
         watches-refused g = rw (e, i, g)
 

@@ -1,15 +1,11 @@
 -- What the contracts of the functions inside say. Assumes nothing.
 use Prim.Native.Nat.{ℕ, _-_, _^_, _≤_, _<_}
 use mathlib.Core.Path.{_≡_}
-use mathlib.Core.List.{List, []}
+use mathlib.Core.List.{List}
 use mathlib.Core.Option.{Option, none, some}
 use lib.ListN.{length, take, drop}
-use Rattle.limits.specs.Limits.{textLimit, nameLimit, watchLimit}
-use Rattle.lexer.specs.Names.{tableNames, Table}
-use Rattle.semantics.specs.Program.{Condition, Watch, free}
-use Rattle.grammar.specs.Parsed.{accepted}
-use Rattle.grammar.specs.Expressions.{Scope}
-use Rattle.grammar.specs.Watches.{watchesFrom}
+use Rattle.semantics.specs.Program.{Condition, Watch}
+use Rattle.translate.specs.Inner.Survey.{WatchesStand}
 use Rattle.evaluation.specs.declared.Failed.{Failed}
 use Rattle.evaluation.specs.declared.Failed.the-variants.{At, Never}
 use Rattle.evaluation.specs.Conditions.{ConditionCode}
@@ -30,17 +26,8 @@ pub record WatchCode (w : Watch) (names middle end : ℕ) (code : List ℕ) : Ty
   pub first : ConditionCode (w .first) names (take middle code)
   pub later : LaterCode (w .later) names (take (end - middle) (drop middle code))
 
--- the names of the table, all of which may be used
-abbrev pub freeScope : List ℕ → List ℕ → List ℕ → ℕ → Scope
-freeScope text starts ends names = record { text = text; names = tableNames text starts ends names; known = free names }
-
 -- so many watches stand from `at` on
-pub record WatchesStand (text starts ends : List ℕ) (names at count : ℕ) : Type 0 where
-  pub short : length text ≤ textLimit
-  pub within : at ≤ length text
-  pub few : names ≤ nameLimit
-  pub table : Table starts ends names
+pub record CountedWatches (text starts ends : List ℕ) (names at count : ℕ) : Type 0 where
   pub watches : List Watch
-  pub end : ℕ
-  pub read : watchesFrom watchLimit (freeScope text starts ends names) [] at ≡ accepted watches end
+  pub stand : WatchesStand text starts ends names at watches
   pub counted : length watches ≡ count
