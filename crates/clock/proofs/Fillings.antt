@@ -14,6 +14,7 @@ use Rattle.grammar.specs.Parsed.{expected, phrase, followed, rest, chain}
 use Rattle.grammar.specs.Expressions.{withId, currentAt, previousValueAt as previousIn, constantAt, primary, negative, factor, productOf, sumOf, term, expression, bracket, wholeExpression}
 use Rattle.grammar.specs.Declarations.{inRange, signedDigits, boundAt, newName, startAt, declaration, declarationsFrom, declarations}
 use Rattle.grammar.specs.Rules.{functionAt, formulaAt, formulas, ruleAt, rulesFrom}
+use Rattle.grammar.specs.Watches.{watchesFrom}
 use Rattle.grammar.specs.Parse.{endAt, program, parse, programOf}
 use Rattle.clock.specs.Clock.{entriesOf, entriesFit, isTable, offsetFrom, offsetAt, localAt, dayOf, minuteOf, repeatsIn, isAgain}
 use Rattle.clock.specs.Services.{AfterFill, rowFilled, fillOf}
@@ -73,5 +74,5 @@ answerOf c = fillOf (c .text) (c .table) (c .utc) (c .row)
 
 -- the definition gives what the table says
 pub fillings-hold : map answerOf fillings ≡ map (λ (c : Filling). c .after) fillings
-unfolding fillings isSpace isDigit isLetter isAlphanumeric runOn runEnd capital capitals sameName sameBytes grammarWord exactWord wordOf overLong pairOf signOf readOf signAt wordAt digitsAt previousAt tokenOf tokenPast tokenAt sameSpelling sameToken valueOn valueOf is kindNumber idFrom idOf expected phrase followed rest chain withId currentAt previousIn constantAt primary negative factor productOf sumOf term expression bracket wholeExpression inRange signedDigits boundAt newName startAt declaration declarationsFrom declarations functionAt formulaAt formulas ruleAt rulesFrom endAt program parse programOf entriesOf entriesFit isTable offsetFrom offsetAt localAt dayOf minuteOf repeatsIn isAgain rowFilled fillOf
+unfolding fillings isSpace isDigit isLetter isAlphanumeric runOn runEnd capital capitals sameName sameBytes grammarWord exactWord wordOf overLong pairOf signOf readOf signAt wordAt digitsAt previousAt tokenOf tokenPast tokenAt sameSpelling sameToken valueOn valueOf is kindNumber idFrom idOf expected phrase followed rest chain withId currentAt previousIn constantAt primary negative factor productOf sumOf term expression bracket wholeExpression inRange signedDigits boundAt newName startAt declaration declarationsFrom declarations functionAt formulaAt formulas ruleAt rulesFrom watchesFrom endAt program parse programOf entriesOf entriesFit isTable offsetFrom offsetAt localAt dayOf minuteOf repeatsIn isAgain rowFilled fillOf
 fillings-hold = refl

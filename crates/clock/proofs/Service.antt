@@ -19,8 +19,7 @@ use Rattle.semantics.specs.Program.{Program}
 use Rattle.grammar.specs.Parsed.{Parsed, accepted, refused}
 use Rattle.grammar.specs.Parse.{parse, programOf}
 use Rattle.grammar.proofs.Accepted.{parse-translatable, parse-few}
-use Rattle.grammar.proofs.Places.{Within}
-use Rattle.grammar.proofs.PlacesText.{parse-limited}
+use Rattle.grammar.proofs.PlacesText.{Placed, parse-limited}
 use Rattle.translate.specs.declared.Analysis.{Analysis}
 use Rattle.translate.specs.declared.Analysis.the-variants as N
 use Rattle.translate.specs.Inner.Descent.{HeaderCounts, measuresOf, analysed, measured, Analyses}
@@ -101,7 +100,7 @@ minute-fits (negsuc n) e = let z : _≡_ {A = ℕ} 0 1 = cc in absurd (omega ari
 module _ (text : List ℕ) (table : List ℤ) (utc : ℤ) (row : List ℤ) where
   pub text-refused : (k x : ℕ) → parse text ≡ refused k x → (afterFill (F.Refused k x) row ≡ fillOf text table utc row) × FilledWithin (F.Refused k x)
   unfolding fillOf programOf
-  text-refused k x e = (rw e, subst (Within textLimit) e (parse-limited text) .2)
+  text-refused k x e = (rw e, subst (Placed textLimit) e (parse-limited text) .1)
 
   module _ {starts ends : List ℕ} {inputs : ℕ} (d : Read text starts ends inputs) where
     pub table-refused : isTable table ≡ false → afterFill (F.Refused 19 0) row ≡ fillOf text table utc row

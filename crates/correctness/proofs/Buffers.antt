@@ -12,11 +12,12 @@ use Rattle.lexer.specs.Lexer.{runOn, runEnd, tokenPast, tokenAt}
 use Rattle.lexer.specs.Token.{is, kindNumber}
 use Rattle.bytecode.specs.Translation.{imageOf}
 use Rattle.grammar.specs.Spelled.{Spelled}
+use Rattle.grammar.specs.Watches.{watchesFrom}
 use Rattle.grammar.specs.Parse.{endAt, program, parse, programOf}
 use Rattle.grammar.specs.Rules.{rulesFrom}
 use Rattle.grammar.specs.Declarations.{declarationsFrom, declarations}
 use Rattle.grammar.proofs.Accepted.{parse-growth, parse-short, program-parsed}
-use Rattle.grammar.proofs.PlacesText.{program-refused}
+use Rattle.grammar.proofs.PlacesText.{program-refused, not-ten}
 use Rattle.grammar.proofs.ConverseText.{accepted-exactly}
 use Rattle.translate.specs.Services.{AfterTranslation, translationOf}
 use Rattle.translate.proofs.Kept.{never, Way, image, no-room, fault, way}
@@ -37,10 +38,10 @@ too-short text buffer fits place = go (translationOf text buffer) (way text buff
     go : (r : AfterTranslation) → Way text buffer r → r .answer ≡ refused bufferTooShort place → ⊥
     go r (image p e h) a = never (length (imageOf p)) bufferTooShort place a
     go r (no-room p e h) a = omega (arith, h, fits p (measured text p e))
-    go r (fault k q e) a = let i : k ≡ bufferTooShort = cc in let x = program-refused text k q e in omega (arith, i, x .1)
+    go r (fault k q e) a = let i : k ≡ bufferTooShort = cc in not-ten k (program-refused text k q e .0) i
 
 empty-accepted : (p : Program) × (programOf [] ≡ accepted p) × (2 * length (imageOf p) ≡ 4)
-unfolding kindNumber is runOn runEnd tokenPast tokenAt number groups grouped program parse programOf rulesFrom endAt declarationsFrom declarations imageOf
+unfolding kindNumber is runOn runEnd tokenPast tokenAt number groups grouped program parse programOf rulesFrom watchesFrom endAt declarationsFrom declarations imageOf
 empty-accepted = (_, refl, refl)
 
 pub buffer-bound : BufferBound

@@ -18,6 +18,7 @@ use Rattle.bytecode.specs.Parts.{headerOf, codeOf}
 use Rattle.machine.specs.Step.{bit, yes}
 use Rattle.scan.specs.Services.{AfterStart, AfterScan, startOf, scanCode, scanOf, scansOf}
 use Rattle.translate.specs.Services.{translationOf}
+use Rattle.grammar.specs.Watches.{watchesFrom}
 use Rattle.grammar.specs.Parse.{endAt, program, parse, programOf}
 use Rattle.grammar.specs.Rules.{caseAt, casesFrom, listFrom, plainList, partFrom, kindAt, partsFrom, firstFound, agreeingList, functionAt, changeAt, pairAt, formulaAt, formulas, ruleAt, rulesFrom}
 use Rattle.grammar.specs.Declarations.{inRange, signedDigits as signedLiteralAt, boundAt, newName, startAt, declaration, declarationsFrom, declarations}
@@ -153,7 +154,7 @@ all-hold [] h = tt
 all-hold (e ∷ es) h = (test-holds e (and-left (test e) _ h), all-hold es (and-right (test e) _ h))
 
 computed : T (testAll examples)
-unfolding sameBytesOf kindNumber is isSpace isDigit isLetter isAlphanumeric runOn runEnd capital capitals sameName grammarWord exactWord wordOf overLong pairOf signOf readOf signAt wordAt digitsAt previousAt tokenOf tokenPast tokenAt sameSpelling sameToken valueOn valueOf expected phrase followed rest chain idFrom idOf withId currentAt previousValueAt literalAt primary negative factor productOf sumOf term expression bracket wholeExpression comparisonBy compared comparisonAt opposite inverted atom connect andOf orOf conjunction condition square wholeCondition listed inRange signedLiteralAt boundAt newName startAt declaration declarationsFrom declarations caseAt casesFrom listFrom plainList partFrom kindAt partsFrom firstFound agreeingList functionAt changeAt pairAt formulaAt formulas ruleAt rulesFrom endAt program parse groups number zigzag unzigzag grouped numberIn below32 numberAt signedAt instructionOf hasOperand fetch imageOf checkCounts checkRange checkHeader checkBody checkOf headerOf codeOf bit yes within moves picked arithmetic negation compares programOf translationOf startOf scanCode scanOf
+unfolding sameBytesOf kindNumber is isSpace isDigit isLetter isAlphanumeric runOn runEnd capital capitals sameName grammarWord exactWord wordOf overLong pairOf signOf readOf signAt wordAt digitsAt previousAt tokenOf tokenPast tokenAt sameSpelling sameToken valueOn valueOf expected phrase followed rest chain idFrom idOf withId currentAt previousValueAt literalAt primary negative factor productOf sumOf term expression bracket wholeExpression comparisonBy compared comparisonAt opposite inverted atom connect andOf orOf conjunction condition square wholeCondition listed inRange signedLiteralAt boundAt newName startAt declaration declarationsFrom declarations caseAt casesFrom listFrom plainList partFrom kindAt partsFrom firstFound agreeingList functionAt changeAt pairAt formulaAt formulas ruleAt rulesFrom watchesFrom endAt program parse groups number zigzag unzigzag grouped numberIn below32 numberAt signedAt instructionOf hasOperand fetch imageOf checkCounts checkRange checkHeader checkBody checkOf headerOf codeOf bit yes within moves picked arithmetic negation compares programOf translationOf startOf scanCode scanOf
 computed = tt
 
 pub examples-hold : AllHold examples

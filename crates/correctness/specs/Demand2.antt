@@ -13,6 +13,7 @@ use Rattle.bytecode.specs.Check.{checkOf}
 use Rattle.bytecode.specs.Sound.{Sound}
 use Rattle.grammar.specs.Parse as G
 use Rattle.grammar.specs.Spelled.{Spelled}
+use Rattle.grammar.specs.Accepts.{IsFault}
 use Rattle.faults.specs.Texts.{FaultPlaces, FirstFound}
 use Rattle.faults.specs.Grammar.{AllowedBefore, NoneGoOn, NoneBegun}
 use Rattle.faults.specs.Images.{BrokenImages}
@@ -48,8 +49,8 @@ pub record Demand2Of (programOf : List ℕ → Answer Program) (translationOf : 
   pub translated-exactly : (text buffer : List ℕ) (n : ℕ) → (translationOf text buffer .answer ≡ accepted n) exactlyIf Translates text buffer n
   -- Else it is refused, by the text's first fault or by 10: every text has an image or a refusal.
   pub refused-exactly : (text buffer : List ℕ) (number place : ℕ) → (translationOf text buffer .answer ≡ refused number place) exactlyIf Declines programOf text buffer number place
-  -- A fault has one of the numbers 1 to 9; its place is in the text, or is the text's length.
-  pub faults : (text : List ℕ) (number place : ℕ) → programOf text ≡ refused number place → (1 ≤ number) × (number ≤ 9) × (place ≤ length text)
+  -- A fault has one of the numbers 1 to 9, or 30; its place is in the text, or is the text's length.
+  pub faults : (text : List ℕ) (number place : ℕ) → programOf text ≡ refused number place → IsFault number × (place ≤ length text)
   -- Success writes only the image's bytes: those of the program that the text spells, and what stood behind them stays.
   pub written : (text buffer : List ℕ) (n : ℕ) → translationOf text buffer .answer ≡ accepted n
       → (p : Program) → Spelled text p → translationOf text buffer .buffer ≡ imageOf p ++ drop (length (imageOf p)) buffer

@@ -9,7 +9,7 @@ use lib.IntN.{ℤ, pos}
 use lib.ListN.{length, getD, drop, length-map, length-drop}
 use Rattle.arith.specs.Values.{Outcome, ok, refusal, _>>=_}
 use Rattle.arith.proofs.Basics.{ok≢refusal, ok-inj}
-use Rattle.semantics.specs.Program.{Range, Condition}
+use Rattle.semantics.specs.Program.{Range, Condition, free}
 use Rattle.semantics.specs.Formula.{State, evalC}
 use Rattle.semantics.specs.Program.{noRange}
 use Rattle.semantics.proofs.Reference.{length-known}
@@ -26,7 +26,7 @@ use Rattle.machine.specs.Inner.Memory.{heldOf, machineOf, stepOutcome, Stack}
 use Rattle.machine.specs.Inner.Groups.{performed}
 use Rattle.machine.proofs.Translated.{yes-bit, exec, exec-C}
 use Rattle.machine.proofs.Stack.{held-top, not-none}
-use Rattle.evaluation.specs.Conditions.{free, ConditionCode}
+use Rattle.evaluation.specs.Conditions.{ConditionCode}
 use Rattle.evaluation.specs.Inner.Instructions.{Calculates, CalculatesOr}
 use Rattle.evaluation.proofs.Working.{Calm, calm, Fit, fit-C}
 

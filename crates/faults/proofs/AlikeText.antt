@@ -9,13 +9,13 @@ use native.Mathlib.Omega.{arith}
 use lib.ListN.{length, getD, set, length-set}
 use lib.Dec.{ltb}
 use lib.IntN.{ℤ, pos, negℤ}
-use Rattle.limits.specs.Limits.{caseLimit, nameLimit}
+use Rattle.limits.specs.Limits.{caseLimit, nameLimit, watchLimit}
 use Rattle.arith.specs.Values.{isInt32}
-use Rattle.lexer.specs.Token.{Kind, name, ending, digits, openSquare, bar, tilde, plus, minus, initWord, semicolon, inputWord, varWord, is}
+use Rattle.lexer.specs.Token.{Kind, name, ending, digits, openSquare, bar, tilde, plus, minus, arrow, initWord, semicolon, inputWord, varWord, watchWord, is}
 use Rattle.lexer.specs.Lexer.{tokenAt, overLong, valueOf}
 use Rattle.lexer.specs.Names.{idOf}
 use Rattle.lexer.proofs.Laws.{cond-prop, token-at-moved}
-use Rattle.semantics.specs.Program.{Name, Condition, Rule, target, allTrue, knownFirst}
+use Rattle.semantics.specs.Program.{Name, Condition, Rule, Watch, target, allTrue, knownFirst, free}
 use Rattle.grammar.specs.Parsed.{Parsed, accepted, refused, onOption, phrase}
 use Rattle.grammar.specs.Expressions.{withId, wholeExpression}
 use Rattle.grammar.specs.Conditions.{listed}
@@ -25,6 +25,7 @@ use Rattle.grammar.specs.Forms.{changeOpening, noChangeOpening, ruleOpening}
 use Rattle.grammar.specs.Parsed.{followed}
 use Rattle.grammar.specs.Inner.Names.{Named}
 use Rattle.grammar.proofs.Combine.{token-prop, then-prop}
+use Rattle.grammar.specs.Watches.{laterAt, afterFirst, watchAt, watchesFrom}
 use Rattle.grammar.specs.Parse.{endAt, program}
 use Rattle.grammar.proofs.Lists.{CasesIn, cases-in}
 use Rattle.grammar.proofs.Whole.{Ends, Names, First, rule-fits, declarations-fit, spellings-length, named}
@@ -35,7 +36,7 @@ use Rattle.faults.proofs.Readings.{read-within, phrase-reads, whole-exp
 use Rattle.faults.proofs.Closing.{plain-meets}
 use Rattle.faults.proofs.ReadingsText.{case-reads, agreeing-reads}
 use Rattle.faults.proofs.AlikeLists.{Before, parts-agree, first-same}
-use Rattle.faults.proofs.Alike.{Setting, Alike, Any, TokenIn, read-after, b-within, plain, only, late, done-alike, past-alike, here-alike, not-allowed, step-alike, step-in, cond-alike, option-alike, then-alike, then-known, word-alike, word-in, token-alike, token-in}
+use Rattle.faults.proofs.Alike.{Setting, Alike, Any, TokenIn, read-after, b-within, plain, only, late, done-alike, past-alike, here-alike, watch-alike, not-allowed, step-alike, step-in, cond-alike, option-alike, then-alike, then-known, word-alike, word-in, token-alike, token-in}
 use Rattle.faults.proofs.AlikeParts.{scope, phrase-alike, followed-alike, whole-expression-alike, listed-alike}
 
 -- ---- declarations
@@ -259,6 +260,23 @@ rules-alike S (suc f) names known few lengths good fuel done at =
     only (λ t h. read-within (rule .reads t (h .0)) (h .1) (h .0 .0)) (rules-alike S f names (set known (target r) true) few l good (omega arith) (done ++ (r ∷ [])) m))))
     (done-alike _))
 
+module _ (S : Setting) (names : List (List ℕ)) (known : List Bool) where
+  later-alike : (c : Condition) (at : ℕ) → Alike S Any at (λ t. laterAt (scope names known t) c at)
+  unfolding laterAt
+  later-alike c at = then-alike (phrase-alike S _ at) (λ u n1. then-alike (listed-alike S names known n1) (λ d n2. followed-alike S _ _ n2))
+
+  one-alike : (at : ℕ) → Alike S Any at (λ t. watchAt (scope names known t) at)
+  unfolding watchAt afterFirst
+  one-alike at =
+      then-alike (phrase-alike S _ at)
+      (λ u n1. then-alike (listed-alike S names known n1) (λ c n2. token-alike n2 (λ k s n. cond-alike (is k arrow) (step-alike (later-alike c n)) (plain (followed-alike S _ _ n2)))))
+
+  watches-alike : (left : ℕ) (done : List Watch) (at : ℕ) → Alike S Any at (λ t. watchesFrom left (scope names known t) done at)
+  unfolding watchesFrom
+  watches-alike zero done at = token-alike at (λ k s n. cond-alike (is k watchWord) watch-alike (done-alike _))
+  watches-alike (suc left) done at =
+      token-alike at (λ k s n. cond-alike (is k watchWord) (step-alike (then-alike (one-alike n) (λ w m. watches-alike left (done ++ (w ∷ [])) m))) (done-alike _))
+
 end-alike : (S : Setting) (known : List Bool) (at : ℕ) → Alike S Any at (λ t. endAt t known at)
 unfolding endAt
 end-alike S known at = token-alike at (λ k s n. cond-alike (is k ending) (cond-alike (allTrue known) (past-alike tt) (here-alike 6 (omega arith) (omega arith))) not-allowed)
@@ -277,4 +295,4 @@ program-alike S =
     then-alike
     (only (λ t h. read-within (declarations-alike S 65 varWord inputs n1 .reads t tt) (h .1) (read-within (declarations-alike S 65 inputWord [] 0 .reads t tt) (h .0 .1) (omega arith)))
     (rules-alike S 65 (spellings names) (knownFirst (length inputs) (length names)) few l (named names (g2 .0 .0) (g2 .0 .3)) (few-unruled (knownFirst (length inputs) (length names)) (omega (arith, l))) [] n2))
-    (λ ruled n3. then-alike (end-alike S (ruled .known) n3) (λ u n4. done-alike _)))))
+    (λ ruled n3. then-alike (watches-alike S (spellings names) (free (length names)) watchLimit [] n3) (λ watches n4. then-alike (end-alike S (ruled .known) n4) (λ u n5. done-alike _))))))

@@ -6,7 +6,7 @@ use lib.IntN.{ℤ}
 use Rattle.lexer.specs.Bytes.{bytes}
 use Rattle.lexer.specs.Token.{greater}
 use Rattle.lexer.specs.Spelling.{SpellsName}
-use Rattle.grammar.specs.Forms.{changeOpening, noChangeOpening, valueOpening, functionClosing, formulaClosing, caseValueOpening, turnedOpening, fallingOpening}
+use Rattle.grammar.specs.Forms.{changeOpening, noChangeOpening, valueOpening, functionClosing, formulaClosing, caseValueOpening, turnedOpening, fallingOpening, watchOpening, laterOpening}
 use Rattle.grammar.specs.Derivation as D
 use Rattle.grammar.specs.Derivation.{Tokens}
 use Rattle.grammar.specs.Spelled.{SpellsZ, SpellsStart}
@@ -89,3 +89,18 @@ module _ (names : List (List ℕ)) where
 
   abbrev pub Turns : List ℕ → Tokens → Type 0
   Turns w = Joins (These (wantedTokens (turnedOpening greater w))) (Joins (AreCases names w) (ThenFalls w))
+
+  -- ---- watches
+
+  -- what follows `watch: G([c] ->`
+  abbrev pub Later : Tokens → Type 0
+  Later = Joins (These (wantedTokens laterOpening)) (Joins InSquare (These (wantedTokens functionClosing)))
+
+-- what follows `watch: G([c]`
+pub data AfterFirst (names : List (List ℕ)) : Tokens → Type 0 where
+  alone : AfterFirst names (wantedTokens formulaClosing)
+  paired : (us : Tokens) → Later names us → AfterFirst names (bytes "->" ∷ us)
+
+-- what follows `watch`
+abbrev pub WatchRest : List (List ℕ) → Tokens → Type 0
+WatchRest names = Joins (These (wantedTokens watchOpening)) (Joins (InSquare names) (AfterFirst names))

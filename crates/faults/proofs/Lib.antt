@@ -16,6 +16,7 @@ pub mod Viable
 pub mod ViableParts
 pub mod ViableDeclarations
 pub mod ViableRules
+pub mod ViableWatches
 pub mod ViableText
 pub mod ImagePlaces
 pub mod Sole
@@ -23,4 +24,5 @@ pub mod SoleParts
 pub mod SoleConditions
 pub mod SoleForms
 pub mod SoleRules
+pub mod SoleWatches
 pub mod SoleText

@@ -12,19 +12,20 @@ use lib.ListN.{length, getD, set, length-set}
 use lib.Dec.{ltb, leb, eqb}
 use lib.IntN.{ℤ, pos, negℤ}
 use borrow.Author.Tests.{lt-ltb, le-ltb, ltb-false, eqb-false}
-use Rattle.limits.specs.Limits.{caseLimit, nameLimit, textLimit}
+use Rattle.limits.specs.Limits.{caseLimit, nameLimit, textLimit, watchLimit}
 use Rattle.arith.specs.Values.{isInt32}
 use Rattle.lexer.specs.Bytes.{part}
-use Rattle.lexer.specs.Token.{Kind, name, ending, digits, openSquare, closeRound, bar, tilde, plus, minus, initWord, semicolon, inputWord, varWord, is, TokenRead, token, fault}
+use Rattle.lexer.specs.Token.{Kind, name, ending, digits, openSquare, closeRound, bar, tilde, plus, minus, arrow, initWord, semicolon, inputWord, varWord, watchWord, is, TokenRead, token, fault}
 use Rattle.lexer.specs.Lexer.{tokenAt, sameToken, overLong, valueOf}
 use Rattle.lexer.specs.Names.{idOf}
 use Rattle.lexer.proofs.Laws.{cond-prop, token-at-moved}
-use Rattle.semantics.specs.Program.{Name, Condition, Rule, target, allTrue, knownFirst}
+use Rattle.semantics.specs.Program.{Name, Condition, Rule, Watch, target, allTrue, knownFirst, free}
 use Rattle.semantics.proofs.Reference.{length-known}
 use Rattle.grammar.specs.Parsed.{Parsed, accepted, refused}
 use Rattle.grammar.specs.Expressions.{Scope}
 use Rattle.grammar.specs.Declarations.{inRange, signedDigits, boundAt, spellings, newName, startAt, declaration, declarationsFrom, declarations}
 use Rattle.grammar.specs.Rules.{Spanned, caseAt, casesFrom, listFrom, plainList, Compared, agrees, differs, onCompared, onFound, partFrom, kindAt, partsFrom, firstFound, agreeingList, functionAt, changeAt, pairAt, formulaAt, formulas, ruleAt, ruled, rulesFrom}
+use Rattle.grammar.specs.Watches.{laterAt, afterFirst, watchAt, watchesFrom}
 use Rattle.grammar.specs.Parse.{endAt, program, parse}
 use Rattle.grammar.specs.Derivation.{Tokens, Spells, normal}
 use Rattle.grammar.specs.Inner.Names.{Named}
@@ -35,7 +36,7 @@ use Rattle.grammar.proofs.Whole.{Ends, Names, First, rule-fits, declarations-fi
 use Rattle.grammar.proofs.ConverseRules.{unruled, rule-counts, few-unruled}
 use Rattle.faults.proofs.Reaching as Reach
 use Rattle.faults.proofs.Reaching.{Reaches, joined, reaches-le, ordered, readStart, starts-after, token-after, token-again}
-use Rattle.faults.proofs.Readings.{RefusalOf, ReadsFrom, read-within, ends-at, past, step, here, not-allowed, then-reads, cond-reads, option-reads, token-reads, phrase-reads, followed-reads, id-reads, whole-expression-reads, listed-reads}
+use Rattle.faults.proofs.Readings.{RefusalOf, ReadsFrom, read-within, ends-at, past, step, here, watch-refused, not-allowed, then-reads, cond-reads, option-reads, token-reads, phrase-reads, followed-reads, id-reads, whole-expression-reads, listed-reads}
 use Rattle.faults.proofs.Closing.{MeetsAt, plain-meets}
 
 -- ---- declarations
@@ -271,6 +272,26 @@ rules-reads (suc f) sc few lengths good fuel done at h =
     rules-reads f (ruled sc (target r)) few l good (omega arith) (done ++ (r ∷ [])) m (read-within (rule-reads sc few lengths good at k s n h e) q h)))
     (ends-at _ Reach.none))
 
+-- ---- watches
+
+module _ (sc : Scope) where
+  later-reads : (c : Condition) (at : ℕ) → ReadsFrom (sc .text) at (laterAt sc c at)
+  unfolding laterAt
+  later-reads c at = then-reads (phrase-reads (sc .text) _ at) (λ u n1 q1. then-reads (listed-reads sc n1) (λ d n2 q2. followed-reads (sc .text) _ _ n2))
+
+  watch-reads : (at : ℕ) → ReadsFrom (sc .text) at (watchAt sc at)
+  unfolding watchAt afterFirst
+  watch-reads at =
+      then-reads (phrase-reads (sc .text) _ at)
+      (λ u n1 q1. then-reads (listed-reads sc n1) (λ c n2 q2. token-reads (sc .text) n2 (λ k s n e. cond-reads (is k arrow) (step e (later-reads c n)) (followed-reads (sc .text) _ _ n2))))
+
+  watches-reads : (left : ℕ) (done : List Watch) (at : ℕ) → ReadsFrom (sc .text) at (watchesFrom left sc done at)
+  unfolding watchesFrom
+  watches-reads zero done at = token-reads (sc .text) at (λ k s n e. cond-reads (is k watchWord) (watch-refused e) (ends-at _ Reach.none))
+  watches-reads (suc left) done at =
+      token-reads (sc .text) at
+      (λ k s n e. cond-reads (is k watchWord) (step e (then-reads (watch-reads n) (λ w m q. watches-reads left (done ++ (w ∷ [])) m))) (ends-at _ Reach.none))
+
 -- ---- the whole text
 
 end-reads : (text : List ℕ) (known : List Bool) (at : ℕ) → ReadsFrom text at (endAt text known at)
@@ -290,7 +311,8 @@ program-reads text =
     let l : length (spellings names) ≡ length (knownFirst (length inputs) (length names)) = spellings-length names ∙ sym (length-known (length inputs) (length names)) in
     let few : length (spellings names) ≤ 64 = omega (arith, spellings-length names, g2 .0 .1) in
     then-reads (rules-reads 65 sc few l (named names (g2 .0 .0) (g2 .0 .3)) (few-unruled (knownFirst (length inputs) (length names)) (omega (arith, l))) [] n2 (g2 .1))
-    (λ ruled n3 e3. then-reads (end-reads text (ruled .known) n3) (λ u n4 e4. ends-at _ Reach.none))))
+    (λ ruled n3 e3. then-reads (watches-reads (record { text = text; names = spellings names; known = free (length names) }) watchLimit [] n3)
+    (λ watches n4 e4. then-reads (end-reads text (ruled .known) n4) (λ u n5 e5. ends-at _ Reach.none)))))
 
 -- a text within the limit reads token by token
 pub parse-reads : (text : List ℕ) → length text ≤ textLimit → ReadsFrom text 0 (parse text)

@@ -78,7 +78,7 @@ module _ (names : List (List ℕ)) (good : AreNames names) where
     no-square at k s n h e t f =
         refused-sole e (λ us xs ys ah q l z. let x = f xs l in first-ahead (sc .text) at k s n h e us (x .0 ++ ys) (bytes "[") ah (q ∙ ap (λ (y : Tokens). y ++ ys) (x .1)) openSquare refl (apart k openSquare refl t))
 
-    listed-sole : (at : ℕ) → at ≤ length (sc .text) → Sole (InSquare names) Anything (sc .text) at (listed sc at)
+    pub listed-sole : (at : ℕ) → at ≤ length (sc .text) → Sole (InSquare names) Anything (sc .text) at (listed sc at)
     unfolding listed is kindNumber
     listed-sole at h =
         then-sole {L = K names good D.condition} {M = These (bytes "]" ∷ [])} {N = InSquare names} {S = AfterCondition names good} {S2 = Anything} h (λ zs j. j) (square-ends names good) (whole-condition-sole names good sc at h)

@@ -7,16 +7,17 @@ use native.Mathlib.Omega.{arith}
 use lib.ListN.{length, getD}
 use lib.Dec.{ltb}
 use borrow.Author.Tests.{ltb-false}
-use Rattle.limits.specs.Limits.{textLimit}
+use Rattle.limits.specs.Limits.{textLimit, watchLimit}
 use Rattle.lexer.specs.Bytes.{bytes, part}
-use Rattle.lexer.specs.Token.{Kind, kindNumber, ending, name, inputWord, varWord, is, TokenRead, token, fault, spellingOf}
+use Rattle.lexer.specs.Token.{Kind, kindNumber, ending, name, inputWord, varWord, watchWord, is, TokenRead, token, fault, spellingOf}
 use Rattle.lexer.specs.Lexer.{overLong, tokenAt}
 use Rattle.lexer.proofs.Laws.{cond-prop, token-at-moved}
-use Rattle.semantics.specs.Program.{Rule, target, allTrue, knownFirst}
+use Rattle.semantics.specs.Program.{Rule, target, allTrue, knownFirst, free}
 use Rattle.grammar.specs.Parsed.{Parsed, accepted, refused, andThen, onToken}
 use Rattle.grammar.specs.Expressions.{Scope}
 use Rattle.grammar.specs.Declarations.{spellings, declarations}
 use Rattle.grammar.specs.Rules.{ruleAt, ruled, rulesFrom}
+use Rattle.grammar.specs.Watches.{watchesFrom}
 use Rattle.grammar.specs.Parse.{endAt, program, parse}
 use Rattle.grammar.specs.Derivation.{Tokens, Stands, Spells, normal}
 use Rattle.grammar.proofs.Bytes.{part-length, heads}
@@ -28,7 +29,7 @@ use Rattle.grammar.proofs.Whole.{Ends, Names, declarations-fit}
 use Rattle.grammar.proofs.Normal.{name-seen, normal-twice, normal-length}
 use Rattle.grammar.proofs.SameRule.{formulas-same}
 use Rattle.faults.specs.Grammar as G
-use Rattle.faults.specs.Grammar.{AreNames, AreDeclarations, IsRule, AreRules, IsText, BeginsNone, NoneGoOn}
+use Rattle.faults.specs.Grammar.{AreNames, AreDeclarations, IsRule, AreRules, AreWatches, IsText, BeginsNone, NoneGoOn}
 use Rattle.faults.proofs.TextPlaces.{refused-parse}
 use Rattle.faults.proofs.ViableText.{allowed-before}
 use Rattle.faults.proofs.Languages.{Joins}
@@ -37,6 +38,7 @@ use Rattle.faults.proofs.SoleParts.{Anything, apart, id-sole, whole-exp
 use Rattle.faults.proofs.SoleConditions.{whole-condition-sole}
 use Rattle.faults.proofs.SoleForms.{Word, declared-of, declarations-sole}
 use Rattle.faults.proofs.SoleRules.{RuleRest, rule-of, formulas-sole}
+use Rattle.faults.proofs.SoleWatches.{watches-ends, watches-sole}
 
 -- ---- of what is accepted nothing is said
 
@@ -136,22 +138,31 @@ module _ (names : List (List ℕ)) (good : AreNames names) where
 
   -- ---- the whole text
 
+  abbrev Rules : Tokens → Type 0
+  Rules = Joins (AreRules names) (AreWatches names)
+
   abbrev Variables : Tokens → Type 0
-  Variables = Joins (AreDeclarations (bytes "var")) (AreRules names)
+  Variables = Joins (AreDeclarations (bytes "var")) Rules
 
   abbrev TextOf : Tokens → Type 0
   TextOf = Joins (AreDeclarations (bytes "input")) Variables
 
-  -- rules begin with a name
-  rules-ends : (k : Kind) → Spelling k (spellingOf k) → (name ≡ k → ⊥) → (xs ys : Tokens) → AreRules names xs → Empty ys → NoSign (Word k) (xs ++ ys)
-  rules-ends k sp un xs ys G.AreRules.none z = subst (NoSign (Word k)) (sym z) tt
-  rules-ends k sp un xs ys (G.AreRules.more ts vs x r) z =
+  -- rules begin with a name, watches with `watch`
+  rules-ends : (k : Kind) → Spelling k (spellingOf k) → (name ≡ k → ⊥) → (watchWord ≡ k → ⊥) → (xs ys : Tokens) → Rules xs → Empty ys → NoSign (Word k) (xs ++ ys)
+  rules-ends k sp un wn xs ys (rs, ws, q, G.AreRules.none, w) z =
+      subst (λ (l : Tokens). NoSign (Word k) (l ++ ys)) (sym q) (watches-ends names good (Word k) (λ e. not-sign watchWord k (bytes "watch") (spellingOf k) refl sp wn e) ws ys w z)
+  rules-ends k sp un wn xs ys (rs, ws, q, G.AreRules.more ts vs x r, w) z =
       let y = rule-of names good ts x in
-      subst (λ (l : Tokens). NoSign (Word k) ((l ++ vs) ++ ys)) (sym (y .2)) (λ e. not-sign name k (y .0) (spellingOf k) (y .3) sp un e)
+      subst (λ (l : Tokens). NoSign (Word k) (l ++ ys)) (sym (q ∙ ap (λ (l : Tokens). (l ++ vs) ++ ws) (y .2))) (λ e. not-sign name k (y .0) (spellingOf k) (y .3) sp un e)
+
+  -- `watch` is no name
+  no-name : SpellsName (bytes "watch") → ⊥
+  unfolding is kindNumber
+  no-name nm = not-sign name watchWord (bytes "watch") (bytes "watch") nm refl (apart name watchWord refl refl) refl
 
   variables-end : (xs ys : Tokens) → Variables xs → Empty ys → NoSign (Word inputWord) (xs ++ ys)
   unfolding is kindNumber
-  variables-end xs ys (vs, rs, q, G.AreDeclarations.none, r) z = subst (λ (l : Tokens). NoSign (Word inputWord) (l ++ ys)) (sym q) (rules-ends inputWord refl (apart name inputWord refl refl) rs ys r z)
+  variables-end xs ys (vs, rs, q, G.AreDeclarations.none, r) z = subst (λ (l : Tokens). NoSign (Word inputWord) (l ++ ys)) (sym q) (rules-ends inputWord refl (apart name inputWord refl refl) (apart watchWord inputWord refl refl) rs ys r z)
   variables-end xs ys (vs, rs, q, G.AreDeclarations.more ts us d m, r) z =
       let y = declared-of [] (bytes "var") ts d in
       subst (λ (l : Tokens). NoSign (Word inputWord) (l ++ ys)) (sym (q ∙ ap (λ (l : Tokens). (l ++ us) ++ rs) (y .1))) (λ e. not-sign varWord inputWord (bytes "var") (bytes "input") refl refl (apart varWord inputWord refl refl) e)
@@ -162,12 +173,14 @@ module _ (names : List (List ℕ)) (good : AreNames names) where
       then-failing (AreDeclarations (bytes "input")) Variables TextOf (NoSign (Word inputWord)) Empty text 0 (omega arith) (λ zs j. j) variables-end (declarations inputWord text [] 0) _ (declarations-sole text 65 inputWord refl refl [] (omega arith) (omega arith) 0 (omega arith))
       (λ inputs n1 h1 e1.
       let g1 = subst (Ends (length text) (Names text 0)) e1 (declarations-fit text 65 inputWord [] 0 0 (omega arith) (tt, omega arith, omega arith, tt)) in
-      then-failing (AreDeclarations (bytes "var")) (AreRules names) Variables (NoSign (Word varWord)) Empty text n1 h1 (λ zs j. j) (rules-ends varWord refl (apart name varWord refl refl)) (declarations varWord text inputs n1) _
+      then-failing (AreDeclarations (bytes "var")) Rules Variables (NoSign (Word varWord)) Empty text n1 h1 (λ zs j. j) (rules-ends varWord refl (apart name varWord refl refl) (apart watchWord varWord refl refl)) (declarations varWord text inputs n1) _
       (declarations-sole text 65 varWord refl refl inputs (g1 .0 .1) (omega arith) n1 h1)
       (λ declared n2 h2 e2.
       let sc : Scope = record { text = text; names = spellings declared; known = knownFirst (length inputs) (length declared) } in
-      then-failing (AreRules names) Empty (AreRules names) (NoSign SpellsName) Empty text n2 h2 (λ zs l. (zs, [], sym (append-nil zs), l, refl)) (λ xs ys l z. subst (NoSign SpellsName) (ap₂ (λ (u v : Tokens). u ++ v) (sym l) (sym z)) tt) (rulesFrom 65 sc [] n2) _ (rules-sole 65 sc [] n2 h2)
-      (λ ruled n3 h3 e3. same-failing Empty Empty text n3 (endAt text (ruled .known) n3) _ (end-failing text (ruled .known) n3))))
+      let sw : Scope = record { text = text; names = spellings declared; known = free (length declared) } in
+      then-failing (AreRules names) (AreWatches names) Rules (NoSign SpellsName) Empty text n2 h2 (λ zs j. j) (watches-ends names good SpellsName no-name) (rulesFrom 65 sc [] n2) _ (rules-sole 65 sc [] n2 h2)
+      (λ ruled n3 h3 e3. then-failing (AreWatches names) Empty (AreWatches names) (NoSign (Word watchWord)) Empty text n3 h3 (λ zs l. (zs, [], sym (append-nil zs), l, refl)) (λ xs ys l z. subst (NoSign (Word watchWord)) (ap₂ (λ (u v : Tokens). u ++ v) (sym l) (sym z)) tt) (watchesFrom watchLimit sw [] n3) _ (watches-sole names good sw watchLimit [] n3 h3)
+      (λ watches n4 h4 e4. same-failing Empty Empty text n4 (endAt text (ruled .known) n4) _ (end-failing text (ruled .known) n4)))))
 
   parse-failing : (text : List ℕ) → Failing TextOf Empty text 0 (parse text)
   unfolding parse
@@ -219,7 +232,9 @@ begins-none L S text at place s b =
     }
 
 text-of : (ts : Tokens) (x : IsText ts) → TextOf (x .names) (x .are-names) ts
-text-of ts x = (x .inputs, x .variables ++ x .rules, x .in-order ∙ append-assoc (x .inputs) (x .variables) (x .rules), x .are-inputs, (x .variables, x .rules, refl, x .are-variables, x .are-rules))
+text-of ts x =
+    let rest = x .rules ++ x .watches in
+    (x .inputs, x .variables ++ rest, x .in-order ∙ (append-assoc (x .inputs ++ x .variables) (x .rules) (x .watches) ∙ append-assoc (x .inputs) (x .variables) rest), x .are-inputs, (x .variables, rest, refl, x .are-variables, (x .rules, x .watches, refl, x .are-rules, x .are-watches)))
 
 texts : (text : List ℕ) (place : ℕ) → parse text ≡ refused 2 place → (before : Tokens) (end : ℕ) → Spells normal text 0 end before → (kind : Kind) (next : ℕ) → tokenAt text end ≡ token kind place next → (us : Tokens) → Ahead kind (normal (part text place next)) us → IsText (before ++ us) → ⊥
 texts text place e before end sp kind next st us ah x =

@@ -68,7 +68,7 @@ fault-places = record {
     nine text place (read l (b, c, t)) = go (tokenAt text b) t
       where
         go : (r : TokenRead) → RefusalOf tooLong place r → (textLimit < length text) × (place ≡ 0)
-        go (token k s n) h = absurd (omega (arith, h .1))
+        go (token k s n) h = absurd (h .1 refl)
         go (fault p) h = absurd (omega (arith, h .0))
 
     one : (text : List ℕ) (place : ℕ) → ParseRefusal text noToken place → (tokenAt text place ≡ fault place) × Behind text (fault place)

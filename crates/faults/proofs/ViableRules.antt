@@ -41,7 +41,7 @@ module _ (sc : Scope) where
   abbrev K : Tokens → Type 0
   K = IsCondition (normals (sc .names)) D.condition
 
-  listed-viable : (at : ℕ) → at ≤ length (sc .text) → Viable (InSquare (normals (sc .names))) (sc .text) at (listed sc at)
+  pub listed-viable : (at : ℕ) → at ≤ length (sc .text) → Viable (InSquare (normals (sc .names))) (sc .text) at (listed sc at)
   unfolding listed signs isFixed kindNumber
   listed-viable at h = cat-viable h (bytes "]" ∷ []) refl (whole-condition-viable sc at h) (λ c m i. followed-by (sc .text) (sign closeSquare ∷ []) refl tt c m i)
 

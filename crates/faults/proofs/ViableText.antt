@@ -8,16 +8,17 @@ use native.Mathlib.Nat.{le-refl}
 use native.Mathlib.Omega.{arith}
 use lib.ListN.{length}
 use lib.Dec.{ltb}
-use Rattle.limits.specs.Limits.{textLimit}
+use Rattle.limits.specs.Limits.{textLimit, watchLimit}
 use Rattle.lexer.specs.Bytes.{bytes}
 use Rattle.lexer.specs.Token.{kindNumber, ending, name, inputWord, varWord, is, TokenRead, token, fault}
 use Rattle.lexer.specs.Lexer.{tokenAt}
 use Rattle.lexer.proofs.Laws.{cond-prop}
-use Rattle.semantics.specs.Program.{Rule, target, allTrue, knownFirst}
+use Rattle.semantics.specs.Program.{Rule, target, allTrue, knownFirst, free}
 use Rattle.grammar.specs.Parsed.{Parsed, accepted, refused, andThen, onToken}
 use Rattle.grammar.specs.Expressions.{Scope}
 use Rattle.grammar.specs.Declarations.{spellings, declarations}
 use Rattle.grammar.specs.Rules.{ruleAt, ruled, rulesFrom}
+use Rattle.grammar.specs.Watches.{watchesFrom}
 use Rattle.grammar.specs.Parse.{endAt, program, parse}
 use Rattle.grammar.specs.Derivation.{Tokens, Spells, normal, normals}
 use Rattle.lexer.proofs.Spellings.{isFixed}
@@ -26,12 +27,13 @@ use Rattle.grammar.proofs.Standing.{spells-in, normally}
 use Rattle.grammar.proofs.Whole.{Ends, Names, declarations-fit, named}
 use Rattle.grammar.proofs.Normal.{each-normal}
 use Rattle.faults.specs.Grammar as G
-use Rattle.faults.specs.Grammar.{AreDeclarations, IsRule, AreNames, AreRules, IsText, AllowedBefore}
+use Rattle.faults.specs.Grammar.{AreDeclarations, IsRule, AreNames, AreRules, AreWatches, IsText, AllowedBefore}
 use Rattle.faults.proofs.Viable.{Viable, BegunIfTwo, by-other, behind, then-viable, cond-viable, token-viable}
 use Rattle.faults.proofs.ViableParts.{whole-expression-viable, whole-condition-viable}
 use Rattle.faults.proofs.TextPlaces.{refused-parse}
 use Rattle.faults.proofs.ViableDeclarations.{declarations-viable}
 use Rattle.faults.proofs.ViableRules.{rule-viable}
+use Rattle.faults.proofs.ViableWatches.{watches-viable}
 
 -- of what is accepted nothing is said
 
@@ -77,39 +79,44 @@ end-failing text known at = go (tokenAt text at) refl
         cond-prop P (is k ending) _ _ (λ t. cond-prop P (allTrue known) _ _ (λ u. tt) (λ u q. absurd (omega (arith, q))))
         (λ t q. record { before = []; end = at; spells = refl; kind = k; next = n; stands = e; more = []; begun = refl })
 
--- variables, then rules
+-- rules, then watches
+abbrev NamedRules : Tokens → Type 0
+NamedRules us = (names : List (List ℕ)) × AreNames names × (rs : Tokens) × (ws : Tokens) × (us ≡ rs ++ ws) × AreRules names rs × AreWatches names ws
+
+-- variables, then these
 abbrev VariablesRules : Tokens → Type 0
-VariablesRules us = (names : List (List ℕ)) × AreNames names × (vs : Tokens) × (rs : Tokens) × (us ≡ vs ++ rs) × AreDeclarations (bytes "var") vs × AreRules names rs
+VariablesRules us = (vs : Tokens) × (rs : Tokens) × (us ≡ vs ++ rs) × AreDeclarations (bytes "var") vs × NamedRules rs
 
 text-in : (ts us : Tokens) → AreDeclarations (bytes "input") ts → VariablesRules us → IsText (ts ++ us)
-text-in ts us x (names, good, vs, rs, q, y, z) = record { names = names; are-names = good; inputs = ts; variables = vs; rules = rs; are-inputs = x; are-variables = y; are-rules = z; in-order = rw q (simp append-assoc) }
+text-in ts us x (vs, ns, q, y, (names, good, rs, ws, p, r, w)) =
+    record { names = names; are-names = good; inputs = ts; variables = vs; rules = rs; watches = ws; are-inputs = x; are-variables = y; are-rules = r; are-watches = w; in-order = rw (q, p) (simp append-assoc) }
 
 same-failing : {A B : Type 0} (L : Tokens → Type 0) (text : List ℕ) (at : ℕ) (r : Parsed A) (f : A → ℕ → B) → Failing L text at r → Failing L text at (andThen r (λ a n. accepted (f a n) n))
 same-failing L text at (accepted a n) f x = tt
 same-failing L text at (refused k q) f x = x
 
-abbrev NamedRules : Tokens → Type 0
-NamedRules us = (names : List (List ℕ)) × AreNames names × AreRules names us
-
 no-names : AreNames []
 no-names i w e = none≢some w e
 
 no-rules : NamedRules []
-no-rules = ([], no-names, G.AreRules.none)
+no-rules = ([], no-names, [], [], refl, G.AreRules.none, G.AreWatches.none)
 
 program-failing : (text : List ℕ) → Failing IsText text 0 (program text)
 unfolding program declarations isFixed kindNumber
 program-failing text =
-    then-failing (AreDeclarations (bytes "input")) VariablesRules IsText text 0 (omega arith) text-in [] ([], no-names, [], [], refl, G.AreDeclarations.none, G.AreRules.none) (declarations inputWord text [] 0) _ (declarations-viable text 65 inputWord refl [] 0 (omega arith))
-    (λ inputs n1 h1 e1. then-failing (AreDeclarations (bytes "var")) NamedRules VariablesRules text n1 h1 (λ ts us x y. (y .0, y .1, ts, us, refl, x, y .2)) [] no-rules (declarations varWord text inputs n1) _ (declarations-viable text 65 varWord refl inputs n1 h1)
+    then-failing (AreDeclarations (bytes "input")) VariablesRules IsText text 0 (omega arith) text-in [] ([], [], refl, G.AreDeclarations.none, no-rules) (declarations inputWord text [] 0) _ (declarations-viable text 65 inputWord refl [] 0 (omega arith))
+    (λ inputs n1 h1 e1. then-failing (AreDeclarations (bytes "var")) NamedRules VariablesRules text n1 h1 (λ ts us x y. (ts, us, refl, x, y)) [] no-rules (declarations varWord text inputs n1) _ (declarations-viable text 65 varWord refl inputs n1 h1)
     (λ names n2 h2 e2.
     let g1 = subst (Ends (length text) (Names text 0)) e1 (declarations-fit text 65 inputWord [] 0 0 (omega arith) (tt, omega arith, omega arith, tt)) in
     let g2 = subst (Ends (length text) (Names text (length inputs))) e2 (declarations-fit text 65 varWord inputs n1 (length inputs) (g1 .1) (g1 .0 .0, g1 .0 .1, le-refl (length inputs), g1 .0 .3)) in
     let good = named names (g2 .0 .0) (g2 .0 .3) in
     let sc : Scope = record { text = text; names = spellings names; known = knownFirst (length inputs) (length names) } in
     let those : AreNames (normals (spellings names)) = λ i w q. let y = each-normal (spellings names) good i w q in record { is-word = y .is-word; no-word = y .no-word } in
-    then-failing (AreRules (normals (spellings names))) Empty NamedRules text n2 h2 (λ ts us x y. (normals (spellings names), those, subst (AreRules (normals (spellings names))) (sym (append-nil ts) ∙ ap (λ (l : Tokens). ts ++ l) (sym y)) x)) [] refl (rulesFrom 65 sc [] n2) _ (rules-viable 65 sc [] n2 h2)
-    (λ ruled n3 h3 e3. same-failing Empty text n3 (endAt text (ruled .known) n3) _ (end-failing text (ruled .known) n3))))
+    let sw : Scope = record { text = text; names = spellings names; known = free (length names) } in
+    let Watches : Tokens → Type 0 = AreWatches (normals (spellings names)) in
+    then-failing (AreRules (normals (spellings names))) Watches NamedRules text n2 h2 (λ ts us x y. (normals (spellings names), those, ts, us, refl, x, y)) [] G.AreWatches.none (rulesFrom 65 sc [] n2) _ (rules-viable 65 sc [] n2 h2)
+    (λ ruled n3 h3 e3. then-failing Watches Empty Watches text n3 h3 (λ ts us x y. subst Watches (sym (append-nil ts) ∙ ap (λ (l : Tokens). ts ++ l) (sym y)) x) [] refl (watchesFrom watchLimit sw [] n3) _ (watches-viable sw watchLimit [] n3 h3)
+    (λ watches n4 h4 e4. same-failing Empty text n4 (endAt text (ruled .known) n4) _ (end-failing text (ruled .known) n4)))))
 
 parse-failing : (text : List ℕ) → Failing IsText text 0 (parse text)
 unfolding parse

@@ -1,5 +1,5 @@
 -- Refusal 2: what stands before the token refused is allowed, and with it nothing begins. Document 01, "Who can cause which refusal": 2 token
--- that the grammar doesn't allow there, a wrong repeated name and an early end included. Assumes nothing.
+-- that the grammar doesn't allow there, a wrong repeated name and an early end included; document 02, A.13. Assumes nothing.
 use Prim.Native.Nat.{ℕ, _≤_, _<_}
 use mathlib.Core.Path.{_≡_}
 use mathlib.Core.List.{List, [], _∷_, _++_}
@@ -18,7 +18,7 @@ use Rattle.grammar.specs.Conditions.{wholeCondition, listed}
 use Rattle.grammar.specs.Parse.{programOf}
 use Rattle.lexer.specs.Spelling.{SpellsName}
 use Rattle.grammar.specs.Derivation.{Tokens, normal, normals, Spells, IsName, Level, SpellsE, expression, LevelC, SpellsC, condition}
-use Rattle.grammar.specs.Spelled.{SpellsZ, SpellsStart, declarationForm, squared, cased, Distinct, changeForm, functionForm, pairForm, Spelled}
+use Rattle.grammar.specs.Spelled.{SpellsZ, SpellsStart, declarationForm, squared, cased, Distinct, changeForm, functionForm, pairForm, aloneForm, pairedForm, Spelled}
 use Rattle.faults.specs.Texts.{SameThrough}
 
 -- the tokens spell an expression of the names, however many brackets are open at the same time (8, not 2, limits these)
@@ -66,17 +66,28 @@ pub data AreRules (names : List (List ℕ)) : Tokens → Type 0 where
   none : AreRules names []
   more : (ts us : Tokens) → IsRule names ts → AreRules names us → AreRules names (ts ++ us)
 
--- All inputs, then all variables. Then the rules, with values of any names.
+-- `watch: G([c]);` `watch: G([c] -> X([c]));`
+pub data IsWatch (names : List (List ℕ)) : Tokens → Type 0 where
+  alone : (ts : Tokens) → IsCondition names condition ts → IsWatch names (aloneForm ts)
+  paired : (ts us : Tokens) → IsCondition names condition ts → IsCondition names condition us → IsWatch names (pairedForm ts us)
+
+pub data AreWatches (names : List (List ℕ)) : Tokens → Type 0 where
+  none : AreWatches names []
+  more : (ts us : Tokens) → IsWatch names ts → AreWatches names us → AreWatches names (ts ++ us)
+
+-- All inputs, then all variables. Then the rules, then the watches, with values of any names.
 pub record IsText (ts : Tokens) : Type 0 where
   pub names : List (List ℕ)
   pub are-names : AreNames names
   pub inputs : Tokens
   pub variables : Tokens
   pub rules : Tokens
+  pub watches : Tokens
   pub are-inputs : AreDeclarations (bytes "input") inputs
   pub are-variables : AreDeclarations (bytes "var") variables
   pub are-rules : AreRules names rules
-  pub in-order : ts ≡ inputs ++ variables ++ rules
+  pub are-watches : AreWatches names watches
+  pub in-order : ts ≡ inputs ++ variables ++ rules ++ watches
 
 -- from `at` on stand the tokens `before`, as the rule forms know them, then the token at the place; those before it begin a token list of
 -- the language. (A word of the grammar in another case is a token that is in no such list: 2.)

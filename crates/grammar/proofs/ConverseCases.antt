@@ -48,7 +48,7 @@ module _ (names : List (List ℕ)) where
   all-usable v l ts e (one-term us x d) = all-usable D.term _ us x d
   all-usable v l ts e (sum w o us ws x y ps d f) = (all-usable D.expression _ us x d, all-usable D.term _ ws y f)
 
-  all-usableC : (v : LevelC) (l : ℕ) (ts : List (List ℕ)) (c : Condition) → SpellsC names v l ts c → UsableC everything c
+  pub all-usableC : (v : LevelC) (l : ℕ) (ts : List (List ℕ)) (c : Condition) → SpellsC names v l ts c → UsableC everything c
   all-usableC v l ts c (D.SpellsC.compared w o us ws x y ps d f) = (all-usable D.expression _ us x d, all-usable D.expression _ ws y f)
   all-usableC v l ts c (D.SpellsC.square us x d) = all-usableC D.condition _ us x d
   all-usableC v l ts c (not-square us x d) = all-usableC D.condition _ us x d

@@ -8,7 +8,7 @@ use native.Mathlib.Omega.{arith}
 use lib.ListN.{length, length-map}
 use lib.Dec.{T, ltb}
 use borrow.Author.Tests.{ltb-false}
-use Rattle.limits.specs.Limits.{textLimit}
+use Rattle.limits.specs.Limits.{textLimit, watchLimit}
 use Rattle.lexer.specs.Bytes.{bytes}
 use Rattle.lexer.specs.Token.{Kind, kindNumber, ending, inputWord, varWord, is, token}
 use Rattle.lexer.specs.Lexer.{tokenAt}
@@ -16,21 +16,23 @@ use Rattle.lexer.specs.Spelling.{Separated}
 use Rattle.lexer.proofs.Laws.{cond-prop}
 use Rattle.lexer.proofs.Same.{same-kind}
 use Rattle.arith.proofs.Basics.{true-T}
-use Rattle.semantics.specs.Program.{Name, Program, knownFirst, allTrue, AgreesAll}
+use Rattle.semantics.specs.Program.{Name, Watch, Program, knownFirst, free, allTrue, AgreesAll}
 use Rattle.semantics.proofs.Reference.{length-known}
 use Rattle.grammar.specs.Parsed.{Parsed, accepted, refused, itemBound}
 use Rattle.grammar.specs.Expressions.{Scope}
 use Rattle.grammar.specs.Declarations.{spellings, declarations}
 use Rattle.grammar.specs.Rules.{Ruled, rulesFrom}
+use Rattle.grammar.specs.Watches.{watchesFrom}
 use Rattle.grammar.specs.Parse.{endAt, program, parse}
 use Rattle.grammar.specs.Derivation.{normals}
-use Rattle.grammar.specs.Spelled.{DeclareAll, Distinct, SpellsRules, Spelled}
+use Rattle.grammar.specs.Spelled.{DeclareAll, Distinct, SpellsRules, SpellsWatches, Spelled}
 use Rattle.grammar.proofs.Combine.{Holds, token-prop, then-prop, never}
 use Rattle.lexer.proofs.Spellings.{isFixed}
 use Rattle.grammar.proofs.Standing.{written, normally, spells-in, spells-append, end-separated}
 use Rattle.grammar.proofs.Whole.{Ends, Names, declarations-fit, spellings-length, named}
 use Rattle.grammar.proofs.DerivedDeclarations.{DeclaredFrom, DeclaresFrom, declarations-derive}
 use Rattle.grammar.proofs.DerivedRules.{RulesRead, RulesReads, rules-derive}
+use Rattle.grammar.proofs.DerivedWatches.{WatchesRead, WatchesReads, watches-derive}
 
 -- what is read spells the program, if the text is within its limit
 abbrev Reads : List ℕ → Parsed Program → Type 0
@@ -51,28 +53,31 @@ end-ends text known at h =
     (λ t. tt))
     (λ e. tt))
 
-read : (text : List ℕ) (inputs names : List Name) (ruled : Ruled) (a b c : ℕ) → DeclaredFrom text (bytes "input") [] 0 a inputs → DeclaredFrom text (bytes "var") inputs a b names → Distinct (spellings names) → length names ≤ 64 → RulesRead text (spellings names) (knownFirst (length inputs) (length names)) [] b c ruled → Separated text c (length text) × T (allTrue (ruled .known)) → length text ≤ textLimit → Spelled text (record { inputs = length inputs; names = names; timers = []; rules = ruled .rules })
-read text inputs names ruled a b c d e distinct few r x short =
+read : (text : List ℕ) (inputs names : List Name) (ruled : Ruled) (watches : List Watch) (a b c e : ℕ) → DeclaredFrom text (bytes "input") [] 0 a inputs → DeclaredFrom text (bytes "var") inputs a b names → Distinct (spellings names) → length names ≤ 64 → RulesRead text (spellings names) (knownFirst (length inputs) (length names)) [] b c ruled → WatchesRead text (spellings names) watchLimit [] c e watches → Separated text e (length text) × T (allTrue (ruled .known)) → length text ≤ textLimit → Spelled text (record { inputs = length inputs; names = names; timers = []; rules = ruled .rules; watches = watches })
+read text inputs names ruled watches a b c e di dv distinct few r w x short =
     record {
       short = short;
-      input-tokens = d .tokens;
-      variable-tokens = e .tokens;
+      input-tokens = di .tokens;
+      variable-tokens = dv .tokens;
       rule-tokens = r .tokens;
+      watch-tokens = w .tokens;
       rules-from = b;
-      end = c;
-      spells-declarations = spells-append written text 0 a b (d .tokens) (e .tokens) (d .spells) (e .spells);
-      spells-tokens = r .spells;
+      end = e;
+      spells-declarations = spells-append written text 0 a b (di .tokens) (dv .tokens) (di .spells) (dv .spells);
+      spells-tokens = spells-append normally text b c e (r .tokens) (w .tokens) (r .spells) (w .spells);
       ends = x .0;
       inputs = inputs;
-      variables = e .more;
-      declares-inputs = subst (DeclareAll (bytes "input") (d .tokens)) (sym (d .is-more)) (d .derives);
-      declares-variables = e .derives;
-      names = e .is-more;
+      variables = dv .more;
+      declares-inputs = subst (DeclareAll (bytes "input") (di .tokens)) (sym (di .is-more)) (di .derives);
+      declares-variables = dv .derives;
+      names = dv .is-more;
       input-count = refl;
       distinct = distinct;
       few = few;
       untimed = refl;
       spells-rules = subst (SpellsRules (normals (spellings names)) (r .tokens)) (sym (r .is-more)) (r .derives);
+      spells-watches = subst (SpellsWatches (normals (spellings names)) (w .tokens)) (sym (w .is-more)) (w .derives);
+      few-watches = subst (λ (l : List Watch). length l ≤ watchLimit) (sym (w .is-more)) (w .counted);
       ordered = rw (length-map names (λ n. n .range), r .is-more) (r .ordered (x .1));
     }
 
@@ -93,10 +98,15 @@ program-reads text =
     (λ ruled n3 e3.
     let r : RulesRead text (spellings names) known [] n2 n3 ruled = subst (RulesReads text (spellings names) known [] n2) e3 (rules-derive itemBound sc (omega (arith, spellings-length names, g2 .0 .1)) (spellings-length names ∙ sym (length-known (length inputs) (length names))) (named names (g2 .0 .0) (g2 .0 .3)) [] n2 (g2 .1)) in
     let h3 = spells-in normally text n2 n3 (r .tokens) (g2 .1) (r .spells) .1 in
-    then-prop (Reads text) (endAt text (ruled .known) n3) _ (λ k q. tt)
-    (λ u n4 e4.
-    let x = subst (Ended text (ruled .known) n3) e4 (end-ends text (ruled .known) n3 h3) in
-    (read text inputs names ruled n1 n2 n3 d1 d2 (g2 .0 .3) (g2 .0 .1) r x, subst AgreesAll (sym (r .is-more)) (r .agrees))))))
+    let sw : Scope = record { text = text; names = spellings names; known = free (length names) } in
+    then-prop (Reads text) (watchesFrom watchLimit sw [] n3) _ (λ k q. tt)
+    (λ watches n4 e4.
+    let w : WatchesRead text (spellings names) watchLimit [] n3 n4 watches = subst (WatchesReads text (spellings names) watchLimit [] n3) e4 (watches-derive watchLimit sw [] n3 h3) in
+    let h4 = spells-in normally text n3 n4 (w .tokens) h3 (w .spells) .1 in
+    then-prop (Reads text) (endAt text (ruled .known) n4) _ (λ k q. tt)
+    (λ u n5 e5.
+    let x = subst (Ended text (ruled .known) n4) e5 (end-ends text (ruled .known) n4 h4) in
+    (read text inputs names ruled watches n1 n2 n3 n4 d1 d2 (g2 .0 .3) (g2 .0 .1) r w x, subst AgreesAll (sym (r .is-more)) (r .agrees)))))))
 
 pub parse-reads : (text : List ℕ) (p : Program) (n : ℕ) → parse text ≡ accepted p n → Spelled text p × AgreesAll (p .rules)
 unfolding parse

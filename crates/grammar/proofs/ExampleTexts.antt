@@ -22,7 +22,7 @@ abbrev pub spaces : ℕ → List ℕ
 spaces n = times n (bytes " ")
 
 -- a text that is refused where its second part begins, and one that is accepted
-abbrev at : List ℕ → ℕ → String → Example
+abbrev pub at : List ℕ → ℕ → String → Example
 at before number after = record { text = before ++ bytes after; answer = refused number (length before) }
 
 abbrev pub fine : List ℕ → Example

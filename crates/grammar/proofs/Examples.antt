@@ -1,7 +1,7 @@
 -- The worked examples of texts hold: the answers of ExampleTexts, and the images of the latches L1, L2 and L5 of document 01. Two tables,
 -- each under one statement, proved by computing the definitions. Assumes nothing.
 use mathlib.Core.Path.{_≡_, refl}
-use mathlib.Core.List.{List, [], _∷_}
+use mathlib.Core.List.{List, [], _∷_, _++_}
 use Prim.Native.Nat.{ℕ, _<_}
 use lib.ListN.{length}
 use borrow.Author.Tests.{lt-ltb}
@@ -19,8 +19,10 @@ use Rattle.grammar.specs.Expressions.{withId, currentAt, previousValueAt
 use Rattle.grammar.specs.Conditions.{comparisonBy, compared, comparisonAt, opposite, inverted, atom, connect, andOf, orOf, conjunction, condition, square, wholeCondition, listed}
 use Rattle.grammar.specs.Declarations.{inRange, signedDigits, boundAt, newName, startAt, declaration, declarationsFrom, declarations}
 use Rattle.grammar.specs.Rules.{caseAt, casesFrom, listFrom, plainList, partFrom, kindAt, partsFrom, firstFound, agreeingList, functionAt, changeAt, pairAt, formulaAt, formulas, ruleAt, rulesFrom}
+use Rattle.grammar.specs.Watches.{laterAt, afterFirst, watchAt, watchesFrom}
 use Rattle.grammar.specs.Parse.{endAt, program, parse, programOf}
 use Rattle.grammar.proofs.ExampleTexts.{Example, numberOrder, afterChange, otherTokens, longNames, manyNames, missingRules, numbers, longestMatch, manyBrackets, manyCases, letterCases, recasedRule, pairTexts, examples, round, computing}
+use Rattle.grammar.proofs.WatchTexts.{ruled, watchTexts}
 use Rattle.grammar.proofs.Bytes.{heads, tails}
 
 -- ---- the two statements
@@ -66,7 +68,7 @@ hold (e ∷ es) h = (heads h, hold es (tails h))
 
 -- what a computation opens
 opened : Unit {0}
-unfolding isSpace isDigit isLetter isAlphanumeric runOn runEnd capital capitals sameName sameBytes grammarWord exactWord wordOf overLong pairOf signOf readOf signAt wordAt digitsAt previousAt tokenOf tokenPast tokenAt sameSpelling sameToken valueOn valueOf is kindNumber idFrom idOf expected phrase followed rest chain withId currentAt previousIn constantAt primary negative factor productOf sumOf term expression bracket wholeExpression comparisonBy compared comparisonAt opposite inverted atom connect andOf orOf conjunction condition square wholeCondition listed inRange signedDigits boundAt newName startAt declaration declarationsFrom declarations caseAt casesFrom listFrom plainList partFrom kindAt partsFrom firstFound agreeingList functionAt changeAt pairAt formulaAt formulas ruleAt rulesFrom endAt program parse programOf imageOf number groups zigzag
+unfolding isSpace isDigit isLetter isAlphanumeric runOn runEnd capital capitals sameName sameBytes grammarWord exactWord wordOf overLong pairOf signOf readOf signAt wordAt digitsAt previousAt tokenOf tokenPast tokenAt sameSpelling sameToken valueOn valueOf is kindNumber idFrom idOf expected phrase followed rest chain withId currentAt previousIn constantAt primary negative factor productOf sumOf term expression bracket wholeExpression comparisonBy compared comparisonAt opposite inverted atom connect andOf orOf conjunction condition square wholeCondition listed inRange signedDigits boundAt newName startAt declaration declarationsFrom declarations caseAt casesFrom listFrom plainList partFrom kindAt partsFrom firstFound agreeingList functionAt changeAt pairAt formulaAt formulas ruleAt rulesFrom laterAt afterFirst watchAt watchesFrom endAt program parse programOf imageOf number groups zigzag
 opened = tt
 
 numberOrder-computed : answersOf numberOrder ≡ wanted numberOrder
@@ -150,6 +152,13 @@ examples-hold = (
   ),
 )
 
+watchTexts-computed : answersOf watchTexts ≡ wanted watchTexts
+unfolding opened
+watchTexts-computed = refl
+
+pub watch-texts-hold : Every Holds watchTexts
+watch-texts-hold = hold watchTexts watchTexts-computed
+
 -- ---- the limit of a text
 
 -- a text over its limit is 9, before all else
@@ -181,6 +190,12 @@ latches =
     ∷ record {
       text = computing (bytes "9 - 4 - 2 * 3");
       image = 0x00 ∷ 0x01 ∷ 0x00 ∷ 0x02 ∷ 0x00 ∷ 0x01 ∷ 0x12 ∷ 0x01 ∷ 0x08 ∷ 0x05 ∷ 0x01 ∷ 0x04 ∷ 0x01 ∷ 0x06 ∷ 0x06 ∷ 0x05 ∷ 0x15 ∷ 0x00 ∷ [];
+    }
+    -- watches leave the image (document 02, A.13)
+    ∷ record { text = ruled; image = 0x01 ∷ 0x01 ∷ 0x00 ∷ 0x02 ∷ 0x00 ∷ 0x00 ∷ 0x12 ∷ 0x00 ∷ 0x03 ∷ 0x01 ∷ 0x02 ∷ 0x00 ∷ 0x04 ∷ 0x15 ∷ 0x01 ∷ [] }
+    ∷ record {
+      text = ruled ++ bytes "watch: G([v < 2]); watch: G([i = 1] -> X([v > _v]));";
+      image = 0x01 ∷ 0x01 ∷ 0x00 ∷ 0x02 ∷ 0x00 ∷ 0x00 ∷ 0x12 ∷ 0x00 ∷ 0x03 ∷ 0x01 ∷ 0x02 ∷ 0x00 ∷ 0x04 ∷ 0x15 ∷ 0x01 ∷ [];
     }
     -- the comparisons
     ∷ record {

@@ -1,8 +1,8 @@
--- Where a refusal of declarations, of rules and of a whole text stands: its place is within the text, and its number is one of 1 to 9.
+-- Where a refusal of declarations, of rules, of watches and of a whole text stands: its place is within the text, and its number is a fault's.
 -- Assumes nothing.
-use mathlib.Core.Path.{_≡_}
+use mathlib.Core.Path.{_≡_, refl}
 use mathlib.Core.List.{List, [], _∷_, _++_}
-use mathlib.Core.Bool.{Bool, true, false, _&&_}
+use mathlib.Core.Bool.{Bool, true, false, _&&_, cond}
 use Prim.Native.Nat.{ℕ, zero, suc, _-_, _≤_}
 use native.Mathlib.Omega.{arith}
 use lib.ListN.{length, getD}
@@ -10,20 +10,22 @@ use lib.Dec.{ltb, leb, eqb}
 use lib.IntN.{ℤ, pos, negℤ}
 use lib.Signed.{leZ}
 use borrow.Author.Tests.{ltb-false}
-use Rattle.limits.specs.Limits.{caseLimit, textLimit, nameLimit}
+use Rattle.limits.specs.Limits.{caseLimit, textLimit, nameLimit, watchLimit}
 use Rattle.limits.specs.Answer as A
 use Rattle.arith.specs.Values.{isInt32}
 use Rattle.lexer.specs.Bytes.{part}
-use Rattle.lexer.specs.Token.{Kind, name, ending, digits, openSquare, tilde, bar, plus, minus, initWord, semicolon, closeRound, is, TokenRead, token, fault, inputWord, varWord}
+use Rattle.lexer.specs.Token.{Kind, name, ending, digits, openSquare, tilde, bar, plus, minus, initWord, semicolon, closeRound, arrow, is, TokenRead, token, fault, inputWord, varWord, watchWord}
 use Rattle.lexer.specs.Lexer.{tokenAt, sameToken, overLong, valueOf}
 use Rattle.lexer.specs.Names.{idOf}
 use Rattle.lexer.proofs.Laws.{cond-prop, Moved, token-moved, Faulted, token-faulted}
-use Rattle.semantics.specs.Program.{Name, Condition, Rule, Program, target, allTrue}
-use Rattle.grammar.specs.Parsed.{Parsed, accepted, refused, phrase, itemBound}
+use Rattle.semantics.specs.Program.{Name, Condition, Rule, Watch, Program, target, allTrue, knownFirst, free}
+use Rattle.grammar.specs.Parsed.{Parsed, accepted, refused, andThen, onToken, phrase, itemBound}
 use Rattle.grammar.specs.Expressions.{Scope, wholeExpression}
 use Rattle.grammar.specs.Conditions.{listed}
 use Rattle.grammar.specs.Declarations.{inRange, signedDigits, boundAt, spellings, newName, startAt, declaration, declarationsFrom, declarations}
 use Rattle.grammar.specs.Rules.{Spanned, caseAt, casesFrom, listFrom, plainList, Compared, agrees, differs, onCompared, onFound, onWanted, partFrom, kindAt, partsFrom, firstFound, agreeingList, functionAt, changeAt, pairAt, formulaAt, formulas, ruleAt, ruled, rulesFrom}
+use Rattle.grammar.specs.Watches.{laterAt, afterFirst, watchAt, watchesFrom}
+use Rattle.grammar.specs.Accepts.{IsFault, one-to-nine, a-watch}
 use Rattle.grammar.specs.Parse.{endAt, program, parse, answerOf, programOf}
 use Rattle.grammar.proofs.Places.{Within, then-within, cond-within, option-within, token-within, phrase-within, followed-within, id-within, whole-expression-within, listed-within}
 
@@ -222,7 +224,52 @@ rules-within (suc f) sc done at h =
     (then-within (length (sc .text)) (ruleAt sc s n) _ (rule-within sc s n l m) (λ r e i. rules-within f (ruled sc (target r)) (done ++ (r ∷ [])) e i))
     h)
 
+-- ---- watches
+
+module _ (sc : Scope) where
+  later-within : (c : Condition) (at : ℕ) → at ≤ length (sc .text) → Within (length (sc .text)) (laterAt sc c at)
+  unfolding laterAt
+  later-within c at h =
+      then-within (length (sc .text)) (phrase (sc .text) _ at) _ (phrase-within (sc .text) _ at h)
+      (λ u n1 h1. then-within (length (sc .text)) (listed sc n1) _ (listed-within sc n1 h1) (λ d n2 h2. followed-within (sc .text) _ _ n2 h2))
+
+  pub watch-within : (at : ℕ) → at ≤ length (sc .text) → Within (length (sc .text)) (watchAt sc at)
+  unfolding watchAt afterFirst
+  watch-within at h =
+      then-within (length (sc .text)) (phrase (sc .text) _ at) _ (phrase-within (sc .text) _ at h)
+      (λ u n1 h1. then-within (length (sc .text)) (listed sc n1) _ (listed-within sc n1 h1)
+      (λ c n2 h2. token-within (sc .text) n2 _ h2 (λ k s n l m. cond-within (length (sc .text)) (is k arrow) _ _ (later-within c n m) (followed-within (sc .text) _ _ n2 h2))))
+
 -- ---- the whole text
+
+-- what is accepted ends within len bytes; a refusal has the number of a fault and its place is within them, or at their end
+abbrev pub Placed : {A : Type 0} → ℕ → Parsed A → Type 0
+Placed len (accepted a n) = n ≤ len
+Placed len (refused k q) = IsFault k × (q ≤ len)
+
+placed : {A : Type 0} (len : ℕ) (p : Parsed A) → Within len p → Placed len p
+placed len (accepted a n) h = h
+placed len (refused k q) h = (one-to-nine (h .0) (h .1), h .2)
+
+then-placed : {A B : Type 0} (len : ℕ) (p : Parsed A) (f : A → ℕ → Parsed B) → Placed len p → ((a : A) (n : ℕ) → n ≤ len → Placed len (f a n)) → Placed len (andThen p f)
+then-placed len (accepted a n) f h g = g a n h
+then-placed len (refused k q) f h g = h
+
+pub watches-placed : (left : ℕ) (sc : Scope) (done : List Watch) (at : ℕ) → at ≤ length (sc .text) → Placed (length (sc .text)) (watchesFrom left sc done at)
+unfolding watchesFrom
+watches-placed zero sc done at h = go (tokenAt (sc .text) at) (token-moved (sc .text) at h) (token-faulted (sc .text) at)
+  where
+    go : (r : TokenRead) → Moved at (length (sc .text)) r → Faulted (length (sc .text)) r → Placed (length (sc .text)) (onToken r (λ k s n. cond (is k watchWord) (refused 30 s) (accepted done at)))
+    go (token k s n) m e = cond-prop (Placed (length (sc .text))) (is k watchWord) _ _ (λ t. (a-watch refl, omega (arith, m .1, m .2))) (λ t. h)
+    go (fault p) m e = (one-to-nine (omega arith) (omega arith), omega arith)
+watches-placed (suc left) sc done at h = go (tokenAt (sc .text) at) (token-moved (sc .text) at h) (token-faulted (sc .text) at) (λ w m i. watches-placed left sc (done ++ (w ∷ [])) m i)
+  where
+    go : (r : TokenRead) → Moved at (length (sc .text)) r → Faulted (length (sc .text)) r → ((w : Watch) (m : ℕ) → m ≤ length (sc .text) → Placed (length (sc .text)) (watchesFrom left sc (done ++ (w ∷ [])) m))
+        → Placed (length (sc .text)) (onToken r (λ k s n. cond (is k watchWord) (andThen (watchAt sc n) (λ w m. watchesFrom left sc (done ++ (w ∷ [])) m)) (accepted done at)))
+    go (token k s n) m e ih =
+        cond-prop (Placed (length (sc .text))) (is k watchWord) _ _
+        (λ t. then-placed (length (sc .text)) (watchAt sc n) _ (placed (length (sc .text)) (watchAt sc n) (watch-within sc n (m .2))) ih) (λ t. h)
+    go (fault p) m e ih = (one-to-nine (omega arith) (omega arith), omega arith)
 
 end-within : (text : List ℕ) (known : List Bool) (at : ℕ) → at ≤ length text → Within (length text) (endAt text known at)
 unfolding endAt
@@ -230,35 +277,43 @@ end-within text known at h =
     token-within text at _ h
     (λ k s n l m. cond-within (length text) (is k ending) _ _ (cond-within (length text) (allTrue known) _ _ m (omega arith, omega arith, l)) (omega arith, omega arith, l))
 
-program-within : (text : List ℕ) → Within (length text) (program text)
+program-placed : (text : List ℕ) → Placed (length text) (program text)
 unfolding program declarations
-program-within text =
-    then-within (length text) (declarations inputWord text [] 0) _ (declarations-within text itemBound inputWord [] 0 (omega arith))
-    (λ inputs n1 h1. then-within (length text) (declarations varWord text inputs n1) _ (declarations-within text itemBound varWord inputs n1 h1)
-    (λ names n2 h2. then-within (length text) (rulesFrom itemBound _ [] n2) _ (rules-within itemBound _ [] n2 h2)
-    (λ ruled n3 h3. then-within (length text) (endAt text (ruled .known) n3) _ (end-within text (ruled .known) n3 h3) (λ u n4 h4. h4))))
+program-placed text =
+    let len = length text in
+    then-placed len (declarations inputWord text [] 0) _ (placed len (declarations inputWord text [] 0) (declarations-within text itemBound inputWord [] 0 (omega arith)))
+    (λ inputs n1 h1. then-placed len (declarations varWord text inputs n1) _ (placed len (declarations varWord text inputs n1) (declarations-within text itemBound varWord inputs n1 h1))
+    (λ names n2 h2.
+    let sc : Scope = record { text = text; names = spellings names; known = knownFirst (length inputs) (length names) } in
+    then-placed len (rulesFrom itemBound sc [] n2) _ (placed len (rulesFrom itemBound sc [] n2) (rules-within itemBound sc [] n2 h2))
+    (λ ruled n3 h3. then-placed len (watchesFrom watchLimit (record { text = text; names = spellings names; known = free (length names) }) [] n3) _ (watches-placed watchLimit (record { text = text; names = spellings names; known = free (length names) }) [] n3 h3)
+    (λ watches n4 h4. then-placed len (endAt text (ruled .known) n4) _ (placed len (endAt text (ruled .known) n4) (end-within text (ruled .known) n4 h4)) (λ u n5 h5. h5)))))
 
--- what is accepted ends within the text; a refusal has a number of 1 to 9 and its place is within the text, or at its end
-pub parse-within : (text : List ℕ) → Within (length text) (parse text)
+parse-placed : (text : List ℕ) → Placed (length text) (parse text)
 unfolding parse
-parse-within text = cond-within (length text) (ltb textLimit (length text)) _ _ (omega arith, omega arith, omega arith) (program-within text)
+parse-placed text = cond-prop (Placed (length text)) (ltb textLimit (length text)) _ _ (λ t. (one-to-nine (omega arith) (omega arith), omega arith)) (λ t. program-placed text)
 
 -- and so within the limit of texts, since a longer text is refused at 0
-pub parse-limited : (text : List ℕ) → Within textLimit (parse text)
+pub parse-limited : (text : List ℕ) → Placed textLimit (parse text)
 unfolding parse
 parse-limited text =
-    cond-prop (Within textLimit) (ltb textLimit (length text)) _ _ (λ t. (omega arith, omega arith, omega arith))
-    (λ t. wider (ltb-false textLimit (length text) t) (program text) (program-within text))
+    cond-prop (Placed textLimit) (ltb textLimit (length text)) _ _ (λ t. (one-to-nine (omega arith) (omega arith), omega arith))
+    (λ t. wider (ltb-false textLimit (length text) t) (program text) (program-placed text))
   where
-    wider : length text ≤ textLimit → (p : Parsed Program) → Within (length text) p → Within textLimit p
+    wider : length text ≤ textLimit → (p : Parsed Program) → Placed (length text) p → Placed textLimit p
     wider l (accepted q n) h = omega arith
-    wider l (refused k q) h = (h .0, h .1, omega (arith, h .2))
+    wider l (refused k q) h = (h .0, omega (arith, h .1))
 
 -- the same of the answer that a service cites
-pub program-refused : (text : List ℕ) (number place : ℕ) → programOf text ≡ A.refused number place → (1 ≤ number) × (number ≤ 9) × (place ≤ length text)
+pub program-refused : (text : List ℕ) (number place : ℕ) → programOf text ≡ A.refused number place → IsFault number × (place ≤ length text)
 unfolding programOf
-program-refused text number place = go (parse text) (parse-within text)
+program-refused text number place = go (parse text) (parse-placed text)
   where
-    go : (r : Parsed Program) → Within (length text) r → answerOf r ≡ A.refused number place → (1 ≤ number) × (number ≤ 9) × (place ≤ length text)
+    go : (r : Parsed Program) → Placed (length text) r → answerOf r ≡ A.refused number place → IsFault number × (place ≤ length text)
     go (accepted p n) h e = let z : _≡_ {A = ℕ} 0 1 = cc in absurd (omega arith)
     go (refused k q) h e = let i : k ≡ number = cc in let j : q ≡ place = cc in rw (← i, ← j) h
+
+-- 10 is none of a text's
+pub not-ten : (number : ℕ) → IsFault number → number ≡ 10 → ⊥
+not-ten number (one-to-nine h g) e = omega (arith, h, g, e)
+not-ten number (a-watch h) e = omega (arith, h, e)

@@ -351,8 +351,9 @@ spelled-small text p s =
     let rules = rules-make (normals (namesOf p)) few (s .rule-tokens) (p .rules) (s .spells-rules) in
     let declared = spells-bytes written text 0 (s .rules-from) front (omega arith) (s .spells-declarations) in
     let before = spells-in written text 0 (s .rules-from) front (omega arith) (s .spells-declarations) .1 in
-    let ruled = spells-bytes normally text (s .rules-from) (s .end) (s .rule-tokens) before (s .spells-tokens) in
-    let within = spells-in normally text (s .rules-from) (s .end) (s .rule-tokens) before (s .spells-tokens) .1 in
+    let back = s .rule-tokens ++ s .watch-tokens in
+    let ruled = spells-bytes normally text (s .rules-from) (s .end) back before (s .spells-tokens) in
+    let within = spells-in normally text (s .rules-from) (s .end) back before (s .spells-tokens) .1 in
     let small = id-bytes (p .inputs) (omega (arith, s .few, s .input-count, count)) in
     let small2 = id-bytes (length (p .names) - p .inputs) (omega (arith, s .few)) in
-    simp length-append (omega (arith, heads, inputs, variables, rules, declared, ruled, within, small, small2, bytes-append (s .input-tokens) (s .variable-tokens)))
+    simp length-append (omega (arith, heads, inputs, variables, rules, declared, ruled, within, small, small2, bytes-append (s .input-tokens) (s .variable-tokens), bytes-append (s .rule-tokens) (s .watch-tokens)))

@@ -27,7 +27,7 @@ all-spaces zero = tt
 all-spaces (suc n) = (refl, all-spaces n)
 
 nothing : Program
-nothing = record { inputs = 0; names = []; timers = []; rules = [] }
+nothing = record { inputs = 0; names = []; timers = []; rules = []; watches = [] }
 
 spaces-spelled : (n : ℕ) → n ≤ textLimit → Spelled (spaces n) nothing
 unfolding nothing
@@ -37,6 +37,7 @@ spaces-spelled n h =
       input-tokens = [];
       variable-tokens = [];
       rule-tokens = [];
+      watch-tokens = [];
       rules-from = 0;
       end = 0;
       spells-declarations = refl;
@@ -52,6 +53,8 @@ spaces-spelled n h =
       few = omega arith;
       untimed = refl;
       spells-rules = S.SpellsRules.none;
+      spells-watches = S.SpellsWatches.none;
+      few-watches = omega arith;
       ordered = tt;
     }
 

@@ -10,4 +10,5 @@ pub mod Parse
 pub mod Derivation
 pub mod Spelled
 pub mod Accepts
+pub mod Unwatched
 pub mod Inner

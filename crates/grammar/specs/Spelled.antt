@@ -4,7 +4,8 @@ use Prim.Native.Nat.{ℕ, _+_, _≤_}
 use mathlib.Core.Path.{_≡_}
 use mathlib.Core.Bool.{false}
 use mathlib.Core.List.{List, [], _∷_, _++_, map}
-use mathlib.Core.Option.{none, some}
+use mathlib.Core.Option.{some}
+use mathlib.Core.Option as O
 use lib.ListN.{length, getElem?}
 use lib.IntN.{ℤ, pos, negℤ}
 use Rattle.limits.specs.Limits.{textLimit, nameLimit, caseLimit, bracketLimit, watchLimit}
@@ -106,11 +107,11 @@ aloneForm c = bytes "watch" ∷ bytes ":" ∷ bytes "G" ∷ bytes "(" ∷ square
 -- `watch: G([c] -> X([c]));`
 abbrev pub pairedForm : Tokens → Tokens → Tokens
 pairedForm c d =
-    bytes "watch" ∷ bytes ":" ∷ bytes "G" ∷ bytes "(" ∷ squared c ++ bytes "->" ∷ bytes "X" ∷ bytes "(" ∷ squared d ++ bytes ")" ∷ bytes ")" ∷ bytes ";" ∷ []
+    bytes "watch" ∷ bytes ":" ∷ bytes "G" ∷ bytes "(" ∷ squared c ++ (bytes "->" ∷ bytes "X" ∷ bytes "(" ∷ squared d ++ bytes ")" ∷ bytes ")" ∷ bytes ";" ∷ [])
 
 -- They may use any current and previous value.
 pub data SpellsWatch (names : List (List ℕ)) : Tokens → Watch → Type 0 where
-  alone : (ts : Tokens) (c : Condition) → SpellsC names condition bracketLimit ts c → SpellsWatch names (aloneForm ts) (record { first = c; later = none })
+  alone : (ts : Tokens) (c : Condition) → SpellsC names condition bracketLimit ts c → SpellsWatch names (aloneForm ts) (record { first = c; later = O.none })
   paired : (ts us : Tokens) (c d : Condition) → SpellsC names condition bracketLimit ts c → SpellsC names condition bracketLimit us d → SpellsWatch names (pairedForm ts us) (record { first = c; later = some d })
 
 pub data SpellsWatches (names : List (List ℕ)) : Tokens → List Watch → Type 0 where

@@ -17,7 +17,7 @@ use Rattle.lexer.proofs.Spellings.{isFixed, fixed-spelling, one-kind}
 use Rattle.bytecode.specs.Translation.{imageOf}
 use Rattle.grammar.specs.Derivation.{Tokens, asWritten, normal, normals, Stands, Spells, IsName}
 use Rattle.grammar.specs.Parse.{programOf}
-use Rattle.grammar.specs.Spelled.{SpellsZ, positive, negative, SpellsStart, absent, given, declarationForm, Declares, declares, DeclareAll, Apart, Distinct, SpellsRules, namesOf, Spelled}
+use Rattle.grammar.specs.Spelled.{SpellsZ, positive, negative, SpellsStart, absent, given, declarationForm, Declares, declares, DeclareAll, Apart, Distinct, SpellsRules, SpellsWatches, namesOf, Spelled}
 use Rattle.grammar.specs.Spelled as S
 use Rattle.grammar.proofs.Bytes.{heads, tails}
 use Rattle.grammar.proofs.Normal.{normal-length, name-seen, other-seen, normal-spelled}
@@ -260,7 +260,8 @@ spelled-too : (text other : List ℕ) (p : Program) → Recased text other → S
 spelled-too text other p c s =
     let front = s .input-tokens ++ s .variable-tokens in
     let declared : Spells normal text 0 (s .rules-from) (normals front) = written-seen text 0 (s .rules-from) front (s .spells-declarations) in
-    let whole : Spells normal text 0 (s .end) (normals front ++ s .rule-tokens) = spells-append normally text 0 (s .rules-from) (s .end) (normals front) (s .rule-tokens) declared (s .spells-tokens) in
+    let back = s .rule-tokens ++ s .watch-tokens in
+    let whole : Spells normal text 0 (s .end) (normals front ++ back) = spells-append normally text 0 (s .rules-from) (s .end) (normals front) back declared (s .spells-tokens) in
     let w = seen-written other 0 (s .rules-from) (normals front) (spells-recased text other c [] 0 (s .rules-from) (normals front) refl declared) in
     let t = parted inputWord input-plain (w .tokens) (s .input-tokens) (s .variable-tokens) (w .spelt) (w .seen) in
     let i = all-too inputWord input-plain (s .input-tokens) (s .inputs) (s .declares-inputs) (t .front) (t .spelt-front) (t .seen-front) in
@@ -276,17 +277,18 @@ spelled-too text other p c s =
     let short = s .short in
     let long = c .as-long in
     record {
-      program = record { inputs = length (i .others); names = k; timers = []; rules = p .rules };
+      program = record { inputs = length (i .others); names = k; timers = []; rules = p .rules; watches = p .watches };
       spelled = record {
         short = omega arith;
         input-tokens = t .front;
         variable-tokens = t .back;
         rule-tokens = s .rule-tokens;
+        watch-tokens = s .watch-tokens;
         rules-from = s .rules-from;
         end = s .end;
         spells-declarations = subst (Spells asWritten other 0 (s .rules-from)) (t .whole) (w .spells);
-        spells-tokens = spells-recased text other c (normals front) (s .rules-from) (s .end) (s .rule-tokens) declared (s .spells-tokens);
-        ends = subst (Separated other (s .end)) (sym long) (c .same-space (normals front ++ s .rule-tokens) (s .end) (length text) whole (s .ends));
+        spells-tokens = spells-recased text other c (normals front) (s .rules-from) (s .end) back declared (s .spells-tokens);
+        ends = subst (Separated other (s .end)) (sym long) (c .same-space (normals front ++ back) (s .end) (length text) whole (s .ends));
         inputs = i .others;
         variables = v .others;
         declares-inputs = i .declared;
@@ -296,10 +298,12 @@ spelled-too text other p c s =
         distinct = distinct-too k (p .names) same-p (s .distinct);
         few = omega arith;
         spells-rules = subst (λ (l : Tokens). SpellsRules l (s .rule-tokens) (p .rules)) (sym seen) (s .spells-rules);
+        spells-watches = subst (λ (l : Tokens). SpellsWatches l (s .watch-tokens) (p .watches)) (sym seen) (s .spells-watches);
+        few-watches = s .few-watches;
         ordered = subst (λ (n : ℕ). OrderedRules [] (knownFirst n (length (map (λ n. n .range) k))) (p .rules)) (sym inputs) (subst (λ (l : List Range). OrderedRules [] (knownFirst (p .inputs) (length l)) (p .rules)) (sym ranges) (untimed-order p (s .untimed) (s .ordered)));
         untimed = refl;
       };
-      same = record { same-inputs = inputs; same-names = seen; same-ranges = ranges; same-rules = refl };
+      same = record { same-inputs = inputs; same-names = seen; same-ranges = ranges; same-rules = refl; same-watches = refl };
     }
 
 image-same : (p q : Program) → SameProgram p q → imageOf q ≡ imageOf p

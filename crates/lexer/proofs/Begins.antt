@@ -8,7 +8,7 @@ use lib.ListN.{length, getD}
 use lib.Dec.{eqb, ltb}
 use borrow.Author.Tests.{eq-eqb, ltb-true, ltb-false}
 use Rattle.lexer.specs.Bytes.{part, sameBytes}
-use Rattle.lexer.specs.Token.{Kind, kindNumber, unknown, ending, name, previous, digits, inputWord, varWord, initWord, modWord, nextWord, dots, arrow, lessEqual, greaterEqual, notEqual, semicolon, colon, openRound, closeRound, openSquare, closeSquare, tilde, ampersand, bar, equals, less, greater, plus, minus, star, slash, otherCase, is, token}
+use Rattle.lexer.specs.Token.{Kind, kindNumber, unknown, ending, name, previous, digits, inputWord, varWord, initWord, modWord, nextWord, dots, arrow, lessEqual, greaterEqual, notEqual, semicolon, colon, openRound, closeRound, openSquare, closeSquare, tilde, ampersand, bar, equals, less, greater, plus, minus, star, slash, otherCase, watchWord, alwaysWord, afterWord, is, token}
 use Rattle.lexer.specs.Lexer.{isDigit, isLetter, isAlphanumeric, runEnd, pairOf, signOf}
 use Rattle.lexer.specs.Spelling.{AllBytes, IsWord, IsDigits, SpellsName, IsPrevious, Spelling}
 use Rattle.lexer.proofs.Laws.{letter-in-run, run-stop, run-step, run-from}
@@ -60,6 +60,9 @@ class-of minus w h = single 45 h refl refl refl refl
 class-of star w h = single 42 h refl refl refl refl
 class-of slash w h = single 47 h refl refl refl refl
 class-of otherCase w h = lettered (h .is-word)
+class-of watchWord w h = rw h (lettered (refl, (refl, (refl, (refl, (refl, tt))))))
+class-of alwaysWord w h = rw h (lettered (refl, tt))
+class-of afterWord w h = rw h (lettered (refl, tt))
 
 -- ---- runs
 

@@ -3,7 +3,7 @@ use mathlib.Core.Path.{_≡_, refl}
 use mathlib.Core.Bool.{true, false}
 use mathlib.Core.List.{[], _∷_}
 use Rattle.lexer.specs.Bytes.{bytes, sameBytes, capital, capitals}
-use Rattle.lexer.specs.Token.{name, previous, digits, modWord, otherCase, dots, arrow, lessEqual, greaterEqual, notEqual, less, greater, kindNumber, ending, is, token, fault}
+use Rattle.lexer.specs.Token.{name, previous, digits, modWord, otherCase, watchWord, alwaysWord, afterWord, dots, arrow, lessEqual, greaterEqual, notEqual, less, greater, kindNumber, ending, is, token, fault}
 use Rattle.lexer.specs.Lexer.{isSpace, isDigit, isLetter, isAlphanumeric, runOn, runEnd, sameName, grammarWord, exactWord, wordOf, overLong, pairOf, signOf, readOf, signAt, wordAt, digitsAt, previousAt, tokenOf, tokenPast, tokenAt, valueOn, valueOf}
 
 underscores : (tokenAt (bytes "_modx") 0 ≡ token previous 0 5) × (tokenAt (bytes "_mod") 0 ≡ fault 0) × (tokenAt (bytes "a_b") 0 ≡ token name 0 1) × (tokenAt (bytes "a_b") 1 ≡ token previous 1 3) × (tokenAt (bytes "_ a") 0 ≡ fault 0) × (tokenAt (bytes "_1") 0 ≡ fault 0) × (tokenAt (bytes " _") 0 ≡ fault 1)
@@ -32,3 +32,8 @@ long-and-zeros = (refl, refl, refl, refl, refl)
 other-cases : (tokenAt (bytes "MOD") 0 ≡ token otherCase 0 3) × (tokenAt (bytes "gx(") 0 ≡ token otherCase 0 2) × (tokenAt (bytes "Input") 0 ≡ token otherCase 0 5) × (tokenAt (bytes "moda") 0 ≡ token name 0 4) × (tokenAt (bytes "_Mod") 0 ≡ fault 0) × (tokenAt (bytes "_MODx") 0 ≡ token previous 0 5) × (sameName (bytes "Run0") (bytes "rUN0") ≡ true) × (sameName (64 ∷ []) (96 ∷ []) ≡ false) × (sameName (91 ∷ []) (123 ∷ []) ≡ false)
 unfolding tokenAt tokenPast tokenOf previousAt wordAt digitsAt signAt readOf pairOf signOf wordOf grammarWord exactWord sameName capitals capital runEnd runOn isSpace isDigit isLetter isAlphanumeric is kindNumber sameBytes
 other-cases = (refl, refl, refl, refl, refl, refl, refl, refl, refl)
+
+-- the words of watches: in another case no names either, and before them `_` is lone
+watch-words : (tokenAt (bytes "watch:") 0 ≡ token watchWord 0 5) × (tokenAt (bytes " G(") 0 ≡ token alwaysWord 1 2) × (tokenAt (bytes "X(") 0 ≡ token afterWord 0 1) × (tokenAt (bytes "g(") 0 ≡ token otherCase 0 1) × (tokenAt (bytes "x") 0 ≡ token otherCase 0 1) × (tokenAt (bytes "Watch") 0 ≡ token otherCase 0 5) × (tokenAt (bytes "G1") 0 ≡ token name 0 2) × (tokenAt (bytes "_x") 0 ≡ fault 0) × (tokenAt (bytes "_watches") 0 ≡ token previous 0 8)
+unfolding tokenAt tokenPast tokenOf previousAt wordAt digitsAt signAt readOf pairOf signOf wordOf grammarWord exactWord sameName capitals capital runEnd runOn isSpace isDigit isLetter isAlphanumeric is kindNumber sameBytes
+watch-words = (refl, refl, refl, refl, refl, refl, refl, refl, refl)

@@ -43,6 +43,7 @@ ton n = record {
   names = bitName 73 ∷ bitName 87 ∷ bitName 81 ∷ [];
   timers = record { id = 2; watched = 1; limit = n } ∷ [];
   rules = function 1 (current 0) ∷ [];
+  watches = [];
 }
 
 -- I, W, Q, and the elapsed time of Q
@@ -86,6 +87,7 @@ chained = record {
   names = bitName 105 ∷ bitName 119 ∷ bitName 120 ∷ bitName 116 ∷ bitName 117 ∷ [];
   timers = record { id = 3; watched = 1; limit = 3 } ∷ record { id = 4; watched = 2; limit = 2 } ∷ [];
   rules = function 2 (current 0) ∷ function 1 (operation multiply (current 2) (current 4)) ∷ [];
+  watches = [];
 }
 
 abbrev pub seven : ℤ → ℤ → ℤ → ℤ → ℤ → ℤ → ℤ → State

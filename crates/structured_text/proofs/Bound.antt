@@ -23,7 +23,7 @@ use Rattle.grammar.proofs.Growth.{laterBytes, bytesOf, bytes-append, token-byte
 use Rattle.grammar.proofs.Normal.{normal-length}
 use Rattle.grammar.proofs.Standing.{written, normally, spells-in}
 use Rattle.grammar.proofs.Accepted.{name-length}
-use Rattle.grammar.proofs.PlacesText.{program-refused}
+use Rattle.grammar.proofs.PlacesText.{program-refused, not-ten}
 use Rattle.grammar.proofs.ConverseText.{accepted-exactly}
 use Rattle.translate.specs.Services.{AfterTranslation}
 use Rattle.translate.proofs.Kept.{never}
@@ -180,8 +180,9 @@ st-growth text p e =
     let count : length (p .names) ≡ length (s .inputs) + length (s .variables) = ap {A = List Name} length (s .names) ∙ length-append (s .inputs) (s .variables) in
     let declared = spells-bytes written text 0 (s .rules-from) front (omega arith) (s .spells-declarations) in
     let before = spells-in written text 0 (s .rules-from) front (omega arith) (s .spells-declarations) .1 in
-    let ruled = spells-bytes normally text (s .rules-from) (s .end) (s .rule-tokens) before (s .spells-tokens) in
-    let within = spells-in normally text (s .rules-from) (s .end) (s .rule-tokens) before (s .spells-tokens) .1 in
+    let back = s .rule-tokens ++ s .watch-tokens in
+    let ruled = spells-bytes normally text (s .rules-from) (s .end) back before (s .spells-tokens) in
+    let within = spells-in normally text (s .rules-from) (s .end) back before (s .spells-tokens) .1 in
     omega (
       arith,
       section-length "VAR_INPUT" (map currentLine is) second,
@@ -204,6 +205,7 @@ st-growth text p e =
       ruled,
       within,
       bytes-append (s .input-tokens) (s .variable-tokens),
+      bytes-append (s .rule-tokens) (s .watch-tokens),
     )
 
 -- 10 comes only of an accepted text whose Structured Text is longer than the buffer
@@ -214,7 +216,7 @@ room-enough text buffer h place = go (structuredTextOf text buffer) (st-way text
     go r (printed-whole p e i l) a = never (length (stBytes p)) bufferTooShort place a
     go r (too-short p e i l) a = let g = st-growth text p e in let s = accepted-exactly .accepted-spelled text p e .short in omega arith
     go r (reserved p e i) a = let x : notInSt ≡ bufferTooShort = cc in omega arith
-    go r (faulty k q e) a = let i : k ≡ bufferTooShort = cc in let x = program-refused text k q e in omega (arith, i, x .1)
+    go r (faulty k q e) a = let i : k ≡ bufferTooShort = cc in not-ten k (program-refused text k q e .0) i
 
 pub st-bound : StBound
 st-bound = record { bound = λ text p s. st-growth text p (accepted-exactly .spelled-accepted text p s); room = room-enough }

@@ -15,6 +15,7 @@ use Rattle.grammar.specs.Expressions.{withId, currentAt, previousValueAt, const
 use Rattle.grammar.specs.Conditions.{comparisonBy, compared, comparisonAt, opposite, inverted, atom, connect, andOf, orOf, conjunction, condition, square, wholeCondition, listed}
 use Rattle.grammar.specs.Declarations.{inRange, signedDigits as signedLiteralAt, boundAt, newName, startAt, declaration, declarationsFrom, declarations}
 use Rattle.grammar.specs.Rules.{caseAt, casesFrom, listFrom, plainList, partFrom, kindAt, partsFrom, firstFound, agreeingList, functionAt, changeAt, pairAt, formulaAt, formulas, ruleAt, rulesFrom}
+use Rattle.grammar.specs.Watches.{watchesFrom}
 use Rattle.grammar.specs.Parse.{endAt, program, parse, programOf}
 use Rattle.trace_text.specs.Input.{linesOf, bare, isHashLine, textIn, textOf, rowsIn, rowLines}
 use Rattle.trace_text.specs.Row.{numberOf, fieldsOf, numbersOf, rowOf, longRow, handedOf}
@@ -49,5 +50,5 @@ examples =
 
 -- the definition gives what the table says
 pub examples-hold : map (λ (e : Example). printed (bytes (e .reads))) examples ≡ map (λ (e : Example). bytes (e .writes)) examples
-unfolding examples sameBytes kindNumber is isSpace isDigit isLetter isAlphanumeric runOn runEnd capital capitals sameName grammarWord exactWord wordOf overLong pairOf signOf readOf signAt wordAt digitsAt previousAt tokenOf tokenPast tokenAt sameSpelling sameToken valueOn valueOf expected phrase followed rest chain idFrom idOf withId currentAt previousValueAt literalAt primary negative factor productOf sumOf term expression bracket wholeExpression comparisonBy compared comparisonAt opposite inverted atom connect andOf orOf conjunction condition square wholeCondition listed inRange signedLiteralAt boundAt newName startAt declaration declarationsFrom declarations caseAt casesFrom listFrom plainList partFrom kindAt partsFrom firstFound agreeingList functionAt changeAt pairAt formulaAt formulas ruleAt rulesFrom endAt program parse programOf within moves picked newValue referenceScan arithmetic negation compares linesOf bare isHashLine textIn textOf rowsIn rowLines numberOf fieldsOf numbersOf rowOf longRow handedOf digitsUpTo unsignedDecimal decimalOf refusedLine headLine rowLine printed
+unfolding examples sameBytes kindNumber is isSpace isDigit isLetter isAlphanumeric runOn runEnd capital capitals sameName grammarWord exactWord wordOf overLong pairOf signOf readOf signAt wordAt digitsAt previousAt tokenOf tokenPast tokenAt sameSpelling sameToken valueOn valueOf expected phrase followed rest chain idFrom idOf withId currentAt previousValueAt literalAt primary negative factor productOf sumOf term expression bracket wholeExpression comparisonBy compared comparisonAt opposite inverted atom connect andOf orOf conjunction condition square wholeCondition listed inRange signedLiteralAt boundAt newName startAt declaration declarationsFrom declarations caseAt casesFrom listFrom plainList partFrom kindAt partsFrom firstFound agreeingList functionAt changeAt pairAt formulaAt formulas ruleAt rulesFrom watchesFrom endAt program parse programOf within moves picked newValue referenceScan arithmetic negation compares linesOf bare isHashLine textIn textOf rowsIn rowLines numberOf fieldsOf numbersOf rowOf longRow handedOf digitsUpTo unsignedDecimal decimalOf refusedLine headLine rowLine printed
 examples-hold = refl

@@ -19,8 +19,7 @@ use Rattle.grammar.specs.Parse.{program, parse, answerOf, programOf}
 use Rattle.grammar.proofs.Combine.{same-value}
 use Rattle.grammar.proofs.Image.{image-emitted}
 use Rattle.grammar.proofs.Accepted.{parse-translatable, parse-few, parse-growth, parse-short as accepted-short}
-use Rattle.grammar.proofs.Places.{Within}
-use Rattle.grammar.proofs.PlacesText.{parse-limited}
+use Rattle.grammar.proofs.PlacesText.{Placed, parse-limited}
 use Rattle.grammar.proofs.ConverseText.{short-parse}
 use Rattle.lexer.specs.declared.Place.{Place}
 use Rattle.lexer.specs.declared.Step.{Step}
@@ -173,9 +172,9 @@ translation-small text buffer = go (parse text) refl (parse-limited text)
     room p h l true = h
     room p h l false = l
 
-    go : (r : Parsed Program) → parse text ≡ r → Within textLimit r → Small (translated (answerOf r) text buffer .answer)
+    go : (r : Parsed Program) → parse text ≡ r → Placed textLimit r → Small (translated (answerOf r) text buffer .answer)
     go (accepted p n) e h = room p (parse-translatable text p n e .short) (accepted-short text p n e) (leb (length (imageOf p)) (length buffer))
-    go (refused k q) e h = h .2
+    go (refused k q) e h = h .1
 
 pub translation-within : (text buffer : List ℕ) (r : Translated) (left : List ℕ) → afterTranslation r left ≡ translationOf text buffer → TranslatedWithin r
 translation-within text buffer r left e = go r (subst Small (sym (ap {A = AfterTranslation} (λ x. x .answer) e)) (translation-small text buffer))

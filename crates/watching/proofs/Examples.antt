@@ -5,9 +5,9 @@ use mathlib.Core.Option.{Option, none, some}
 use Prim.Native.Nat.{ℕ}
 use lib.IntN.{pos, negsuc}
 use Rattle.arith.specs.Values.{add, subtract, divide, modulo, equal, less, greater, greaterEqual, arithmetic, negation, compares}
-use Rattle.semantics.specs.Program.{Expression, constant, current, previous, operation, Condition, comparison, either}
+use Rattle.semantics.specs.Program.{Expression, constant, current, previous, operation, Condition, comparison, either, Watch}
 use Rattle.semantics.specs.Formula.{Trace}
-use Rattle.watching.specs.Watching.{Watch, placesOf, firstFailure}
+use Rattle.watching.specs.Watching.{placesOf, firstFailure}
 
 pub record Example : Type 0 where
   pub watch : Watch

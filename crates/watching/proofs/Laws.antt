@@ -7,7 +7,8 @@ use mathlib.Core.List.{List, [], _∷_}
 use mathlib.Core.Option.{Option, none, some}
 use lib.ListN.{getElem?}
 use Rattle.semantics.specs.Formula.{Trace}
-use Rattle.watching.specs.Watching.{Watch, placesOf, firstNo, firstFailure}
+use Rattle.semantics.specs.Program.{Watch}
+use Rattle.watching.specs.Watching.{placesOf, firstNo, firstFailure}
 use Rattle.watching.specs.Failing.{FailsAt}
 use Rattle.watching.proofs.Places.{true-false, none-some, some-inj, holds, failure-is, no-fails, fails-no}
 
