@@ -19,8 +19,7 @@ use Rattle.semantics.proofs.Untimed.{plain-states}
 use Rattle.grammar.specs.Parsed.{Parsed, accepted, refused}
 use Rattle.grammar.specs.Parse.{parse, answerOf, programOf}
 use Rattle.grammar.proofs.Accepted.{parse-translatable}
-use Rattle.grammar.proofs.Places.{Within}
-use Rattle.grammar.proofs.PlacesText.{parse-limited}
+use Rattle.grammar.proofs.PlacesText.{Placed, parse-limited}
 use Rattle.watching.specs.Watching.{placesOf, firstFailure}
 use Rattle.leb128.proofs.Stores.{sets-front}
 use Rattle.translate.specs.declared.Surveyed.{Surveyed}
@@ -66,7 +65,7 @@ module _ {text starts ends : List ℕ} {r : Surveyed} (s : Surveys text (parse t
 module _ (text : List ℕ) (cells report : List ℤ) where
   pub watch-refused : (k q : ℕ) → parse text ≡ refused k q → (afterWatch (W.Refused k q) report ≡ watchOf text cells report) × WatchedWithin (W.Refused k q)
   unfolding watchOf programOf
-  watch-refused k q e = (rw e, subst (Within textLimit) e (parse-limited text) .2)
+  watch-refused k q e = (rw e, subst (Placed textLimit) e (parse-limited text) .1)
 
   module _ {starts ends : List ℕ} {names at count : ℕ} (x : SurveyRead text starts ends names at count) where
     -- document 01's texts have no timers: a number for each name
