@@ -52,7 +52,7 @@ module _ (sc : Scope) (good : Named (sc .names)) (all : sc .known ≡ free (leng
   watch-goes w c a n1 n2 m e1 e2 e3 = rw (e1, e2) e3
 
   -- `);`
-  alone-goes : (c : Condition) (a s n m : ℕ) → tokenAt (sc .text) a ≡ token closeRound s n → followed (sc .text) formulaClosing (record { first = c; later = none }) a ≡ accepted (record { first = c; later = none }) m → afterFirst sc c a ≡ accepted (record { first = c; later = none }) m
+  alone-goes : (c : Condition) (a s n m : ℕ) → tokenAt (sc .text) a ≡ token closeRound s n → followed {A = Watch} (sc .text) formulaClosing (record { first = c; later = none }) a ≡ accepted (record { first = c; later = none }) m → afterFirst sc c a ≡ accepted (record { first = c; later = none }) m
   unfolding afterFirst is kindNumber
   alone-goes c a s n m e1 e2 = rw e1 e2
 
@@ -61,7 +61,7 @@ module _ (sc : Scope) (good : Named (sc .names)) (all : sc .known ≡ free (leng
   unfolding afterFirst is kindNumber
   paired-goes w c a s n m e1 e2 = rw e1 e2
 
-  later-goes : (c d : Condition) (a n1 n2 m : ℕ) → phrase (sc .text) laterOpening a ≡ accepted tt n1 → listed sc n1 ≡ accepted d n2 → followed (sc .text) functionClosing (record { first = c; later = some d }) n2 ≡ accepted (record { first = c; later = some d }) m → laterAt sc c a ≡ accepted (record { first = c; later = some d }) m
+  later-goes : (c d : Condition) (a n1 n2 m : ℕ) → phrase (sc .text) laterOpening a ≡ accepted tt n1 → listed sc n1 ≡ accepted d n2 → followed {A = Watch} (sc .text) functionClosing (record { first = c; later = some d }) n2 ≡ accepted (record { first = c; later = some d }) m → laterAt sc c a ≡ accepted (record { first = c; later = some d }) m
   unfolding laterAt
   later-goes c d a n1 n2 m e1 e2 e3 = rw (e1, e2) e3
 
@@ -84,7 +84,7 @@ module _ (sc : Scope) (good : Named (sc .names)) (all : sc .known ≡ free (leng
             (phrase-reads normally text watchOpening refl tt n (p .place) i0 (p .first))
             (spelled-listed sc good us c d (usable us c d) (p .place) (q .place) i1 (q .first))
             (alone-goes c (q .place) (q .second .1 .start) (q .second .0) m (fixed-at normally text closeRound refl (q .place) (q .second .0) i2 (q .second .1))
-            (followed-reads normally text formulaClosing refl tt (record { first = c; later = none }) (q .place) m i2 (q .second)));
+            (followed-reads normally text {A = Watch} formulaClosing refl tt (record { first = c; later = none }) (q .place) m i2 (q .second)));
       }
   watch-reads ts w (paired us vs c d dc dd) a m h g =
       let text = sc .text in
