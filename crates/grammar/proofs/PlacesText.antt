@@ -214,7 +214,7 @@ module _ (sc : Scope) where
       id-within sc s s n _ l
       (λ v. cond-within (length (sc .text)) (getD (sc .known) v false) _ _ (omega arith, omega arith, l) (formulas-within (part (sc .text) s n) v n m))
 
-pub rules-within : (f : ℕ) (sc : Scope) (done : List Rule) (at : ℕ) → at ≤ length (sc .text) → Within (length (sc .text)) (rulesFrom f sc done at)
+rules-within : (f : ℕ) (sc : Scope) (done : List Rule) (at : ℕ) → at ≤ length (sc .text) → Within (length (sc .text)) (rulesFrom f sc done at)
 unfolding rulesFrom
 rules-within zero sc done at h = (omega arith, omega arith, h)
 rules-within (suc f) sc done at h =

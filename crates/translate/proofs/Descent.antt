@@ -30,8 +30,10 @@ use Rattle.lexer.specs.declared.Step.{Step}
 use Rattle.lexer.specs.declared.Step.the-variants.{Done, Refused}
 use Rattle.grammar.specs.Expressions.{Scope}
 use Rattle.grammar.proofs.Combine.{apart, same-value}
-use Rattle.grammar.proofs.Places.{Within}
-use Rattle.grammar.proofs.PlacesText.{rules-within}
+use Rattle.grammar.proofs.Standing.{normally, spells-in}
+use Rattle.grammar.proofs.DerivedRules.{RulesReads, rules-derive}
+use Rattle.semantics.proofs.Reference.{length-known}
+use Rattle.grammar.proofs.Whole.{spellings-length}
 use Rattle.phrases.proofs.Writing.{writes, refuses}
 use Rattle.translate.specs.Inner.Descent.{Declarations, headingOf, scopeAfter, freeScope, scopeOfWatches, tailFrom, WatchesRead, Descends}
 use Rattle.translate.proofs.Stores.{counts-last}
@@ -81,7 +83,10 @@ tail-is text starts ends d m b known y h em ek = rw (h .spelled, em, ek)
 
 -- the rules end within the text
 pub rules-in : (text : List ℕ) (d : Declarations) (a : ℕ) (y : Ruled) (b : ℕ) → Few text d a → rulesFrom 65 (scopeAfter text d) [] a ≡ accepted y b → b ≤ length text
-rules-in text d a y b few e = subst (Within (length text)) e (rules-within 65 (scopeAfter text d) [] a (few .within))
+rules-in text d a y b few e =
+    let l : length (spellings (d .names)) ≡ length (d .names) = spellings-length (d .names) in
+    let r = subst (RulesReads text (spellings (d .names)) (knownFirst (d .inputs) (length (d .names))) [] a) e (rules-derive 65 (scopeAfter text d) (omega (arith, l, few .names)) (l ∙ sym (length-known (d .inputs) (length (d .names)))) (few .spelled) [] a (few .within)) in
+    spells-in normally text a b (r .tokens) (few .within) (r .spells) .1
 
 -- ---- the answer and the bytes of the whole
 

@@ -136,7 +136,16 @@ fn watch_in(
                 return Watched::Refused(limits::WRONG_LENGTH, 0);
             }
             reports(
-                text, starts, ends, names, at, count, trace, report, code, vals,
+                text,
+                starts,
+                ends,
+                names,
+                at,
+                count,
+                trace,
+                report,
+                code,
+                vals,
             );
             Watched::Count(count)
         }

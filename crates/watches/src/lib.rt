@@ -65,15 +65,7 @@ pub fn watch(
         return first;
     };
     if behind.kind == lexer::ARROW {
-        return later(
-            text,
-            starts,
-            ends,
-            names,
-            behind.end,
-            out,
-            behind.to,
-        );
+        return later(text, starts, ends, names, behind.end, out, behind.to);
     }
     let closed = phrases::formula_closing(text, behind.at);
     let Step::Done(b) = closed else {

@@ -7,15 +7,15 @@ use Rattle.phrases.proofs.later_opening.Tie as tie
 
 returns : tie.Need-returns
 unfolding kindOf
-returns c = stops _ _ _ _ (@expect .ensures) (@enum-told .given .1)
+returns c = stops _ _ _ _ (c .before .before .expect .ensures) (c .enum-told .given .1)
 
 returns-2 : tie.Need-returns-2
 unfolding kindOf
-returns-2 c = goes-on _ _ _ _ (@expect .ensures) (@first .given .1) (stops _ _ _ _ (@expect2 .ensures) (@enum-told2 .given .1))
+returns-2 c = goes-on _ _ _ _ (c .before .before .before .before .before .before .expect .ensures) (c .before .before .before .before .first .given .1) (stops _ _ _ _ (c .before .before .expect2 .ensures) (c .enum-told2 .given .1))
 
 returns-3 : tie.Need-returns-3
 unfolding kindOf
-returns-3 c = goes-on _ _ _ _ (@expect .ensures) (@first .given .1) (goes-on _ _ _ _ (@expect2 .ensures) (@second .given .1) (last _ _ _ (@expect3 .ensures)))
+returns-3 c = goes-on _ _ _ _ (c .before .before .before .before .before .before .before .before .expect .ensures) (c .before .before .before .before .before .before .first .given .1) (goes-on _ _ _ _ (c .before .before .before .before .expect2 .ensures) (c .before .before .second .given .1) (last _ _ _ (c .expect3 .ensures)))
 
 pub later-opening-spec : {M : Type 1} → statement M
 later-opening-spec =

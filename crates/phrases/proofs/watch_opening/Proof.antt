@@ -7,19 +7,19 @@ use Rattle.phrases.proofs.watch_opening.Tie as tie
 
 returns : tie.Need-returns
 unfolding kindOf
-returns c = stops _ _ _ _ (@expect .ensures) (@enum-told .given .1)
+returns c = stops _ _ _ _ (c .before .before .expect .ensures) (c .enum-told .given .1)
 
 returns-2 : tie.Need-returns-2
 unfolding kindOf
-returns-2 c = goes-on _ _ _ _ (@expect .ensures) (@colon .given .1) (stops _ _ _ _ (@expect2 .ensures) (@enum-told2 .given .1))
+returns-2 c = goes-on _ _ _ _ (c .before .before .before .before .before .before .expect .ensures) (c .before .before .before .before .colon .given .1) (stops _ _ _ _ (c .before .before .expect2 .ensures) (c .enum-told2 .given .1))
 
 returns-3 : tie.Need-returns-3
 unfolding kindOf
-returns-3 c = goes-on _ _ _ _ (@expect .ensures) (@colon .given .1) (goes-on _ _ _ _ (@expect2 .ensures) (@second .given .1) (stops _ _ _ _ (@expect3 .ensures) (@enum-told3 .given .1)))
+returns-3 c = goes-on _ _ _ _ (c .before .before .before .before .before .before .before .before .before .before .expect .ensures) (c .before .before .before .before .before .before .before .before .colon .given .1) (goes-on _ _ _ _ (c .before .before .before .before .before .before .expect2 .ensures) (c .before .before .before .before .second .given .1) (stops _ _ _ _ (c .before .before .expect3 .ensures) (c .enum-told3 .given .1)))
 
 returns-4 : tie.Need-returns-4
 unfolding kindOf
-returns-4 c = goes-on _ _ _ _ (@expect .ensures) (@colon .given .1) (goes-on _ _ _ _ (@expect2 .ensures) (@second .given .1) (goes-on _ _ _ _ (@expect3 .ensures) (@third .given .1) (last _ _ _ (@expect4 .ensures))))
+returns-4 c = goes-on _ _ _ _ (c .before .before .before .before .before .before .before .before .before .before .before .before .expect .ensures) (c .before .before .before .before .before .before .before .before .before .before .colon .given .1) (goes-on _ _ _ _ (c .before .before .before .before .before .before .before .before .expect2 .ensures) (c .before .before .before .before .before .before .second .given .1) (goes-on _ _ _ _ (c .before .before .before .before .expect3 .ensures) (c .before .before .third .given .1) (last _ _ _ (c .expect4 .ensures))))
 
 pub watch-opening-spec : {M : Type 1} → statement M
 watch-opening-spec =
