@@ -75,7 +75,7 @@ pub record Ahead {A : Type 0} (text : List ℕ) (p : Parsed A) (y : Followed A) 
   pub is : p ≡ accepted (y .part) n
   pub read : tokenAt text n ≡ token (y .kind) (y .start) (y .end)
 
-looked : {A : Type 0} (text : List ℕ) (p : Parsed A) (y : Followed A) (n : ℕ) → lookedAhead text p ≡ accepted y n → Ahead text p y n
+pub looked : {A : Type 0} (text : List ℕ) (p : Parsed A) (y : Followed A) (n : ℕ) → lookedAhead text p ≡ accepted y n → Ahead text p y n
 unfolding lookedAhead
 looked {A} text (accepted a m) y n e = go (tokenAt text m) refl e
   where

@@ -6,7 +6,7 @@ ghost use Rattle.lexer.specs.Bytes.{part};
 ghost use Rattle.lexer.specs.Results.{kindOf};
 ghost use Rattle.lexer.specs.Token.{lastKind};
 ghost use Rattle.grammar.specs.Parsed.{sign, own, ownPrevious, expected, phrase};
-ghost use Rattle.grammar.specs.Forms.{ruleOpening, formulaClosing, functionClosing, valueOpening, caseValueOpening, unchangedValue, changeOpening, noChangeOpening, turnedValue, turnedOpening, fallingOpening};
+ghost use Rattle.grammar.specs.Forms.{ruleOpening, formulaClosing, functionClosing, valueOpening, caseValueOpening, unchangedValue, changeOpening, noChangeOpening, turnedValue, turnedOpening, fallingOpening, watchOpening, laterOpening};
 ghost use Rattle.phrases.specs.Inner.Steps.{parsedOf, nothing};
 
 // A token of a kind.
@@ -239,4 +239,38 @@ pub fn falling_opening(text: &[u8], at: usize, start: usize, end: usize) -> Step
         return third;
     };
     turned_opening(text, c.at, start, end, lexer::LESS)
+}
+
+// After `watch`: `: G ( [`.
+pub fn watch_opening(text: &[u8], at: usize) -> Step
+    ensures { λ r. ⌜ parsedOf nothing r ≡ phrase (now (text .entry)) watchOpening at ⌝ }
+{
+    let colon = expect(text, at, lexer::COLON);
+    let Step::Done(a) = colon else {
+        return colon;
+    };
+    let second = expect(text, a.at, lexer::ALWAYS);
+    let Step::Done(b) = second else {
+        return second;
+    };
+    let third = expect(text, b.at, lexer::OPEN_ROUND);
+    let Step::Done(c) = third else {
+        return third;
+    };
+    expect(text, c.at, lexer::OPEN_SQUARE)
+}
+
+// After the `->` of a watch: `X ( [`.
+pub fn later_opening(text: &[u8], at: usize) -> Step
+    ensures { λ r. ⌜ parsedOf nothing r ≡ phrase (now (text .entry)) laterOpening at ⌝ }
+{
+    let first = expect(text, at, lexer::AFTER);
+    let Step::Done(a) = first else {
+        return first;
+    };
+    let second = expect(text, a.at, lexer::OPEN_ROUND);
+    let Step::Done(b) = second else {
+        return second;
+    };
+    expect(text, b.at, lexer::OPEN_SQUARE)
 }

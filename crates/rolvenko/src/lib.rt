@@ -14,6 +14,7 @@ ghost use Rattle.rounds.specs.Visits.{visitOf};
 ghost use Rattle.rounds.specs.Together.{together, callOf};
 ghost use Rattle.rolvenko.specs.Packed.{packedTranslation, packedCheck, packedScan, packedCharge};
 ghost use Rattle.translate.specs.Services.{translationOf};
+ghost use Rattle.watch.specs.Services.{watchOf};
 
 #[no_mangle]
 pub extern "C" fn rolvenko_translate(text: &[u8], image: &mut [u8]) -> u64
@@ -210,4 +211,15 @@ pub extern "C" fn rolvenko_round(
 {
     let number = rounds::round(paused, images, states, sets, answers);
     paused::pack(number, 0, 0)
+}
+
+#[no_mangle]
+pub extern "C" fn rolvenko_watch(text: &[u8], trace: &[i32], report: &mut [i64]) -> u64
+    ensures { λ r. ⌜ r ≡ packedTranslation (watchOf (now (text .entry)) (now (trace .entry)) (now (report .entry)) .answer) ⌝ }
+    ensures { λ r. ⌜ now (report .exit) ≡ watchOf (now (text .entry)) (now (trace .entry)) (now (report .entry)) .report ⌝ }
+{
+    match watch::watch(text, trace, report) {
+        watch::Watched::Count(count) => paused::pack(0, 0, count as u64),
+        watch::Watched::Refused(number, place) => paused::pack(number, place, 0),
+    }
 }

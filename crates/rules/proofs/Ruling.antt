@@ -4,17 +4,16 @@ use mathlib.Core.List.{List, [], _∷_, _++_, append-assoc}
 use mathlib.Core.Bool.{true, false}
 use Prim.Native.Nat.{ℕ, zero, suc, _+_, _-_, _*_, _≤_, _<_}
 use native.Mathlib.Omega.{arith}
-use lib.Dec.{eqb}
+use lib.IntN.{pos}
 use lib.ListN.{length, getD, set, length-append}
 use lib.Seq.{sets}
-use borrow.Author.Tests.{eqb-true, eqb-false}
-use Rattle.limits.specs.Limits.{noToken, notAllowed, wrongRule}
-use Rattle.lexer.specs.Token.{Kind, name, ending, is, token, fault}
+use Rattle.limits.specs.Limits.{noToken}
+use Rattle.lexer.specs.Token.{Kind, name, is, token, fault}
 use Rattle.lexer.specs.Lexer.{tokenAt}
 use Rattle.lexer.specs.Names.{tableNames, Table}
 use Rattle.lexer.specs.Results.{kindOf}
-use Rattle.lexer.proofs.Laws.{cond-prop}
-use Rattle.semantics.specs.Program.{Rule, function, change, target, allTrue}
+use Rattle.lexer.proofs.KindNumbers.{kind-number}
+use Rattle.semantics.specs.Program.{Rule, function, change, target}
 use Rattle.grammar.specs.Parsed.{accepted, refused}
 use Rattle.grammar.specs.Expressions.{Scope}
 use Rattle.grammar.specs.Rules.{ruleAt, ruled, rulesFrom}
@@ -25,17 +24,18 @@ use Rattle.expressions.specs.declared.scope.Names.{Names}
 use Rattle.arith.specs.Inner.Flags.{flagsOf}
 use Rattle.arith.proofs.Flags.{length-flags}
 use Rattle.expressions.specs.Inner.Scopes.{scopeOf, Declared}
-use Rattle.expressions.specs.Inner.Steps.{Room}
+use Rattle.expressions.specs.Inner.Steps.{Room, lookedAhead}
+use Rattle.expressions.proofs.Steps.{refused-now}
 use Rattle.expressions.proofs.Scopes.{few-names, names-counted, as-long, scope-ruled}
-use Rattle.phrases.proofs.Laws.{same-kinds, other-kinds}
 use Rattle.lexer.specs.declared.Place.{Place}
 use Rattle.lexer.specs.declared.Step.{Step}
-use Rattle.lexer.specs.declared.Step.the-variants.{Refused}
+use Rattle.lexer.specs.declared.Step.the-variants.{Done, Refused}
 use Rattle.phrases.specs.Inner.Steps.{numberTold, Writes}
 use Rattle.phrases.proofs.Writing.{Got, writes, refuses}
 use Rattle.cases.proofs.Ways.{then-bytes}
 use Rattle.cases.proofs.Listing.{Found}
-use Rattle.rules.specs.Inner.Spans.{codeOfRule, endOf}
+use Rattle.rules.specs.Inner.Spans.{codeOfRule}
+use Rattle.rules.specs.Inner.Behind.{codeOfRules, ruledTold, ruledBehind}
 use Rattle.rules.proofs.Ways.{Fresh, rule-fresh}
 
 -- ---- rules
@@ -46,19 +46,9 @@ module _ (f : ℕ) (sc : Scope) (done : List Rule) (a : ℕ) where
   rules-fault e = rw e
 
   module _ {k : Kind} {s n : ℕ} (e : tokenAt (sc .text) a ≡ token k s n) where
-    module _ (i : is k name ≡ false) where
-      rules-other : is k ending ≡ false → rulesFrom (suc f) sc done a ≡ refused notAllowed s
-      unfolding rulesFrom
-      rules-other j = rw (e, i, j)
-
-      module _ (j : is k ending ≡ true) where
-        rules-end : allTrue (sc .known) ≡ true → rulesFrom (suc f) sc done a ≡ accepted done n
-        unfolding rulesFrom
-        rules-end g = rw (e, i, j, g)
-
-        rules-missing : allTrue (sc .known) ≡ false → rulesFrom (suc f) sc done a ≡ refused wrongRule s
-        unfolding rulesFrom
-        rules-missing g = rw (e, i, j, g)
+    rules-end : is k name ≡ false → rulesFrom (suc f) sc done a ≡ accepted (record { rules = done; known = sc .known }) a
+    unfolding rulesFrom
+    rules-end i = rw (e, i)
 
     module _ (i : is k name ≡ true) where
       rules-refused : {l q : ℕ} → ruleAt sc s n ≡ refused l q → rulesFrom (suc f) sc done a ≡ refused l q
@@ -84,20 +74,18 @@ pub declared-as : {starts ends : List ℕ} {names : Names} → Declared starts e
 declared-as d known = record { table = d .table; few = d .few }
 
 -- what was read and written so far, with the names then known
-pub record Ruling (text starts ends : List ℕ) (count known₀ at to : ℕ) (out₀ out : List ℕ) (known a t done : ℕ) : Type 0 where
+pub record Ruling (text starts ends : List ℕ) (count known₀ at to : ℕ) (out₀ out : List ℕ) (known a t : ℕ) : Type 0 where
   pub rules : List Rule
-  pub counted : length rules ≡ done
-  pub same : rulesFrom 65 (scopeOf text starts ends (naming count known₀)) [] at ≡ rulesFrom (65 - done) (scopeOf text starts ends (naming count known)) rules a
-  pub fuel : unruled (flagsOf count known) + done ≤ count
+  pub same : rulesFrom 65 (scopeOf text starts ends (naming count known₀)) [] at ≡ rulesFrom (65 - length rules) (scopeOf text starts ends (naming count known)) rules a
+  pub fuel : unruled (flagsOf count known) + length rules ≤ count
   pub room : Room text a t
   pub ended : t ≡ to + length (bytesR rules)
   pub wrote : out ≡ sets out₀ to (bytesR rules)
 
-pub ruling-first : (text starts ends : List ℕ) (count known at to : ℕ) (out : List ℕ) → Room text at to → Ruling text starts ends count known at to out out known at to 0
+pub ruling-first : (text starts ends : List ℕ) (count known at to : ℕ) (out : List ℕ) → Room text at to → Ruling text starts ends count known at to out out known at to
 unfolding bytesR
 ruling-first text starts ends count known at to out r = record {
   rules = [];
-  counted = refl;
   same = refl;
   fuel = omega (arith, unruled-few (flagsOf count known), length-flags count known);
   room = r;
@@ -105,47 +93,44 @@ ruling-first text starts ends count known at to out r = record {
   wrote = refl;
 }
 
-module _ {text starts ends : List ℕ} {count known₀ at to : ℕ} {out₀ out : List ℕ} {known a t done : ℕ} (x : Ruling text starts ends count known₀ at to out₀ out known a t done) (d : Declared starts ends (naming count known)) where
+-- the place behind the rules, with the token there
+abbrev pub behindAt : ℕ → ℕ → ℕ → ℕ → ℕ → ℕ → Step
+behindAt a k s n t known = Done (record { at = a; kind = k; start = s; end = n; to = t; number = known; value = pos 0 })
+
+module _ {text starts ends : List ℕ} {count known₀ at to : ℕ} {out₀ out : List ℕ} {known a t : ℕ} (x : Ruling text starts ends count known₀ at to out₀ out known a t) (d : Declared starts ends (naming count known)) where
   abbrev sc : Scope
   sc = scopeOf text starts ends (naming count known)
 
-  abbrev Answer : List ℕ → Step → Type 0
-  Answer out′ r = Writes bytesR numberTold length (rulesFrom 65 (scopeOf text starts ends (naming count known₀)) [] at) to out₀ out′ r
+  abbrev done : ℕ
+  done = length (x .rules)
 
-  pub ruling-fuel : done < 65
-  ruling-fuel = omega (arith, x .fuel, d .few)
+  abbrev Answer : List ℕ → Step → Type 0
+  Answer out′ r = Writes codeOfRules (ruledTold count) ruledBehind (lookedAhead text (rulesFrom 65 (scopeOf text starts ends (naming count known₀)) [] at)) to out₀ out′ r
 
   come : rulesFrom 65 (scopeOf text starts ends (naming count known₀)) [] at ≡ rulesFrom (suc (64 - done)) sc (x .rules) a
-  come = let e : 65 - done ≡ suc (64 - done) = omega (arith, ruling-fuel) in x .same ∙ ap (λ (f : ℕ). rulesFrom f sc (x .rules) a) e
+  come = let e : 65 - done ≡ suc (64 - done) = omega (arith, x .fuel, d .few) in x .same ∙ ap (λ (f : ℕ). rulesFrom f sc (x .rules) a) e
 
   pub ruling-fault : {out′ : List ℕ} {r : Step} {k q : ℕ} → r ≡ Refused k q → (tokenAt text a ≡ fault q) × (k ≡ noToken) → Answer out′ r
-  ruling-fault {q = q} g e = refuses (g ∙ ap (λ (y : ℕ). Refused y q) (e .1)) (come ∙ rules-fault (64 - done) sc (x .rules) a (e .0))
+  ruling-fault {q = q} g e = refuses (g ∙ ap (λ (y : ℕ). Refused y q) (e .1)) (refused-now (come ∙ rules-fault (64 - done) sc (x .rules) a (e .0)) .looked)
 
   module _ {k s n : ℕ} (f : Found text a k s n) where
     -- no rule follows
-    pub ruling-end : {r : Step} → is (kindOf k) name ≡ false → r ≡ endOf k s n (naming count known) t done → Answer out r
-    unfolding endOf kindOf
-    ruling-end i e = subst (Answer out) (sym e)
-        (cond-prop (Answer out) (eqb k 1) _ _
-        (λ y.
-        let j = same-kinds k 1 (eqb-true k 1 y) in
-        cond-prop (Answer out) (allTrue (flagsOf count known)) _ _
-        (λ z. writes refl (record {
-          tree = x .rules;
-          is = come ∙ rules-end (64 - done) sc (x .rules) a (f .read) i j z;
-          ended = x .ended;
-          tells-it = sym (x .counted);
-          wrote = x .wrote;
-        }))
-        (λ z. refuses refl (come ∙ rules-missing (64 - done) sc (x .rules) a (f .read) i j z)))
-        (λ y. refuses refl (come ∙ rules-other (64 - done) sc (x .rules) a (f .read) i (other-kinds k 1 (f .lies .known-kind) (omega arith) (eqb-false k 1 y)))))
+    pub ruling-end : is (kindOf k) name ≡ false → Answer out (behindAt a k s n t known)
+    unfolding lookedAhead
+    ruling-end i = writes refl (record {
+      tree = record { part = record { rules = x .rules; known = flagsOf count known }; kind = kindOf k; start = s; end = n };
+      is = rw (come ∙ rules-end (64 - done) sc (x .rules) a (f .read) i, f .read);
+      ended = x .ended;
+      tells-it = ap (λ (y : ℕ). (flagsOf count known, y, s, n)) (sym (kind-number k (f .lies .known-kind)));
+      wrote = x .wrote;
+    })
 
     pub ruling-room : Room text n t
     ruling-room = record { short = x .room .short; within = f .lies .within (x .room .within); room = omega (arith, x .room .room, f .lies .after, f .lies .ordered) }
 
     module _ (i : is (kindOf k) name ≡ true) where
       pub ruling-refused : {out′ : List ℕ} {r : Step} {l q : ℕ} → r ≡ Refused l q → ruleAt sc s n ≡ refused l q → Answer out′ r
-      ruling-refused g e = refuses g (come ∙ rules-refused (64 - done) sc (x .rules) a (f .read) i e)
+      ruling-refused g e = refuses g (refused-now (come ∙ rules-refused (64 - done) sc (x .rules) a (f .read) i e) .looked)
 
       module _ {out′ : List ℕ} {o : Place} (g : Got codeOfRule numberTold target (ruleAt sc s n) t out out′ o) where
         fresh : (o .number < count) × (getD (flagsOf count known) (o .number) false ≡ false)
@@ -161,18 +146,25 @@ module _ {text starts ends : List ℕ} {count known₀ at to : ℕ} {out₀ out 
         paid = subst (Pays ruleBytes (length text) n) (g .is)
             (rule-pays sc (few-names text d) (as-long text d) s n (ruling-room .within))
 
-        pub ruling-more : (more : Names) → flagsOf count (more .known) ≡ set (flagsOf count known) (o .number) true → Ruling text starts ends count known₀ at to out₀ out′ (more .known) (o .at) (o .to) (done + 1)
-        ruling-more more ek = record {
-          rules = x .rules ++ (g .tree ∷ []);
-          counted = length-append (x .rules) (g .tree ∷ []) ∙ ap (λ (y : ℕ). y + 1) (x .counted);
-          same = come ∙ (rules-more (64 - done) sc (x .rules) a (f .read) i (g .is) ∙ turned);
-          fuel = omega (arith, x .fuel, rule-counts (flagsOf count known) (o .number) (omega (arith, fresh .0, length-flags count known)) (fresh .1), ap unruled ek);
-          room = record { short = x .room .short; within = paid .1; room = omega (arith, g .ended, paid .0, ruling-room .room) };
-          ended = rw (code-append (x .rules) (g .tree)) (simp length-append (omega (arith, g .ended, x .ended)));
-          wrote = rw (code-append (x .rules) (g .tree)) (then-bytes out₀ to (bytesR (x .rules)) (codeOfRule (g .tree)) (x .ended) (x .wrote) (g .wrote));
-        }
-          where
-            turned : rulesFrom (64 - done) (ruled sc (target (g .tree))) (x .rules ++ (g .tree ∷ [])) (o .at) ≡ rulesFrom (65 - (done + 1)) (scopeOf text starts ends (naming count (more .known))) (x .rules ++ (g .tree ∷ [])) (o .at)
-            turned =
-                let q : 64 - done ≡ 65 - (done + 1) = omega arith in
-                rw (← g .tells-it, q) (ap (λ (y : Scope). rulesFrom (65 - (done + 1)) y (x .rules ++ (g .tree ∷ [])) (o .at)) (sym (scope-ruled text starts ends (naming count known) (naming count (more .known)) (o .number) refl ek)))
+        module _ (more : Names) (ek : flagsOf count (more .known) ≡ set (flagsOf count known) (o .number) true) where
+          -- one variable fewer is without a rule
+          pub ruling-less : unruled (flagsOf count (more .known)) < unruled (flagsOf count known)
+          ruling-less = omega (arith, rule-counts (flagsOf count known) (o .number) (omega (arith, fresh .0, length-flags count known)) (fresh .1), ap unruled ek)
+
+          pub ruling-more : Ruling text starts ends count known₀ at to out₀ out′ (more .known) (o .at) (o .to)
+          ruling-more = record {
+            rules = x .rules ++ (g .tree ∷ []);
+            same = come ∙ (rules-more (64 - done) sc (x .rules) a (f .read) i (g .is) ∙ turned);
+            fuel = omega (arith, x .fuel, ruling-less, counted);
+            room = record { short = x .room .short; within = paid .1; room = omega (arith, g .ended, paid .0, ruling-room .room) };
+            ended = rw (code-append (x .rules) (g .tree)) (simp length-append (omega (arith, g .ended, x .ended)));
+            wrote = rw (code-append (x .rules) (g .tree)) (then-bytes out₀ to (bytesR (x .rules)) (codeOfRule (g .tree)) (x .ended) (x .wrote) (g .wrote));
+          }
+            where
+              counted : length (x .rules ++ (g .tree ∷ [])) ≡ done + 1
+              counted = length-append (x .rules) (g .tree ∷ [])
+
+              turned : rulesFrom (64 - done) (ruled sc (target (g .tree))) (x .rules ++ (g .tree ∷ [])) (o .at) ≡ rulesFrom (65 - length (x .rules ++ (g .tree ∷ []))) (scopeOf text starts ends (naming count (more .known))) (x .rules ++ (g .tree ∷ [])) (o .at)
+              turned =
+                  let q : 64 - done ≡ 65 - length (x .rules ++ (g .tree ∷ [])) = omega (arith, counted) in
+                  rw (← g .tells-it, q) (ap (λ (y : Scope). rulesFrom (65 - length (x .rules ++ (g .tree ∷ []))) y (x .rules ++ (g .tree ∷ [])) (o .at)) (sym (scope-ruled text starts ends (naming count known) (naming count (more .known)) (o .number) refl ek)))

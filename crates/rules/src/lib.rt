@@ -4,21 +4,21 @@ use bytecode::opcode;
 use cases::Variable;
 use expressions::scope::Names;
 use lexer::Found;
+use lexer::Place;
 use lexer::Step;
 ghost use mathlib.Core.Path.{_≡_};
 ghost use Prim.Native.Nat.{_≤_, _<_};
-ghost use lib.ListN.{length};
 ghost use Rattle.limits.specs.Limits.{nameLimit};
 ghost use Rattle.lexer.specs.Bytes.{part};
 ghost use Rattle.grammar.specs.Parsed.{itemBound};
 ghost use Rattle.grammar.specs.Rules.{functionAt, changeAt, pairAt, formulaAt, formulas as formulasAt, ruleAt, rulesFrom};
 ghost use Rattle.grammar.specs.Inner.Names.{Named};
-ghost use Rattle.grammar.specs.Inner.Bytes.{bytesR};
 ghost use Rattle.semantics.specs.Program.{target};
 ghost use Rattle.expressions.specs.Inner.Scopes.{scopeOf, Declared};
-ghost use Rattle.expressions.specs.Inner.Steps.{Room};
+ghost use Rattle.expressions.specs.Inner.Steps.{Room, lookedAhead};
 ghost use Rattle.phrases.specs.Inner.Steps.{numberTold, Writes};
 ghost use Rattle.rules.specs.Inner.Spans.{codeOfRule, SpanRoom, endOf};
+ghost use Rattle.rules.specs.Inner.Behind.{codeOfRules, ruledTold, ruledBehind};
 
 // `w = (e));`
 fn function(
@@ -286,8 +286,8 @@ fn rule(
     )
 }
 
-// No rule follows: at the end of the text every variable has one.
-fn finish(kind: u32, start: usize, end: usize, names: Names, t: usize, done: usize) -> Step
+// The end of the text, if that token is it: every variable has a rule.
+pub fn finish(kind: u32, start: usize, end: usize, names: Names, t: usize, done: usize) -> Step
     requires { ⌜ names .count ≤ nameLimit ⌝ }
     ensures { λ r. ⌜ r ≡ endOf kind start end names t done ⌝ }
 {
@@ -300,7 +300,7 @@ fn finish(kind: u32, start: usize, end: usize, names: Names, t: usize, done: usi
     Step::Refused(limits::WRONG_RULE, start)
 }
 
-// Rules up to the end of the text. The number told is how many there are.
+// Rules up to the first token that is no name, which is told with the names then known, as bits.
 fn rules_in(
     text: &[u8],
     starts: &[usize],
@@ -316,27 +316,27 @@ fn rules_in(
     requires { ⌜ Room (now text) at to ⌝ }
     requires { ⌜ SpanRoom (now from) (now upto) ⌝ }
     requires { ⌜ Named (scopeOf (now text) (now starts) (now ends) names .names) ⌝ }
-    ensures { λ r. ⌜ Writes bytesR numberTold length (rulesFrom itemBound (scopeOf (now (text .entry)) (now (starts .entry)) (now (ends .entry)) names) [] at) to (now (out .entry)) (now (out .exit)) r ⌝ }
+    ensures { λ r. ⌜ Writes codeOfRules (ruledTold (names .count)) ruledBehind (lookedAhead (now (text .entry)) (rulesFrom itemBound (scopeOf (now (text .entry)) (now (starts .entry)) (now (ends .entry)) names) [] at)) to (now (out .entry)) (now (out .exit)) r ⌝ }
 {
     let count = names.count;
     let mut known = names.known;
     let mut a = at;
     let mut t = to;
-    let mut done = 0;
     loop {
         let read = lexer::token_at(text, a);
         let Step::Done(token) = read else {
             return read;
         };
         if token.kind != lexer::NAME {
-            return finish(
-                token.kind,
-                token.start,
-                token.end,
-                Names { count, known },
-                t,
-                done,
-            );
+            return Step::Done(Place {
+                at: a,
+                kind: token.kind,
+                value: 0,
+                start: token.start,
+                end: token.end,
+                to: t,
+                number: known as usize,
+            });
         }
         let one = rule(
             text,
@@ -355,7 +355,6 @@ fn rules_in(
         };
         let more = expressions::scope::ruled(Names { count, known }, b.number);
         known = more.known;
-        done += 1;
         a = b.at;
         t = b.to;
     }
@@ -373,7 +372,7 @@ pub fn rules(
     requires { ⌜ Declared (now starts) (now ends) names ⌝ }
     requires { ⌜ Room (now text) at to ⌝ }
     requires { ⌜ Named (scopeOf (now text) (now starts) (now ends) names .names) ⌝ }
-    ensures { λ r. ⌜ Writes bytesR numberTold length (rulesFrom itemBound (scopeOf (now (text .entry)) (now (starts .entry)) (now (ends .entry)) names) [] at) to (now (out .entry)) (now (out .exit)) r ⌝ }
+    ensures { λ r. ⌜ Writes codeOfRules (ruledTold (names .count)) ruledBehind (lookedAhead (now (text .entry)) (rulesFrom itemBound (scopeOf (now (text .entry)) (now (starts .entry)) (now (ends .entry)) names) [] at)) to (now (out .entry)) (now (out .exit)) r ⌝ }
 {
     let mut from = [0usize; limits::CASE_LIMIT];
     let mut upto = [0usize; limits::CASE_LIMIT];

@@ -1,34 +1,43 @@
--- The ways through a whole text, once its declarations are read: the rules, then the two counts. Assumes nothing.
+-- The ways through a whole text, once its declarations are read: the rules, the watches, the end of the text, then the two counts. Assumes nothing.
 use mathlib.Core.Path.{_≡_, refl, sym, ap, subst, _∙_}
+use mathlib.Core.Bool.{Bool}
 use mathlib.Core.List.{List, [], _∷_, _++_}
 use Prim.Native.Nat.{ℕ, _+_, _-_, _*_, _≤_, _<_}
 use native.Mathlib.Omega.{arith}
 use lib.ListN.{length, set, length-append}
 use lib.Seq.{sets}
-use Rattle.limits.specs.Limits.{textLimit, nameLimit}
+use Rattle.limits.specs.Limits.{textLimit, nameLimit, watchLimit}
 use Rattle.lexer.specs.Token.{inputWord, varWord}
 use Rattle.lexer.specs.Names.{tableNames}
-use Rattle.semantics.specs.Program.{Name, Rule, Program, knownFirst}
+use Rattle.semantics.specs.Program.{Name, Rule, Watch, Program, knownFirst}
 use Rattle.leb128.proofs.Laws.{groups-one}
 use Rattle.leb128.proofs.RoundTrip.{sets-join}
 use Rattle.grammar.specs.Parsed.{Parsed, accepted, refused, andThen}
 use Rattle.grammar.specs.Declarations.{declarations, spellings}
 use Rattle.grammar.specs.Inner.Names.{Named}
-use Rattle.grammar.specs.Rules.{rulesFrom}
+use Rattle.grammar.specs.Rules.{Ruled, rulesFrom}
 use Rattle.grammar.specs.Inner.Bytes.{header, bytesR, image}
-use Rattle.grammar.specs.Parse.{program}
+use Rattle.grammar.specs.Watches.{watchesFrom}
+use Rattle.grammar.specs.Parse.{endAt, program}
 use Rattle.declarations.specs.Inner.Tables.{TableHolds}
 use Rattle.expressions.specs.declared.scope.Names.{Names}
 use Rattle.arith.specs.Inner.Flags.{flagsOf}
 use Rattle.expressions.specs.Inner.Scopes.{scopeOf}
-use Rattle.lexer.specs.Results.{reachedAt}
+use Rattle.expressions.proofs.Steps.{Refuses, done-place}
+use Rattle.cases.proofs.Parts.{behind-refused}
+use Rattle.lexer.specs.declared.Place.{Place}
 use Rattle.lexer.specs.declared.Step.{Step}
-use Rattle.lexer.specs.declared.Step.the-variants.{Refused}
-use Rattle.grammar.proofs.Combine.{same-value}
+use Rattle.lexer.specs.declared.Step.the-variants.{Done, Refused}
+use Rattle.grammar.specs.Expressions.{Scope}
+use Rattle.grammar.proofs.Combine.{apart, same-value}
+use Rattle.grammar.proofs.Standing.{normally, spells-in}
+use Rattle.grammar.proofs.DerivedRules.{RulesReads, rules-derive}
+use Rattle.semantics.proofs.Reference.{length-known}
+use Rattle.grammar.proofs.Whole.{spellings-length}
 use Rattle.phrases.proofs.Writing.{writes, refuses}
-use Rattle.translate.specs.Inner.Descent.{Declarations, headingOf, scopeAfter, Descends}
+use Rattle.translate.specs.Inner.Descent.{Declarations, headingOf, scopeAfter, freeScope, scopeOfWatches, tailFrom, WatchesRead, Descends}
 use Rattle.translate.proofs.Stores.{counts-last}
-use Rattle.translate.proofs.Ways.{never, program-heading, names-few, HeadingRead}
+use Rattle.translate.proofs.Ways.{never, made, closed-fault, closed-tail, program-heading, names-few, HeadingRead}
 
 -- few names, few bytes, within the text; the names are names of a text
 pub record Few (text : List ℕ) (d : Declarations) (n : ℕ) : Type 0 where
@@ -68,30 +77,64 @@ pub scope-is : (text starts ends : List ℕ) (d : Declarations) (c m : ℕ) (nam
     → (names .count ≡ m) × (flagsOf m (names .known) ≡ knownFirst c m) → scopeOf text starts ends names ≡ scopeAfter text d
 scope-is text starts ends d c m names h ec em en = rw (en .0, h .spelled, en .1, ec, em)
 
+-- the scope of the watches: all the names
+pub tail-is : (text starts ends : List ℕ) (d : Declarations) (m b : ℕ) (known : List Bool) (y : Ruled) → TableHolds text starts ends m (d .names) → m ≡ length (d .names) → known ≡ y .known → tailFrom (freeScope text starts ends m) known b ≡ tailFrom (scopeOfWatches text d) (y .known) b
+tail-is text starts ends d m b known y h em ek = rw (h .spelled, em, ek)
+
+-- the rules end within the text
+pub rules-in : (text : List ℕ) (d : Declarations) (a : ℕ) (y : Ruled) (b : ℕ) → Few text d a → rulesFrom 65 (scopeAfter text d) [] a ≡ accepted y b → b ≤ length text
+rules-in text d a y b few e =
+    let l : length (spellings (d .names)) ≡ length (d .names) = spellings-length (d .names) in
+    let r = subst (RulesReads text (spellings (d .names)) (knownFirst (d .inputs) (length (d .names))) [] a) e (rules-derive 65 (scopeAfter text d) (omega (arith, l, few .names)) (l ∙ sym (length-known (d .inputs) (length (d .names)))) (few .spelled) [] a (few .within)) in
+    spells-in normally text a b (r .tokens) (few .within) (r .spells) .1
+
 -- ---- the answer and the bytes of the whole
 
 module _ (text before last starts ends : List ℕ) {r : Step} where
   descends-refused : (k p : ℕ) → r ≡ Refused k p → program text ≡ refused k p → Descends text (program text) before last starts ends r
-  descends-refused k p d e = record { writes = refuses d e; named = λ q n h. never q n k p (sym h ∙ e) }
+  descends-refused k p d e = record { writes = refuses d e; named = λ q n h. never q n k p (sym h ∙ e); watched = λ q n x h i. never q n k p (sym h ∙ e) }
 
   pub no-heading : (k p : ℕ) → r ≡ Refused k p → headingOf text ≡ refused k p → Descends text (program text) before last starts ends r
   no-heading k p d e = descends-refused k p d (program-heading text ∙ rw e)
 
-  pub no-rules : (x : Declarations) (a k p : ℕ) → headingOf text ≡ accepted x a → r ≡ Refused k p → rulesFrom 65 (scopeAfter text x) [] a ≡ refused k p → Descends text (program text) before last starts ends r
-  no-rules x a k p e d f = descends-refused k p d (program-heading text ∙ rw (e, f))
+  module _ (x : Declarations) (a : ℕ) (e : headingOf text ≡ accepted x a) where
+    pub no-rules : (k p : ℕ) → r ≡ Refused k p → Refuses text (rulesFrom 65 (scopeAfter text x) [] a) k p → Descends text (program text) before last starts ends r
+    no-rules k p d f = descends-refused k p d (program-heading text ∙ rw e (behind-refused text _ (closed-fault text x) (rulesFrom 65 (scopeAfter text x) [] a) f))
+
+    pub no-tail : (y : Ruled) (b k p : ℕ) → rulesFrom 65 (scopeAfter text x) [] a ≡ accepted y b → r ≡ Refused k p → tailFrom (scopeOfWatches text x) (y .known) b ≡ refused k p → Descends text (program text) before last starts ends r
+    no-tail y b k p f d g = descends-refused k p d (program-heading text ∙ rw (e, f, closed-tail text x y b, g))
 
 -- the bytes of an image whose counts have one byte each
 pub image-bytes : (q : Program) → q .inputs < 128 → length (q .names) < 128 → image q ≡ q .inputs ∷ (length (q .names) - q .inputs) ∷ (header (q .names) ++ bytesR (q .rules))
 unfolding image
 image-bytes q h i = rw (groups-one (q .inputs) h, groups-one (length (q .names) - q .inputs) (omega arith))
 
--- all is read: the counts are stored last
-module _ (text before mid last : List ℕ) (starts ends : List ℕ) (a t c m b u : ℕ) (x : HeadingRead text before mid starts ends a t c m) (few : Few text (x .read) a) (rules : List Rule) (e : rulesFrom 65 (scopeAfter text (x .read)) [] a ≡ accepted rules b) (eu : u ≡ t + length (bytesR rules)) (w : last ≡ sets mid t (bytesR rules)) where
-  abbrev whole : Program
-  whole = record { inputs = x .read .inputs; names = x .read .names; timers = []; rules = rules }
+-- where the watches stand, if they and the end of the text are read
+tail-watches : (sc : Scope) (known : List Bool) (at : ℕ) (ws : List Watch) (l : ℕ) → tailFrom sc known at ≡ accepted ws l → (n : ℕ) × (watchesFrom watchLimit sc [] at ≡ accepted ws n)
+unfolding tailFrom
+tail-watches sc known at ws l = go (watchesFrom watchLimit sc [] at) refl
+  where
+    inner : (us : List Watch) (n : ℕ) (p : Parsed (Unit {0})) → watchesFrom watchLimit sc [] at ≡ accepted us n → _≡_ {A = Parsed (List Watch)} (andThen p (λ u m. accepted us m)) (accepted ws l) → (n : ℕ) × (watchesFrom watchLimit sc [] at ≡ accepted ws n)
+    inner us n (accepted u m) i e = (n, i ∙ ap (λ (vs : List Watch). accepted vs n) (same-value e))
+    inner us n (refused k q) i e = apart (sym e)
 
-  is-whole : program text ≡ accepted whole b
-  is-whole = program-heading text ∙ rw (x .is-read, e)
+    go : (p : Parsed (List Watch)) → watchesFrom watchLimit sc [] at ≡ p → _≡_ {A = Parsed (List Watch)} (andThen p (λ us n. andThen (endAt (sc .text) known n) (λ u m. accepted us m))) (accepted ws l) → (n : ℕ) × (watchesFrom watchLimit sc [] at ≡ accepted ws n)
+    go (accepted us n) i e = inner us n (endAt (sc .text) known n) i e
+    go (refused k q) i e = apart (sym e)
+
+-- all is read: the counts are stored last
+module _ (text before mid last : List ℕ) (starts ends : List ℕ) (a t c m b l u : ℕ) (x : HeadingRead text before mid starts ends a t c m) (few : Few text (x .read) a) (y : Ruled) (ws : List Watch) (e : rulesFrom 65 (scopeAfter text (x .read)) [] a ≡ accepted y b) (g : tailFrom (scopeOfWatches text (x .read)) (y .known) b ≡ accepted ws l) (eu : u ≡ t + length (bytesR (y .rules))) (w : last ≡ sets mid t (bytesR (y .rules))) where
+  abbrev rules : List Rule
+  rules = y .rules
+
+  abbrev whole : Program
+  whole = made (x .read) y ws
+
+  is-whole : program text ≡ accepted whole l
+  is-whole = program-heading text ∙ rw (x .is-read, e, closed-tail text (x .read) y b, g)
+
+  stand : WatchesRead text whole b
+  stand = let s = tail-watches (scopeOfWatches text (x .read)) (y .known) b ws l g in record { within = rules-in text (x .read) a y b few e; end = s .0; read = s .1 }
 
   bytes : image whole ≡ x .read .inputs ∷ (length (x .read .names) - x .read .inputs) ∷ (header (x .read .names) ++ bytesR rules)
   bytes = image-bytes whole (omega (arith, few .inputs, few .names)) (omega (arith, few .names))
@@ -111,8 +154,13 @@ module _ (text before mid last : List ℕ) (starts ends : List ℕ) (a t c m b u
       let l : length (image whole) ≡ 2 + (length (header (x .read .names)) + length (bytesR rules)) = ap length bytes ∙ simp length-append (omega arith) in
       omega (arith, eu, x .ended)
 
-  pub descends-whole : {r : Step} → r ≡ reachedAt b u m → Descends text (program text) before (set (set last 0 c) 1 (m - c)) starts ends r
-  descends-whole d = record {
-    writes = writes d (record { tree = whole; is = is-whole; ended = omega (arith, size); tells-it = refl; wrote = all-stored });
-    named = λ q n g. subst (λ (y : Program). TableHolds text starts ends (length (y .names)) (y .names)) (same-value (sym is-whole ∙ g)) (subst (λ (k : ℕ). TableHolds text starts ends k (x .read .names)) (x .named) (x .held));
+  pub descends-whole : {r : Step} {z : Place} → r ≡ Done z → z .at ≡ l → z .to ≡ u → z .start ≡ b → z .number ≡ length ws → Descends text (program text) before (set (set last 0 c) 1 (m - c)) starts ends r
+  descends-whole {r} {z} d ea et es en = record {
+    writes = writes d (record { tree = whole; is = is-whole ∙ ap (accepted whole) (sym ea); ended = omega (arith, size); tells-it = refl; wrote = all-stored });
+    named = λ q n h. subst (λ (p : Program). TableHolds text starts ends (length (p .names)) (p .names)) (same-value (sym is-whole ∙ h)) (subst (λ (k : ℕ). TableHolds text starts ends k (x .read .names)) (x .named) (x .held));
+    watched = λ q n v h i. placed q (same-value (sym is-whole ∙ h)) v (done-place (sym d ∙ i));
   }
+    where
+      placed : (q : Program) → whole ≡ q → (v : Place) → z ≡ v → (v .number ≡ length (q .watches)) × WatchesRead text q (v .start)
+      placed q h v i = subst (λ (p : Program). (v .number ≡ length (p .watches)) × WatchesRead text p (v .start)) h
+          (subst (λ (o : Place). (o .number ≡ length ws) × WatchesRead text whole (o .start)) i (en, subst (WatchesRead text whole) (sym es) stand))

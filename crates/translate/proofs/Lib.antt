@@ -1,5 +1,6 @@
 pub mod Stores
 pub mod Ways
+pub mod Tail
 pub mod Descent
 pub mod Service
 pub mod Kept

@@ -16,6 +16,7 @@ use Rattle.bytecode.specs.Translation.{imageOf}
 use Rattle.grammar.specs.Parsed.{Parsed, accepted, refused}
 use Rattle.grammar.specs.Inner.Bytes.{header, bytesR, image}
 use Rattle.grammar.specs.Parse.{program, parse, answerOf, programOf}
+use Rattle.grammar.proofs.Combine.{same-value}
 use Rattle.grammar.proofs.Image.{image-emitted}
 use Rattle.grammar.proofs.Accepted.{parse-translatable, parse-few, parse-growth, parse-short as accepted-short}
 use Rattle.grammar.proofs.PlacesText.{Placed, parse-limited}
@@ -30,7 +31,9 @@ use Rattle.translate.specs.declared.Translated.{Translated}
 use Rattle.translate.specs.declared.Translated.the-variants as T
 use Rattle.translate.specs.Services.{AfterTranslation, translated, translationOf}
 use Rattle.translate.specs.Results.{translatedAnswer, afterTranslation, TranslatedWithin}
+use Rattle.translate.specs.declared.Surveyed.the-variants as S
 use Rattle.translate.specs.Inner.Descent.{measured, Analyses, Descends}
+use Rattle.translate.specs.Inner.Survey.{WatchesStand, Surveys}
 use Rattle.leb128.proofs.Stores.{sets-past, take-sets}
 use Rattle.translate.proofs.Ways.{never}
 use Rattle.translate.proofs.Descent.{image-bytes}
@@ -71,6 +74,62 @@ module _ (text last starts ends : List ℕ) {r : Step} (h : length text ≤ text
       let f = parse-few text (g .tree) (x .at) p in
       let few : g .tree .inputs ≤ length (g .tree .names) = subst (λ (n : ℕ). g .tree .inputs ≤ n) (length-map (g .tree .names) (λ n. n .range)) (parse-translatable text (g .tree) (x .at) p .well-formed .inputs-fit) in
       record { answer = counted (parse text) (g .tree) (x .at) (x .to) last p (g .ended) (g .wrote ∙ two-counts (g .tree) few f) few ei ev; named = names-held }
+
+-- ---- the survey
+
+pub surveys-long : (text starts ends : List ℕ) → textLimit < length text → Surveys text (parse text) starts ends (S.Refused 9 0)
+surveys-long text starts ends h =
+    let e = parse-long text h in
+    record { answer = rw e; stand = λ q n names at count g i. never q n 9 0 (sym g ∙ e) }
+
+module _ (text last starts ends : List ℕ) {r : Step} (h : length text ≤ textLimit) (d : Descends text (program text) (0 ∷ 0 ∷ []) last starts ends r) where
+  pub surveys-refused : (k x : ℕ) → r ≡ Refused k x → Surveys text (parse text) starts ends (S.Refused k x)
+  surveys-refused k x e =
+      let f : parse text ≡ refused k x = short-parse text h ∙ refused-part (d .writes) e in
+      record { answer = rw f; stand = λ q n names at count g i. never q n k x (sym g ∙ f) }
+
+  module _ (x : Place) (e : r ≡ Done x) {i v : ℕ} (ei : i ≡ getD last 0 0) (ev : v ≡ getD last 1 0) (hs : nameLimit ≤ length starts) (he : nameLimit ≤ length ends) where
+    read : Program
+    read = got (d .writes) e .tree
+
+    parsed : parse text ≡ accepted read (x .at)
+    parsed = short-parse text h ∙ got (d .writes) e .is
+
+    few : length (read .names) ≤ nameLimit
+    few = parse-few text read (x .at) parsed
+
+    inputs-few : read .inputs ≤ length (read .names)
+    inputs-few = subst (λ (n : ℕ). read .inputs ≤ n) (length-map (read .names) (λ n. n .range)) (parse-translatable text read (x .at) parsed .well-formed .inputs-fit)
+
+    -- the two counts together
+    total : i + v ≡ length (read .names)
+    total =
+        let l : last ≡ read .inputs ∷ (length (read .names) - read .inputs) ∷ [] = got (d .writes) e .wrote ∙ two-counts read inputs-few few in
+        let a : i ≡ read .inputs = ei ∙ ap (λ (k : List ℕ). getD k 0 0) l in
+        let b : v ≡ length (read .names) - read .inputs = ev ∙ ap (λ (k : List ℕ). getD k 1 0) l in
+        omega (arith, a, b, inputs-few)
+
+    standing : WatchesStand text starts ends (i + v) (x .start) (read .watches)
+    standing =
+        let w = d .watched read (x .at) x (got (d .writes) e .is) e .1 in
+        let t = d .named read (x .at) (got (d .writes) e .is) .spelled in
+        record {
+          short = h;
+          within = w .within;
+          few = omega (arith, total, few);
+          table = record { in-starts = omega (arith, total, few, hs); in-ends = omega (arith, total, few, he) };
+          end = w .end;
+          read = rw (total, t) (w .read);
+        }
+
+    pub surveys-accepted : Surveys text (parse text) starts ends (S.Watches (i + v) (x .start) (x .number))
+    surveys-accepted = record {
+      answer = rw (parsed, total, d .watched read (x .at) x (got (d .writes) e .is) e .0);
+      stand = λ q n names at count g k.
+          let a : i + v ≡ names = cc in
+          let b : x .start ≡ at = cc in
+          subst (λ (o : ℕ). WatchesStand text starts ends o at (q .watches)) a (subst (λ (o : ℕ). WatchesStand text starts ends (i + v) o (q .watches)) b (subst (λ (p : Program). WatchesStand text starts ends (i + v) (x .start) (p .watches)) (same-value (sym parsed ∙ g)) standing));
+    }
 
 -- ---- what the analysis says of the text
 

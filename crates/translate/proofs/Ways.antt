@@ -1,33 +1,60 @@
--- The ways through a whole text: its declarations, then its rules. Assumes nothing.
-use mathlib.Core.Path.{_≡_, sym, ap, subst, fun-ext, _∙_}
+-- The ways through a whole text: its declarations, its rules, then its watches and its end. Assumes nothing.
+use mathlib.Core.Path.{_≡_, refl, sym, ap, subst, fun-ext, _∙_}
 use mathlib.Core.List.{List, [], _++_}
 use Prim.Native.Nat.{ℕ, _+_, _*_, _≤_}
 use native.Mathlib.Nat.{le-refl}
 use native.Mathlib.Omega.{arith}
 use lib.ListN.{length, length-append}
 use lib.Seq.{sets}
-use Rattle.limits.specs.Limits.{textLimit, nameLimit}
-use Rattle.lexer.specs.Token.{inputWord, varWord}
-use Rattle.semantics.specs.Program.{Name, Program}
+use Rattle.limits.specs.Limits.{textLimit, nameLimit, watchLimit, noToken}
+use Rattle.lexer.specs.Token.{inputWord, varWord, fault}
+use Rattle.lexer.specs.Lexer.{tokenAt}
+use Rattle.semantics.specs.Program.{Name, Watch, Program}
 use Rattle.leb128.proofs.RoundTrip.{sets-join}
 use Rattle.grammar.specs.Parsed.{Parsed, accepted, refused, andThen}
 use Rattle.grammar.specs.Declarations.{declarations, spellings}
 use Rattle.grammar.specs.Inner.Names.{Named}
-use Rattle.grammar.specs.Rules.{rulesFrom}
+use Rattle.grammar.specs.Rules.{Ruled, rulesFrom}
+use Rattle.grammar.specs.Watches.{watchesFrom}
 use Rattle.grammar.specs.Inner.Bytes.{header}
-use Rattle.grammar.specs.Parse.{program}
+use Rattle.grammar.specs.Parse.{endAt, program}
 use Rattle.grammar.proofs.Whole.{Ends, Names, declarations-fit, named}
 use Rattle.grammar.proofs.Size.{Pays, declarations-pay}
 use Rattle.declarations.specs.Inner.Tables.{TableHolds, headerAfter}
 use Rattle.declarations.proofs.Known.{AllDeclared, header-joined}
 use Rattle.grammar.proofs.Combine.{then-then}
-use Rattle.translate.specs.Inner.Descent.{Declarations, headingOf, scopeAfter}
+use Rattle.watches.proofs.Reading.{watches-fault}
+use Rattle.translate.specs.Inner.Descent.{Declarations, headingOf, scopeAfter, scopeOfWatches, tailFrom}
 
 -- ---- what follows what
 
+-- the program of its parts
+abbrev pub made : Declarations → Ruled → List Watch → Program
+made d r ws = record { inputs = d .inputs; names = d .names; timers = []; rules = r .rules; watches = ws }
+
+-- the watches and the end of the text after the rules
+abbrev pub closed : List ℕ → Declarations → Ruled → ℕ → Parsed Program
+closed text d r n = andThen (watchesFrom watchLimit (scopeOfWatches text d) [] n) (λ ws m. andThen (endAt text (r .known) m) (λ u l. accepted (made d r ws) l))
+
+-- no token behind the rules
+pub closed-fault : (text : List ℕ) (d : Declarations) (r : Ruled) (n q : ℕ) → tokenAt text n ≡ fault q → closed text d r n ≡ refused noToken q
+closed-fault text d r n q e = rw (watches-fault (scopeOfWatches text d) [] n watchLimit e)
+
+pub closed-tail : (text : List ℕ) (d : Declarations) (r : Ruled) (n : ℕ) → closed text d r n ≡ andThen (tailFrom (scopeOfWatches text d) (r .known) n) (λ ws m. accepted (made d r ws) m)
+unfolding tailFrom
+closed-tail text d r n = go (watchesFrom watchLimit (scopeOfWatches text d) [] n)
+  where
+    inner : (ws : List Watch) (p : Parsed (Unit {0})) → _≡_ {A = Parsed Program} (andThen p (λ u l. accepted (made d r ws) l)) (andThen (andThen p (λ u l. accepted ws l)) (λ us m. accepted (made d r us) m))
+    inner ws (accepted u l) = refl
+    inner ws (refused k q) = refl
+
+    go : (p : Parsed (List Watch)) → _≡_ {A = Parsed Program} (andThen p (λ ws m. andThen (endAt text (r .known) m) (λ u l. accepted (made d r ws) l))) (andThen (andThen p (λ ws m. andThen (endAt text (r .known) m) (λ u l. accepted ws l))) (λ us m. accepted (made d r us) m))
+    go (accepted ws m) = inner ws (endAt text (r .known) m)
+    go (refused k q) = refl
+
 -- the rules after the declarations
 abbrev pub ruled : List ℕ → Declarations → ℕ → Parsed Program
-ruled text d n = andThen (rulesFrom 65 (scopeAfter text d) [] n) (λ rules m. accepted (record { inputs = d .inputs; names = d .names; timers = []; rules = rules }) m)
+ruled text d n = andThen (rulesFrom 65 (scopeAfter text d) [] n) (λ r m. closed text d r m)
 
 pub program-heading : (text : List ℕ) → program text ≡ andThen (headingOf text) (λ d n. ruled text d n)
 unfolding program headingOf

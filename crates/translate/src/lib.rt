@@ -1,20 +1,35 @@
 // The translate service: one descent that checks the text and makes its image in memory of its own, which is then stored where it fits.
 // A refused text so never touches the lent buffer.
+use expressions::scope::Names;
+use lexer::Place;
 use lexer::Step;
 ghost use mathlib.Core.Path.{_≡_};
-ghost use mathlib.Core.List.{_++_};
+ghost use mathlib.Core.List.{[], _++_};
 ghost use Prim.Native.Nat.{_+_, _*_, _≤_, _<_};
 ghost use lib.ListN.{length, drop};
 ghost use Rattle.limits.specs.Limits.{textLimit};
+ghost use Rattle.arith.specs.Inner.Flags.{flagsOf};
 ghost use Rattle.grammar.specs.Parse.{program, parse};
+ghost use Rattle.expressions.specs.Inner.Scopes.{Declared};
+ghost use Rattle.expressions.specs.Inner.Steps.{Room};
+ghost use Rattle.expressions.specs.Inner.Readers.{StandsAt};
+ghost use Rattle.phrases.specs.Inner.Steps.{numberTold, Writes};
+ghost use Rattle.watches.specs.Inner.Codes.{noCode};
 ghost use Rattle.declarations.specs.Inner.Tables.{TableRoom};
 ghost use Rattle.translate.specs.Services.{translationOf};
 ghost use Rattle.translate.specs.Results.{afterTranslation, TranslatedWithin};
-ghost use Rattle.translate.specs.Inner.Descent.{Descends, Analyses};
+ghost use Rattle.translate.specs.Inner.Descent.{freeScope, tailFrom, Descends, Analyses};
+ghost use Rattle.translate.specs.Inner.Survey.{Surveys};
 
 // The image's length and the counts of inputs and of names; or a refusal's number and place.
 pub enum Analysis {
     Accepted(usize, usize, usize),
+    Refused(u8, usize),
+}
+
+// The count of names, the place where the rules end and the count of the watches there; or a refusal's number and place.
+pub enum Surveyed {
+    Watches(usize, usize, usize),
     Refused(u8, usize),
 }
 
@@ -24,8 +39,34 @@ pub enum Translated {
     Refused(u8, usize),
 }
 
-// The whole text, into lent memory as far as there is room: all inputs, then all variables, into the table; the rules; and last the
-// header's two counts.
+// The watches and the end of the text, from the token behind the rules on. The number told is how many watches there are.
+fn tail(text: &[u8], starts: &[usize], ends: &[usize], count: usize, behind: Place) -> Step
+    requires { ⌜ Declared (now starts) (now ends) (record { count = count; known = behind .number }) ⌝ }
+    requires { ⌜ Room (now text) (behind .at) 0 ⌝ }
+    requires { ⌜ StandsAt (now text) behind ⌝ }
+    ensures { λ r. ⌜ Writes noCode numberTold length (tailFrom (freeScope (now (text .entry)) (now (starts .entry)) (now (ends .entry)) count) (flagsOf count (behind .number)) (behind .at)) (behind .to) [] [] r ⌝ }
+{
+    let free = expressions::scope::first_names(count, count);
+    let read = watches::watches(text, starts, ends, free, behind);
+    let Step::Done(last) = read else {
+        return read;
+    };
+    let names = Names {
+        count,
+        known: behind.number as u64,
+    };
+    rules::finish(
+        last.kind,
+        last.start,
+        last.end,
+        names,
+        behind.to,
+        last.number,
+    )
+}
+
+// The whole text, into lent memory as far as there is room: all inputs, then all variables, into the table; the rules; the watches; and
+// last the header's two counts. Told are where the rules end and how many watches there are.
 fn descend(text: &[u8], starts: &mut [usize], ends: &mut [usize], out: &mut [u8]) -> Step
     requires { ⌜ length (now text) ≤ textLimit ⌝ }
     requires { ⌜ TableRoom (now starts) (now ends) 0 ⌝ }
@@ -50,12 +91,17 @@ fn descend(text: &[u8], starts: &mut [usize], ends: &mut [usize], out: &mut [u8]
     };
     let names = expressions::scope::first_names(inputs.number, all.number);
     let read = rules::rules(text, starts, ends, names, all.at, out, all.to);
-    let Step::Done(end) = read else {
+    let Step::Done(behind) = read else {
         return read;
+    };
+    let ended = tail(text, starts, ends, all.number, behind);
+    let Step::Done(mut last) = ended else {
+        return ended;
     };
     leb128::put_byte(out, 0, inputs.number as u8);
     leb128::put_byte(out, 1, (all.number - inputs.number) as u8);
-    lexer::reached(end.at, end.to, all.number)
+    last.start = behind.at;
+    Step::Done(last)
 }
 
 // A count of the header.
@@ -81,6 +127,24 @@ pub fn analyse(text: &[u8], starts: &mut [usize], ends: &mut [usize]) -> Analysi
     match read {
         Step::Done(end) => Analysis::Accepted(end.to, inputs, names),
         Step::Refused(number, place) => Analysis::Refused(number, place),
+    }
+}
+
+// Checks a text and tells where its watches stand; leaves the names in the table, which has room for 64.
+pub fn survey(text: &[u8], starts: &mut [usize], ends: &mut [usize]) -> Surveyed
+    requires { ⌜ TableRoom (now starts) (now ends) 0 ⌝ }
+    ensures { λ r. ⌜ Surveys (now (text .entry)) (parse (now (text .entry))) (now (starts .exit)) (now (ends .exit)) r ⌝ }
+{
+    if limits::TEXT_LIMIT < text.len() {
+        return Surveyed::Refused(limits::TOO_LONG, 0);
+    }
+    // room for the two counts
+    let mut counts = [0u8; 2];
+    let read = descend(text, starts, ends, &mut counts);
+    let names = count_of(counts[0]) + count_of(counts[1]);
+    match read {
+        Step::Done(end) => Surveyed::Watches(names, end.start, end.number),
+        Step::Refused(number, place) => Surveyed::Refused(number, place),
     }
 }
 

@@ -1,25 +1,26 @@
 -- `rules::rules_in` meets its contract. Assumes nothing.
 use mathlib.Core.Path.{_≡_, refl, _∙_}
-use Prim.Native.Nat.{_-_}
 use native.Mathlib.Omega.{arith}
 use lib.ListN.{length}
 use borrow.Author.Needs.{needs}
+use Rattle.arith.specs.Inner.Flags.{flagsOf}
 use Rattle.lexer.specs.Results.{kindOf}
 use Rattle.lexer.proofs.Tokens.{is-fault}
+use Rattle.grammar.proofs.ConverseRules.{unruled}
 use Rattle.phrases.proofs.Laws.{same-kinds, other-kinds}
 use Rattle.phrases.proofs.Writing.{got, refused-part}
 use Rattle.cases.proofs.Listing.{found-token}
-use Rattle.rules.proofs.Ruling.{declared-as, Ruling, ruling-first, ruling-fuel, ruling-fault, ruling-end, ruling-room, ruling-refused, ruling-declared, ruling-more}
+use Rattle.rules.proofs.Ruling.{declared-as, Ruling, ruling-first, ruling-fault, ruling-end, ruling-room, ruling-refused, ruling-declared, ruling-less, ruling-more}
 use Rattle.rules.proofs.rules_in.Statement.{statement}
 use Rattle.rules.proofs.rules_in.Tie as tie
 
 abbrev Inv-loop : tie.InvT-loop
-Inv-loop text starts ends from₀ upto₀ at out₀ to count known₀ a₀ t₀ done₀ from upto out known a t done =
-    Ruling text starts ends count known₀ at to out₀ out known a t done
+Inv-loop text starts ends from₀ upto₀ at out₀ to count known₀ a₀ t₀ from upto out known a t =
+    Ruling text starts ends count known₀ at to out₀ out known a t
     × (length from ≡ length from₀) × (length upto ≡ length upto₀) × (length out ≡ length out₀)
 
 abbrev μ-loop : tie.MeasureT-loop
-μ-loop text starts ends from₀ upto₀ at out₀ to count known₀ a₀ t₀ done₀ from upto out known a t done = 65 - done
+μ-loop text starts ends from₀ upto₀ at out₀ to count known₀ a₀ t₀ from upto out known a t = unruled (flagsOf count known)
 
 loop-holds : tie.Need-loop-holds Inv-loop μ-loop
 loop-holds c = (ruling-first _ _ _ _ _ _ _ _ (c .before .before .before .before .before .before .pre .1 .0), refl, refl, refl)
@@ -38,115 +39,71 @@ returns c =
     let d = declared-as (c .before .before .before .before .before .before .before .before .before .before .pre .0) (c .before .before .before .loop .known) in
     ruling-fault (c .before .before .before .loop .inv .0) d (c .enum-told .given .1) (is-fault _ _ _ (c .before .before .token-at .ensures) _ _ (c .enum-told .given .1))
 
-finish-requires : tie.Need-finish-requires Inv-loop μ-loop
-finish-requires c κs = c .before .before .before .before .before .before .before .before .before .before .before .before .before .pre .0 .few
-
 same-length-4 : tie.Need-same-length-4 Inv-loop μ-loop
-same-length-4 c = c .before .before .before .before .before .before .before .loop .inv .1
+same-length-4 c = c .before .before .before .before .before .before .loop .inv .1
 
 same-length-5 : tie.Need-same-length-5 Inv-loop μ-loop
-same-length-5 c = c .before .before .before .before .before .before .before .loop .inv .2
+same-length-5 c = c .before .before .before .before .before .before .loop .inv .2
 
 same-length-6 : tie.Need-same-length-6 Inv-loop μ-loop
-same-length-6 c = c .before .before .before .before .before .before .before .loop .inv .3
+same-length-6 c = c .before .before .before .before .before .before .loop .inv .3
 
 returns-2 : tie.Need-returns-2 Inv-loop μ-loop
 unfolding kindOf
 returns-2 c =
-    let at-read = c .before .before .before .before in
-    let at-token-at = at-read .before .before in
-    let at-loop = at-token-at .before in
-    let start = at-loop .before .before .before .before .before .before .before in
-    let d = declared-as (start .pre .0) (at-loop .loop .known) in
-    let f = found-token _ _ (at-token-at .token-at .ensures) (at-read .read .given .1) in
-    ruling-end (at-loop .loop .inv .0) d f (other-kinds _ _ (f .lies .known-kind) (omega arith) (c .before .if1 .taken)) (c .finish .ensures)
+    let d = declared-as (c .before .before .before .before .before .before .before .before .before .before .before .before .before .pre .0) (c .before .before .before .before .before .before .loop .known) in
+    let f = found-token _ _ (c .before .before .before .before .before .token-at .ensures) (c .before .before .before .read .given .1) in
+    ruling-end (c .before .before .before .before .before .before .loop .inv .0) d f (other-kinds _ _ (f .lies .known-kind) (omega arith) (c .if1 .taken))
 
 rule-requires : tie.Need-rule-requires Inv-loop μ-loop
 rule-requires c κs =
-    let at-read = c .before .before .before .before .before .before in
-    let at-token-at = at-read .before .before in
-    let at-loop = at-token-at .before in
-    let start = at-loop .before .before .before .before .before .before .before in
-    let d = declared-as (start .pre .0) (at-loop .loop .known) in
-    let f = found-token _ _ (at-token-at .token-at .ensures) (at-read .read .given .1) in
-    (d, (ruling-room (at-loop .loop .inv .0) d f, (record { in-from = omega (arith, at-loop .loop .inv .1, start .pre .1 .1 .0 .in-from); in-upto = omega (arith, at-loop .loop .inv .2, start .pre .1 .1 .0 .in-upto) }, start .pre .1 .1 .1)))
+    let d = declared-as (c .before .before .before .before .before .before .before .before .before .before .before .before .before .before .before .before .pre .0) (c .before .before .before .before .before .before .before .before .before .loop .known) in
+    let f = found-token _ _ (c .before .before .before .before .before .before .before .before .token-at .ensures) (c .before .before .before .before .before .before .read .given .1) in
+    (d, (ruling-room (c .before .before .before .before .before .before .before .before .before .loop .inv .0) d f, (record { in-from = omega (arith, c .before .before .before .before .before .before .before .before .before .loop .inv .1, c .before .before .before .before .before .before .before .before .before .before .before .before .before .before .before .before .pre .1 .1 .0 .in-from); in-upto = omega (arith, c .before .before .before .before .before .before .before .before .before .loop .inv .2, c .before .before .before .before .before .before .before .before .before .before .before .before .before .before .before .before .pre .1 .1 .0 .in-upto) }, c .before .before .before .before .before .before .before .before .before .before .before .before .before .before .before .before .pre .1 .1 .1)))
 
 same-length-7 : tie.Need-same-length-7 Inv-loop μ-loop
-same-length-7 c =
-    let at-rule = c .before .before .before .before .before .before .before .before in
-    let at-loop = at-rule .before .before .before .before .before .before .before .before .before .before in
-    at-rule .rule .kept .1 .1 .1 .1 .1 .1 .0 ∙ at-loop .loop .inv .1
+same-length-7 c = c .before .before .before .before .before .before .before .before .rule .kept .1 .1 .1 .1 .1 .1 .0 ∙ c .before .before .before .before .before .before .before .before .before .before .before .before .before .before .before .before .before .before .loop .inv .1
 
 same-length-8 : tie.Need-same-length-8 Inv-loop μ-loop
-same-length-8 c =
-    let at-rule = c .before .before .before .before .before .before .before .before in
-    let at-loop = at-rule .before .before .before .before .before .before .before .before .before .before in
-    at-rule .rule .kept .1 .1 .1 .1 .1 .1 .1 .0 ∙ at-loop .loop .inv .2
+same-length-8 c = c .before .before .before .before .before .before .before .before .rule .kept .1 .1 .1 .1 .1 .1 .1 .0 ∙ c .before .before .before .before .before .before .before .before .before .before .before .before .before .before .before .before .before .before .loop .inv .2
 
 same-length-9 : tie.Need-same-length-9 Inv-loop μ-loop
-same-length-9 c =
-    let at-rule = c .before .before .before .before .before .before .before .before in
-    let at-loop = at-rule .before .before .before .before .before .before .before .before .before .before in
-    at-rule .rule .kept .1 .1 .1 .1 .1 .1 .1 .1 .0 ∙ at-loop .loop .inv .3
+same-length-9 c = c .before .before .before .before .before .before .before .before .rule .kept .1 .1 .1 .1 .1 .1 .1 .1 .0 ∙ c .before .before .before .before .before .before .before .before .before .before .before .before .before .before .before .before .before .before .loop .inv .3
 
 returns-3 : tie.Need-returns-3 Inv-loop μ-loop
 unfolding kindOf
 returns-3 c =
-    let at-rule = c .before .before .before .before .before .before .before .before in
-    let at-if1 = at-rule .before .before .before .before in
-    let at-read = at-if1 .before .before .before in
-    let at-token-at = at-read .before .before in
-    let at-loop = at-token-at .before in
-    let start = at-loop .before .before .before .before .before .before .before in
-    let d = declared-as (start .pre .0) (at-loop .loop .known) in
-    let f = found-token _ _ (at-token-at .token-at .ensures) (at-read .read .given .1) in
-    let i = same-kinds _ 2 (at-if1 .if1 .left) in
-    ruling-refused (at-loop .loop .inv .0) d f i (c .enum-told2 .given .1) (refused-part (at-rule .rule .ensures) (c .enum-told2 .given .1))
+    let d = declared-as (c .before .before .before .before .before .before .before .before .before .before .before .before .before .before .before .before .before .before .before .before .before .before .before .before .before .pre .0) (c .before .before .before .before .before .before .before .before .before .before .before .before .before .before .before .before .before .before .loop .known) in
+    let f = found-token _ _ (c .before .before .before .before .before .before .before .before .before .before .before .before .before .before .before .before .before .token-at .ensures) (c .before .before .before .before .before .before .before .before .before .before .before .before .before .before .before .read .given .1) in
+    let i = same-kinds _ 2 (c .before .before .before .before .before .before .before .before .before .before .before .before .if1 .left) in
+    ruling-refused (c .before .before .before .before .before .before .before .before .before .before .before .before .before .before .before .before .before .before .loop .inv .0) d f i (c .enum-told2 .given .1) (refused-part (c .before .before .before .before .before .before .before .before .rule .ensures) (c .enum-told2 .given .1))
 
 ruled-requires : tie.Need-ruled-requires Inv-loop μ-loop
 unfolding kindOf
 ruled-requires c κs =
-    let at-rule = c .before .before .before .before .before .before .before .before .before in
-    let at-if1 = at-rule .before .before .before .before in
-    let at-read = at-if1 .before .before .before in
-    let at-token-at = at-read .before .before in
-    let at-loop = at-token-at .before in
-    let start = at-loop .before .before .before .before .before .before .before in
-    let d = declared-as (start .pre .0) (at-loop .loop .known) in
-    let f = found-token _ _ (at-token-at .token-at .ensures) (at-read .read .given .1) in
-    let i = same-kinds _ 2 (at-if1 .if1 .left) in
-    ruling-declared (at-loop .loop .inv .0) d f i (got (at-rule .rule .ensures) (c .before .one .given .1))
-
-add-done : tie.Need-add-done Inv-loop μ-loop
-add-done c =
-    let at-loop = c .before .before .before .before .before .before .before .before .before .before .before .before .before .before .before .before .before .before .before .before in
-    let start = at-loop .before .before .before .before .before .before .before in
-    let d = declared-as (start .pre .0) (at-loop .loop .known) in
-    omega (arith, ruling-fuel (at-loop .loop .inv .0) d)
+    let d = declared-as (c .before .before .before .before .before .before .before .before .before .before .before .before .before .before .before .before .before .before .before .before .before .before .before .before .before .before .pre .0) (c .before .before .before .before .before .before .before .before .before .before .before .before .before .before .before .before .before .before .before .loop .known) in
+    let f = found-token _ _ (c .before .before .before .before .before .before .before .before .before .before .before .before .before .before .before .before .before .before .token-at .ensures) (c .before .before .before .before .before .before .before .before .before .before .before .before .before .before .before .before .read .given .1) in
+    let i = same-kinds _ 2 (c .before .before .before .before .before .before .before .before .before .before .before .before .before .if1 .left) in
+    ruling-declared (c .before .before .before .before .before .before .before .before .before .before .before .before .before .before .before .before .before .before .before .loop .inv .0) d f i (got (c .before .before .before .before .before .before .before .before .before .rule .ensures) (c .before .one .given .1))
 
 loop-less : tie.Need-loop-less Inv-loop μ-loop
+unfolding kindOf
 loop-less c =
-    let at-loop = c .before .before .before .before .before .before .before .before .before .before .before .before .before .before .before .before .before .before .before .before in
-    let start = at-loop .before .before .before .before .before .before .before in
-    let d = declared-as (start .pre .0) (at-loop .loop .known) in
-    omega (arith, ruling-fuel (at-loop .loop .inv .0) d)
+    let d = declared-as (c .before .before .before .before .before .before .before .before .before .before .before .before .before .before .before .before .before .before .before .before .before .before .before .before .before .before .before .pre .0) (c .before .before .before .before .before .before .before .before .before .before .before .before .before .before .before .before .before .before .before .before .loop .known) in
+    let f = found-token _ _ (c .before .before .before .before .before .before .before .before .before .before .before .before .before .before .before .before .before .before .before .token-at .ensures) (c .before .before .before .before .before .before .before .before .before .before .before .before .before .before .before .before .before .read .given .1) in
+    let i = same-kinds _ 2 (c .before .before .before .before .before .before .before .before .before .before .before .before .before .before .if1 .left) in
+    ruling-less (c .before .before .before .before .before .before .before .before .before .before .before .before .before .before .before .before .before .before .before .before .loop .inv .0) d f i (got (c .before .before .before .before .before .before .before .before .before .before .rule .ensures) (c .before .before .one .given .1)) (c .ruled .result) (c .ruled .ensures .1)
 
 loop-again : tie.Need-loop-again Inv-loop μ-loop
 unfolding kindOf
 loop-again c =
-    let at-rule = c .before .before .before .before .before .before .before .before .before .before in
-    let at-if1 = at-rule .before .before .before .before in
-    let at-read = at-if1 .before .before .before in
-    let at-token-at = at-read .before .before in
-    let at-loop = at-token-at .before in
-    let start = at-loop .before .before .before .before .before .before .before in
-    let d = declared-as (start .pre .0) (at-loop .loop .known) in
-    let f = found-token _ _ (at-token-at .token-at .ensures) (at-read .read .given .1) in
-    let i = same-kinds _ 2 (at-if1 .if1 .left) in
-    let g = got (at-rule .rule .ensures) (c .before .before .one .given .1) in
-    (ruling-more (at-loop .loop .inv .0) d f i g (c .ruled .result) (c .ruled .ensures .1), at-rule .rule .kept .1 .1 .1 .1 .1 .1 .0 ∙ at-loop .loop .inv .1, at-rule .rule .kept .1 .1 .1 .1 .1 .1 .1 .0 ∙ at-loop .loop .inv .2, at-rule .rule .kept .1 .1 .1 .1 .1 .1 .1 .1 .0 ∙ at-loop .loop .inv .3)
+    let d = declared-as (c .before .before .before .before .before .before .before .before .before .before .before .before .before .before .before .before .before .before .before .before .before .before .before .before .before .before .before .pre .0) (c .before .before .before .before .before .before .before .before .before .before .before .before .before .before .before .before .before .before .before .before .loop .known) in
+    let f = found-token _ _ (c .before .before .before .before .before .before .before .before .before .before .before .before .before .before .before .before .before .before .before .token-at .ensures) (c .before .before .before .before .before .before .before .before .before .before .before .before .before .before .before .before .before .read .given .1) in
+    let i = same-kinds _ 2 (c .before .before .before .before .before .before .before .before .before .before .before .before .before .before .if1 .left) in
+    let g = got (c .before .before .before .before .before .before .before .before .before .before .rule .ensures) (c .before .before .one .given .1) in
+    (ruling-more (c .before .before .before .before .before .before .before .before .before .before .before .before .before .before .before .before .before .before .before .before .loop .inv .0) d f i g (c .ruled .result) (c .ruled .ensures .1), c .before .before .before .before .before .before .before .before .before .before .rule .kept .1 .1 .1 .1 .1 .1 .0 ∙ c .before .before .before .before .before .before .before .before .before .before .before .before .before .before .before .before .before .before .before .before .loop .inv .1, c .before .before .before .before .before .before .before .before .before .before .rule .kept .1 .1 .1 .1 .1 .1 .1 .0 ∙ c .before .before .before .before .before .before .before .before .before .before .before .before .before .before .before .before .before .before .before .before .loop .inv .2, c .before .before .before .before .before .before .before .before .before .before .rule .kept .1 .1 .1 .1 .1 .1 .1 .1 .0 ∙ c .before .before .before .before .before .before .before .before .before .before .before .before .before .before .before .before .before .before .before .before .loop .inv .3)
 
 pub rules-in-spec : {M : Type 1} → statement M
 rules-in-spec =
     tie.close
-    (tie.spec Inv-loop μ-loop loop-holds (λ c κs. search needs) (λ c. search needs) (λ c. search needs) same-length same-length-2 same-length-3 returns finish-requires same-length-4 same-length-5 same-length-6 returns-2 rule-requires (λ c. search needs) (λ c. search needs) same-length-7 same-length-8 same-length-9 returns-3 ruled-requires add-done loop-less loop-again)
+    (tie.spec Inv-loop μ-loop loop-holds (λ c κs. search needs) (λ c. search needs) (λ c. search needs) same-length same-length-2 same-length-3 returns same-length-4 same-length-5 same-length-6 returns-2 rule-requires (λ c. search needs) (λ c. search needs) same-length-7 same-length-8 same-length-9 returns-3 ruled-requires loop-less loop-again)

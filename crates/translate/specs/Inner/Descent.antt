@@ -1,18 +1,25 @@
--- The descent over a whole text in two parts, the declarations and the rules: auxiliary definitions for the contracts of the functions inside.
+-- The descent over a whole text in its parts, the declarations, the rules and the watches: auxiliary definitions for the contracts of the functions inside.
 -- Assumes nothing.
-use Prim.Native.Nat.{ℕ}
+use Prim.Native.Nat.{ℕ, _≤_}
 use mathlib.Core.Path.{_≡_}
+use mathlib.Core.Bool.{Bool}
 use mathlib.Core.List.{List, []}
 use lib.ListN.{length}
+use Rattle.limits.specs.Limits.{watchLimit}
 use Rattle.limits.specs.Answer.{Answer}
 use Rattle.limits.specs.Answer as A
 use Rattle.lexer.specs.Token.{inputWord, varWord}
-use Rattle.semantics.specs.Program.{Name, Program, knownFirst}
+use Rattle.lexer.specs.Names.{tableNames}
+use Rattle.semantics.specs.Program.{Name, Watch, Program, knownFirst, free}
 use Rattle.grammar.specs.Parsed.{Parsed, accepted, refused, andThen}
 use Rattle.grammar.specs.Expressions.{Scope}
 use Rattle.grammar.specs.Declarations.{declarations, spellings}
+use Rattle.grammar.specs.Watches.{watchesFrom}
+use Rattle.grammar.specs.Parse.{endAt}
 use Rattle.grammar.specs.Inner.Bytes.{image}
+use Rattle.lexer.specs.declared.Place.{Place}
 use Rattle.lexer.specs.declared.Step.{Step}
+use Rattle.lexer.specs.declared.Step.the-variants.{Done}
 use Rattle.phrases.specs.Inner.Steps.{nothing, Writes}
 use Rattle.declarations.specs.Inner.Tables.{TableHolds}
 use Rattle.translate.specs.declared.Analysis.{Analysis}
@@ -34,6 +41,18 @@ headingOf text =
 abbrev pub scopeAfter : List ℕ → Declarations → Scope
 scopeAfter text d = record { text = text; names = spellings (d .names); known = knownFirst (d .inputs) (length (d .names)) }
 
+-- the names of a table, all of which may be used: the watches' scope
+abbrev pub freeScope : List ℕ → List ℕ → List ℕ → ℕ → Scope
+freeScope text starts ends names = record { text = text; names = tableNames text starts ends names; known = free names }
+
+-- the watches and the end of the text, behind the rules
+unfoldable pub tailFrom : Scope → List Bool → ℕ → Parsed (List Watch)
+tailFrom sc known at = andThen (watchesFrom watchLimit sc [] at) (λ ws n. andThen (endAt (sc .text) known n) (λ u m. accepted ws m))
+
+-- the watches' scope behind the declarations
+abbrev pub scopeOfWatches : List ℕ → Declarations → Scope
+scopeOfWatches text d = record { text = text; names = spellings (d .names); known = free (length (d .names)) }
+
 -- the image's length, and the counts of inputs and of names
 pub record HeaderCounts : Type 0 where
   pub end : ℕ
@@ -52,10 +71,17 @@ abbrev pub measured : Parsed Program → Answer HeaderCounts
 measured (accepted p n) = A.accepted (measuresOf p)
 measured (refused k q) = A.refused k q
 
--- the whole text: the answer, the image's bytes, and the table with all names
+-- the watches of a program stand from `at` on
+pub record WatchesRead (text : List ℕ) (q : Program) (at : ℕ) : Type 0 where
+  pub within : at ≤ length text
+  pub end : ℕ
+  pub read : watchesFrom watchLimit (record { text = text; names = spellings (q .names); known = free (length (q .names)) }) [] at ≡ accepted (q .watches) end
+
+-- the whole text: the answer, the image's bytes, the table with all names, and where its watches stand
 pub record Descends (text : List ℕ) (p : Parsed Program) (before after starts ends : List ℕ) (r : Step) : Type 0 where
   pub writes : Writes image nothing (λ q. tt) p 0 before after r
   pub named : (q : Program) (n : ℕ) → p ≡ accepted q n → TableHolds text starts ends (length (q .names)) (q .names)
+  pub watched : (q : Program) (n : ℕ) (x : Place) → p ≡ accepted q n → r ≡ Done x → (x .number ≡ length (q .watches)) × WatchesRead text q (x .start)
 
 -- the same without a buffer, its limit tested first
 pub record Analyses (text : List ℕ) (p : Parsed Program) (starts ends : List ℕ) (r : Analysis) : Type 0 where

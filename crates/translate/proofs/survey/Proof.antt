@@ -1,0 +1,23 @@
+-- `translate::survey` meets its contract: the limit of texts, then the descent over room for the two counts. Assumes nothing.
+use native.Mathlib.Omega.{arith}
+use borrow.Author.Needs.{needs}
+use Rattle.translate.proofs.Service.{surveys-long, surveys-refused, surveys-accepted}
+use Rattle.translate.proofs.survey.Statement.{statement}
+use Rattle.translate.proofs.survey.Tie as tie
+
+returns : tie.Need-returns
+returns c = surveys-long _ _ _ (@if1 .taken)
+
+add-names : tie.Need-add-names
+add-names c = let a = @count-of .ensures .1 in let b = @count-of2 .ensures .1 in search needs
+
+returns-2 : tie.Need-returns-2
+returns-2 c = surveys-accepted _ _ _ _ (@if1 .left) (@descend .ensures) _ (@read .given .1) (@count-of .ensures .0) (@count-of2 .ensures .0) (omega (arith, @pre .in-starts, @descend .kept .1 .0)) (omega (arith, @pre .in-ends, @descend .kept .1 .1 .0))
+
+returns-3 : tie.Need-returns-3
+returns-3 c = surveys-refused _ _ _ _ (@if1 .left) (@descend .ensures) _ _ (@read2 .given .1)
+
+pub survey-spec : {M : Type 1} → statement M
+survey-spec =
+    tie.close
+    (tie.spec returns (λ c. search needs) (λ c κs. search needs) (λ c. search needs) (λ c κs. search needs) (λ c. search needs) (λ c κs. search needs) add-names (λ c. search needs) (λ c. search needs) (λ c. search needs) (λ c. search needs) returns-2 (λ c. search needs) (λ c. search needs) returns-3)

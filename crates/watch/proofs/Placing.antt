@@ -1,0 +1,58 @@
+-- A place where a watch fails is a place of the trace, and so a number that a report has room for. Assumes nothing.
+use mathlib.Core.Path.{_≡_, refl, ap, sym, _∙_}
+use mathlib.Core.Bool.{true}
+use mathlib.Core.List.{List, [], _∷_}
+use mathlib.Core.Option.{Option, none, some}
+use Prim.Native.Nat.{ℕ, zero, suc, _+_, _*_, _^_, _≤_, _<_}
+use native.Mathlib.Omega.{arith}
+use borrow.Author.Tests.{eq-eqb}
+use lib.IntN.{ℤ}
+use lib.ListN.{length, getElem?, drop}
+use Rattle.bytecode.proofs.Soundness.{none≢some}
+use Rattle.semantics.specs.Program.{Condition, Watch}
+use Rattle.semantics.specs.Formula.{Trace}
+use Rattle.semantics.specs.Shape.{statesOf, placesIn, isTrace}
+use Rattle.watching.specs.Watching.{placesOf, firstFailure}
+use Rattle.watching.specs.Failing.{FailsBy, FailsAt}
+use Rattle.watching.proofs.Laws.{reported-first}
+use Rattle.lent.proofs.Laws.{trace-whole}
+use Rattle.evaluation.specs.declared.Failed.{Failed}
+use Rattle.evaluation.specs.declared.Failed.the-variants.{At, Never}
+use Rattle.evaluation.specs.Walks.{failedAt}
+use Rattle.watch.specs.Inner.Reports.{FailedWithin}
+
+place-of : {A : Type 0} (l : List A) (n : ℕ) (a : A) → getElem? l n ≡ some a → n < length l
+place-of [] n a e = none≢some a e
+place-of (x ∷ l) zero a e = omega arith
+place-of (x ∷ l) (suc n) a e = omega (arith, place-of l n a e)
+
+fails-in : (c : Condition) (o : Option Condition) (trace : Trace) (n : ℕ) → FailsBy c o trace n → n < length trace
+fails-in c none trace n f = place-of trace n (f .current) (f .is-current)
+fails-in c (some d) trace zero f = absurd f
+fails-in c (some d) trace (suc n) f = place-of trace (suc n) (f .next) (f .is-next)
+
+states-counted : (places names : ℕ) (cells : List ℤ) → length (statesOf places names cells) ≡ places
+states-counted zero names cells = refl
+states-counted (suc n) names cells = ap suc (states-counted n names (drop names cells))
+
+-- as many places as numbers are lent, or one
+places-few : (names places size : ℕ) → places * names ≡ size → (names ≡ 0 → places ≤ 1) → places ≤ size + 1
+places-few zero places size e h = omega (arith, h refl)
+places-few (suc names) places size e h = let f : places ≤ places * suc names = le-mul places names in omega (arith, e, f)
+  where
+    le-mul : (p n : ℕ) → p ≤ p * suc n
+    le-mul zero n = omega arith
+    le-mul (suc p) n = let r = le-mul p n in let m : suc p * suc n ≡ p * suc n + suc n = simp in omega (arith, r, m)
+
+one-place : (names : ℕ) (cells : List ℤ) → names ≡ 0 → placesIn names cells ≤ 1
+unfolding placesIn
+one-place names cells z = rw (eq-eqb names 0 z) (omega arith)
+
+pub places-small : (names : ℕ) (cells : List ℤ) → isTrace names cells ≡ true → placesIn names cells ≤ length cells + 1
+places-small names cells e = places-few names (placesIn names cells) (length cells) (trace-whole names cells e .all) (one-place names cells)
+
+pub failed-within : (w : Watch) (places names : ℕ) (cells : List ℤ) (r : Failed) → places < 2 ^ 63 → failedAt r ≡ firstFailure w (placesOf (statesOf places names cells)) → FailedWithin r
+failed-within w places names cells (At n) h e =
+    let f = reported-first w (statesOf places names cells) n (sym e) .fails in
+    omega (arith, h, fails-in (w .first) (w .later) (statesOf places names cells) n f, states-counted places names cells)
+failed-within w places names cells Never h e = tt

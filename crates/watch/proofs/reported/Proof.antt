@@ -1,0 +1,21 @@
+-- `watch::reported` meets its contract. Assumes nothing.
+use mathlib.Core.Path.{sym, ap, subst, _∙_}
+use borrow.Author.Needs.{needs}
+use Rattle.evaluation.specs.declared.Failed.{Failed}
+use Rattle.evaluation.specs.Walks.{failedAt}
+use Rattle.watch.specs.Services.{reported}
+use Rattle.watch.specs.Inner.Reports.{FailedWithin}
+use Rattle.watch.proofs.reported.Statement.{statement}
+use Rattle.watch.proofs.reported.Tie as tie
+
+number-requires : tie.Need-number-requires
+number-requires c κs = subst FailedWithin (@place .given .1) (@pre)
+
+returns : tie.Need-returns
+returns c = @number .ensures ∙ ap (λ (f : Failed). reported (failedAt f)) (sym (@place .given .1))
+
+returns-2 : tie.Need-returns-2
+returns-2 c = ap (λ (f : Failed). reported (failedAt f)) (sym (@enum-told .given .1))
+
+pub reported-spec : {M : Type 1} → statement M
+reported-spec = tie.close (tie.spec number-requires returns returns-2)

@@ -1,0 +1,85 @@
+-- `watch::reports` meets its contract. Assumes nothing.
+use mathlib.Core.Path.{_≡_, refl, ap, _∙_}
+use mathlib.Core.List.{List}
+use Prim.Native.Nat.{ℕ, _-_, _^_, _<_}
+use native.Mathlib.Omega.{arith}
+use lib.IntN.{ℤ}
+use lib.ListN.{length, length-set}
+use borrow.Author.Needs.{needs}
+use Rattle.lexer.proofs.Tokens.{is-fault}
+use Rattle.semantics.specs.Shape.{tracedStates, statesOf}
+use Rattle.watching.specs.Watching.{placesOf, firstFailure}
+use Rattle.lent.proofs.Laws.{trace-whole}
+use Rattle.phrases.proofs.Writing.{got, refused-part}
+use Rattle.cases.proofs.Listing.{found-token}
+use Rattle.watch.specs.Services.{reported}
+use Rattle.watch.proofs.Placing.{places-small, failed-within}
+use Rattle.watch.proofs.Reporting.{free-writes, Reports, reports-first, reports-end, reports-token, reports-room, reports-read, reports-code, reports-inside, reports-more}
+use Rattle.watch.proofs.reports.Statement.{statement}
+use Rattle.watch.proofs.reports.Tie as tie
+
+abbrev Inv-loop : tie.InvT-loop
+Inv-loop text starts ends names at count trace report₀ code₀ vals₀ places free a₀ i₀ report code vals a i =
+    Reports text starts ends names at count (tracedStates names trace) report₀ report a i
+    × (length report ≡ length report₀) × (length code ≡ length code₀) × (length vals ≡ length vals₀)
+
+abbrev μ-loop : tie.MeasureT-loop
+μ-loop text starts ends names at count trace report₀ code₀ vals₀ places free a₀ i₀ report code vals a i = count - i
+
+first-names-requires : tie.Need-first-names-requires
+first-names-requires c κs = @pre .0 .stand .few
+
+loop-holds : tie.Need-loop-holds Inv-loop μ-loop
+loop-holds c = (reports-first _ _ (@pre .0), refl, refl, refl)
+
+returns : tie.Need-returns Inv-loop μ-loop
+returns c = λ ws m e. reports-token (@loop .inv .0) (@loop-test .taken) (is-fault _ _ _ (@token-at .ensures) _ _ (@enum-told .given .1) .0)
+
+watch-requires : tie.Need-watch-requires Inv-loop μ-loop
+watch-requires c κs =
+    let f = found-token _ _ (@token-at .ensures) (@word .given .1) in
+    let e = @first-names .ensures .0 in
+    let t = @loop .inv .0 .table in
+    (record { table = record { in-starts = omega (arith, e, t .in-starts); in-ends = omega (arith, e, t .in-ends) }; few = omega (arith, e, @loop .inv .0 .few-names) }, reports-room (@loop .inv .0) (@loop-test .taken) f)
+
+returns-2 : tie.Need-returns-2 Inv-loop μ-loop
+returns-2 c =
+    let f = found-token _ _ (@token-at .ensures) (@word .given .1) in
+    λ ws m e. reports-read (@loop .inv .0) (@loop-test .taken) f (refused-part (free-writes (@first-names .ensures) (@watch .ensures)) (@enum-told2 .given .1))
+
+walk-requires : tie.Need-walk-requires Inv-loop μ-loop
+walk-requires c κs =
+    let f = found-token _ _ (@token-at .ensures) (@word .given .1) in
+    let g = got (free-writes (@first-names .ensures) (@watch .ensures)) (@read .given .1) in
+    let large = omega (arith, @loop .inv .2, @pre .1 .1 .1) in
+    let x = @loop .inv .0 in
+    let h = @loop-test .taken in
+    ((reports-code x h f g large .ordered, reports-inside x h f g large), (omega (arith, @loop .inv .3, @pre .1 .1 .2), rw (@places .ensures) (trace-whole _ _ (@pre .1 .0) .all)))
+
+reported-requires : tie.Need-reported-requires Inv-loop μ-loop
+reported-requires c κs =
+    let f = found-token _ _ (@token-at .ensures) (@word .given .1) in
+    let g = got (free-writes (@first-names .ensures) (@watch .ensures)) (@read .given .1) in
+    let large = omega (arith, @loop .inv .2, @pre .1 .1 .1) in
+    let small : @places .result < 2 ^ 63 = omega (arith, @places .ensures, places-small _ _ (@pre .1 .0), @good) in
+    failed-within (g .tree) _ _ _ _ small (@walk .ensures (g .tree) (reports-code (@loop .inv .0) (@loop-test .taken) f g large))
+
+loop-less : tie.Need-loop-less Inv-loop μ-loop
+loop-less c = omega (arith, @loop-test .taken)
+
+loop-again : tie.Need-loop-again Inv-loop μ-loop
+loop-again c =
+    let f = found-token _ _ (@token-at .ensures) (@word .given .1) in
+    let g = got (free-writes (@first-names .ensures) (@watch .ensures)) (@read .given .1) in
+    let large = omega (arith, @loop .inv .2, @pre .1 .1 .1) in
+    let told = @walk .ensures (g .tree) (reports-code (@loop .inv .0) (@loop-test .taken) f g large) in
+    let e = @reported .ensures ∙ ap reported (told ∙ ap (λ (k : ℕ). firstFailure (g .tree) (placesOf (statesOf k (@args .names) (@args .trace .now)))) (@places .ensures)) in
+    (reports-more (@loop .inv .0) (@loop-test .taken) f g large _ e, length-set _ _ _ ∙ @loop .inv .1, @watch .kept .1 .1 .1 .1 .1 .0 ∙ @loop .inv .2, @walk .kept .1 .1 .1 .1 .1 .1 .0 ∙ @loop .inv .3)
+
+returns-3 : tie.Need-returns-3 Inv-loop μ-loop
+returns-3 c = reports-end (@loop .inv .0) (@loop-test .left)
+
+pub reports-spec : {M : Type 1} → statement M
+reports-spec =
+    tie.close
+    (tie.spec Inv-loop μ-loop (λ c κs. search needs) first-names-requires loop-holds (λ c κs. search needs) (λ c. search needs) (λ c. search needs) (λ c. search needs) returns watch-requires (λ c. search needs) returns-2 walk-requires reported-requires (λ c. search needs) loop-less loop-again returns-3)

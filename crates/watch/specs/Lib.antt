@@ -1,0 +1,3 @@
+pub mod Services
+pub mod Results
+pub mod Inner

@@ -1,0 +1,4 @@
+pub mod Ways
+pub mod Sizes
+pub mod Reading
+pub mod Behind
