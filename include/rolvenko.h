@@ -1,5 +1,5 @@
-/* Rolvenko: launch rules translated, checked, started and scanned, also in instalments and by shares for several rule sets, rows filled
- * with the local time, the licence charge of a trace, and whether rules can ever stop in service, as C functions.
+/* Rolvenko: launch rules translated, checked, started and scanned, also in instalments and by shares for several rule sets, printed as
+ * Structured Text, rows filled with the local time, the licence charge of a trace, and whether rules can ever stop in service, as C functions.
  *
  * Link target/staticlib/librolvenko.a, which `rt staticlib rolvenko` writes, or what ./install puts down of it (-lrolvenko; pkg-config
  * rolvenko). It is for x86-64 Linux, needs memcpy and memset, allocates nothing and keeps nothing between calls, so calls from several
@@ -7,11 +7,11 @@
  *
  * The answer. Each function answers one 64-bit number, number * 2^56 + place * 2^24 + count:
  *
- *     number   0 for a success, else the refusal, 1 to 20, 22 or 24 to 29; of the calls of a scan in instalments also 254 and 255
+ *     number   0 for a success, else the refusal, 1 to 22 or 24 to 29; of the calls of a scan in instalments also 254 and 255
  *     place    the byte place of a refusal in the text or image; of 27 the scans before the refused one; 0 for a success and for the
  *              refusals 9, 12 to 20, 22, 24 to 26, 28 and 29
- *     count    of a success of rolvenko_translate the image's length, of rolvenko_scan, rolvenko_advance, rolvenko_finish and
- *              rolvenko_visit (refused or not) the steps; else 0
+ *     count    of a success of rolvenko_translate the image's length, of rolvenko_structured_text that of the Structured Text, of
+ *              rolvenko_scan, rolvenko_advance, rolvenko_finish and rolvenko_visit (refused or not) the steps; else 0
  *
  * But a success of rolvenko_charge is its sum; see there.
  *
@@ -36,6 +36,7 @@ extern "C" {
 #define ROLVENKO_TEXT_LIMIT 32768  /* bytes of a text */
 #define ROLVENKO_IMAGE_LIMIT 65536 /* bytes of an image */
 #define ROLVENKO_IMAGE_ROOM 49154  /* bytes that the image of any accepted text fits in (law buffer-bound) */
+#define ROLVENKO_ST_ROOM 115998    /* bytes that the Structured Text of any accepted text fits in (law st-bound) */
 #define ROLVENKO_NAMES 64          /* inputs and variables together */
 #define ROLVENKO_ENTRIES 32        /* entries of a farm table */
 #define ROLVENKO_COMBINATIONS 65536 /* scans of a closed profile */
@@ -52,6 +53,16 @@ static inline uint32_t rolvenko_count(uint64_t answer) { return (uint32_t)(answe
  *   10        the text has no fault, but its image is longer than image_len; place is text_len
  */
 uint64_t rolvenko_translate(const uint8_t *text, size_t text_len, uint8_t *image, size_t image_len);
+
+/* Prints a rule text as Structured Text, the text language of IEC 61131-3, and writes it to the first bytes of `out`; count is its length.
+ * The bytes behind it stay. Sections VAR_INPUT and VAR (each left out if empty), one IF block or assignment a rule, then `_name := name;` for
+ * each name in declared order; every name is a DINT and printed as declared, lines end with LF. Started with a state in names and previous
+ * values alike, then given the inputs of a row that rolvenko_scan accepts, the statements leave the values of that scan.
+ *   9, 1 to 8 of the text, as rolvenko_translate
+ *   21        a declared name is IF, THEN, ELSIF, DINT, AND, OR or NOT, in any letter case; place is that of the first in its declaration
+ *   10        the Structured Text is longer than out_len; place is text_len
+ */
+uint64_t rolvenko_structured_text(const uint8_t *text, size_t text_len, uint8_t *out, size_t out_len);
 
 /* Whether an image is sound: 0 as a whole, or
  *   9         the image is longer than 65,536 bytes; place 0

@@ -15,6 +15,8 @@ pub const TEXT_LIMIT: usize = 32_768;
 pub const IMAGE_LIMIT: usize = 65_536;
 /// Bytes that the image of any accepted text fits in.
 pub const IMAGE_ROOM: usize = 49_154;
+/// Bytes that the Structured Text of any accepted text fits in.
+pub const ST_ROOM: usize = 115_998;
 /// Inputs and variables together.
 pub const NAMES: usize = 64;
 /// Scans of a closed profile.
@@ -74,7 +76,7 @@ pub fn meaning(number: u8) -> &'static str {
         7 => "the no-change formula has another list of conditions",
         8 => "over 16 brackets, 32 cases, 64 names or 16 bytes of a name",
         9 => "the text is over 32,768 bytes, or the image over 65,536",
-        10 => "the image buffer is too short",
+        10 => "the buffer is too short for the image, or the Structured Text",
         11 => "the image is not sound",
         12 => "the state, row or trace has the wrong length",
         13 => "an input of the row is outside its range",
@@ -85,6 +87,7 @@ pub fn meaning(number: u8) -> &'static str {
         18 => "a value of the state is outside its range",
         19 => "the farm table breaks its limits",
         20 => "the UTC minute is below 0 or over 2,147,483,647",
+        21 => "a declared name that is a word of Structured Text",
         22 => "a rising pick at or below the previous value, or a falling one at or above it",
         24 => "the state at the finish is not the one at the start",
         25 => "not 1 to 8 rule sets, or a share outside 1 to 65,536",
@@ -104,6 +107,7 @@ pub struct Readme;
 mod archive {
     extern "C" {
         pub fn rolvenko_translate(text: *const u8, text_len: usize, image: *mut u8, image_len: usize) -> u64;
+        pub fn rolvenko_structured_text(text: *const u8, text_len: usize, out: *mut u8, out_len: usize) -> u64;
         pub fn rolvenko_check(image: *const u8, image_len: usize) -> u64;
         pub fn rolvenko_start(image: *const u8, image_len: usize, state: *mut i32, state_len: usize) -> u64;
         pub fn rolvenko_scan(
@@ -181,6 +185,37 @@ fn counted(answer: u64) -> Result<u32, Refusal> {
 pub fn translate(text: &[u8], image: &mut [u8]) -> Result<usize, Refusal> {
     // The function reads `text_len` bytes at `text` and reads and writes `image_len` bytes at `image`.
     let answer = unsafe { archive::rolvenko_translate(text.as_ptr(), text.len(), image.as_mut_ptr(), image.len()) };
+    counted(answer).map(|length| length as usize)
+}
+
+/// Prints a rule text as Structured Text, the text language of IEC 61131-3, to the first bytes of `out`; answers its length. Started with
+/// a state in names and previous values alike, then given the inputs of a row that [`scan`] accepts, its statements leave the values of that
+/// scan. A refusal (1 to 10, 21) leaves `out` as it was; a buffer of [`ST_ROOM`] bytes is enough for every text.
+///
+/// ```
+/// let text = b"input go 0..1; var run 0..1; run: GX(run = (1 - go));";
+/// let mut out = [0; 256];
+/// let length = rolvenko::structured_text(text, &mut out)?;
+/// let wanted = "VAR_INPUT
+///   go : DINT := 0;
+/// END_VAR
+/// VAR
+///   _go : DINT := 0;
+///   run : DINT := 0;
+///   _run : DINT := 0;
+/// END_VAR
+/// run := (1 - go);
+/// _go := go;
+/// _run := run;
+/// ";
+/// assert_eq!(out[..length], *wanted.as_bytes());
+/// let refusal = rolvenko::structured_text(b"input then 0..1;", &mut out).unwrap_err();
+/// assert_eq!((refusal.number, refusal.place), (21, 6));
+/// # Ok::<(), rolvenko::Refusal>(())
+/// ```
+pub fn structured_text(text: &[u8], out: &mut [u8]) -> Result<usize, Refusal> {
+    // The function reads `text_len` bytes at `text` and reads and writes `out_len` bytes at `out`.
+    let answer = unsafe { archive::rolvenko_structured_text(text.as_ptr(), text.len(), out.as_mut_ptr(), out.len()) };
     counted(answer).map(|length| length as usize)
 }
 
