@@ -2,9 +2,9 @@
 //!
 //!     rolvenko-tests [--seed N] [--seconds S] [--least N] [--program PATH] [SERVICE ..]
 //!
-//! Services: translate, check, scan (and start), trace (lists of rows), clock, charge, closed (and combination), instalments, rounds, and
-//! program, a trace program at PATH; all by default, S seconds and at least N calls each. Prints how often each answer was met. A difference is shrunk to a small input and
-//! printed, and the exit status is 1.
+//! Services: translate, structured_text (and scans against it), check, scan (and start), trace (lists of rows), clock, charge, closed (and
+//! combination), instalments, rounds, and program, a trace program at PATH; all by default, S seconds and at least N calls each. Prints
+//! how often each answer was met. A difference is shrunk to a small input and printed, and the exit status is 1.
 
 mod charge;
 mod check;
@@ -16,8 +16,10 @@ mod program;
 mod rounds;
 mod scan;
 mod shrink;
+mod structured_text;
 mod trace;
 mod translate;
+mod writer;
 
 use compare::{Options, Table, SERVICES};
 use std::process::ExitCode;
@@ -33,8 +35,9 @@ fn main() -> ExitCode {
             return ExitCode::from(2);
         }
     };
-    let runs: [Run; 10] = [
+    let runs: [Run; 11] = [
         translate::run,
+        structured_text::run,
         check::run,
         scan::run,
         trace::run,
