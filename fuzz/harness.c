@@ -1,5 +1,5 @@
 /* libFuzzer's entry. The first byte of an input says what the rest is:
- *   T  an input of the trace program: a text, a line `#`, rows of decimals
+ *   T  an input of the trace program: a text, a line `#`, rows of decimals; the text is printed as Structured Text too
  *   M  the same, but what follows `#` are changes of the image: triples of bytes, a place (two) and a value
  *   C  a text, a line `#`, a line of a farm table's numbers, one of a UTC minute, one of a row
  *   L  a text, a line `#`, a line of a variable's id, the threshold and the two rates, one of minutes, one of a trace's numbers
@@ -11,6 +11,7 @@
  * A byte of lower case does the same with lent memory at the start of its pages and not at their end. */
 #include "blocks.h"
 #include "instalments.h"
+#include "printed.h"
 #include "rolvenko.h"
 #include "rounds.h"
 #include "services.h"
@@ -36,6 +37,7 @@ int LLVMFuzzerInitialize(int *argc, char ***argv) {
     snprintf(file, sizeof file, "%s.blocks", (*argv)[0]);
     services_begin();
     instalments_begin();
+    printed_begin();
     rounds_begin();
     blocks_watch(file);
     return 0;
@@ -223,12 +225,16 @@ int LLVMFuzzerTestOneInput(const uint8_t *data, size_t size) {
         return 0;
     services_side(isupper(data[0]) != 0);
     instalments_side(isupper(data[0]) != 0);
+    printed_side(isupper(data[0]) != 0);
     rounds_side(isupper(data[0]) != 0);
     size_t after, length;
     switch (toupper(data[0])) {
     case 'T':
     case 'M':
-        length = translated(data + 1, before_mark(data + 1, size - 1, &after));
+        length = before_mark(data + 1, size - 1, &after);
+        if (toupper(data[0]) == 'T')
+            printed(data + 1, length);
+        length = translated(data + 1, length);
         if (length > 0)
             profiled(length);
         if (length > 0 && toupper(data[0]) == 'T')
