@@ -29,6 +29,7 @@ pub fn about(text: &[u8], refusal: Refusal) -> Told {
         5 => "its rule does not stand before this one".to_owned(),
         6 => rule(text, place, spelled),
         8 => limit(spelled),
+        21 => format!("{} is a word of Structured Text", String::from_utf8_lossy(spelled).to_ascii_uppercase()),
         _ => String::new(),
     };
     told.notes.push(advice(refusal.number).to_owned());

@@ -20,6 +20,7 @@ mod refused_row;
 mod replay;
 mod show;
 mod source;
+mod st;
 mod stop;
 mod table;
 mod text;
@@ -46,7 +47,7 @@ Exit status: 0 fine; 1 a text, image, row or charge is refused; 2 wrong usage, o
   rolvenko trace rules.txt rows.txt        what do they do, row by row?
   rolvenko trace rules.txt rows.txt --vcd rows.vcd && gtkwave rows.vcd";
 
-/// Launch rules: translate, check, show, trace, replay, bill.
+/// Launch rules: translate, check, show, print, trace, replay, bill.
 #[derive(Parser)]
 #[command(name = "rolvenko", version, after_help = HINTS)]
 struct Tool {
@@ -72,6 +73,13 @@ enum Command {
     Show {
         #[command(flatten)]
         file: Either,
+    },
+    /// Print rules as Structured Text (IEC 61131-3)
+    St {
+        rules: PathBuf,
+        /// where it goes; standard output by default
+        #[arg(short, value_name = "FILE")]
+        output: Option<PathBuf>,
     },
     /// Print the state after each row
     Trace {
@@ -200,6 +208,7 @@ fn run(command: Command) -> Result<(), Stop> {
         Command::Translate { rules, output } => translate(&rules, output.as_deref()),
         Command::Check { file } => show::check(&file.file, file.taken()),
         Command::Show { file } => show::show(&file.file, file.taken()),
+        Command::St { rules, output } => st::st(&rules, output.as_deref()),
         Command::Trace { run, csv, vcd } => {
             let form = vcd.map_or(if csv { Form::Csv } else { Form::Plain }, Form::Vcd);
             trace::trace(run.job()?, form)

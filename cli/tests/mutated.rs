@@ -58,7 +58,7 @@ fn refused_as_the_archive_answers_and_never_otherwise() {
     for run in 0..RUNS {
         let path = &stored[numbers.below(stored.len())];
         let bytes = mutated(&mut numbers, &fs::read(path).unwrap());
-        let command = ["trace", "replay", "check", "closed", "show", "translate"][run % 6];
+        let command = ["trace", "replay", "check", "closed", "show", "translate", "st"][run % 7];
         let o = if matches!(command, "check" | "show") { fed(&[command, "--rules", "-"], &bytes) } else { fed(&[command, "-"], &bytes) };
         let said = told(&o);
         let case = || format!("{command} {:?}\n{said}", String::from_utf8_lossy(&bytes));

@@ -25,6 +25,28 @@ fn translates_into_the_image_that_the_service_writes() {
 }
 
 #[test]
+fn prints_the_structured_text_that_the_service_writes() {
+    let wanted = fs::read_to_string("../examples/launch_latch.st").unwrap();
+    assert_eq!(out(&tool(&["st", LATCH])), wanted);
+    let file = file("latch.st", b"");
+    let printed = tool(&["st", LATCH, "-o", word(&file)]);
+    assert_eq!((status(&printed), out(&printed).as_str()), (0, ""));
+    assert_eq!(fs::read_to_string(&file).unwrap(), wanted);
+    let empty = fed(&["st", "-"], b"\n#\n");
+    assert_eq!((status(&empty), out(&empty).as_str()), (0, ""));
+    let over = tool(&["st", LATCH, "-o", LATCH]);
+    assert!(status(&over) == 2 && told(&over).contains("it would be written over"));
+}
+
+#[test]
+fn a_word_of_structured_text_is_told() {
+    let refused = fed(&["st", "-"], b"input go 0..1;\nvar Then 0..1;\nthen: GX(then = (go));\n");
+    assert_eq!((status(&refused), out(&refused).as_str()), (1, ""));
+    let said = told(&refused);
+    assert!(said.starts_with("-:2:5: refused 21: ") && said.contains("^^^^ THEN is a word of Structured Text"), "{said}");
+}
+
+#[test]
 fn traces_as_document_01_prints() {
     let mut compared = 0;
     for entry in ["../rulebooks", "../examples"].iter().flat_map(|folder| fs::read_dir(folder).unwrap()) {
@@ -133,18 +155,18 @@ fn rows_from_another_file_and_without_an_end_of_line() {
 
 #[test]
 fn files_that_cannot_be_read_end_with_2() {
-    for words in [&["check", "no such file"][..], &["trace", "/"], &["trace", LATCH, "/"], &["show", "/"], &["translate", LATCH, "-o", "/no/folder"], &["table", "No/Zone"]] {
+    for words in [&["check", "no such file"][..], &["st", "no such file"], &["st", LATCH, "-o", "/no/folder"], &["trace", "/"], &["trace", LATCH, "/"], &["show", "/"], &["translate", LATCH, "-o", "/no/folder"], &["table", "No/Zone"]] {
         let answer = tool(words);
         assert_eq!((status(&answer), told(&answer).starts_with("rolvenko: ")), (2, true), "{words:?}");
     }
-    for words in [&[][..], &["fly"], &["trace"], &["trace", LATCH, "--csv", "--vcd", "x"], &["charge", LATCH]] {
+    for words in [&[][..], &["fly"], &["trace"], &["st"], &["trace", LATCH, "--csv", "--vcd", "x"], &["charge", LATCH]] {
         assert_eq!(status(&tool(words)), 2, "{words:?}");
     }
 }
 
 #[test]
 fn endless_files_are_over_their_limit() {
-    for words in [["check", "/dev/zero"], ["trace", "/dev/zero"], ["translate", "/dev/zero"]] {
+    for words in [["check", "/dev/zero"], ["trace", "/dev/zero"], ["translate", "/dev/zero"], ["st", "/dev/zero"]] {
         let answer = tool(&words);
         assert!(told(&answer).contains("refused 9") && status(&answer) == 1, "{words:?} {}", told(&answer));
     }
