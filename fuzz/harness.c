@@ -7,11 +7,13 @@
  *   P  a text, a line `#`, then a length, calls, and the memory of a paused scan
  *   R  a text, a line `#`, then events of a controller with several sets of these rules (rounds.c)
  *   Q  a text, a line `#`, then lengths, the table of a round, and the memory of paused scans
+ *   A  as T, all rows in one call (replay.c)
  *   I  a count k, k bytes that stand for numbers of states and rows, then an image
  * A byte of lower case does the same with lent memory at the start of its pages and not at their end. */
 #include "blocks.h"
 #include "instalments.h"
 #include "printed.h"
+#include "replay.h"
 #include "rolvenko.h"
 #include "rounds.h"
 #include "services.h"
@@ -220,6 +222,20 @@ static void charged(const uint8_t *text, size_t length, const uint8_t *at, const
     charge(image, image_len, bill);
 }
 
+/* The rows in one call, with room for the whole trace, and with the bytes' count as room. */
+static void replayed(const uint8_t *text, size_t length, const uint8_t *at, const uint8_t *end) {
+    static int32_t cells[ROWS_MOST * CELLS_MOST];
+    size_t lengths[ROWS_MOST], used = 0, bytes = (size_t)(end - at), image_len = translated(text, length);
+    struct rows rows = {cells, lengths, 0};
+    if (image_len == 0)
+        return;
+    for (; at < end && rows.count < ROWS_MOST; used += lengths[rows.count++])
+        lengths[rows.count] = next_row(&at, end, cells + used);
+    size_t most = (rows.count + 1) * ((size_t)image[0] + image[1]);
+    replay(text, length, image, image_len, rows, most);
+    replay(text, length, image, image_len, rows, bytes < most ? bytes : 0);
+}
+
 int LLVMFuzzerTestOneInput(const uint8_t *data, size_t size) {
     if (size == 0 || size > TEXT_MOST)
         return 0;
@@ -265,6 +281,10 @@ int LLVMFuzzerTestOneInput(const uint8_t *data, size_t size) {
             event_list(image, length, data + 1 + after, data + size);
         else if (length > 0)
             any_round(image, length, data + 1 + after, data + size);
+        return 0;
+    case 'A':
+        length = before_mark(data + 1, size - 1, &after);
+        replayed(data + 1, length, data + 1 + after, data + size);
         return 0;
     case 'I':
         any_image(data + 1, size - 1);

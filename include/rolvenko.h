@@ -1,5 +1,6 @@
-/* Rolvenko: launch rules translated, checked, started and scanned, also in instalments and by shares for several rule sets, printed as
- * Structured Text, rows filled with the local time, the licence charge of a trace, and whether rules can ever stop in service, as C functions.
+/* Rolvenko: launch rules translated, checked, started and scanned, also in instalments, in whole lists of rows and by shares for several
+ * rule sets, printed as Structured Text, rows filled with the local time, the licence charge of a trace, and whether rules can ever stop
+ * in service, as C functions.
  *
  * Link target/staticlib/librolvenko.a, which `rt staticlib rolvenko` writes, or what ./install puts down of it (-lrolvenko; pkg-config
  * rolvenko). It is for x86-64 Linux, needs memcpy and memset, allocates nothing and keeps nothing between calls, so calls from several
@@ -10,14 +11,14 @@
  *     number   0 for a success, else the refusal, 1 to 22 or 24 to 29; of the calls of a scan in instalments also 254 and 255
  *     place    the byte place of a refusal in the text or image; of 27 the scans before the refused one; 0 for a success and for the
  *              refusals 9, 12 to 20, 22, 24 to 26, 28 and 29
- *     count    of a success of rolvenko_translate the image's length, of rolvenko_structured_text that of the Structured Text, of
- *              rolvenko_scan, rolvenko_advance, rolvenko_finish and rolvenko_visit (refused or not) the steps; else 0
+ *     count    of a success of rolvenko_translate and rolvenko_replay the image's length, of rolvenko_structured_text that of the
+ *              Structured Text, of rolvenko_scan, rolvenko_advance, rolvenko_finish and rolvenko_visit (refused or not) the steps; else 0
  *
  * But a success of rolvenko_charge is its sum; see there.
  *
- * Memory. What is lent as const is only read. A refusal leaves all lent memory as it was, but for `paused`: a refused rolvenko_begin has taken the
- * waiting row, and the refusal of a scan that rolvenko_finish tells ends it; a rolvenko_visit may meet either. What a success writes stands at
- * each function.
+ * Memory. What is lent as const is only read. A refusal leaves all lent memory as it was, but for one of rolvenko_replay (see there) and for
+ * `paused`: a refused rolvenko_begin has taken the waiting row, and the refusal of a scan that rolvenko_finish tells ends it; a
+ * rolvenko_visit may meet either. What a success writes stands at each function.
  * Nothing outside the lengths given is touched. The caller owes what C cannot say: each pointer has its length's elements behind it,
  * numbers of more than a byte are aligned, and what is written overlaps nothing else that is lent to the same call. With a length of 0 nothing is read
  * or written: pass any pointer that is not NULL. (NULL with 0 works in the archive as compiled, and the tests try it, but the proofs
@@ -89,6 +90,22 @@ uint64_t rolvenko_start(const uint8_t *image, size_t image_len, int32_t *state, 
  *   17        a new value is outside its declared range
  */
 uint64_t rolvenko_scan(const uint8_t *image, size_t image_len, int32_t *state, size_t state_len, const int32_t *row, size_t row_len);
+
+/* A whole list of rows in one call: translates `text` into `image`, starts `state` and scans the rows in turn; the image is checked once.
+ * Row k is the next lengths[k] numbers of `cells`, as many of them as there are. A refused row leaves the state, and the next one goes on
+ * from there. Written are, each as far as there is room and with what lies behind as it was:
+ *   image     as rolvenko_translate; count is the image's length
+ *   state     the state after the last row
+ *   numbers   for each row 0, or the number of its refusal as rolvenko_scan answers it: 12 to 17 or 22
+ *   steps     for each row its steps, as rolvenko_scan counts them
+ *   trace     the states one behind the other: the start, then that after each accepted row
+ * Refusals:
+ *   9, 1 to 8, 10   as rolvenko_translate
+ *   12        state_len is not the count of names; the image stands in its buffer then, and all other memory is as it was
+ */
+uint64_t rolvenko_replay(const uint8_t *text, size_t text_len, uint8_t *image, size_t image_len, int32_t *state, size_t state_len,
+                         const int32_t *cells, size_t cells_len, const size_t *lengths, size_t rows, uint8_t *numbers, size_t numbers_len,
+                         size_t *steps, size_t steps_len, int32_t *trace, size_t trace_len);
 
 /* Fills the inputs named `day`, `minute` and `again` (in any letter case) of `row`, those of them that the text declares, with the local
  * time of a farm at the UTC minute `utc`, counted from 1 January 1970. The other numbers of the row stay. `row` has one number for each input, in declared

@@ -16,6 +16,7 @@ mod native;
 mod once;
 mod refused;
 mod rounds;
+mod rows;
 mod structured_text;
 mod timing;
 
@@ -85,6 +86,7 @@ fn tables(rounds: u32) {
     rounds::table(&inputs, rounds);
     refused::table(inputs.iter().find(|input| input.name == "lock").expect("the lock"), rounds);
     closed::table(rounds);
+    rows::table(&inputs, rounds);
 }
 
 impl<'i> Line<'i> {

@@ -1,5 +1,6 @@
 //! `replay`: translation, start and a whole list of rows, as demand 3 of document 01 speaks of them. Printed is the trace found, which is the start
-//! and the state after each accepted row, with the row's number and its steps. The archive is asked for one row after the other.
+//! and the state after each accepted row, with the row's number and its steps. The archive is asked for one row after the other: rows come one at a time, any number of them, where
+//! `rolvenko::replay` is lent all of them at once.
 
 use crate::columns::Columns;
 use crate::job::Job;

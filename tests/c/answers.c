@@ -1,25 +1,5 @@
 /* Every function of include/rolvenko.h once for each kind of answer: number, place, count, and the memory left. */
-#include "rolvenko.h"
-
-#include <stdio.h>
-#include <string.h>
-
-static int failures;
-
-static void expect(const char *what, uint64_t answer, unsigned number, uint32_t place, uint32_t count) {
-    if (answer == ((uint64_t)number << 56 | (uint64_t)place << 24 | count) && rolvenko_number(answer) == number &&
-        rolvenko_place(answer) == place && rolvenko_count(answer) == count)
-        return;
-    printf("%s: %u at %u, count %u\n", what, rolvenko_number(answer), rolvenko_place(answer), rolvenko_count(answer));
-    failures++;
-}
-
-static void same(const char *what, const void *found, const void *wanted, size_t bytes) {
-    if (memcmp(found, wanted, bytes) != 0) {
-        printf("%s: other memory\n", what);
-        failures++;
-    }
-}
+#include "expect.h"
 
 /* L2 of document 01, and its image. */
 static const char L2[] = "var v 0..1; v: GX(~(v = _v) -> [_v = 0] & v = (1)); v: GX(v = _v -> ~([_v = 0]));";

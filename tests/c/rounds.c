@@ -1,24 +1,5 @@
 /* Visits and rounds: answers, states, and what 25 leaves. */
-#include "rolvenko.h"
-
-#include <stdio.h>
-#include <string.h>
-
-static int failures;
-
-static void expect(const char *what, uint64_t answer, unsigned number, uint32_t place, uint32_t count) {
-    if (answer == ((uint64_t)number << 56 | (uint64_t)place << 24 | count))
-        return;
-    printf("%s: %u at %u, count %u\n", what, rolvenko_number(answer), rolvenko_place(answer), rolvenko_count(answer));
-    failures++;
-}
-
-static void holds(const char *what, int fact) {
-    if (!fact) {
-        printf("%s: no\n", what);
-        failures++;
-    }
-}
+#include "expect.h"
 
 /* L2 of document 01, 7 instructions; L1, none. */
 static const uint8_t IMAGES[] = {0, 1, 0, 2, 0, 3, 0, 1, 0, 10, 19, 1, 2, 20, 0, 22, 0, 0, 0, 0, 1, 0, 2, 0, 3, 0, 1, 0, 10, 19, 1, 2, 20, 0, 22, 0};

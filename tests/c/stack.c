@@ -130,6 +130,16 @@ static void hold(void) {
     held_len += sizeof code;
 }
 
+static void *replay(void *p) {
+    static uint8_t buffer[ROLVENKO_IMAGE_ROOM], numbers[2];
+    static size_t lengths[2], steps[2];
+    static int32_t cells[2 * 63], found[64], states[3 * 64];
+    lengths[0] = lengths[1] = names - 1;
+    answer = rolvenko_replay(text, text_len, buffer, sizeof buffer, found, names, cells, 2 * (names - 1), lengths, 2, numbers, 2, steps, 2,
+                             states, 3 * names);
+    return p;
+}
+
 /* Bytes of the thread's stack that were written. */
 static size_t used(void *(*call)(void *)) {
     uint8_t *stack = aligned_alloc(4096, STACK);
@@ -180,7 +190,7 @@ static void lengthen(size_t length) {
     text_len = length;
 }
 
-enum { TRANSLATE, STRUCTURED_TEXT, CHECK, START, SCAN, CLOCK, CHARGE, CLOSED, COMBINATION, POST, BEGIN, ADVANCE, FINISH, VISIT, ROUND, SERVICES };
+enum { TRANSLATE, STRUCTURED_TEXT, CHECK, START, SCAN, REPLAY, CLOCK, CHARGE, CLOSED, COMBINATION, POST, BEGIN, ADVANCE, FINISH, VISIT, ROUND, SERVICES };
 
 static const struct {
     const char *name;
@@ -188,9 +198,9 @@ static const struct {
 } services[SERVICES] = {
     {"translate", translate}, {"structured_text", structured_text},
     {"check", check},         {"start", start},
-    {"scan", scan},           {"clock", local_hour},
-    {"charge", charge},       {"closed", profile},
-    {"combination", combination},
+    {"scan", scan},           {"replay", replay},
+    {"clock", local_hour},    {"charge", charge},
+    {"closed", profile},      {"combination", combination},
     {"post", post},           {"begin", begin},
     {"advance", advance},     {"finish", finish},
     {"visit", visit},         {"round", eight},

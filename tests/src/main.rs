@@ -2,9 +2,9 @@
 //!
 //!     rolvenko-tests [--seed N] [--seconds S] [--least N] [--program PATH] [SERVICE ..]
 //!
-//! Services: translate, structured_text (and scans against it), check, scan (and start), trace (lists of rows), clock, charge, closed (and
-//! combination), instalments, rounds, and program, a trace program at PATH; all by default, S seconds and at least N calls each. Prints
-//! how often each answer was met. A difference is shrunk to a small input and printed, and the exit status is 1.
+//! Services: translate, structured_text (and scans against it), check, scan (and start), trace (lists of rows), replay (the same in one
+//! call), clock, charge, closed (and combination), instalments, rounds, and program, a trace program at PATH; all by default, S seconds and
+//! at least N calls each. Prints how often each answer was met. A difference is shrunk to a small input and printed, and the exit status is 1.
 
 mod charge;
 mod check;
@@ -13,6 +13,7 @@ mod closed;
 mod compare;
 mod instalments;
 mod program;
+mod replay;
 mod rounds;
 mod scan;
 mod shrink;
@@ -35,12 +36,13 @@ fn main() -> ExitCode {
             return ExitCode::from(2);
         }
     };
-    let runs: [Run; 11] = [
+    let runs: [Run; 12] = [
         translate::run,
         structured_text::run,
         check::run,
         scan::run,
         trace::run,
+        replay::run,
         clock::run,
         charge::run,
         closed::run,

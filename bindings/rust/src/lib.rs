@@ -2,9 +2,11 @@
 //! (include/rolvenko.h), whose contract is proved for every input, so nothing is asked of the caller.
 
 pub mod instalments;
+mod replay;
 pub mod rounds;
 
 pub use instalments::{Paused, Response};
+pub use replay::{replay, Records};
 
 use std::error::Error;
 use std::fmt::{self, Display, Formatter};

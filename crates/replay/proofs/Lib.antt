@@ -1,3 +1,4 @@
+pub mod Starts
 pub mod Scans
 pub mod Recorded
 pub mod Showing

@@ -1,50 +1,31 @@
 -- A replay that was not refused shows demand 3 of what stands in memory. Assumes nothing.
 use Prim.Native.Nat.{ℕ, _+_, _≤_}
 use mathlib.Core.Path.{_≡_, refl, sym, ap, _∙_, subst}
-use mathlib.Core.Bool.{Bool, true, false, cond}
 use mathlib.Core.List.{List, [], map}
 use native.Mathlib.Omega.{arith}
-use lib.Dec.{eqb}
 use lib.IntN.{ℤ, pos}
 use lib.ListN.{length, take, drop, length-map}
 use lib.Seq.{sets, sets-eq, take-append-seam, length-sets}
-use borrow.Author.Tests.{eqb-true}
 use Rattle.limits.specs.Answer.{Answer, accepted, refused}
 use Rattle.semantics.specs.Program.{Program, Range}
 use Rattle.semantics.specs.Formula.{State}
-use Rattle.semantics.specs.Shape.{shapeOf, cells as stateRanges, stateLength, startingState}
-use Rattle.bytecode.specs.Check.{checkOf}
-use Rattle.bytecode.specs.Parts.{shapeIn}
+use Rattle.semantics.specs.Shape.{shapeOf, cells as stateRanges, stateLength}
 use Rattle.grammar.specs.Parse.{programOf}
 use Rattle.translate.specs.Services.{AfterTranslation, translationOf}
-use Rattle.scan.specs.Services.{AfterStart, started, startOf, scansOf}
+use Rattle.scan.specs.Services.{AfterStart, startOf, scansOf}
 use Rattle.correctness.specs.TraceCorrect.{TraceCorrect}
 use Rattle.correctness.proofs.Correct.{trace-correct}
 use Rattle.replay.specs.declared.Replayed.{Replayed}
 use Rattle.replay.specs.declared.Replayed.the-variants as R
 use Rattle.replay.specs.Replay.{rowsOf, Lent, AfterReplay, recorded, replayRows, withImage, replayImage, replayOf, StandIn, Shown}
 use Rattle.replay.specs.Results.{afterReplay, ShownBy}
+use Rattle.replay.proofs.Starts.{start-sized}
 
 -- what is stored at the front stands there
 stand : {A : Type 0} (l values left : List A) → left ≡ sets l 0 values → StandIn left values
 stand l values left e h =
     let k : length values ≤ length l = omega (arith, ap length e, length-sets l 0 values) in
     rw (e, sets-eq values l 0 (omega arith)) (take-append-seam values (drop (0 + length values) l))
-
--- a start is accepted for a state of one length only
-start-sized : (image : List ℕ) (s : State) → startOf image s .answer ≡ accepted tt → length s ≡ stateLength (shapeIn image)
-unfolding startOf
-start-sized image s = go (checkOf image)
-  where
-    by : (t : Bool) → (t ≡ true → length s ≡ stateLength (shapeIn image))
-        → cond {A = AfterStart} t (record { answer = accepted tt; state = startingState (shapeIn image) }) (record { answer = refused 12 0; state = s }) .answer ≡ accepted tt
-        → length s ≡ stateLength (shapeIn image)
-    by true y e = y refl
-    by false y e = let z : _≡_ {A = ℕ} 0 1 = cc in let f : ⊥ = omega arith in absurd f
-
-    go : (a : Answer (Unit {0})) → started a (shapeIn image) s .answer ≡ accepted tt → length s ≡ stateLength (shapeIn image)
-    go (refused k at) e = let z : _≡_ {A = ℕ} 0 1 = cc in let f : ⊥ = omega arith in absurd f
-    go (accepted u) e = by (eqb (length s) (stateLength (shapeIn image))) (eqb-true (length s) (stateLength (shapeIn image))) e
 
 module _ (text : List ℕ) (cells : List ℤ) (lengths : List ℕ) (m : Lent) where
   -- translation and start answered no refusal
@@ -94,8 +75,8 @@ module _ (text : List ℕ) (cells : List ℤ) (lengths : List ℕ) (m : Lent) wh
       let q : d .program ≡ p = cc (d .parsed) in
       let o : length other ≡ stateLength (shapeOf p) = length-map (stateRanges (shapeOf p)) (λ (x : Range). pos 0) in
       let c = d .correct (rw q o) in
-      let e = start-sized _ other (ap {A = AfterStart} (λ r. r .answer) (c .started)) in
-      start-sized (take n buffer) (m .state) b ∙ sym (rw t at e) ∙ o
+      let e = start-sized _ other (ap {A = AfterStart} (λ r. r .answer) (c .started)) .1 in
+      start-sized (take n buffer) (m .state) b .1 ∙ sym (rw t at e) ∙ o
 
   shown : (left : Lent) (n : ℕ) → Ran left n → Shown text cells lengths m left n
   shown left n r =

@@ -104,3 +104,8 @@ pub record Shown (text : List ℕ) (cells : List ℤ) (lengths : List ℕ) (befo
   pub sized : length (before .state) ≡ stateLength (shapeOf program)
   pub correct : TraceCorrect program (take n (after .image)) (before .state) (rowsOf cells lengths)
   pub stands : Standing (take n (after .image)) (before .state) (rowsOf cells lengths) after
+
+-- by the answer: a refusal shows nothing
+abbrev pub ShownIf : Answer ℕ → List ℕ → List ℤ → List ℕ → Lent → Lent → Type 0
+ShownIf (accepted n) text cells lengths before after = Shown text cells lengths before after n
+ShownIf (refused number place) text cells lengths before after = Unit {0}

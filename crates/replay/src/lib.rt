@@ -1,17 +1,18 @@
 // Translation, start and a list of rows in one call, with records of each scan.
+use bytecode::Headed;
 use machine::lists;
 use scan::Scanned;
 use scan::Started;
 use translate::Translated;
 ghost use mathlib.Core.Path.{_≡_};
 ghost use mathlib.Core.List.{List};
-ghost use Prim.Native.Nat.{ℕ, _+_, _≤_, min};
+ghost use Prim.Native.Nat.{ℕ, _≤_};
 ghost use lib.ListN.{length, set};
-ghost use lib.Seq.{sets};
 ghost use Rattle.scan.specs.Services.{startOf};
+ghost use Rattle.scan.specs.Inner.Parts.{Scratch};
 ghost use Rattle.replay.specs.Replay.{rowsOf, replayRows, replayOf};
-ghost use Rattle.replay.specs.Results.{lent, afterReplay, ShownBy};
-ghost use Rattle.replay.specs.Inner.Records.{records, scanRows, RecordWithin, RowScanned};
+ghost use Rattle.replay.specs.Results.{lent, afterReplay, ShownBy, ReplayedWithin};
+ghost use Rattle.replay.specs.Inner.Records.{records, scanRows, KnownBy, StartedImage, RecordWithin, RowScanned};
 
 // The image's length; or the number and place of the refusal of translation or start.
 pub enum Replayed {
@@ -44,9 +45,15 @@ fn store_steps(steps: &mut [usize], i: usize, n: usize)
     }
 }
 
-// The scan of the next row, with its records: number and steps at the row's place, the state of an accepted one behind the trace.
+// The scan of the next row of an image known to be sound, whose code begins at `base`, with its records: number and steps at the row's place,
+// the state of an accepted one behind the trace.
 fn scan_row(
     image: &[u8],
+    base: usize,
+    inputs: usize,
+    low: &[i32],
+    high: &[i32],
+    work: &mut [i32],
     state: &mut [i32],
     cells: &[i32],
     lengths: &[usize],
@@ -56,6 +63,7 @@ fn scan_row(
     trace: &mut [i32],
 ) -> Cursor
     requires { ⌜ RecordWithin cursor (now cells) (now lengths) (now trace) ⌝ }
+    requires { ⌜ KnownBy (now image) base inputs (now low) (now high) (now work) (now state) ⌝ }
     ensures { λ r. ⌜ RowScanned (now (image .entry)) (now (cells .entry)) (now (lengths .entry)) cursor r
         (records (now (state .entry)) (now (numbers .entry)) (now (steps .entry)) (now (trace .entry)) (cursor .place))
         (records (now (state .exit)) (now (numbers .exit)) (now (steps .exit)) (now (trace .exit)) (r .place)) ⌝ }
@@ -65,7 +73,16 @@ fn scan_row(
     let place = cursor.place;
     let end = lists::behind(cell, lengths[row], cells.len());
     let next = row + 1;
-    let scanned = scan::scan(image, state, &cells[cell..end]);
+    let scanned = scan::scan_known(
+        image,
+        base,
+        inputs,
+        state,
+        &cells[cell..end],
+        low,
+        high,
+        work,
+    );
     match scanned {
         Scanned::Done(n) => {
             store_number(numbers, row, 0);
@@ -92,6 +109,11 @@ fn scan_row(
 // The rows that cells and lengths spell, each scanned on the state that the scan before left. The place behind the trace.
 fn scan_rows(
     image: &[u8],
+    base: usize,
+    inputs: usize,
+    low: &[i32],
+    high: &[i32],
+    work: &mut [i32],
     state: &mut [i32],
     cells: &[i32],
     lengths: &[usize],
@@ -101,6 +123,7 @@ fn scan_rows(
     trace: &mut [i32],
 ) -> usize
     requires { ⌜ at ≤ length (now trace) ⌝ }
+    requires { ⌜ KnownBy (now image) base inputs (now low) (now high) (now work) (now state) ⌝ }
     ensures { λ r. ⌜ records (now (state .exit)) (now (numbers .exit)) (now (steps .exit)) (now (trace .exit)) r
         ≡ scanRows (now (image .entry)) 0 (rowsOf (now (cells .entry)) (now (lengths .entry)))
         (records (now (state .entry)) (now (numbers .entry)) (now (steps .entry)) (now (trace .entry)) at) ⌝ }
@@ -111,9 +134,99 @@ fn scan_rows(
         place: at,
     };
     while cursor.row < lengths.len() {
-        cursor = scan_row(image, state, cells, lengths, cursor, numbers, steps, trace);
+        cursor = scan_row(
+            image,
+            base,
+            inputs,
+            low,
+            high,
+            work,
+            state,
+            cells,
+            lengths,
+            cursor,
+            numbers,
+            steps,
+            trace,
+        );
     }
     cursor.place
+}
+
+// The header of an image that was started, read once for all rows; then the rows.
+fn scan_started(
+    image: &[u8],
+    state: &mut [i32],
+    cells: &[i32],
+    lengths: &[usize],
+    at: usize,
+    numbers: &mut [u8],
+    steps: &mut [usize],
+    trace: &mut [i32],
+    low: &mut [i32],
+    high: &mut [i32],
+    work: &mut [i32],
+) -> usize
+    requires { ⌜ at ≤ length (now trace) ⌝ }
+    requires { ⌜ StartedImage (now image) (now state) ⌝ }
+    requires { ⌜ Scratch (now state) (now low) (now high) (now work) ⌝ }
+    ensures { λ r. ⌜ records (now (state .exit)) (now (numbers .exit)) (now (steps .exit)) (now (trace .exit)) r
+        ≡ scanRows (now (image .entry)) 0 (rowsOf (now (cells .entry)) (now (lengths .entry)))
+        (records (now (state .entry)) (now (numbers .entry)) (now (steps .entry)) (now (trace .entry)) at) ⌝ }
+{
+    let Headed::Header(inputs, names, base) = bytecode::header(image, low, high, work) else {
+        return at;
+    };
+    scan_rows(
+        image,
+        base,
+        inputs,
+        &low[..names],
+        &high[..names],
+        &mut work[..names],
+        state,
+        cells,
+        lengths,
+        at,
+        numbers,
+        steps,
+        trace,
+    )
+}
+
+// The same, with memory of its own for the ranges and the current values.
+fn scan_all(
+    image: &[u8],
+    state: &mut [i32],
+    cells: &[i32],
+    lengths: &[usize],
+    at: usize,
+    numbers: &mut [u8],
+    steps: &mut [usize],
+    trace: &mut [i32],
+) -> usize
+    requires { ⌜ at ≤ length (now trace) ⌝ }
+    requires { ⌜ StartedImage (now image) (now state) ⌝ }
+    ensures { λ r. ⌜ records (now (state .exit)) (now (numbers .exit)) (now (steps .exit)) (now (trace .exit)) r
+        ≡ scanRows (now (image .entry)) 0 (rowsOf (now (cells .entry)) (now (lengths .entry)))
+        (records (now (state .entry)) (now (numbers .entry)) (now (steps .entry)) (now (trace .entry)) at) ⌝ }
+{
+    let mut low = [0i32; limits::NAME_LIMIT];
+    let mut high = [0i32; limits::NAME_LIMIT];
+    let mut work = [0i32; limits::NAME_LIMIT];
+    scan_started(
+        image,
+        state,
+        cells,
+        lengths,
+        at,
+        numbers,
+        steps,
+        trace,
+        &mut low,
+        &mut high,
+        &mut work,
+    )
 }
 
 // A whole image: start, then the rows.
@@ -129,13 +242,14 @@ fn replay_image(
     ensures { λ r. ⌜ ((buffer : List ℕ) → afterReplay r (lent buffer (now (state .exit)) (now (numbers .exit)) (now (steps .exit)) (now (trace .exit)))
         ≡ replayRows (startOf (now (image .entry)) (now (state .entry))) (length (now (image .entry))) (now (image .entry)) (rowsOf (now (cells .entry)) (now (lengths .entry)))
         (lent buffer (now (state .entry)) (now (numbers .entry)) (now (steps .entry)) (now (trace .entry)))) ⌝ }
+    ensures { λ r. ⌜ ReplayedWithin r ⌝ }
 {
     let started = scan::start(image, state);
     match started {
         Started::Refused(number, place) => Replayed::Refused(number, place),
         Started::Done => {
             let at = lists::store(trace, 0, state);
-            scan_rows(image, state, cells, lengths, at, numbers, steps, trace);
+            scan_all(image, state, cells, lengths, at, numbers, steps, trace);
             Replayed::Done(image.len())
         }
     }
@@ -157,6 +271,7 @@ pub fn replay(
     ensures { λ r. ⌜ ShownBy r (now (text .entry)) (now (cells .entry)) (now (lengths .entry))
         (lent (now (image .entry)) (now (state .entry)) (now (numbers .entry)) (now (steps .entry)) (now (trace .entry)))
         (lent (now (image .exit)) (now (state .exit)) (now (numbers .exit)) (now (steps .exit)) (now (trace .exit))) ⌝ }
+    ensures { λ r. ⌜ ReplayedWithin r ⌝ }
 {
     let translated = translate::translate(text, image);
     match translated {

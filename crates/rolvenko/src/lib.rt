@@ -2,6 +2,8 @@
 ghost use mathlib.Core.Path.{_≡_};
 ghost use Rattle.bytecode.specs.Check.{checkOf};
 ghost use Rattle.scan.specs.Services.{startOf, scanOf};
+ghost use Rattle.replay.specs.Replay.{replayOf, ShownIf};
+ghost use Rattle.replay.specs.Results.{lent};
 ghost use Rattle.clock.specs.Services.{fillOf};
 ghost use Rattle.charge.specs.Charge.{chargeOf};
 ghost use Rattle.closed.specs.Closed.{closedOf, combinationOf};
@@ -53,6 +55,34 @@ pub extern "C" fn rolvenko_scan(image: &[u8], state: &mut [i32], row: &[i32]) ->
     match scan::scan(image, state, row) {
         scan::Scanned::Done(steps) => paused::pack(0, 0, steps as u64),
         scan::Scanned::Refused(number, place, steps) => paused::pack(number, place, steps as u64),
+    }
+}
+
+#[no_mangle]
+pub extern "C" fn rolvenko_replay(
+    text: &[u8],
+    image: &mut [u8],
+    state: &mut [i32],
+    cells: &[i32],
+    lengths: &[usize],
+    numbers: &mut [u8],
+    steps: &mut [usize],
+    trace: &mut [i32],
+) -> u64
+    ensures { λ r. ⌜ r ≡ packedTranslation (replayOf (now (text .entry)) (now (cells .entry)) (now (lengths .entry))
+        (lent (now (image .entry)) (now (state .entry)) (now (numbers .entry)) (now (steps .entry)) (now (trace .entry))) .answer) ⌝ }
+    ensures { λ r. ⌜ lent (now (image .exit)) (now (state .exit)) (now (numbers .exit)) (now (steps .exit)) (now (trace .exit))
+        ≡ replayOf (now (text .entry)) (now (cells .entry)) (now (lengths .entry))
+        (lent (now (image .entry)) (now (state .entry)) (now (numbers .entry)) (now (steps .entry)) (now (trace .entry))) .left ⌝ }
+    ensures { λ r. ⌜ ShownIf (replayOf (now (text .entry)) (now (cells .entry)) (now (lengths .entry))
+        (lent (now (image .entry)) (now (state .entry)) (now (numbers .entry)) (now (steps .entry)) (now (trace .entry))) .answer)
+        (now (text .entry)) (now (cells .entry)) (now (lengths .entry))
+        (lent (now (image .entry)) (now (state .entry)) (now (numbers .entry)) (now (steps .entry)) (now (trace .entry)))
+        (lent (now (image .exit)) (now (state .exit)) (now (numbers .exit)) (now (steps .exit)) (now (trace .exit))) ⌝ }
+{
+    match replay::replay(text, image, state, cells, lengths, numbers, steps, trace) {
+        replay::Replayed::Done(length) => paused::pack(0, 0, length as u64),
+        replay::Replayed::Refused(number, place) => paused::pack(number, place, 0),
     }
 }
 

@@ -7,33 +7,26 @@ use borrow.Author.Needs.{needs}
 use Rattle.replay.proofs.scan_row.Statement.{statement}
 use Rattle.replay.proofs.scan_row.Tie as tie
 
+scan-known-requires : tie.Need-scan-known-requires
+scan-known-requires c κs = (c .before .before .before .before .before .before .before .before .before .pre .1 .image-known, c .before .before .before .before .before .before .before .before .before .pre .1 .copies)
+
 returns : tie.Need-returns
 returns c =
-    let at-store-steps = c .before .before .before .before .before .before in
-    let at-store-number = at-store-steps .before .before .before .before in
-    let at-scanned = at-store-number .before .before .before in
-    let at-scan = at-scanned .before .before .before in
-    let at-behind = at-scan .before .before .before in
-    let start = at-behind .before .before .before .before .before .before in
-    let a = start .args in
-    row-done _ (a .cells .now) (a .lengths .now) (a .cursor) (at-behind .behind .result) _ _ _ _ _ _ _ (at-behind .behind .ensures) _ _ _
-    (ap (λ (r : Scanned). afterScan r (at-scan .scan .last .1 .0)) (sym (at-scanned .scanned .given .1)) ∙ at-scan .scan .ensures .0) (at-store-number .store-number .ensures) (at-store-steps .store-steps .ensures) (c .before .store .ensures .1) (c .before .store .ensures .0)
+    let a = c .before .before .before .before .before .before .before .before .before .before .before .before .before .before .before .before .before .before .before .before .before .before .before .before .before .before .before .args in
+    row-done _ (a .cells .now) (a .lengths .now) (a .cursor) (c .before .before .before .before .before .before .before .before .before .before .before .before .before .before .before .before .before .before .before .before .before .behind .result) _ _ _ _ _ _ _ (c .before .before .before .before .before .before .before .before .before .before .before .before .before .before .before .before .before .before .before .before .before .behind .ensures) _ _ _
+    (ap (λ (r : Scanned). afterScan r (c .before .before .before .before .before .before .before .before .before .before .before .before .before .before .before .before .before .scan-known .last .1 .1 .1 .0)) (sym (c .before .before .before .before .before .before .before .before .before .before .before .before .before .scanned .given .1)) ∙ c .before .before .before .before .before .before .before .before .before .before .before .before .before .before .before .before .before .scan-known .ensures .0) (c .before .before .before .before .before .before .before .before .before .before .store-number .ensures) (c .before .before .before .before .before .before .store-steps .ensures) (c .before .store .ensures .1) (c .before .store .ensures .0)
 
 returns-2 : tie.Need-returns-2
 returns-2 c =
-    let at-store-number2 = c .before .before .before .before .before .before in
-    let at-scanned2 = at-store-number2 .before .before .before in
-    let at-scan = at-scanned2 .before .before .before in
-    let at-behind = at-scan .before .before .before in
-    let start = at-behind .before .before .before .before .before .before in
-    let a = start .args in
-    row-refused _ (a .cells .now) (a .lengths .now) (a .cursor) (at-behind .behind .result) _ _ _ _ _ _ _ (at-behind .behind .ensures) _ _ _
-    (ap (λ (r : Scanned). afterScan r (at-scan .scan .last .1 .0)) (sym (at-scanned2 .scanned2 .given .1)) ∙ at-scan .scan .ensures .0) (at-store-number2 .store-number2 .ensures) (c .before .before .store-steps2 .ensures) (start .pre .place)
+    let a = c .before .before .before .before .before .before .before .before .before .before .before .before .before .before .before .before .before .before .before .before .before .before .before .args in
+    row-refused _ (a .cells .now) (a .lengths .now) (a .cursor) (c .before .before .before .before .before .before .before .before .before .before .before .before .before .before .before .before .before .behind .result) _ _ _ _ _ _ _ (c .before .before .before .before .before .before .before .before .before .before .before .before .before .before .before .before .before .behind .ensures) _ _ _
+    (ap (λ (r : Scanned). afterScan r (c .before .before .before .before .before .before .before .before .before .before .before .before .before .scan-known .last .1 .1 .1 .0)) (sym (c .before .before .before .before .before .before .before .before .before .scanned2 .given .1)) ∙ c .before .before .before .before .before .before .before .before .before .before .before .before .before .scan-known .ensures .0) (c .before .before .before .before .before .before .store-number2 .ensures) (c .before .before .store-steps2 .ensures) (c .before .before .before .before .before .before .before .before .before .before .before .before .before .before .before .before .before .before .before .before .before .before .before .pre .0 .place)
 
 pub scan-row-spec : {M : Type 1} → statement M
 scan-row-spec =
     tie.close
     (tie.spec (λ c. search needs) (λ c. search needs) (λ c κs. search needs) (λ c. search needs) (λ c. search needs) (λ c. search needs)
-    (λ c. search needs) (λ c. search needs) (λ c κs. search needs) (λ c. search needs) (λ c κs. search needs) (λ c κs. search needs)
+    (λ c. search needs) (λ c. search needs) scan-known-requires (λ c. search needs) (λ c κs. search needs) (λ c κs. search needs)
     (λ c κs. search needs) (λ c. search needs) (λ c κs. search needs) (λ c κs. search needs) (λ c. search needs) (λ c. search needs)
-    (λ c. search needs) (λ c. search needs) returns (λ c. search needs) (λ c. search needs) (λ c. search needs) returns-2)
+    (λ c. search needs) (λ c. search needs) (λ c. search needs) returns (λ c. search needs) (λ c. search needs) (λ c. search needs)
+    (λ c. search needs) returns-2)

@@ -6,37 +6,35 @@ use lib.ListN.{length}
 use borrow.Author.Needs.{needs}
 use Rattle.replay.specs.Inner.Records.{records}
 use Rattle.replay.proofs.Scans.{Scanning, scanning-goes, scanning-ends}
+use Rattle.replay.proofs.Starts.{known-kept}
 use Rattle.replay.proofs.scan_rows.Statement.{statement}
 use Rattle.replay.proofs.scan_rows.Tie as tie
 
 abbrev Inv-loop : tie.InvT-loop
-Inv-loop image state₀ cells lengths at numbers₀ steps₀ trace₀ c₀ state numbers steps trace cursor =
+Inv-loop image base inputs low high work₀ state₀ cells lengths at numbers₀ steps₀ trace₀ c₀ work state numbers steps trace cursor =
     Scanning image cells lengths (records state₀ numbers₀ steps₀ trace₀ at) cursor (records state numbers steps trace (cursor .place))
-    × (length state ≡ length state₀) × (length numbers ≡ length numbers₀) × (length steps ≡ length steps₀) × (length trace ≡ length trace₀)
+    × (length state ≡ length state₀) × (length numbers ≡ length numbers₀) × (length steps ≡ length steps₀) × (length trace ≡ length trace₀) × (length work ≡ length work₀)
 
 abbrev μ-loop : tie.MeasureT-loop
-μ-loop image state₀ cells lengths at numbers₀ steps₀ trace₀ c₀ state numbers steps trace cursor =
+μ-loop image base inputs low high work₀ state₀ cells lengths at numbers₀ steps₀ trace₀ c₀ work state numbers steps trace cursor =
     length lengths - cursor .row
 
 loop-holds : tie.Need-loop-holds Inv-loop μ-loop
-loop-holds c = (record { inside = omega arith; room = (c .before .before .before .before .pre); so = refl }, refl, refl, refl, refl)
+loop-holds c = (record { inside = omega arith; room = c .before .before .before .before .pre .0; so = refl }, refl, refl, refl, refl, refl)
 
 scan-row-requires : tie.Need-scan-row-requires Inv-loop μ-loop
 scan-row-requires c κs =
-    let v = c .before .before .before .before .before .before .loop .inv .0 in
-    record { row = c .before .before .before .before .if1 .taken; cell = v .inside; place = v .room }
+    let v = c .before .before .before .before .before .before .before .loop .inv in
+    (record { row = c .before .before .before .before .before .if1 .taken; cell = v .0 .inside; place = v .0 .room }, known-kept (c .before .before .before .before .before .before .before .before .before .before .before .before .pre .1) _ _ (v .5) (v .1))
 
 loop-less : tie.Need-loop-less Inv-loop μ-loop
-loop-less c = omega (arith, c .before .before .before .before .before .before .scan-row .ensures .row)
+loop-less c = omega (arith, c .before .before .before .before .before .before .before .scan-row .ensures .row)
 
 loop-again : tie.Need-loop-again Inv-loop μ-loop
 loop-again c =
-    let at-scan-row = c .before .before .before .before .before .before in
-    let at-if1 = at-scan-row .before .before .before .before .before in
-    let at-loop = at-if1 .before .before in
-    let v = at-loop .loop .inv in
-    let r = at-scan-row .scan-row in
-    (scanning-goes (v .0) (r .result) _ (at-if1 .if1 .taken) (r .ensures), r .kept .1 .0 ∙ v .1, r .kept .1 .1 .1 .1 .1 .0 ∙ v .2, r .kept .1 .1 .1 .1 .1 .1 .0 ∙ v .3, r .kept .1 .1 .1 .1 .1 .1 .1 .0 ∙ v .4)
+    let v = c .before .before .before .before .before .before .before .before .before .before .before .before .before .before .before .loop .inv in
+    let r = c .before .before .before .before .before .before .before .scan-row in
+    (scanning-goes (v .0) (r .result) _ (c .before .before .before .before .before .before .before .before .before .before .before .before .before .if1 .taken) (r .ensures), r .kept .1 .1 .1 .1 .1 .1 .0 ∙ v .1, r .kept .1 .1 .1 .1 .1 .1 .1 .1 .1 .1 .0 ∙ v .2, r .kept .1 .1 .1 .1 .1 .1 .1 .1 .1 .1 .1 .0 ∙ v .3, r .kept .1 .1 .1 .1 .1 .1 .1 .1 .1 .1 .1 .1 .0 ∙ v .4, r .kept .1 .1 .1 .1 .1 .0 ∙ v .5)
 
 returns : tie.Need-returns Inv-loop μ-loop
 returns c = scanning-ends (c .before .before .loop .inv .0) (c .if1 .left)
@@ -45,4 +43,4 @@ pub scan-rows-spec : {M : Type 1} → statement M
 scan-rows-spec =
     tie.close
     (tie.spec Inv-loop μ-loop loop-holds scan-row-requires loop-less loop-again (λ c. search needs) (λ c. search needs) (λ c. search needs)
-    (λ c. search needs) returns)
+    (λ c. search needs) (λ c. search needs) returns)
