@@ -2,8 +2,8 @@
 //!
 //!     rolvenko-tests [--seed N] [--seconds S] [--least N] [--program PATH] [SERVICE ..]
 //!
-//! Services: translate, structured_text (and scans against it), check, scan (and start), trace (lists of rows), clock, charge, closed (and
-//! combination), instalments, rounds, and program, a trace program at PATH; all by default, S seconds and at least N calls each. Prints
+//! Services: translate, structured_text (and scans against it), check, scan (and start), trace (lists of rows), clock, charge, watch,
+//! closed (and combination), instalments, rounds, and program, a trace program at PATH; all by default, S seconds and at least N calls each. Prints
 //! how often each answer was met. A difference is shrunk to a small input and printed, and the exit status is 1.
 
 mod charge;
@@ -19,6 +19,7 @@ mod shrink;
 mod structured_text;
 mod trace;
 mod translate;
+mod watch;
 mod writer;
 
 use compare::{Options, Table, SERVICES};
@@ -35,7 +36,7 @@ fn main() -> ExitCode {
             return ExitCode::from(2);
         }
     };
-    let runs: [Run; 11] = [
+    let runs: [Run; 12] = [
         translate::run,
         structured_text::run,
         check::run,
@@ -43,6 +44,7 @@ fn main() -> ExitCode {
         trace::run,
         clock::run,
         charge::run,
+        watch::run,
         closed::run,
         instalments::run,
         rounds::run,
