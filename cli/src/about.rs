@@ -30,6 +30,7 @@ pub fn about(text: &[u8], refusal: Refusal) -> Told {
         6 => rule(text, place, spelled),
         8 => limit(spelled),
         21 => format!("{} is a word of Structured Text", String::from_utf8_lossy(spelled).to_ascii_uppercase()),
+        30 => "the 17th watch".to_owned(),
         _ => String::new(),
     };
     told.notes.push(advice(refusal.number).to_owned());
