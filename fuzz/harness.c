@@ -3,6 +3,7 @@
  *   M  the same, but what follows `#` are changes of the image: triples of bytes, a place (two) and a value
  *   C  a text, a line `#`, a line of a farm table's numbers, one of a UTC minute, one of a row
  *   L  a text, a line `#`, a line of a variable's id, the threshold and the two rates, one of minutes, one of a trace's numbers
+ *   W  a text, a line `#`, a line of a trace's numbers, to be watched
  *   S  a text, a line `#`, then calls of a scan in instalments (instalments.c)
  *   P  a text, a line `#`, then a length, calls, and the memory of a paused scan
  *   R  a text, a line `#`, then events of a controller with several sets of these rules (rounds.c)
@@ -17,6 +18,7 @@
 #include "rolvenko.h"
 #include "rounds.h"
 #include "services.h"
+#include "watched.h"
 
 #include <ctype.h>
 #include <stdio.h>
@@ -41,6 +43,7 @@ int LLVMFuzzerInitialize(int *argc, char ***argv) {
     instalments_begin();
     printed_begin();
     rounds_begin();
+    watched_begin();
     blocks_watch(file);
     return 0;
 }
@@ -236,6 +239,12 @@ static void replayed(const uint8_t *text, size_t length, const uint8_t *at, cons
     replay(text, length, image, image_len, rows, bytes < most ? bytes : 0);
 }
 
+/* The trace that stands there. */
+static void watched_line(const uint8_t *text, size_t length, const uint8_t *at, const uint8_t *end) {
+    int32_t trace[CELLS_MOST] = {0};
+    watched(text, length, trace, next_row(&at, end, trace));
+}
+
 int LLVMFuzzerTestOneInput(const uint8_t *data, size_t size) {
     if (size == 0 || size > TEXT_MOST)
         return 0;
@@ -243,6 +252,7 @@ int LLVMFuzzerTestOneInput(const uint8_t *data, size_t size) {
     instalments_side(isupper(data[0]) != 0);
     printed_side(isupper(data[0]) != 0);
     rounds_side(isupper(data[0]) != 0);
+    watched_side(isupper(data[0]) != 0);
     size_t after, length;
     switch (toupper(data[0])) {
     case 'T':
@@ -265,6 +275,10 @@ int LLVMFuzzerTestOneInput(const uint8_t *data, size_t size) {
     case 'L':
         length = before_mark(data + 1, size - 1, &after);
         charged(data + 1, length, data + 1 + after, data + size);
+        return 0;
+    case 'W':
+        length = before_mark(data + 1, size - 1, &after);
+        watched_line(data + 1, length, data + 1 + after, data + size);
         return 0;
     case 'S':
     case 'P':

@@ -6,6 +6,7 @@
 //!     bench --once WHO SERVICE INPUT CALLS          just so many calls, for bench/instructions
 //!     bench --shares                                the table of rounds of eight rule sets alone
 //!     bench --structured-text [INPUT CALLS]         the table of Structured Text alone, or so many calls of one
+//!     bench --watches                               the table of watches over long traces alone
 //!     bench --closed [NAME CALLS]                   the table of closed profiles alone, or so many calls of one
 //!     bench --instalments INPUT SIZE CALLS          just so many scans in instalments of this size
 
@@ -19,6 +20,7 @@ mod rounds;
 mod rows;
 mod structured_text;
 mod timing;
+mod watch;
 
 use input::{inputs, Input};
 use once::{archive, baseline, model, Memory, Work};
@@ -46,6 +48,7 @@ fn main() {
         ["--shares"] => rounds::table(&inputs(), 30),
         ["--structured-text"] => structured_text::table(&inputs(), 30),
         ["--structured-text", input, calls] => structured_text::run(&inputs(), input, calls.parse().expect("a number of calls")),
+        ["--watches"] => watch::table(30),
         ["--closed"] => closed::table(30),
         ["--closed", name, calls] => closed::run(name, calls.parse().expect("a number of calls")),
         ["--instalments", input, size, calls] => {
@@ -55,7 +58,7 @@ fn main() {
         ["--once", who, service, input, calls] => once::run(who, service, input, calls.parse().expect("a number of calls")),
         _ => {
             eprintln!(
-                "usage: bench [--rounds N] | --shares | --structured-text [INPUT CALLS] | --once WHO SERVICE INPUT CALLS | --closed [NAME CALLS] | \
+                "usage: bench [--rounds N] | --shares | --structured-text [INPUT CALLS] | --watches | --once WHO SERVICE INPUT CALLS | --closed [NAME CALLS] | \
                  --instalments INPUT SIZE CALLS"
             );
             std::process::exit(2);
@@ -87,6 +90,7 @@ fn tables(rounds: u32) {
     refused::table(inputs.iter().find(|input| input.name == "lock").expect("the lock"), rounds);
     closed::table(rounds);
     rows::table(&inputs, rounds);
+    watch::table(rounds);
 }
 
 impl<'i> Line<'i> {

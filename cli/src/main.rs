@@ -1,5 +1,5 @@
 //! The tool of those who plan with launch rules. It reads files, asks the proved services and prints: what rules mean is theirs to say.
-//! Exit status: 0 fine, 1 refused, 2 wrong usage or a file that cannot be read or written.
+//! Exit status: 0 fine, 1 refused or a watch that fails, 2 wrong usage or a file that cannot be read or written.
 
 mod about;
 mod advice;
@@ -26,6 +26,7 @@ mod table;
 mod text;
 mod trace;
 mod vcd;
+mod watch;
 
 use clap::{Args, Parser, Subcommand};
 use clock::Clock;
@@ -40,14 +41,14 @@ use text::count;
 use trace::Form;
 
 const HINTS: &str = "\
-Exit status: 0 fine; 1 a text, image, row or charge is refused; 2 wrong usage, or a file that cannot be read or written.
+Exit status: 0 fine; 1 a text, image, row or charge is refused, or a watch fails; 2 wrong usage, or a file that cannot be read or written.
 `-` is standard input where a file is read, and standard output where one is written.
 
   rolvenko check rules.txt                 are these rules accepted?
   rolvenko trace rules.txt rows.txt        what do they do, row by row?
   rolvenko trace rules.txt rows.txt --vcd rows.vcd && gtkwave rows.vcd";
 
-/// Launch rules: translate, check, show, print, trace, replay, bill.
+/// Launch rules: translate, check, show, print, trace, replay, bill, watch.
 #[derive(Parser)]
 #[command(name = "rolvenko", version, after_help = HINTS)]
 struct Tool {
@@ -119,6 +120,11 @@ enum Command {
         /// minutes of each row; those of --every with a farm table, else 1
         #[arg(long, allow_hyphen_values = true)]
         minutes: Option<i32>,
+    },
+    /// Say where the watches of a rule text first fail over its rows
+    Watch {
+        #[command(flatten)]
+        run: Run,
     },
     /// Say whether rules can ever stop in service
     Closed { rules: PathBuf },
@@ -218,6 +224,7 @@ fn run(command: Command) -> Result<(), Stop> {
             let rates = bill::Rates { threshold, rate, above: rate_above, minutes: minutes.unwrap_or(row) };
             bill::bill(run.job()?, &of, &rates)
         }
+        Command::Watch { run } => watch::watch(run.job()?),
         Command::Replay { run, csv } => replay::replay(run.job()?, csv),
         Command::Closed { rules } => profile::profile(&Rules::read(&rules)?),
         Command::Table { zone, from, to } => {

@@ -29,6 +29,12 @@ static void *structured_text(void *p) {
     return p;
 }
 
+static void *watch(void *p) {
+    int64_t report[ROLVENKO_WATCHES];
+    answer = rolvenko_watch(text, text_len, trace, 33 * names, report, ROLVENKO_WATCHES);
+    return p;
+}
+
 static void *check(void *p) {
     answer = rolvenko_check(image, image_len);
     return p;
@@ -156,7 +162,7 @@ static size_t used(void *(*call)(void *)) {
     return STACK - untouched;
 }
 
-/* A change rule with 16 brackets open at once, `square` of them of conditions, each with its `~` or `-` before it, and with `operations` each the
+/* A change rule and two watches with 16 brackets open at once, `square` of them of conditions, each with its `~` or `-` before it, and with `operations` each the
  * right operand of two operations more: what prints them calls itself at each. So many names are declared. */
 static void nested(int square, int operations, size_t declared) {
     static const char *const before[2][2] = {{"-(", "~["}, {"1+1*-(", "1=2|1=1&~["}};
@@ -178,8 +184,9 @@ static void nested(int square, int operations, size_t declared) {
     for (int i = square; i > 0; i--)
         strcat(condition, "]");
     text_len += (size_t)snprintf((char *)text + text_len, sizeof text - text_len,
-                                 "var v 0..1;v:GX(~(v=_v)->[%s&_v=2]&v=(1-_v)|[_v=0]&v=(1));v:GX(v=_v->~([%s&_v=2]|[_v=0]));",
-                                 condition, condition);
+                                 "var v 0..1;v:GX(~(v=_v)->[%s&_v=2]&v=(1-_v)|[_v=0]&v=(1));v:GX(v=_v->~([%s&_v=2]|[_v=0]));"
+                                 "watch:G([%s]);watch:G([%s]->X([%s]));",
+                                 condition, condition, condition, condition, condition);
 }
 
 /* The same rule in a longer text: over 1,024 bytes, and again over 8,192, translate takes larger scratch memory. */
@@ -190,15 +197,16 @@ static void lengthen(size_t length) {
     text_len = length;
 }
 
-enum { TRANSLATE, STRUCTURED_TEXT, CHECK, START, SCAN, REPLAY, CLOCK, CHARGE, CLOSED, COMBINATION, POST, BEGIN, ADVANCE, FINISH, VISIT, ROUND, SERVICES };
+enum { TRANSLATE, STRUCTURED_TEXT, WATCH, CHECK, START, SCAN, REPLAY, CLOCK, CHARGE, CLOSED, COMBINATION, POST, BEGIN, ADVANCE, FINISH, VISIT, ROUND, SERVICES };
 
 static const struct {
     const char *name;
     void *(*call)(void *);
 } services[SERVICES] = {
     {"translate", translate}, {"structured_text", structured_text},
-    {"check", check},         {"start", start},
-    {"scan", scan},           {"replay", replay},
+    {"watch", watch},         {"check", check},
+    {"start", start},         {"scan", scan},
+    {"replay", replay},
     {"clock", local_hour},    {"charge", charge},
     {"closed", profile},      {"combination", combination},
     {"post", post},           {"begin", begin},
@@ -223,10 +231,12 @@ static void measure_all(void) {
     measure(TRANSLATE);
     image_len = rolvenko_count(answer);
     measure(STRUCTURED_TEXT);
+    measure(WATCH);
     measure(CLOCK);
     lengthen(2048);
     measure(TRANSLATE);
     measure(STRUCTURED_TEXT);
+    measure(WATCH);
     measure(CLOCK);
     lengthen(8193);
     for (int service = TRANSLATE; service <= CHARGE; service++)

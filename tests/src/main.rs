@@ -3,8 +3,9 @@
 //!     rolvenko-tests [--seed N] [--seconds S] [--least N] [--program PATH] [SERVICE ..]
 //!
 //! Services: translate, structured_text (and scans against it), check, scan (and start), trace (lists of rows), replay (the same in one
-//! call), clock, charge, closed (and combination), instalments, rounds, and program, a trace program at PATH; all by default, S seconds and
-//! at least N calls each. Prints how often each answer was met. A difference is shrunk to a small input and printed, and the exit status is 1.
+//! call), clock, charge, watch, closed (and combination), instalments, rounds, and program, a trace program at PATH; all by default, S
+//! seconds and at least N calls each. Prints how often each answer was met. A difference is shrunk to a small input and printed, and the
+//! exit status is 1.
 
 mod charge;
 mod check;
@@ -20,6 +21,7 @@ mod shrink;
 mod structured_text;
 mod trace;
 mod translate;
+mod watch;
 mod writer;
 
 use compare::{Options, Table, SERVICES};
@@ -36,7 +38,7 @@ fn main() -> ExitCode {
             return ExitCode::from(2);
         }
     };
-    let runs: [Run; 12] = [
+    let runs: [Run; 13] = [
         translate::run,
         structured_text::run,
         check::run,
@@ -45,6 +47,7 @@ fn main() -> ExitCode {
         replay::run,
         clock::run,
         charge::run,
+        watch::run,
         closed::run,
         instalments::run,
         rounds::run,

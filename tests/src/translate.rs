@@ -22,7 +22,7 @@ fn recased(rng: &mut Rng, source: &[u8]) -> Vec<u8> {
             _ => at + 1,
         };
         let token = &mut text[at..end];
-        if !["input", "var", "init", "mod", "GX"].iter().any(|word| word.as_bytes().eq_ignore_ascii_case(token)) {
+        if !["input", "var", "init", "mod", "GX", "watch", "G", "X"].iter().any(|word| word.as_bytes().eq_ignore_ascii_case(token)) {
             for byte in token.iter_mut().filter(|byte| byte.is_ascii_alphabetic()) {
                 *byte ^= (rng.below(2) as u8) << 5;
             }

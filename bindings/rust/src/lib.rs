@@ -4,9 +4,11 @@
 pub mod instalments;
 mod replay;
 pub mod rounds;
+mod watches;
 
 pub use instalments::{Paused, Response};
 pub use replay::{replay, Records};
+pub use watches::{watch, write_report, WATCHES};
 
 use std::error::Error;
 use std::fmt::{self, Display, Formatter};
@@ -80,7 +82,7 @@ pub fn meaning(number: u8) -> &'static str {
         9 => "the text is over 32,768 bytes, or the image over 65,536",
         10 => "the buffer is too short for the image, or the Structured Text",
         11 => "the image is not sound",
-        12 => "the state, row or trace has the wrong length",
+        12 => "the state, row, trace or report has the wrong length",
         13 => "an input of the row is outside its range",
         14 => "a result outside 32 bits, or division by zero",
         15 => "two conditions of one rule hold",
@@ -97,6 +99,7 @@ pub fn meaning(number: u8) -> &'static str {
         27 => "an in-range state and row whose scan is refused",
         28 => "no variable whose low and traced values are 0 or above, or a threshold, rate or minutes out of limit or not one a row",
         29 => "the charge is over 9,007,199,254,740,991 cents",
+        30 => "over 16 watches",
         _ => "no refusal of these services",
     }
 }
@@ -182,7 +185,7 @@ fn counted(answer: u64) -> Result<u32, Refusal> {
     }
 }
 
-/// Translates a rule text and writes its image to the first bytes of `image`; answers the image's length. A refusal (1 to 10)
+/// Translates a rule text and writes its image to the first bytes of `image`; answers the image's length. A refusal (1 to 10, 30)
 /// leaves `image` as it was; a buffer of 49,154 bytes is enough for every text.
 pub fn translate(text: &[u8], image: &mut [u8]) -> Result<usize, Refusal> {
     // The function reads `text_len` bytes at `text` and reads and writes `image_len` bytes at `image`.
@@ -192,7 +195,7 @@ pub fn translate(text: &[u8], image: &mut [u8]) -> Result<usize, Refusal> {
 
 /// Prints a rule text as Structured Text, the text language of IEC 61131-3, to the first bytes of `out`; answers its length. Started with
 /// a state in names and previous values alike, then given the inputs of a row that [`scan`] accepts, its statements leave the values of that
-/// scan. A refusal (1 to 10, 21) leaves `out` as it was; a buffer of [`ST_ROOM`] bytes is enough for every text.
+/// scan. A refusal (1 to 10, 21, 30) leaves `out` as it was; a buffer of [`ST_ROOM`] bytes is enough for every text.
 ///
 /// ```
 /// let text = b"input go 0..1; var run 0..1; run: GX(run = (1 - go));";
@@ -258,7 +261,7 @@ pub fn scan(image: &[u8], state: &mut [i32], row: &[i32]) -> Result<u32, ScanRef
 
 /// Fills a row with a farm's local time: the values of a text's inputs named `day`, `minute` and `again`; all others stay. `table` has
 /// 1 to 32 entries, the UTC minute (rising) and then the offset in minutes of each; `utc` counts minutes from 1 January 1970. A refusal
-/// (1 to 9, 19, 20, 12) leaves `row` as it was.
+/// (1 to 9, 30, 19, 20, 12) leaves `row` as it was.
 ///
 /// In the hour after the clocks go back from two hours to one, each local minute comes again:
 ///
