@@ -1,8 +1,9 @@
 /* libFuzzer's entry. The first byte of an input says what the rest is:
- *   T  an input of the trace program: a text, a line `#`, rows of decimals
+ *   T  an input of the trace program: a text, a line `#`, rows of decimals; the text is printed as Structured Text too
  *   M  the same, but what follows `#` are changes of the image: triples of bytes, a place (two) and a value
  *   C  a text, a line `#`, a line of a farm table's numbers, one of a UTC minute, one of a row
  *   L  a text, a line `#`, a line of a variable's id, the threshold and the two rates, one of minutes, one of a trace's numbers
+ *   W  a text, a line `#`, a line of a trace's numbers, to be watched
  *   S  a text, a line `#`, then calls of a scan in instalments (instalments.c)
  *   P  a text, a line `#`, then a length, calls, and the memory of a paused scan
  *   R  a text, a line `#`, then events of a controller with several sets of these rules (rounds.c)
@@ -12,10 +13,12 @@
  * A byte of lower case does the same with lent memory at the start of its pages and not at their end. */
 #include "blocks.h"
 #include "instalments.h"
+#include "printed.h"
 #include "replay.h"
 #include "rolvenko.h"
 #include "rounds.h"
 #include "services.h"
+#include "watched.h"
 
 #include <ctype.h>
 #include <stdio.h>
@@ -38,7 +41,9 @@ int LLVMFuzzerInitialize(int *argc, char ***argv) {
     snprintf(file, sizeof file, "%s.blocks", (*argv)[0]);
     services_begin();
     instalments_begin();
+    printed_begin();
     rounds_begin();
+    watched_begin();
     blocks_watch(file);
     return 0;
 }
@@ -234,17 +239,28 @@ static void replayed(const uint8_t *text, size_t length, const uint8_t *at, cons
     replay(text, length, image, image_len, rows, bytes < most ? bytes : 0);
 }
 
+/* The trace that stands there. */
+static void watched_line(const uint8_t *text, size_t length, const uint8_t *at, const uint8_t *end) {
+    int32_t trace[CELLS_MOST] = {0};
+    watched(text, length, trace, next_row(&at, end, trace));
+}
+
 int LLVMFuzzerTestOneInput(const uint8_t *data, size_t size) {
     if (size == 0 || size > TEXT_MOST)
         return 0;
     services_side(isupper(data[0]) != 0);
     instalments_side(isupper(data[0]) != 0);
+    printed_side(isupper(data[0]) != 0);
     rounds_side(isupper(data[0]) != 0);
+    watched_side(isupper(data[0]) != 0);
     size_t after, length;
     switch (toupper(data[0])) {
     case 'T':
     case 'M':
-        length = translated(data + 1, before_mark(data + 1, size - 1, &after));
+        length = before_mark(data + 1, size - 1, &after);
+        if (toupper(data[0]) == 'T')
+            printed(data + 1, length);
+        length = translated(data + 1, length);
         if (length > 0)
             profiled(length);
         if (length > 0 && toupper(data[0]) == 'T')
@@ -259,6 +275,10 @@ int LLVMFuzzerTestOneInput(const uint8_t *data, size_t size) {
     case 'L':
         length = before_mark(data + 1, size - 1, &after);
         charged(data + 1, length, data + 1 + after, data + size);
+        return 0;
+    case 'W':
+        length = before_mark(data + 1, size - 1, &after);
+        watched_line(data + 1, length, data + 1 + after, data + size);
         return 0;
     case 'S':
     case 'P':

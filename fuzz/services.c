@@ -60,7 +60,7 @@ static int filled(const uint8_t *at, uint8_t with, size_t bytes) {
 }
 
 static void translation_promises(struct parts p, size_t length, size_t room) {
-    PROMISE(p.number <= 10);
+    PROMISE(p.number <= 10 || p.number == 30);
     PROMISE((p.number == 9) == (length > ROLVENKO_TEXT_LIMIT));
     if (p.number == 0) {
         PROMISE(p.place == 0 && p.count >= 2 && p.count <= room);

@@ -1,5 +1,6 @@
 /* Rolvenko: launch rules translated, checked, started and scanned, also in instalments, in whole lists of rows and by shares for several
- * rule sets, rows filled with the local time, the licence charge of a trace, and whether rules can ever stop in service, as C functions.
+ * rule sets, printed as Structured Text, rows filled with the local time, the licence charge of a trace, its promises watched, and
+ * whether rules can ever stop in service, as C functions.
  *
  * Link target/staticlib/librolvenko.a, which `rt staticlib rolvenko` writes, or what ./install puts down of it (-lrolvenko; pkg-config
  * rolvenko). It is for x86-64 Linux, needs memcpy and memset, allocates nothing and keeps nothing between calls, so calls from several
@@ -7,11 +8,12 @@
  *
  * The answer. Each function answers one 64-bit number, number * 2^56 + place * 2^24 + count:
  *
- *     number   0 for a success, else the refusal, 1 to 20, 22 or 24 to 29; of the calls of a scan in instalments also 254 and 255
+ *     number   0 for a success, else the refusal, 1 to 22 or 24 to 30; of the calls of a scan in instalments also 254 and 255
  *     place    the byte place of a refusal in the text or image; of 27 the scans before the refused one; 0 for a success and for the
  *              refusals 9, 12 to 20, 22, 24 to 26, 28 and 29
- *     count    of a success of rolvenko_translate and rolvenko_replay the image's length, of rolvenko_scan, rolvenko_advance,
- *              rolvenko_finish and rolvenko_visit (refused or not) the steps; else 0
+ *     count    of a success of rolvenko_translate and rolvenko_replay the image's length, of rolvenko_structured_text that of the
+ *              Structured Text, of rolvenko_watch the watches, of rolvenko_scan, rolvenko_advance, rolvenko_finish and rolvenko_visit
+ *              (refused or not) the steps; else 0
  *
  * But a success of rolvenko_charge is its sum; see there.
  *
@@ -36,9 +38,11 @@ extern "C" {
 #define ROLVENKO_TEXT_LIMIT 32768  /* bytes of a text */
 #define ROLVENKO_IMAGE_LIMIT 65536 /* bytes of an image */
 #define ROLVENKO_IMAGE_ROOM 49154  /* bytes that the image of any accepted text fits in (law buffer-bound) */
+#define ROLVENKO_ST_ROOM 115998    /* bytes that the Structured Text of any accepted text fits in (law st-bound) */
 #define ROLVENKO_NAMES 64          /* inputs and variables together */
 #define ROLVENKO_ENTRIES 32        /* entries of a farm table */
 #define ROLVENKO_COMBINATIONS 65536 /* scans of a closed profile */
+#define ROLVENKO_WATCHES 16        /* watches of a text, and numbers of a report */
 
 /* The parts of an answer. */
 static inline unsigned rolvenko_number(uint64_t answer) { return (unsigned)(answer >> 56); }
@@ -49,9 +53,33 @@ static inline uint32_t rolvenko_count(uint64_t answer) { return (uint32_t)(answe
  * Names are the same in any letter case; a word of the grammar in another case is fault 2.
  *   9         the text is longer than 32,768 bytes; place 0
  *   1 to 8    the first fault of the text; place is that of its token, or text_len for the end of the text
+ *   30        a 17th watch; place is that of its word
  *   10        the text has no fault, but its image is longer than image_len; place is text_len
  */
 uint64_t rolvenko_translate(const uint8_t *text, size_t text_len, uint8_t *image, size_t image_len);
+
+/* Watches the promises of a text over a trace. Behind its rules a text has up to 16 watches, which its image does not hold:
+ * `watch: G([c]);` must hold at each place of the trace, and `watch: G([c] -> X([c]));` over each two neighbouring places: where the first
+ * condition holds at the earlier one, the second holds at the later one. They may use every current and previous value; at the start each
+ * previous value is the current one. `trace` has the states in turn, the start first, one number for each name; they may be any numbers.
+ * `report` has ROLVENKO_WATCHES numbers; count is that of the watches, and as many numbers are written, in text order: the place of the trace,
+ * 0 the start, where a watch first fails, for a pair the later place, or -1 if it never does. The numbers behind them stay. Both conditions of
+ * a pair are worked out, and a watch fails where one meets 14 (as rolvenko_scan).
+ *   9, 1 to 8, 30 of the text, as rolvenko_translate
+ *   12        the trace has no start or its last state is cut (without names, trace_len 0 is the start alone), or report_len is not
+ *             ROLVENKO_WATCHES
+ */
+uint64_t rolvenko_watch(const uint8_t *text, size_t text_len, const int32_t *trace, size_t trace_len, int64_t *report, size_t report_len);
+
+/* Prints a rule text as Structured Text, the text language of IEC 61131-3, and writes it to the first bytes of `out`; count is its length.
+ * The bytes behind it stay. Sections VAR_INPUT and VAR (each left out if empty), one IF block or assignment a rule, then `_name := name;` for
+ * each name in declared order; every name is a DINT and printed as declared, lines end with LF. Started with a state in names and previous
+ * values alike, then given the inputs of a row that rolvenko_scan accepts, the statements leave the values of that scan.
+ *   9, 1 to 8, 30 of the text, as rolvenko_translate
+ *   21        a declared name is IF, THEN, ELSIF, DINT, AND, OR or NOT, in any letter case; place is that of the first in its declaration
+ *   10        the Structured Text is longer than out_len; place is text_len
+ */
+uint64_t rolvenko_structured_text(const uint8_t *text, size_t text_len, uint8_t *out, size_t out_len);
 
 /* Whether an image is sound: 0 as a whole, or
  *   9         the image is longer than 65,536 bytes; place 0
@@ -88,7 +116,7 @@ uint64_t rolvenko_scan(const uint8_t *image, size_t image_len, int32_t *state, s
  *   steps     for each row its steps, as rolvenko_scan counts them
  *   trace     the states one behind the other: the start, then that after each accepted row
  * Refusals:
- *   9, 1 to 8, 10   as rolvenko_translate
+ *   9, 1 to 8, 30, 10   as rolvenko_translate
  *   12        state_len is not the count of names; the image stands in its buffer then, and all other memory is as it was
  */
 uint64_t rolvenko_replay(const uint8_t *text, size_t text_len, uint8_t *image, size_t image_len, int32_t *state, size_t state_len,
@@ -102,7 +130,7 @@ uint64_t rolvenko_replay(const uint8_t *text, size_t text_len, uint8_t *image, s
  * the numbers. The first offset also holds for all earlier minutes.
  * 1440 * day + minute is utc plus the offset at utc, minute is 0 to 1439, and again is 1 if some earlier UTC minute (one below 0 too) has
  * the same day and minute, else 0. Refusals, in this order:
- *   9, 1 to 8 of the text, as rolvenko_translate
+ *   9, 1 to 8, 30 of the text, as rolvenko_translate
  *   19        the table: table_len is odd, 0 or over 64, a minute is outside 0 to 2,147,483,647 or not above the one before it, or an
  *             offset is outside -720 to 840
  *   20        utc is outside 0 to 2,147,483,647 (also where none of the three inputs is declared)

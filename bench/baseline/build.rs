@@ -4,7 +4,7 @@ use std::env;
 use std::path::{Path, PathBuf};
 use std::process::Command;
 
-const FILES: [&str; 7] = ["check", "declarations", "expressions", "lexer", "parser", "rules", "scan"];
+const FILES: [&str; 8] = ["check", "declarations", "expressions", "lexer", "parser", "rules", "scan", "watches"];
 const FLAGS: [&str; 7] = ["-std=c11", "-Wall", "-Wextra", "-Wpedantic", "-Werror", "-O2", "-c"];
 
 fn run(program: &str, arguments: &mut dyn FnMut(&mut Command)) {

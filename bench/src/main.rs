@@ -5,6 +5,8 @@
 //!     bench [--rounds N]                            the tables
 //!     bench --once WHO SERVICE INPUT CALLS          just so many calls, for bench/instructions
 //!     bench --shares                                the table of rounds of eight rule sets alone
+//!     bench --structured-text [INPUT CALLS]         the table of Structured Text alone, or so many calls of one
+//!     bench --watches                               the table of watches over long traces alone
 //!     bench --closed [NAME CALLS]                   the table of closed profiles alone, or so many calls of one
 //!     bench --instalments [INPUT SIZE CALLS]        the table of instalments alone, or so many scans in instalments of this size
 
@@ -16,7 +18,9 @@ mod once;
 mod refused;
 mod rounds;
 mod rows;
+mod structured_text;
 mod timing;
+mod watch;
 
 use input::{inputs, Input};
 use once::{archive, baseline, model, Memory, Work};
@@ -42,6 +46,9 @@ fn main() {
         [] => tables(30),
         ["--rounds", rounds] => tables(rounds.parse().expect("a number of rounds")),
         ["--shares"] => rounds::table(&inputs(), 30),
+        ["--structured-text"] => structured_text::table(&inputs(), 30),
+        ["--structured-text", input, calls] => structured_text::run(&inputs(), input, calls.parse().expect("a number of calls")),
+        ["--watches"] => watch::table(30),
         ["--closed"] => closed::table(30),
         ["--closed", name, calls] => closed::run(name, calls.parse().expect("a number of calls")),
         ["--instalments"] => instalments::table(&inputs(), 30),
@@ -51,7 +58,10 @@ fn main() {
         }
         ["--once", who, service, input, calls] => once::run(who, service, input, calls.parse().expect("a number of calls")),
         _ => {
-            eprintln!("usage: bench [--rounds N] | --shares | --once WHO SERVICE INPUT CALLS | --closed [NAME CALLS] | --instalments [INPUT SIZE CALLS]");
+            eprintln!(
+                "usage: bench [--rounds N] | --shares | --structured-text [INPUT CALLS] | --watches | --once WHO SERVICE INPUT CALLS | --closed [NAME CALLS] | \
+                 --instalments [INPUT SIZE CALLS]"
+            );
             std::process::exit(2);
         }
     }
@@ -75,11 +85,13 @@ fn tables(rounds: u32) {
     );
     lines.iter().for_each(Line::print);
     growth(&lines);
+    structured_text::table(&inputs, rounds);
     instalments::table(&inputs, rounds);
     rounds::table(&inputs, rounds);
     refused::table(inputs.iter().find(|input| input.name == "lock").expect("the lock"), rounds);
     closed::table(rounds);
     rows::table(&inputs, rounds);
+    watch::table(rounds);
 }
 
 impl<'i> Line<'i> {

@@ -29,9 +29,14 @@ pub fn about(text: &[u8], refusal: Refusal) -> Told {
         5 => "its rule does not stand before this one".to_owned(),
         6 => rule(text, place, spelled),
         8 => limit(spelled),
+        21 => format!("{} is a word of Structured Text", String::from_utf8_lossy(spelled).to_ascii_uppercase()),
+        30 => "the 17th watch".to_owned(),
         _ => String::new(),
     };
     told.notes.push(advice(refusal.number).to_owned());
+    if refusal.number == 2 && told.token.contains("a new name") && WORDS.iter().any(|w| w.as_bytes().eq_ignore_ascii_case(spelled)) {
+        told.notes.push(format!("`{}` is a word of the grammar, in every letter case, and so no name", String::from_utf8_lossy(spelled)));
+    }
     if refusal.number == 2 && COMMENTS.iter().any(|c| text[place..].starts_with(c)) {
         told.notes.push("rules have no comments".to_owned());
     }
@@ -59,6 +64,9 @@ fn character(text: &[u8], place: usize) -> Option<String> {
     let spelled = std::str::from_utf8(&text[place..token_end(text, place)]).ok()?;
     (!spelled.is_ascii() && spelled.chars().all(char::is_alphanumeric)).then(|| format!("`{spelled}`"))
 }
+
+/// Words of the grammar, which are no names in any letter case.
+const WORDS: [&str; 8] = ["input", "var", "init", "mod", "GX", "watch", "G", "X"];
 
 /// Signs that begin a comment elsewhere.
 const COMMENTS: [&[u8]; 4] = [b"//", b"/*", b"--", b"(*"];

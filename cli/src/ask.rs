@@ -5,8 +5,8 @@ use crate::text::{declared, tokens};
 use rolvenko::{translate, Refusal, IMAGE_ROOM};
 use std::collections::BTreeSet;
 
-const SIGNS: [&str; 26] = [
-    "input", "var", "init", "mod", "GX", ";", ":", "(", ")", "[", "]", "~", "&", "|", "=", "<>", "<", "<=", ">", ">=", "+", "-", "*", "/",
+const SIGNS: [&str; 29] = [
+    "input", "var", "init", "mod", "GX", "watch", "G", "X", ";", ":", "(", ")", "[", "]", "~", "&", "|", "=", "<>", "<", "<=", ">", ">=", "+", "-", "*", "/",
     "..", "->",
 ];
 /// candidates from the text that are tried at most

@@ -16,29 +16,14 @@ pub struct Rates {
     pub minutes: i32,
 }
 
-/// Numbers that a trace is kept in at most: a mistyped count of rows ends here and not in all of the memory.
-const KEPT: usize = 1 << 28;
-
 pub fn bill(mut job: Job, of: &str, rates: &Rates) -> Result<(), Stop> {
     let Some(id) = job.farm.names.iter().position(|n| n.eq_ignore_ascii_case(of)) else {
         return Err(Stop::Failed(format!("{}: no name {of}; it declares {}", job.farm.path.display(), job.farm.names.join(" "))));
     };
-    let mut trace = Vec::new();
-    let mut minutes = Vec::new();
-    let scanned = job.scans(false, |farm, row| {
-        if row.result == 0 {
-            trace.extend(&farm.state);
-            if row.number > 0 {
-                minutes.push(rates.minutes);
-            }
-        }
-        match trace.len().max(minutes.len()) <= KEPT {
-            true => Ok(()),
-            false => Err(Stop::Failed(format!("over {KEPT} numbers in the trace; bill fewer rows at a time"))),
-        }
-    })?;
-    match charge(&job.farm.image, id, &trace, &minutes, rates.threshold, rates.rate, rates.above) {
-        Ok(sum) => writeln!(std::io::stdout(), "{}: {} {}/60 cents over {}, {} refused", job.farm.names[id], sum.cents, sum.sixtieths, count(minutes.len(), "row"), scanned.0)?,
+    let found = job.found()?;
+    let minutes = vec![rates.minutes; found.rows.len()];
+    match charge(&job.farm.image, id, &found.states, &minutes, rates.threshold, rates.rate, rates.above) {
+        Ok(sum) => writeln!(std::io::stdout(), "{}: {} {}/60 cents over {}, {} refused", job.farm.names[id], sum.cents, sum.sixtieths, count(minutes.len(), "row"), found.refused.0)?,
         Err(refusal) => {
             let number = refusal.number;
             let what = if number == 28 { out_of_limit(&job, id, rates) } else { Vec::new() };
@@ -47,7 +32,7 @@ pub fn bill(mut job: Job, of: &str, rates: &Rates) -> Result<(), Stop> {
             return Err(Stop::Refused);
         }
     }
-    scanned.verdict()
+    found.refused.verdict()
 }
 
 /// What of a charge that is refused 28 looks wrong, in words.

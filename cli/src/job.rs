@@ -77,6 +77,16 @@ impl Refused {
     }
 }
 
+/// The trace that the rows leave: the states in turn, the start first, and the row of each but the start.
+pub struct Found {
+    pub states: Vec<i32>,
+    pub rows: Vec<u64>,
+    pub refused: Refused,
+}
+
+/// Numbers that a trace is kept in at most: a mistyped count of rows ends here and not in all of the memory.
+const KEPT: usize = 1 << 28;
+
 pub struct Job {
     pub farm: Farm,
     given: Given,
@@ -113,6 +123,22 @@ impl Job {
             each(&self.farm, scanned)?;
         }
         Ok(Refused(refused))
+    }
+
+    /// Scans all rows and keeps the trace.
+    pub fn found(&mut self) -> Result<Found, Stop> {
+        let (mut states, mut rows) = (Vec::new(), Vec::new());
+        let refused = self.scans(false, |farm, row| {
+            if row.result == 0 {
+                states.extend(&farm.state);
+                rows.extend(Some(row.number).filter(|number| *number > 0));
+            }
+            match states.len().max(rows.len()) <= KEPT {
+                true => Ok(()),
+                false => Err(Stop::Failed(format!("over {KEPT} numbers in the trace; take fewer rows at a time"))),
+            }
+        })?;
+        Ok(Found { states, rows, refused })
     }
 
     fn scan(&mut self, number: u64, mut row: Row) -> Result<Scanned, Stop> {

@@ -1,5 +1,5 @@
 //! The tool of those who plan with launch rules. It reads files, asks the proved services and prints: what rules mean is theirs to say.
-//! Exit status: 0 fine, 1 refused, 2 wrong usage or a file that cannot be read or written.
+//! Exit status: 0 fine, 1 refused or a watch that fails, 2 wrong usage or a file that cannot be read or written.
 
 mod about;
 mod advice;
@@ -20,11 +20,13 @@ mod refused_row;
 mod replay;
 mod show;
 mod source;
+mod st;
 mod stop;
 mod table;
 mod text;
 mod trace;
 mod vcd;
+mod watch;
 
 use clap::{Args, Parser, Subcommand};
 use clock::Clock;
@@ -39,14 +41,14 @@ use text::count;
 use trace::Form;
 
 const HINTS: &str = "\
-Exit status: 0 fine; 1 a text, image, row or charge is refused; 2 wrong usage, or a file that cannot be read or written.
+Exit status: 0 fine; 1 a text, image, row or charge is refused, or a watch fails; 2 wrong usage, or a file that cannot be read or written.
 `-` is standard input where a file is read, and standard output where one is written.
 
   rolvenko check rules.txt                 are these rules accepted?
   rolvenko trace rules.txt rows.txt        what do they do, row by row?
   rolvenko trace rules.txt rows.txt --vcd rows.vcd && gtkwave rows.vcd";
 
-/// Launch rules: translate, check, show, trace, replay, bill.
+/// Launch rules: translate, check, show, print, trace, replay, bill, watch.
 #[derive(Parser)]
 #[command(name = "rolvenko", version, after_help = HINTS)]
 struct Tool {
@@ -72,6 +74,13 @@ enum Command {
     Show {
         #[command(flatten)]
         file: Either,
+    },
+    /// Print rules as Structured Text (IEC 61131-3)
+    St {
+        rules: PathBuf,
+        /// where it goes; standard output by default
+        #[arg(short, value_name = "FILE")]
+        output: Option<PathBuf>,
     },
     /// Print the state after each row
     Trace {
@@ -111,6 +120,11 @@ enum Command {
         /// minutes of each row; those of --every with a farm table, else 1
         #[arg(long, allow_hyphen_values = true)]
         minutes: Option<i32>,
+    },
+    /// Say where the watches of a rule text first fail over its rows
+    Watch {
+        #[command(flatten)]
+        run: Run,
     },
     /// Say whether rules can ever stop in service
     Closed { rules: PathBuf },
@@ -200,6 +214,7 @@ fn run(command: Command) -> Result<(), Stop> {
         Command::Translate { rules, output } => translate(&rules, output.as_deref()),
         Command::Check { file } => show::check(&file.file, file.taken()),
         Command::Show { file } => show::show(&file.file, file.taken()),
+        Command::St { rules, output } => st::st(&rules, output.as_deref()),
         Command::Trace { run, csv, vcd } => {
             let form = vcd.map_or(if csv { Form::Csv } else { Form::Plain }, Form::Vcd);
             trace::trace(run.job()?, form)
@@ -209,6 +224,7 @@ fn run(command: Command) -> Result<(), Stop> {
             let rates = bill::Rates { threshold, rate, above: rate_above, minutes: minutes.unwrap_or(row) };
             bill::bill(run.job()?, &of, &rates)
         }
+        Command::Watch { run } => watch::watch(run.job()?),
         Command::Replay { run, csv } => replay::replay(run.job()?, csv),
         Command::Closed { rules } => profile::profile(&Rules::read(&rules)?),
         Command::Table { zone, from, to } => {

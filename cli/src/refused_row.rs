@@ -2,7 +2,7 @@
 
 use crate::farm::Farm;
 use crate::image::Instruction;
-use crate::text::{cases, count, line_column};
+use crate::text::{cases, count, line_column, one_line};
 use rolvenko::{meaning, scan, ScanRefusal};
 
 const PREVIOUS: u8 = 3;
@@ -79,11 +79,6 @@ fn at_work(farm: &Farm, row: &[i32], refusal: ScanRefusal) -> String {
     };
     let values = values_used(farm, row, &code[rule]);
     if values.is_empty() { what } else { format!("{what}; {values}") }
-}
-
-/// White space as one space each.
-fn one_line(bytes: &[u8]) -> String {
-    String::from_utf8_lossy(bytes).split_whitespace().collect::<Vec<_>>().join(" ")
 }
 
 /// Previous values, and inputs, that a rule uses. Other current values are worked out in the same scan, so they are not known here.

@@ -102,6 +102,37 @@ pub fn cases(text: &[u8], variable: &str) -> Vec<Token> {
     found
 }
 
+/// A watch of an accepted text: its tokens from `watch` to `;` as one, and those of its conditions.
+#[derive(Clone, Debug, PartialEq, Eq)]
+pub struct Watch {
+    pub whole: Token,
+    pub first: Vec<Token>,
+    pub later: Option<Vec<Token>>,
+}
+
+/// The watches of an accepted text, in order.
+pub fn watches(text: &[u8]) -> Vec<Watch> {
+    let all = tokens(text);
+    let begins = (0..all.len()).filter(|i| all[*i].of(text) == b"watch");
+    begins
+        .map(|from| {
+            let end = (from..all.len()).find(|i| all[*i].of(text) == b";").unwrap_or(all.len() - 1);
+            let part = &all[from..=end];
+            let arrow = part.iter().position(|t| t.of(text) == b"->");
+            Watch {
+                whole: Token { at: all[from].at, end: all[end].end },
+                first: part[..arrow.unwrap_or(part.len())].to_vec(),
+                later: arrow.map(|i| part[i..].to_vec()),
+            }
+        })
+        .collect()
+}
+
+/// White space as one space each.
+pub fn one_line(bytes: &[u8]) -> String {
+    String::from_utf8_lossy(bytes).split_whitespace().collect::<Vec<_>>().join(" ")
+}
+
 /// The place, among the tokens, of the bracket that closes the one at `open`.
 fn closing(text: &[u8], all: &[Token], open: usize) -> usize {
     let mut depth = 0usize;
@@ -130,6 +161,11 @@ mod tests {
         assert_eq!(spelled(change), ["[[a = 1]] & v = ((1))", "[_v = 0] & v = (2)"]);
         let pair = "v+: GX(v > _v -> [a = 1] & v = (_v + 1)); v-: GX(v < _v -> [a = 0] & v = (_v - 1) | [a = 2] & v = (0));";
         assert_eq!(spelled(pair), ["[a = 1] & v = (_v + 1)", "[a = 0] & v = (_v - 1)", "[a = 2] & v = (0)"]);
+        let watched = "v: GX(v = (1)); watch: G([v = 1]);\nwatch: G([_v = 0]\n-> X([v = 1]));";
+        let found = watches(watched.as_bytes());
+        let whole: Vec<String> = found.iter().map(|w| one_line(w.whole.of(watched.as_bytes()))).collect();
+        assert_eq!(whole, ["watch: G([v = 1]);", "watch: G([_v = 0] -> X([v = 1]));"]);
+        assert_eq!(found.iter().map(|w| w.later.is_some()).collect::<Vec<_>>(), [false, true]);
         assert_eq!(spelled("v: GX(v = (1)); w: GX(~(w = _w) -> [a = 1] & w = (1)); w: GX(w = _w -> ~([a = 1]));"), [""; 0]);
     }
 }

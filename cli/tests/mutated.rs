@@ -6,8 +6,8 @@ use common::{fed, out, status, told};
 use std::fs;
 
 const RUNS: usize = 400;
-const PIECES: [&[u8]; 16] =
-    [b"input ", b"var ", b"GX", b";", b"(", b"]", b"_", b"..", b"->", b"\n#\n", b"\r\n", b"99999999999", b"\xff", b"\0", b"\x1b[2J", b"\xef\xbb\xbf"];
+const PIECES: [&[u8]; 18] =
+    [b"watch: G([", b"X([", b"input ", b"var ", b"GX", b";", b"(", b"]", b"_", b"..", b"->", b"\n#\n", b"\r\n", b"99999999999", b"\xff", b"\0", b"\x1b[2J", b"\xef\xbb\xbf"];
 
 /// Marsaglia's xorshift.
 struct Numbers(u64);
@@ -58,7 +58,7 @@ fn refused_as_the_archive_answers_and_never_otherwise() {
     for run in 0..RUNS {
         let path = &stored[numbers.below(stored.len())];
         let bytes = mutated(&mut numbers, &fs::read(path).unwrap());
-        let command = ["trace", "replay", "check", "closed", "show", "translate"][run % 6];
+        let command = ["trace", "replay", "check", "closed", "show", "translate", "st", "watch"][run % 8];
         let o = if matches!(command, "check" | "show") { fed(&[command, "--rules", "-"], &bytes) } else { fed(&[command, "-"], &bytes) };
         let said = told(&o);
         let case = || format!("{command} {:?}\n{said}", String::from_utf8_lossy(&bytes));

@@ -7,6 +7,13 @@ use std::fs;
 use std::os::unix::fs::PermissionsExt;
 use std::path::{Path, PathBuf};
 use std::process::{Command, Output};
+use std::sync::{Mutex, MutexGuard, PoisonError};
+
+/// One test at a time: a child that another test starts while a script is being written holds it open, and then it cannot be run ("Text file busy").
+fn alone() -> MutexGuard<'static, ()> {
+    static ALONE: Mutex<()> = Mutex::new(());
+    ALONE.lock().unwrap_or_else(PoisonError::into_inner)
+}
 
 const RT: &str = "#!/bin/sh
 mkdir -p target/staticlib
@@ -63,6 +70,7 @@ fn run(at: &Path) -> Output {
 
 #[test]
 fn it_proves_and_builds_what_is_missing_with_a_line_a_crate() {
+    let _alone = alone();
     let at = repository("script");
     let o = run(&at);
     assert_eq!((status(&o), out(&o).as_str()), (0, "the tool: help\n"), "{}", told(&o));
@@ -81,6 +89,7 @@ fn it_proves_and_builds_what_is_missing_with_a_line_a_crate() {
 
 #[test]
 fn a_proof_that_fails_is_told() {
+    let _alone = alone();
     let at = repository("script-broken");
     fs::write(at.join("broken"), "").unwrap();
     let o = run(&at);
@@ -90,6 +99,7 @@ fn a_proof_that_fails_is_told() {
 
 #[test]
 fn a_program_that_is_missing_is_named() {
+    let _alone = alone();
     let at = repository("script-missing");
     fs::remove_file(at.join("bin/rt")).unwrap();
     let o = run(&at);

@@ -25,6 +25,28 @@ fn translates_into_the_image_that_the_service_writes() {
 }
 
 #[test]
+fn prints_the_structured_text_that_the_service_writes() {
+    let wanted = fs::read_to_string("../examples/launch_latch.st").unwrap();
+    assert_eq!(out(&tool(&["st", LATCH])), wanted);
+    let file = file("latch.st", b"");
+    let printed = tool(&["st", LATCH, "-o", word(&file)]);
+    assert_eq!((status(&printed), out(&printed).as_str()), (0, ""));
+    assert_eq!(fs::read_to_string(&file).unwrap(), wanted);
+    let empty = fed(&["st", "-"], b"\n#\n");
+    assert_eq!((status(&empty), out(&empty).as_str()), (0, ""));
+    let over = tool(&["st", LATCH, "-o", LATCH]);
+    assert!(status(&over) == 2 && told(&over).contains("it would be written over"));
+}
+
+#[test]
+fn a_word_of_structured_text_is_told() {
+    let refused = fed(&["st", "-"], b"input go 0..1;\nvar Then 0..1;\nthen: GX(then = (go));\n");
+    assert_eq!((status(&refused), out(&refused).as_str()), (1, ""));
+    let said = told(&refused);
+    assert!(said.starts_with("-:2:5: refused 21: ") && said.contains("^^^^ THEN is a word of Structured Text"), "{said}");
+}
+
+#[test]
 fn traces_as_document_01_prints() {
     let mut compared = 0;
     for entry in ["../rulebooks", "../examples"].iter().flat_map(|folder| fs::read_dir(folder).unwrap()) {
@@ -133,18 +155,18 @@ fn rows_from_another_file_and_without_an_end_of_line() {
 
 #[test]
 fn files_that_cannot_be_read_end_with_2() {
-    for words in [&["check", "no such file"][..], &["trace", "/"], &["trace", LATCH, "/"], &["show", "/"], &["translate", LATCH, "-o", "/no/folder"], &["table", "No/Zone"]] {
+    for words in [&["check", "no such file"][..], &["st", "no such file"], &["watch", "no such file"], &["watch", LATCH, "/"], &["st", LATCH, "-o", "/no/folder"], &["trace", "/"], &["trace", LATCH, "/"], &["show", "/"], &["translate", LATCH, "-o", "/no/folder"], &["table", "No/Zone"]] {
         let answer = tool(words);
         assert_eq!((status(&answer), told(&answer).starts_with("rolvenko: ")), (2, true), "{words:?}");
     }
-    for words in [&[][..], &["fly"], &["trace"], &["trace", LATCH, "--csv", "--vcd", "x"], &["charge", LATCH]] {
+    for words in [&[][..], &["fly"], &["trace"], &["st"], &["trace", LATCH, "--csv", "--vcd", "x"], &["charge", LATCH]] {
         assert_eq!(status(&tool(words)), 2, "{words:?}");
     }
 }
 
 #[test]
 fn endless_files_are_over_their_limit() {
-    for words in [["check", "/dev/zero"], ["trace", "/dev/zero"], ["translate", "/dev/zero"]] {
+    for words in [["check", "/dev/zero"], ["trace", "/dev/zero"], ["translate", "/dev/zero"], ["st", "/dev/zero"], ["watch", "/dev/zero"]] {
         let answer = tool(&words);
         assert!(told(&answer).contains("refused 9") && status(&answer) == 1, "{words:?} {}", told(&answer));
     }
@@ -203,6 +225,26 @@ fn a_broken_farm_table_is_refused_before_any_row() {
     assert_eq!((status(&traced), told(&traced).contains("falling.table: refused 19: entry 2: minute 5 does not come after 10")), (1, true));
     let endless = tool(&["trace", word(&rules), "--table", "/dev/zero", "--start", "1"]);
     assert_eq!(status(&endless), 2);
+}
+
+#[test]
+fn promises_are_watched() {
+    let text = b"input i 0..1;\nvar v 0..9;\nv: GX(v = (_v + i));\nwatch: G([v >= _v]);\nwatch: G([i = 1] -> X([v > _v]));\n#\n1\n2\n1\n0\n";
+    let rules = file("promises.txt", text);
+    let watched = tool(&["watch", word(&rules)]);
+    let at = word(&rules);
+    let wanted = format!(
+        "{at}:4:1: holds at 4 places: watch: G([v >= _v]);\n\
+         {at}:5:1: fails at place 3 (row 4): watch: G([i = 1] -> X([v > _v])); where i is 1; then v is 2, _v is 2\n"
+    );
+    assert_eq!((status(&watched), out(&watched)), (1, wanted));
+    assert!(told(&watched).starts_with(&format!("{at}:8: refused 13: ")), "{}", told(&watched));
+    let kept = file("kept.txt", b"input i 0..1; watch: G([i = 0]);\n#\n0\n");
+    let holds = tool(&["watch", word(&kept)]);
+    assert_eq!((status(&holds), out(&holds)), (0, format!("{}:1:15: holds at 2 places: watch: G([i = 0]);\n", word(&kept))));
+    // a place of the start, and no watch at all
+    assert!(out(&fed(&["watch", "-"], b"input i 0..1; watch: G([i = 1]);")).contains(": fails at the start: watch: G([i = 1]); where i is 0\n"));
+    assert_eq!(out(&fed(&["watch", "-"], b"input i 0..1;")), "-: no watch stands behind the rules\n");
 }
 
 #[test]

@@ -27,7 +27,7 @@ impl Features {
         pair_images: true,
         pairs: true,
         timers: false,
-        watches: false,
+        watches: true,
     };
 
     /// Document 01 and the requests that every model has.

@@ -144,7 +144,7 @@ fn texts_4_sixty_fifth_name() {
     expect(4, &sixty_four("var @n7 0..1;"));
     expect(8, &sixty_four(&format!("var @{LONG} 0..1;")));
     expect(2, &sixty_four("var @mod 0..1;"));
-    expect(2, &sixty_four("@input x 0..1;"));
+    expect(2, &sixty_four("@input y 0..1;"));
     expect(6, &sixty_four("@"));
 }
 
@@ -329,5 +329,5 @@ fn grammar() {
     expect(2, "var v 0..1; v: GX(v = (1 @& 1));");
     expect(2, "var v 0..1; v: GX(v = (@[1]));");
     expect(2, "var v 0..1; @input a 0..1;");
-    expect(2, &format!("{D}v: GX(v = (1)); @var x 0..1;"));
+    expect(2, &format!("{D}v: GX(v = (1)); @var y 0..1;"));
 }

@@ -3,9 +3,12 @@
 mod common;
 
 use common::landed_and_all;
+use rolvenko_model::features::with;
 use rolvenko_model::generate::{edited_st_source, st_source, Names, Rng};
 use rolvenko_model::token::tokens;
-use rolvenko_model::{read_text, structured_text, write_structured_text, Program, Refusal};
+use rolvenko_model::{
+    read_text, structured_text, write_structured_text, Features, Program, Refusal,
+};
 
 const L2: &str =
     "var v 0..1; v: GX(~(v = _v) -> [_v = 0] & v = (1)); v: GX(v = _v -> ~([_v = 0]));";
@@ -103,6 +106,60 @@ fn conditions() {
     assert_eq!(body(three).0, wanted);
 }
 
+/// "one IF/ELSIF block .. a rule", also of a pair, the rising list first.
+#[test]
+fn pairs() {
+    let pair = "var v 0..9;v+:GX(v>_v->[_v<5]&v=(_v+1)|[_v=5]&v=(9));v-:GX(v<_v->[_v=9]&v=(0));";
+    let wanted = "IF (_v < 5) THEN\n  v := (_v + 1);\nELSIF (_v = 5) THEN\n  v := 9;\n\
+        ELSIF (_v = 9) THEN\n  v := 0;\nEND_IF;\n_v := v;\n";
+    let found = with(Features::ALL, || body(pair));
+    assert_eq!(found, (wanted.to_owned(), 158));
+}
+
+/// "Names print as declared", however they are used.
+#[test]
+fn declared_spelling() {
+    let found = with(Features::ALL, || {
+        body("input Run 0..1;var v 0..1;V:GX(v=(rUN));")
+    });
+    let wanted = "v := Run;\n_Run := Run;\n_v := v;\n".to_owned();
+    assert_eq!(found, (wanted, 136));
+}
+
+/// "Image, ST and printed trace hold no watches" (A.13).
+#[test]
+fn watches_print_nothing() {
+    let rules = "var v 0..1;v:GX(v=(0));";
+    let watched = format!("{rules}watch:G([v=0]);");
+    with(Features::ALL, || {
+        assert_eq!(body(rules), ("v := 0;\n_v := v;\n".to_owned(), 64));
+        assert_eq!(st(rules), st(&watched));
+    });
+}
+
+/// "The ST writer answers a timer with 21, at its word" (A.7); the first in the text.
+#[test]
+fn timers() {
+    with(Features::ALL, || {
+        let rest = "0..1; timer t of w limit 5; w:GX(w=(1));";
+        let text = format!("var w {rest}");
+        assert_eq!(lent(&text, 0), Err((21, 12)));
+        assert_eq!(lent(&text.replace(" t ", " IF "), 9999), Err((21, 12)));
+        assert_eq!(lent(&format!("input IF 0..1; {text}"), 9999), Err((21, 6)));
+    });
+}
+
+/// Words of both languages are no names of a text (A.2).
+#[test]
+fn grammar_words() {
+    with(Features::ALL, || {
+        for word in ["VAR", "Mod", "mOD", "Var"] {
+            let text = format!("input {word} 0..1;");
+            assert_eq!(lent(&text, 9999), Err((2, 6)), "{word}");
+        }
+    });
+}
+
 /// "after all faults of the text; a short buffer is 10, after 21"; the first in the text.
 #[test]
 fn reserved_names() {
@@ -160,6 +217,8 @@ fn answers_by_seed_in_force() {
         let program = read_text(&text);
         let written = program.as_ref().map(write_structured_text);
         let length = written.as_ref().map_or(9, String::len);
+        // The design's bound, from which the room of 115,998 bytes comes.
+        assert!(2 * length <= 7 * text.len() + 2620);
         let rooms = [0, length.saturating_sub(1), length, length + 9];
         let room = *rng.choose(&rooms);
         let mut out = vec![0xA5; room];

@@ -28,8 +28,8 @@ fn refused_texts() {
             (23, "timer t of @i limit 1;".to_owned()),
             (23, "timer t of @t limit 1;".into()),
             (23, "timer t of w limit 1; timer u of @t limit 1;".into()),
-            (23, "var x 0..2; timer t of @x limit 1;".into()),
-            (23, "var x -1..1; timer t of @x limit 1;".into()),
+            (23, "var y 0..2; timer t of @y limit 1;".into()),
+            (23, "var y -1..1; timer t of @y limit 1;".into()),
             (4, "timer t of @zz limit 1;".into()),
             (4, "timer @w of w limit 1;".into()),
             (4, "timer t of w limit 1; timer @t of".into()),
@@ -57,8 +57,8 @@ fn refused_texts() {
 fn refused_after_timers() {
     with(A7, || {
         for (number, rest) in [
-            (2, "timer t of w limit 1; @var x 0..1;".to_owned()),
-            (2, "timer t of w limit 1; @input x 0..1;".into()),
+            (2, "timer t of w limit 1; @var y 0..1;".to_owned()),
+            (2, "timer t of w limit 1; @input y 0..1;".into()),
             (2, "var @limit 0..1;".into()),
             (2, "w: GX(w = (@timer));".into()),
             (1, "w: GX(w = (@_timer));".into()),
@@ -66,7 +66,7 @@ fn refused_after_timers() {
             (5, "timer t of w limit 1; w: GX(w = (@t));".into()),
             (
                 5,
-                "var x 0..1; timer t of w limit 1; x: GX(x = (@t));".into(),
+                "var y 0..1; timer t of w limit 1; y: GX(y = (@t));".into(),
             ),
             (6, format!("timer t of w limit 1; @t: GX(t = (1)); {R}")),
             (6, format!("timer t of w limit 1; {R} @t: GX(t = (1));")),
@@ -198,8 +198,8 @@ fn ton_from_other_states() {
     });
 }
 
-const TWO: &str = "input i 0..1; var w 0..1; var x 0..1; timer t of w limit 3; \
-    timer u of x limit 2; x: GX(x = (i)); w: GX(w = (x * u));";
+const TWO: &str = "input i 0..1; var w 0..1; var y 0..1; timer t of w limit 3; \
+    timer u of y limit 2; y: GX(y = (i)); w: GX(w = (y * u));";
 
 /// "Directly after the rule of w"
 #[test]

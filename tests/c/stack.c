@@ -7,7 +7,7 @@
 #include <stdlib.h>
 #include <string.h>
 
-enum { STACK = 1 << 18, FILL = 0xA5, BOUND = 98304 };
+enum { STACK = 1 << 18, FILL = 0xA5, BOUND = 98304, ST_BOUND = 131072 };
 
 static uint8_t text[16384], image[ROLVENKO_IMAGE_ROOM];
 static size_t text_len, image_len, names;
@@ -20,6 +20,18 @@ static void *nothing(void *p) { return p; }
 
 static void *translate(void *p) {
     answer = rolvenko_translate(text, text_len, image, sizeof image);
+    return p;
+}
+
+static void *structured_text(void *p) {
+    static uint8_t out[ROLVENKO_ST_ROOM];
+    answer = rolvenko_structured_text(text, text_len, out, sizeof out);
+    return p;
+}
+
+static void *watch(void *p) {
+    int64_t report[ROLVENKO_WATCHES];
+    answer = rolvenko_watch(text, text_len, trace, 33 * names, report, ROLVENKO_WATCHES);
     return p;
 }
 
@@ -150,24 +162,31 @@ static size_t used(void *(*call)(void *)) {
     return STACK - untouched;
 }
 
-/* A change rule with 16 brackets open at once, `square` of them of conditions, each with its `~` or `-` before it; so many names declared. */
-static void nested(int square, size_t declared) {
-    char condition[160] = "";
+/* A change rule and two watches with 16 brackets open at once, `square` of them of conditions, each with its `~` or `-` before it, and with `operations` each the
+ * right operand of two operations more: what prints them calls itself at each. So many names are declared. */
+static void nested(int square, int operations, size_t declared) {
+    static const char *const before[2][2] = {{"-(", "~["}, {"1+1*-(", "1=2|1=1&~["}};
+    char condition[256] = "";
     names = declared;
     text_len = 0;
     for (size_t i = 1; i < declared; i++)
         text_len += (size_t)snprintf((char *)text + text_len, sizeof text - text_len, "input i%zu 0..1;", i);
-    for (int i = 0; i < 16; i++)
-        strcat(condition, i < square ? "~[" : "-(");
-    strcat(condition, "1");
+    for (int i = 0; i < 16; i++) {
+        if (i == square && operations)
+            strcat(condition, "_v=");
+        strcat(condition, before[operations][i < square]);
+    }
+    strcat(condition, operations && square == 16 ? "_v=1" : "1");
     for (int i = 16; i > square; i--)
         strcat(condition, ")");
-    strcat(condition, "=_v");
+    if (!operations)
+        strcat(condition, "=_v");
     for (int i = square; i > 0; i--)
         strcat(condition, "]");
     text_len += (size_t)snprintf((char *)text + text_len, sizeof text - text_len,
-                                 "var v 0..1;v:GX(~(v=_v)->[%s&_v=2]&v=(1-_v)|[_v=0]&v=(1));v:GX(v=_v->~([%s&_v=2]|[_v=0]));",
-                                 condition, condition);
+                                 "var v 0..1;v:GX(~(v=_v)->[%s&_v=2]&v=(1-_v)|[_v=0]&v=(1));v:GX(v=_v->~([%s&_v=2]|[_v=0]));"
+                                 "watch:G([%s]);watch:G([%s]->X([%s]));",
+                                 condition, condition, condition, condition, condition);
 }
 
 /* The same rule in a longer text: over 1,024 bytes, and again over 8,192, translate takes larger scratch memory. */
@@ -178,15 +197,22 @@ static void lengthen(size_t length) {
     text_len = length;
 }
 
-enum { TRANSLATE, CHECK, START, SCAN, REPLAY, CLOCK, CHARGE, CLOSED, COMBINATION, POST, BEGIN, ADVANCE, FINISH, VISIT, ROUND, SERVICES };
+enum { TRANSLATE, STRUCTURED_TEXT, WATCH, CHECK, START, SCAN, REPLAY, CLOCK, CHARGE, CLOSED, COMBINATION, POST, BEGIN, ADVANCE, FINISH, VISIT, ROUND, SERVICES };
 
 static const struct {
     const char *name;
     void *(*call)(void *);
-} services[SERVICES] = {{"translate", translate}, {"check", check},     {"start", start},       {"scan", scan},
-                        {"replay", replay},       {"clock", local_hour}, {"charge", charge},    {"closed", profile},
-                        {"combination", combination}, {"post", post},    {"begin", begin},      {"advance", advance},
-                        {"finish", finish},       {"visit", visit},      {"round", eight}};
+} services[SERVICES] = {
+    {"translate", translate}, {"structured_text", structured_text},
+    {"watch", watch},         {"check", check},
+    {"start", start},         {"scan", scan},
+    {"replay", replay},
+    {"clock", local_hour},    {"charge", charge},
+    {"closed", profile},      {"combination", combination},
+    {"post", post},           {"begin", begin},
+    {"advance", advance},     {"finish", finish},
+    {"visit", visit},         {"round", eight},
+};
 static size_t idle, most[SERVICES];
 
 static void measure(int service) {
@@ -204,9 +230,13 @@ static void measure(int service) {
 static void measure_all(void) {
     measure(TRANSLATE);
     image_len = rolvenko_count(answer);
+    measure(STRUCTURED_TEXT);
+    measure(WATCH);
     measure(CLOCK);
     lengthen(2048);
     measure(TRANSLATE);
+    measure(STRUCTURED_TEXT);
+    measure(WATCH);
     measure(CLOCK);
     lengthen(8193);
     for (int service = TRANSLATE; service <= CHARGE; service++)
@@ -231,15 +261,15 @@ int main(void) {
         table[2 * i + 1] = i % 2 ? 60 : 120;
     }
     for (int square = 0; square <= 16; square++)
-        for (size_t declared = 2; declared <= 64; declared += 62) {
-            nested(square, declared);
+        for (int form = 0; form < 4; form++) {
+            nested(square, form / 2, form % 2 ? 64 : 2);
             measure_all();
         }
     printf("stack, bytes at most:");
     int over = 0;
     for (int i = 0; i < SERVICES; i++) {
         printf("%s %s %zu", i ? "," : "", services[i].name, most[i]);
-        over |= most[i] > BOUND;
+        over |= most[i] > (i == STRUCTURED_TEXT ? ST_BOUND : BOUND);
     }
     printf("\n");
     return over;

@@ -13,8 +13,8 @@ pub use rolvenko as services;
 pub use rolvenko_baseline as services;
 
 /// What can be compared, in this order.
-pub const SERVICES: [&str; 11] =
-    ["translate", "check", "scan", "trace", "replay", "clock", "charge", "closed", "instalments", "rounds", "program"];
+pub const SERVICES: [&str; 13] =
+    ["translate", "structured_text", "check", "scan", "trace", "replay", "clock", "charge", "watch", "closed", "instalments", "rounds", "program"];
 
 /// What the command line asks for.
 pub struct Options {

@@ -2,9 +2,10 @@
 //!
 //!     rolvenko-tests [--seed N] [--seconds S] [--least N] [--program PATH] [SERVICE ..]
 //!
-//! Services: translate, check, scan (and start), trace (lists of rows), replay (the same in one call), clock, charge, closed (and
-//! combination), instalments, rounds, and program, a trace program at PATH; all by default, S seconds and at least N calls each. Prints
-//! how often each answer was met. A difference is shrunk to a small input and printed, and the exit status is 1.
+//! Services: translate, structured_text (and scans against it), check, scan (and start), trace (lists of rows), replay (the same in one
+//! call), clock, charge, watch, closed (and combination), instalments, rounds, and program, a trace program at PATH; all by default, S
+//! seconds and at least N calls each. Prints how often each answer was met. A difference is shrunk to a small input and printed, and the
+//! exit status is 1.
 
 mod charge;
 mod check;
@@ -17,8 +18,11 @@ mod replay;
 mod rounds;
 mod scan;
 mod shrink;
+mod structured_text;
 mod trace;
 mod translate;
+mod watch;
+mod writer;
 
 use compare::{Options, Table, SERVICES};
 use std::process::ExitCode;
@@ -34,14 +38,16 @@ fn main() -> ExitCode {
             return ExitCode::from(2);
         }
     };
-    let runs: [Run; 11] = [
+    let runs: [Run; 13] = [
         translate::run,
+        structured_text::run,
         check::run,
         scan::run,
         trace::run,
         replay::run,
         clock::run,
         charge::run,
+        watch::run,
         closed::run,
         instalments::run,
         rounds::run,

@@ -1,57 +1,14 @@
 //! Translation against the model's: answer, place, every byte of the buffer and around it.
 
-use crate::compare::{fence, hex, services, Options, Table};
-use crate::shrink::{shrink, smaller_bytes};
+use crate::compare::{services, Options, Table};
+use crate::writer::Writer;
 use rolvenko_model::generate::{limit_texts, mutate_bytes, mutated_text, random_bytes, text, token_soup, Rng, Shape};
 use rolvenko_model::{read_text, write_image};
 
-/// What both leave in buffers of the same length and contents.
-struct Both {
-    archive: Result<usize, (u8, usize)>,
-    model: Result<usize, (u8, usize)>,
-    same_memory: bool,
-}
-
-impl Both {
-    fn differ(&self) -> bool {
-        self.archive != self.model || !self.same_memory
-    }
-}
-
-/// Translates into a buffer of `room` bytes, filled with a byte that tells untouched places. The text must stay as it is too.
-fn both(source: &[u8], room: usize) -> Both {
-    let lent = fence(source, 0x5A);
-    let mut written = fence(&vec![0xA5; room], 0x5A);
-    let mut wanted = written.clone();
-    let archive = services::translate(lent.read(source.len()), written.write(room)).map_err(|r| (r.number, r.place));
-    let model = rolvenko_model::translate(source, wanted.write(room)).map_err(|r| (r.number, r.place));
-    Both {
-        archive,
-        model,
-        same_memory: written == wanted && lent == fence(source, 0x5A),
-    }
-}
-
-fn compare(source: &[u8], room: usize, table: &mut Table) -> Result<(), String> {
-    let found = both(source, room);
-    if found.differ() {
-        let small = shrink(&source.to_vec(), |t| smaller_bytes(t), |t| both(t, room).differ());
-        let b = both(&small, room);
-        return Err(format!(
-            "text {:?}\nbytes {}\nbuffer of {room} bytes, same memory: {}\narchive {:?}\nmodel   {:?}",
-            String::from_utf8_lossy(&small),
-            hex(&small),
-            b.same_memory,
-            b.archive,
-            b.model
-        ));
-    }
-    table.count(match found.model {
-        Ok(_) => " 0".to_owned(),
-        Err((number, _)) => format!("{number:>2}"),
-    });
-    Ok(())
-}
+const TRANSLATE: Writer = Writer {
+    archive: |text, image| services::translate(text, image).map_err(|r| (r.number, r.place)),
+    model: |text, image| rolvenko_model::translate(text, image).map_err(|r| (r.number, r.place)),
+};
 
 /// The text with letters of its names in other cases; words of the grammar stay.
 fn recased(rng: &mut Rng, source: &[u8]) -> Vec<u8> {
@@ -65,7 +22,7 @@ fn recased(rng: &mut Rng, source: &[u8]) -> Vec<u8> {
             _ => at + 1,
         };
         let token = &mut text[at..end];
-        if !["input", "var", "init", "mod", "GX"].iter().any(|word| word.as_bytes().eq_ignore_ascii_case(token)) {
+        if !["input", "var", "init", "mod", "GX", "watch", "G", "X"].iter().any(|word| word.as_bytes().eq_ignore_ascii_case(token)) {
             for byte in token.iter_mut().filter(|byte| byte.is_ascii_alphabetic()) {
                 *byte ^= (rng.below(2) as u8) << 5;
             }
@@ -94,17 +51,13 @@ fn around(source: &[u8], table: &mut Table) -> Result<(), String> {
     let Ok(program) = read_text(source) else {
         return Ok(());
     };
-    let length = write_image(&program).len();
-    for room in length.saturating_sub(3)..length + 4 {
-        compare(source, room, table)?;
-    }
-    compare(source, 0, table)
+    TRANSLATE.around(source, write_image(&program).len(), table)
 }
 
 /// Every cut of a text.
 fn cuts(source: &[u8], table: &mut Table) -> Result<(), String> {
     for end in 0..source.len() {
-        compare(&source[..end], 4 * source.len() + 8, table)?;
+        TRANSLATE.compare(&source[..end], 4 * source.len() + 8, table)?;
     }
     Ok(())
 }
@@ -112,11 +65,11 @@ fn cuts(source: &[u8], table: &mut Table) -> Result<(), String> {
 pub fn run(options: &Options, table: &mut Table) -> Result<(), String> {
     let mut rng = Rng::new(options.seed);
     for limit in limit_texts() {
-        compare(&limit.text, rolvenko::IMAGE_ROOM, table)?;
+        TRANSLATE.compare(&limit.text, rolvenko::IMAGE_ROOM, table)?;
         around(&limit.text, table)?;
         let mut edited = limit.text.clone();
         mutate_bytes(&mut rng, &mut edited);
-        compare(&edited, rolvenko::IMAGE_ROOM, table)?;
+        TRANSLATE.compare(&edited, rolvenko::IMAGE_ROOM, table)?;
     }
     let since = table.started();
     while !options.spent(since, table.calls) {
@@ -130,11 +83,11 @@ pub fn run(options: &Options, table: &mut Table) -> Result<(), String> {
         for _ in 0..60 {
             let mutated = mutated_text(&mut rng, shape);
             in_other_cases(&mut rng, &mutated)?;
-            compare(&mutated, 4 * mutated.len() + 8, table)?;
+            TRANSLATE.compare(&mutated, 4 * mutated.len() + 8, table)?;
         }
         for _ in 0..10 {
-            compare(&token_soup(&mut rng, 30), 200, table)?;
-            compare(&random_bytes(&mut rng, 40), 200, table)?;
+            TRANSLATE.compare(&token_soup(&mut rng, 30), 200, table)?;
+            TRANSLATE.compare(&random_bytes(&mut rng, 40), 200, table)?;
         }
     }
     Ok(())

@@ -11,7 +11,7 @@ static bool value(struct parser *p)
     uint32_t id = find_name(p, p->text + start, length);
     if (id == p->names)
         return refuse(p, 4);
-    if (!old && !p->name[id].usable)
+    if (!old && !p->name[id].usable && !p->watching)
         return refuse(p, 5);
     emit(p, old ? PREVIOUS : CURRENT);
     emit_number(p, id);

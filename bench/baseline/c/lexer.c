@@ -41,6 +41,9 @@ static int word_kind(const uint8_t *word, uint32_t length)
 {
     int kind;
     switch (length) {
+    case 1:
+        kind = word_or_name(word, "G", 1, ALWAYS);
+        return kind != NAME ? kind : word_or_name(word, "X", 1, LATER);
     case 2:
         return word_or_name(word, "GX", 2, GX);
     case 3:
@@ -49,7 +52,8 @@ static int word_kind(const uint8_t *word, uint32_t length)
     case 4:
         return word_or_name(word, "init", 4, INIT);
     case 5:
-        return word_or_name(word, "input", 5, INPUT);
+        kind = word_or_name(word, "input", 5, INPUT);
+        return kind != NAME ? kind : word_or_name(word, "watch", 5, WATCH);
     default:
         return NAME;
     }

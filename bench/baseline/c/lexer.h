@@ -17,6 +17,9 @@ enum kind {
     INIT,
     MOD,
     GX,
+    WATCH,
+    ALWAYS, /* `G` */
+    LATER,  /* `X` */
     DOTS,
     ARROW,
     AT_MOST,

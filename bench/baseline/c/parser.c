@@ -61,7 +61,8 @@ struct answer baseline_translate(const uint8_t *text, size_t text_len, uint8_t *
     p.token = token_at(text, p.length, 0);
     p.image = memory;
     p.written = 2; /* the two counts */
-    if (!declarations(&p) || !rules(&p))
+    p.watching = false;
+    if (!declarations(&p) || !rules(&p) || !watches(&p))
         return p.refusal;
     if (p.written > image_len)
         return refused(10, p.length);

@@ -8,6 +8,7 @@
 enum {
     CASES = 32,
     BRACKETS = 16,
+    WATCHES = 16,
 };
 
 struct name {
@@ -21,6 +22,7 @@ struct parser {
     uint32_t length;
     struct token token; /* the one to be taken next */
     uint32_t open;      /* brackets */
+    bool watching;      /* every current value is usable */
     uint32_t inputs;
     uint32_t names;
     struct name name[NAMES];
@@ -42,9 +44,10 @@ void emit_signed(struct parser *p, int32_t value);
 bool expression(struct parser *p);
 bool condition(struct parser *p);
 
-/* declarations.c, rules.c */
+/* declarations.c, rules.c, watches.c */
 bool declarations(struct parser *p);
 bool rules(struct parser *p);
+bool watches(struct parser *p); /* and the end of the text */
 
 static inline void advance(struct parser *p)
 {

@@ -214,11 +214,8 @@ static bool rule(struct parser *p)
 
 bool rules(struct parser *p)
 {
-    while (p->token.kind != END)
+    while (p->token.kind != END && p->token.kind != WATCH)
         if (!rule(p))
             return false;
-    for (uint32_t id = 0; id < p->names; id++)
-        if (!p->name[id].usable)
-            return refuse(p, 6);
     return true;
 }

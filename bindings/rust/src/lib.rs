@@ -2,9 +2,13 @@
 //! (include/rolvenko.h), whose contract is proved for every input, so nothing is asked of the caller.
 
 pub mod instalments;
+mod replay;
 pub mod rounds;
+mod watches;
 
 pub use instalments::{Paused, Response};
+pub use replay::{replay, Records};
+pub use watches::{watch, write_report, WATCHES};
 
 use std::error::Error;
 use std::fmt::{self, Display, Formatter};
@@ -15,6 +19,8 @@ pub const TEXT_LIMIT: usize = 32_768;
 pub const IMAGE_LIMIT: usize = 65_536;
 /// Bytes that the image of any accepted text fits in.
 pub const IMAGE_ROOM: usize = 49_154;
+/// Bytes that the Structured Text of any accepted text fits in.
+pub const ST_ROOM: usize = 115_998;
 /// Inputs and variables together.
 pub const NAMES: usize = 64;
 /// Scans of a closed profile.
@@ -74,9 +80,9 @@ pub fn meaning(number: u8) -> &'static str {
         7 => "the no-change formula has another list of conditions",
         8 => "over 16 brackets, 32 cases, 64 names or 16 bytes of a name",
         9 => "the text is over 32,768 bytes, or the image over 65,536",
-        10 => "the image buffer is too short",
+        10 => "the buffer is too short for the image, or the Structured Text",
         11 => "the image is not sound",
-        12 => "the state, row or trace has the wrong length",
+        12 => "the state, row, trace or report has the wrong length",
         13 => "an input of the row is outside its range",
         14 => "a result outside 32 bits, or division by zero",
         15 => "two conditions of one rule hold",
@@ -85,6 +91,7 @@ pub fn meaning(number: u8) -> &'static str {
         18 => "a value of the state is outside its range",
         19 => "the farm table breaks its limits",
         20 => "the UTC minute is below 0 or over 2,147,483,647",
+        21 => "a declared name that is a word of Structured Text",
         22 => "a rising pick at or below the previous value, or a falling one at or above it",
         24 => "the state at the finish is not the one at the start",
         25 => "not 1 to 8 rule sets, or a share outside 1 to 65,536",
@@ -92,6 +99,7 @@ pub fn meaning(number: u8) -> &'static str {
         27 => "an in-range state and row whose scan is refused",
         28 => "no variable whose low and traced values are 0 or above, or a threshold, rate or minutes out of limit or not one a row",
         29 => "the charge is over 9,007,199,254,740,991 cents",
+        30 => "over 16 watches",
         _ => "no refusal of these services",
     }
 }
@@ -104,6 +112,7 @@ pub struct Readme;
 mod archive {
     extern "C" {
         pub fn rolvenko_translate(text: *const u8, text_len: usize, image: *mut u8, image_len: usize) -> u64;
+        pub fn rolvenko_structured_text(text: *const u8, text_len: usize, out: *mut u8, out_len: usize) -> u64;
         pub fn rolvenko_check(image: *const u8, image_len: usize) -> u64;
         pub fn rolvenko_start(image: *const u8, image_len: usize, state: *mut i32, state_len: usize) -> u64;
         pub fn rolvenko_scan(
@@ -113,24 +122,6 @@ mod archive {
             state_len: usize,
             row: *const i32,
             row_len: usize,
-        ) -> u64;
-        pub fn rolvenko_replay(
-            text: *const u8,
-            text_len: usize,
-            image: *mut u8,
-            image_len: usize,
-            state: *mut i32,
-            state_len: usize,
-            cells: *const i32,
-            cells_len: usize,
-            lengths: *const usize,
-            rows: usize,
-            numbers: *mut u8,
-            numbers_len: usize,
-            steps: *mut usize,
-            steps_len: usize,
-            trace: *mut i32,
-            trace_len: usize,
         ) -> u64;
         pub fn rolvenko_clock(
             text: *const u8,
@@ -194,11 +185,42 @@ fn counted(answer: u64) -> Result<u32, Refusal> {
     }
 }
 
-/// Translates a rule text and writes its image to the first bytes of `image`; answers the image's length. A refusal (1 to 10)
+/// Translates a rule text and writes its image to the first bytes of `image`; answers the image's length. A refusal (1 to 10, 30)
 /// leaves `image` as it was; a buffer of 49,154 bytes is enough for every text.
 pub fn translate(text: &[u8], image: &mut [u8]) -> Result<usize, Refusal> {
     // The function reads `text_len` bytes at `text` and reads and writes `image_len` bytes at `image`.
     let answer = unsafe { archive::rolvenko_translate(text.as_ptr(), text.len(), image.as_mut_ptr(), image.len()) };
+    counted(answer).map(|length| length as usize)
+}
+
+/// Prints a rule text as Structured Text, the text language of IEC 61131-3, to the first bytes of `out`; answers its length. Started with
+/// a state in names and previous values alike, then given the inputs of a row that [`scan`] accepts, its statements leave the values of that
+/// scan. A refusal (1 to 10, 21, 30) leaves `out` as it was; a buffer of [`ST_ROOM`] bytes is enough for every text.
+///
+/// ```
+/// let text = b"input go 0..1; var run 0..1; run: GX(run = (1 - go));";
+/// let mut out = [0; 256];
+/// let length = rolvenko::structured_text(text, &mut out)?;
+/// let wanted = "VAR_INPUT
+///   go : DINT := 0;
+/// END_VAR
+/// VAR
+///   _go : DINT := 0;
+///   run : DINT := 0;
+///   _run : DINT := 0;
+/// END_VAR
+/// run := (1 - go);
+/// _go := go;
+/// _run := run;
+/// ";
+/// assert_eq!(out[..length], *wanted.as_bytes());
+/// let refusal = rolvenko::structured_text(b"input then 0..1;", &mut out).unwrap_err();
+/// assert_eq!((refusal.number, refusal.place), (21, 6));
+/// # Ok::<(), rolvenko::Refusal>(())
+/// ```
+pub fn structured_text(text: &[u8], out: &mut [u8]) -> Result<usize, Refusal> {
+    // The function reads `text_len` bytes at `text` and reads and writes `out_len` bytes at `out`.
+    let answer = unsafe { archive::rolvenko_structured_text(text.as_ptr(), text.len(), out.as_mut_ptr(), out.len()) };
     counted(answer).map(|length| length as usize)
 }
 
@@ -237,69 +259,9 @@ pub fn scan(image: &[u8], state: &mut [i32], row: &[i32]) -> Result<u32, ScanRef
     }
 }
 
-/// Memory for what a replay records, each part written as far as there is room: of each row 0 or the number of its refusal, and its steps;
-/// and the states of the trace, one behind the other.
-#[derive(Debug, PartialEq, Eq)]
-pub struct Records<'a> {
-    pub numbers: &'a mut [u8],
-    pub steps: &'a mut [usize],
-    pub trace: &'a mut [i32],
-}
-
-/// A whole list of rows: translates a text into `image`, starts `state` and scans the rows in turn, with one check of the image. Row k is the
-/// next `lengths[k]` numbers of `cells`, as many of them as there are. A refused row leaves the state, and the next one goes on from there.
-/// Answers the image's length; `state` ends as the state after the last row. A refusal of the text (1 to 10) leaves all memory as it was, a
-/// state of the wrong length (12) all but the image.
-///
-/// ```
-/// let text = b"input go 0..1; var runs 0..9; runs: GX(runs = (_runs + go));";
-/// let (mut image, mut state) = ([0; 64], [0; 2]);
-/// let (mut numbers, mut steps, mut trace) = ([99; 3], [99; 3], [99; 8]);
-/// let records = rolvenko::Records { numbers: &mut numbers, steps: &mut steps, trace: &mut trace };
-/// let length = rolvenko::replay(text, &mut image, &mut state, &[1, 2, 1], &[1, 1, 1], records)?;
-/// assert_eq!(length, 15);
-/// assert_eq!(numbers, [0, 13, 0]);
-/// assert_eq!(steps, [4, 0, 4]);
-/// assert_eq!(trace, [0, 0, 1, 1, 1, 2, 99, 99]);
-/// assert_eq!(state, [1, 2]);
-/// # Ok::<(), rolvenko::Refusal>(())
-/// ```
-pub fn replay(
-    text: &[u8],
-    image: &mut [u8],
-    state: &mut [i32],
-    cells: &[i32],
-    lengths: &[usize],
-    records: Records,
-) -> Result<usize, Refusal> {
-    let Records { numbers, steps, trace } = records;
-    // The function reads `text`, `cells` and `lengths`, and reads and writes the others, each as many elements as its length says.
-    let answer = unsafe {
-        archive::rolvenko_replay(
-            text.as_ptr(),
-            text.len(),
-            image.as_mut_ptr(),
-            image.len(),
-            state.as_mut_ptr(),
-            state.len(),
-            cells.as_ptr(),
-            cells.len(),
-            lengths.as_ptr(),
-            lengths.len(),
-            numbers.as_mut_ptr(),
-            numbers.len(),
-            steps.as_mut_ptr(),
-            steps.len(),
-            trace.as_mut_ptr(),
-            trace.len(),
-        )
-    };
-    counted(answer).map(|length| length as usize)
-}
-
 /// Fills a row with a farm's local time: the values of a text's inputs named `day`, `minute` and `again`; all others stay. `table` has
 /// 1 to 32 entries, the UTC minute (rising) and then the offset in minutes of each; `utc` counts minutes from 1 January 1970. A refusal
-/// (1 to 9, 19, 20, 12) leaves `row` as it was.
+/// (1 to 9, 30, 19, 20, 12) leaves `row` as it was.
 ///
 /// In the hour after the clocks go back from two hours to one, each local minute comes again:
 ///
