@@ -3,3 +3,4 @@ pub mod Table
 pub mod Growth
 pub mod Bound
 pub mod FirstReserved
+pub mod Walk

@@ -1,1 +1,2 @@
-// The Structured Text of a text. Definitions and laws; the service is to come.
+// The Structured Text of a text. Definitions and laws, and what refusal 21 needs; the service is to come.
+pub mod reserved;
