@@ -89,7 +89,7 @@ module _ (text last starts ends : List ℕ) {r : Step} (h : length text ≤ text
       record { answer = rw f; stand = λ q n names at count g i. never q n k x (sym g ∙ f) }
 
   module _ (x : Place) (e : r ≡ Done x) {i v : ℕ} (ei : i ≡ getD last 0 0) (ev : v ≡ getD last 1 0) (hs : nameLimit ≤ length starts) (he : nameLimit ≤ length ends) where
-    read : Program
+    abbrev read : Program
     read = got (d .writes) e .tree
 
     parsed : parse text ≡ accepted read (x .at)
