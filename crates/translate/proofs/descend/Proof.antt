@@ -106,7 +106,7 @@ behind c = rules-behind (got (ruled (c .before .before .before .before)) (c .rea
 tailed : (c : tie.After-tail) → tailFrom (freeScope (c .before .before .before .before .before .before .before .before .before .before .before .before .before .before .before .before .before .before .before .before .before .before .before .before .before .before .before .before .before .before .before .before .before .before .before .before .before .before .before .before .before .before .before .args .text .now) (c .before .before .before .before .before .before .before .before .before .before .before .before .before .before .before .before .before .before .before .before .before .before .declarations2 .last .1 .1 .1 .0) (c .before .before .before .before .before .before .before .before .before .before .before .before .before .before .before .before .before .before .before .before .before .before .declarations2 .last .1 .1 .1 .1 .0) (c .before .before .before .before .before .before .before .before .before .before .before .before .before .before .second .given .0 .0 .number)) (flagsOf (c .before .before .before .before .before .before .before .before .before .before .before .before .before .before .second .given .0 .0 .number) (c .before .before .before .before .read .given .0 .0 .number)) (c .before .before .before .before .read .given .0 .0 .at) ≡ tailFrom (scopeOfWatches (c .before .before .before .before .before .before .before .before .before .before .before .before .before .before .before .before .before .before .before .before .before .before .before .before .before .before .before .before .before .before .before .before .before .before .before .before .before .before .before .before .before .before .before .args .text .now) (declared (c .before .before .before .before .before .before .before .before .before .before .before .before .before .before) .read)) (behind (c .before .before .before .before) .ruled .known) (c .before .before .before .before .read .given .0 .0 .at)
 tailed c =
     let x = declared (c .before .before .before .before .before .before .before .before .before .before .before .before .before .before) in
-    tail-is _ _ _ (x .read) _ _ _ _ (x .held) (x .named) (behind (c .before .before .before .before) .known)
+    tail-is _ _ _ (x .read) _ _ _ (behind (c .before .before .before .before) .ruled) (x .held) (x .named) (behind (c .before .before .before .before) .known)
 
 same-length-7 : tie.Need-same-length-7
 same-length-7 c = c .before .before .before .before .before .before .before .before .before .before .before .before .before .before .before .before .before .before .declarations2 .kept .1 .1 .1 .0 ∙ c .before .before .before .before .before .before .before .before .before .before .before .before .before .before .before .before .before .before .before .before .before .before .before .before .before .before .before .before .before .before .before .declarations .kept .1 .1 .1 .0
