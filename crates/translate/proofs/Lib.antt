@@ -1,6 +1,6 @@
 pub mod Stores
 pub mod Ways
-pub mod Tail
+pub mod Ending
 pub mod Descent
 pub mod Service
 pub mod Kept

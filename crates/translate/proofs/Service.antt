@@ -1,5 +1,5 @@
 -- From the descent to the service: the limit of texts, the answer, and the buffer. Assumes nothing.
-use mathlib.Core.Path.{_≡_, refl, sym, ap, subst, _∙_}
+use mathlib.Core.Path.{_≡_, refl, sym, ap, ap₂, subst, _∙_}
 use mathlib.Core.Bool.{Bool, true, false, cond}
 use mathlib.Core.List.{List, [], _∷_, _++_}
 use Prim.Native.Nat.{ℕ, _+_, _-_, _*_, _≤_, _<_}
@@ -33,7 +33,7 @@ use Rattle.translate.specs.Services.{AfterTranslation, translated, trans
 use Rattle.translate.specs.Results.{translatedAnswer, afterTranslation, TranslatedWithin}
 use Rattle.translate.specs.declared.Surveyed.the-variants as S
 use Rattle.translate.specs.Inner.Descent.{measured, Analyses, Descends}
-use Rattle.translate.specs.Inner.Survey.{WatchesStand, Surveys}
+use Rattle.translate.specs.Inner.Survey.{watchCounts, WatchesStand, Surveys}
 use Rattle.leb128.proofs.Stores.{sets-past, take-sets}
 use Rattle.translate.proofs.Ways.{never}
 use Rattle.translate.proofs.Descent.{image-bytes}
@@ -89,7 +89,7 @@ module _ (text last starts ends : List ℕ) {r : Step} (h : length text ≤ text
       record { answer = rw f; stand = λ q n names at count g i. never q n k x (sym g ∙ f) }
 
   module _ (x : Place) (e : r ≡ Done x) {i v : ℕ} (ei : i ≡ getD last 0 0) (ev : v ≡ getD last 1 0) (hs : nameLimit ≤ length starts) (he : nameLimit ≤ length ends) where
-    read : Program
+    abbrev read : Program
     read = got (d .writes) e .tree
 
     parsed : parse text ≡ accepted read (x .at)
@@ -124,7 +124,7 @@ module _ (text last starts ends : List ℕ) {r : Step} (h : length text ≤ text
 
     pub surveys-accepted : Surveys text (parse text) starts ends (S.Watches (i + v) (x .start) (x .number))
     surveys-accepted = record {
-      answer = rw (parsed, total, d .watched read (x .at) x (got (d .writes) e .is) e .0);
+      answer = ap₂ (λ (n w : ℕ). A.accepted (record { names = n; watches = w })) total (d .watched read (x .at) x (got (d .writes) e .is) e .0) ∙ sym (ap watchCounts parsed);
       stand = λ q n names at count g k.
           let a : i + v ≡ names = cc in
           let b : x .start ≡ at = cc in

@@ -1,14 +1,14 @@
 -- The code of a watch, as it stands in front of the memory lent for it. Assumes nothing.
-use mathlib.Core.Path.{_≡_, refl, ap, sym, _∙_, subst}
+use mathlib.Core.Path.{_≡_, ap, sym, _∙_}
 use mathlib.Core.List.{List, [], _∷_, _++_, append-assoc}
 use mathlib.Core.Option.{Option, none, some}
-use Prim.Native.Nat.{ℕ, _+_, _-_, _*_, _^_, _≤_, _<_}
+use Prim.Native.Nat.{ℕ, _+_, _-_, _≤_}
 use native.Mathlib.Omega.{arith}
 use lib.ListN.{length, take, drop, length-append}
-use lib.Seq.{sets, take-at, drop-at, take-append-seam}
-use Rattle.limits.specs.Limits.{textLimit, nameLimit, imageRoom}
+use lib.Seq.{sets, take-at, drop-at}
+use Rattle.limits.specs.Limits.{nameLimit}
 use Rattle.semantics.specs.Program.{Condition, comparison, negated, both, either, Watch, free}
-use Rattle.grammar.specs.Expressions.{Scope}
+use Rattle.bytecode.specs.Instructions.{comparisonCode}
 use Rattle.grammar.specs.Inner.Bytes.{bytesE, bytesC}
 use Rattle.grammar.proofs.Image.{condition-emitted}
 use Rattle.evaluation.specs.Conditions.{ConditionCode}
@@ -20,10 +20,10 @@ use Rattle.watch.specs.Inner.Reports.{LaterCode, WatchCode}
 -- a condition's code is never empty
 some-code : (c : Condition) → length (bytesC c) ≡ 0 → ⊥
 unfolding bytesC
-some-code (comparison o a b) e = let l : length (bytesE a ++ (bytesE b ++ (_ ∷ []))) ≡ length (bytesE a) + (length (bytesE b) + 1) = simp length-append in omega (arith, e, l)
-some-code (negated a) e = let l : length (bytesC a ++ (16 ∷ [])) ≡ length (bytesC a) + 1 = simp length-append in omega (arith, e, l)
-some-code (both a b) e = let l : length (bytesC a ++ (bytesC b ++ (17 ∷ []))) ≡ length (bytesC a) + (length (bytesC b) + 1) = simp length-append in omega (arith, e, l)
-some-code (either a b) e = let l : length (bytesC a ++ (bytesC b ++ (18 ∷ []))) ≡ length (bytesC a) + (length (bytesC b) + 1) = simp length-append in omega (arith, e, l)
+some-code (comparison o a b) e = omega (arith, e, length-append (bytesE a) (bytesE b ++ (comparisonCode o ∷ [])), length-append (bytesE b) (comparisonCode o ∷ []))
+some-code (negated a) e = omega (arith, e, length-append (bytesC a) (16 ∷ []))
+some-code (both a b) e = omega (arith, e, length-append (bytesC a) (bytesC b ++ (17 ∷ [])), length-append (bytesC b) (17 ∷ []))
+some-code (either a b) e = omega (arith, e, length-append (bytesC a) (bytesC b ++ (18 ∷ [])), length-append (bytesC b) (18 ∷ []))
 
 coded : (names : ℕ) (c : Condition) (code : List ℕ) → names ≤ nameLimit → Fit (free names) c → code ≡ bytesC c → ConditionCode c names code
 coded names c code few f e = record { spelled = e ∙ condition-emitted c; usable = f .usable; shallow = f .shallow; few = omega arith }

@@ -1,9 +1,10 @@
 -- A place where a watch fails is a place of the trace, and so a number that a report has room for. Assumes nothing.
-use mathlib.Core.Path.{_≡_, refl, ap, sym, _∙_}
+use mathlib.Core.Path.{_≡_, refl, ap, sym}
 use mathlib.Core.Bool.{true}
 use mathlib.Core.List.{List, [], _∷_}
 use mathlib.Core.Option.{Option, none, some}
 use Prim.Native.Nat.{ℕ, zero, suc, _+_, _*_, _^_, _≤_, _<_}
+use native.Mathlib.Nat.{suc-mul}
 use native.Mathlib.Omega.{arith}
 use borrow.Author.Tests.{eq-eqb}
 use lib.IntN.{ℤ}
@@ -35,14 +36,14 @@ states-counted : (places names : ℕ) (cells : List ℤ) → length (statesOf pl
 states-counted zero names cells = refl
 states-counted (suc n) names cells = ap suc (states-counted n names (drop names cells))
 
+le-mul : (p n : ℕ) → p ≤ p * suc n
+le-mul zero n = omega arith
+le-mul (suc p) n = omega (arith, le-mul p n, suc-mul p (suc n))
+
 -- as many places as numbers are lent, or one
 places-few : (names places size : ℕ) → places * names ≡ size → (names ≡ 0 → places ≤ 1) → places ≤ size + 1
 places-few zero places size e h = omega (arith, h refl)
-places-few (suc names) places size e h = let f : places ≤ places * suc names = le-mul places names in omega (arith, e, f)
-  where
-    le-mul : (p n : ℕ) → p ≤ p * suc n
-    le-mul zero n = omega arith
-    le-mul (suc p) n = let r = le-mul p n in let m : suc p * suc n ≡ p * suc n + suc n = simp in omega (arith, r, m)
+places-few (suc names) places size e h = omega (arith, e, le-mul places names)
 
 one-place : (names : ℕ) (cells : List ℤ) → names ≡ 0 → placesIn names cells ≤ 1
 unfolding placesIn

@@ -34,7 +34,7 @@ use Rattle.leb128.proofs.Stores.{sets-append}
 use Rattle.watches.specs.Inner.Codes.{codeOfWatch, endOfFirst}
 use Rattle.watches.proofs.Sizes.{watchBytes, watch-pays, watch-fit}
 use Rattle.translate.specs.Inner.Descent.{freeScope}
-use Rattle.translate.proofs.Tail.{scope-free}
+use Rattle.translate.proofs.Ending.{scope-free}
 use Rattle.watch.specs.Services.{reported, reportOf}
 use Rattle.watch.specs.Inner.Reports.{WatchCode, CountedWatches}
 use Rattle.watch.proofs.Counting.{watches-all, next-token, next-read, next-done}

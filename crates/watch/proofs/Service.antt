@@ -33,6 +33,10 @@ use Rattle.watch.proofs.Counting.{watches-few}
 
 -- ---- what the survey says of the text
 
+counts : Answer WatchCounts → WatchCounts
+counts (A.accepted c) = c
+counts (A.refused k p) = record { names = 0; watches = 0 }
+
 -- the text was read
 pub record SurveyRead (text starts ends : List ℕ) (names at count : ℕ) : Type 0 where
   pub program : Program
@@ -46,10 +50,10 @@ module _ {text starts ends : List ℕ} {r : Surveyed} (s : Surveys text (parse t
   pub survey-read : {names at count : ℕ} → r ≡ S.Watches names at count → SurveyRead text starts ends names at count
   survey-read {names} {at} {count} e = go (parse text) refl (sym (ap surveyed e) ∙ s .answer)
     where
-      go : (p : Parsed Program) → parse text ≡ p → A.accepted (record { names = names; watches = count }) ≡ watchCounts p → SurveyRead text starts ends names at count
+      go : (p : Parsed Program) → parse text ≡ p → _≡_ {A = Answer WatchCounts} (A.accepted (record { names = names; watches = count })) (watchCounts p) → SurveyRead text starts ends names at count
       go (accepted q n) i f =
-          let a : names ≡ length (q .names) = cc in
-          let b : count ≡ length (q .watches) = cc in
+          let a : names ≡ length (q .names) = ap (λ (x : Answer WatchCounts). counts x .names) f in
+          let b : count ≡ length (q .watches) = ap (λ (x : Answer WatchCounts). counts x .watches) f in
           record { program = q; end = n; parsed = i; named = a; counted = b; stand = s .stand q n names at count i e }
       go (refused k q) i f = let z : _≡_ {A = ℕ} 0 1 = cc in let b : ⊥ = omega arith in absurd b
 

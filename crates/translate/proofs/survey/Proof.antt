@@ -6,16 +6,16 @@ use Rattle.translate.proofs.survey.Statement.{statement}
 use Rattle.translate.proofs.survey.Tie as tie
 
 returns : tie.Need-returns
-returns c = surveys-long _ _ _ (@if1 .taken)
+returns c = surveys-long _ _ _ (c .if1 .taken)
 
 add-names : tie.Need-add-names
-add-names c = let a = @count-of .ensures .1 in let b = @count-of2 .ensures .1 in search needs
+add-names c = let a = c .before .count-of .ensures .1 in let b = c .count-of2 .ensures .1 in search needs
 
 returns-2 : tie.Need-returns-2
-returns-2 c = surveys-accepted _ _ _ _ (@if1 .left) (@descend .ensures) _ (@read .given .1) (@count-of .ensures .0) (@count-of2 .ensures .0) (omega (arith, @pre .in-starts, @descend .kept .1 .0)) (omega (arith, @pre .in-ends, @descend .kept .1 .1 .0))
+returns-2 c = surveys-accepted _ _ _ _ (c .before .before .before .before .before .before .before .before .before .before .before .before .before .before .if1 .left) (c .before .before .before .before .before .before .before .before .before .before .descend .ensures) _ (c .before .read .given .1) (c .before .before .before .before .count-of .ensures .0) (c .before .before .before .count-of2 .ensures .0) (omega (arith, c .before .before .before .before .before .before .before .before .before .before .before .before .before .before .before .before .before .before .pre .in-starts, c .before .before .before .before .before .before .before .before .before .before .descend .kept .1 .0)) (omega (arith, c .before .before .before .before .before .before .before .before .before .before .before .before .before .before .before .before .before .before .pre .in-ends, c .before .before .before .before .before .before .before .before .before .before .descend .kept .1 .1 .0))
 
 returns-3 : tie.Need-returns-3
-returns-3 c = surveys-refused _ _ _ _ (@if1 .left) (@descend .ensures) _ _ (@read2 .given .1)
+returns-3 c = surveys-refused _ _ _ _ (c .before .before .before .before .before .before .before .before .before .before .before .before .before .before .if1 .left) (c .before .before .before .before .before .before .before .before .before .before .descend .ensures) _ _ (c .before .read2 .given .1)
 
 pub survey-spec : {M : Type 1} → statement M
 survey-spec =
