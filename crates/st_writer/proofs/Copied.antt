@@ -1,10 +1,10 @@
 -- What holds at each turn of the loop that mirrors code: the instructions that are left make the whole. Assumes nothing.
-use Prim.Native.Nat.{ℕ, suc, _+_, _-_, _≤_, _<_}
+use Prim.Native.Nat.{ℕ, _+_, _-_, _≤_, _<_}
 use native.Mathlib.Omega.{arith}
 use mathlib.Core.Path.{_≡_, refl, sym, ap, subst, _∙_}
 use mathlib.Core.List.{List, [], _∷_, _++_}
 use mathlib.Core.Option.{Option, none, some}
-use lib.ListN.{length, take, drop, length-append, length-drop}
+use lib.ListN.{length, take, drop, length-append}
 use lib.Seq.{sets}
 use Rattle.leb128.specs.Numbers.{Read, got, nothing}
 use Rattle.leb128.proofs.RoundTrip.{drop-behind}
@@ -16,6 +16,7 @@ use Rattle.bytecode.proofs.RoundTrip.{AllSmall, fetch-encoded, encoded-inside}
 use Rattle.bytecode.proofs.Soundness.{translated-small, past-end}
 use Rattle.st_writer.specs.Inner.Fronts.{Fronts}
 use Rattle.st_writer.specs.Inner.Mirrored.{mirrored}
+use Rattle.st_writer.proofs.Numbers.{none-got}
 use Rattle.st_writer.proofs.Laws.{fronts-nothing, fronts-then}
 
 pub record Copied (code : List ℕ) (is : List Instruction) (at : ℕ) (before after : List ℕ) (to : ℕ) : Type 0 where
@@ -33,11 +34,8 @@ pub copy-starts : (code out : List ℕ) → Copying code 0 out out (length code)
 copy-starts code out p t e =
     record { rest = codeRules (p .rules); front = λ l. l; small = translated-small p t; stands = e; wrote = fronts-nothing out (length code); whole = λ l. refl }
 
-none-got : {X : Type 0} {i : Instruction} {n : ℕ} → _≡_ {A = Read Instruction} nothing (got i n) → X
-none-got e = let z : _≡_ {A = ℕ} 0 1 = cc in let f : ⊥ = omega arith in absurd f
-
 decoded-got : (o : Option Instruction) (next : ℕ) (i : Instruction) (n : ℕ) → decoded o next ≡ got i n → next ≡ n
-decoded-got none next i n e = none-got e
+decoded-got none next i n e = absurd (none-got e)
 decoded-got (some j) next i n e = cc
 
 -- an instruction is malformed nowhere

@@ -1,8 +1,8 @@
 -- Assignments, cases and rules put before a place. Assumes nothing.
-use Prim.Native.Nat.{ℕ, zero, suc, _+_, _^_, _≤_, _<_}
+use Prim.Native.Nat.{ℕ, _+_, _^_, _≤_, _<_}
 use native.Mathlib.Omega.{arith}
 use mathlib.Core.Path.{_≡_, refl, sym, ap, subst, _∙_}
-use mathlib.Core.Bool.{Bool, true, false}
+use mathlib.Core.Bool.{Bool, true, false, true≢false}
 use mathlib.Core.List.{List, [], _∷_, _++_, map}
 use lib.Dec.{ltb}
 use lib.ListN.{length, getD, drop, drop-of-length-le}
@@ -11,18 +11,18 @@ use borrow.Author.Tests.{ltb-true, ltb-false}
 use Rattle.semantics.specs.Program.{Expression, Condition, changing, rising, falling, Case, Rule, function, change, Program}
 use Rattle.semantics.specs.Program as P
 use Rattle.lexer.specs.Bytes.{bytes}
-use Rattle.leb128.specs.Numbers.{number, got, nothing, numberAt}
+use Rattle.leb128.specs.Numbers.{got, nothing, numberAt}
 use Rattle.bytecode.specs.Instructions.{pickCode}
 use Rattle.bytecode.specs.Translation.{codeRules, Translatable}
-use Rattle.bytecode.proofs.RoundTrip.{Begins, begins}
+use Rattle.bytecode.proofs.RoundTrip.{begins}
 use Rattle.bytecode.proofs.Soundness.{past-end}
 use Rattle.st.specs.Syntax.{Identifier, Statement}
-use Rattle.st.specs.Printed.{expressionPrinted, assignmentPrinted, laterBranches, statementPrinted, statementsPrinted}
-use Rattle.st_program.specs.Written.{nameAt, expressionInSt, conditionInSt, branchInSt, ruleInSt}
+use Rattle.st.specs.Printed.{assignmentPrinted, laterBranches, statementPrinted, statementsPrinted}
+use Rattle.st_program.specs.Written.{expressionInSt, conditionInSt, branchInSt, ruleInSt}
 use Rattle.st_writer.specs.Inner.Fronts.{Fronts}
 use Rattle.st_writer.specs.Inner.Mirrored.{mirrored}
-use Rattle.st_writer.specs.Inner.Operands.{Operand, operandOf, operandOfC, operandCode, SmallOperand, operandInSt, PrintsOperand}
-use Rattle.st_writer.specs.Inner.Statements.{assignmentOf, PrintsAssignment, isPickCode, pickFirst, caseCode, casesCode, SmallCase, SmallCases, casePrinted, caseWord, wordBefore, casesPrinted, PrintsCase, PrintsCases, onto, ruleCode, rulesCode, SmallRule, SmallRules, rulesPrinted, PrintsRule}
+use Rattle.st_writer.specs.Inner.Operands.{operandOf, operandOfC, operandCode, operandInSt, PrintsOperand}
+use Rattle.st_writer.specs.Inner.Statements.{assignmentOf, PrintsAssignment, isPickCode, pickFirst, caseCode, casesCode, SmallCases, casePrinted, caseWord, wordBefore, casesPrinted, PrintsCase, PrintsCases, onto, ruleCode, rulesCode, SmallRule, SmallRules, rulesPrinted, PrintsRule}
 use Rattle.st_writer.proofs.Laws.{fronts-nothing, fronts-then, as-front}
 use Rattle.st_writer.proofs.Numbers.{number-read, number-unread}
 use Rattle.st_writer.proofs.Mirrors.{mirrored-rules, program-small}
@@ -31,9 +31,6 @@ pub statements-joined : (ss ts : List Statement) (l : List ℕ) → statementsPr
 unfolding statementsPrinted
 statements-joined [] ts l = refl
 statements-joined (s ∷ ss) ts l = ap (statementPrinted s) (statements-joined ss ts l)
-
-true≢false : true ≡ false → ⊥
-true≢false e = let z : _≡_ {A = ℕ} 0 1 = cc in omega arith
 
 -- ---- whether a pick stands at a place
 

@@ -1,22 +1,18 @@
 -- Mirrored code: what the mirror holds of each part of a program, and how it is made. Assumes nothing.
-use Prim.Native.Nat.{ℕ, zero, suc, _+_, _-_, _^_, _≤_, _<_}
-use native.Mathlib.Omega.{arith}
-use mathlib.Core.Path.{_≡_, refl, sym, ap, subst, _∙_}
-use mathlib.Core.Bool.{Bool, true, false}
-use mathlib.Core.List.{List, [], _∷_, _++_, map}
-use lib.IntN.{ℤ}
-use lib.ListN.{length, take, drop, length-append, length-drop}
+use Prim.Native.Nat.{ℕ, _+_}
+use mathlib.Core.Path.{_≡_, refl, ap, _∙_}
+use mathlib.Core.List.{List, [], _∷_, _++_}
 use Rattle.semantics.specs.Program.{Expression, Condition, Case, Rule, function, change, Program}
 use Rattle.semantics.specs.Program as P
-use Rattle.leb128.specs.Numbers.{Read, got, nothing}
-use Rattle.leb128.proofs.RoundTrip.{drop-behind, zigzag-small}
-use Rattle.bytecode.specs.Instructions.{Instruction, encode, encodeAll, fetch}
+use Rattle.leb128.specs.Numbers.{nothing}
+use Rattle.leb128.proofs.RoundTrip.{zigzag-small}
+use Rattle.bytecode.specs.Instructions.{Instruction, encode}
 use Rattle.bytecode.specs.Translation.{codeE, codeC, codeCase, codeK, codeR, codeRules, ShallowR, Shallow, Translatable}
 use Rattle.bytecode.proofs.RoundTrip.{AllSmall}
 use Rattle.bytecode.proofs.Soundness.{translated-small}
 use Rattle.st_writer.specs.Inner.Mirrored.{mirrored}
 use Rattle.st_writer.specs.Inner.Operands.{operandOf, operandOfC, operandCode, SmallOperand}
-use Rattle.st_writer.specs.Inner.Statements.{caseCode, casesCode, SmallCase, SmallCases, onto, ruleCode, rulesCode, SmallRule, SmallRules}
+use Rattle.st_writer.specs.Inner.Statements.{caseCode, casesCode, SmallCases, onto, ruleCode, rulesCode, SmallRule, SmallRules}
 
 -- ---- the mirror of each part
 

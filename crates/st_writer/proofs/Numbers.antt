@@ -1,13 +1,13 @@
 -- Numbers of the code as they are read, and as they are printed. Assumes nothing.
-use Prim.Native.Nat.{ℕ, suc, _+_, _/_, _%_, _^_, _<_}
+use Prim.Native.Nat.{ℕ, _+_, _/_, _%_, _^_, _<_}
 use native.Mathlib.Numerals.{add-one}
 use native.Mathlib.Omega.{arith}
-use mathlib.Core.Path.{_≡_, refl, sym, ap, subst, _∙_}
-use mathlib.Core.Bool.{Bool, false}
+use mathlib.Core.Path.{_≡_, refl, ap, subst, _∙_}
+use mathlib.Core.Bool.{false}
 use mathlib.Core.List.{List, [], _∷_, _++_}
 use lib.Dec.{eqb}
 use lib.IntN.{ℤ, pos, negsuc}
-use lib.ListN.{length, drop}
+use lib.ListN.{drop}
 use Rattle.lexer.specs.Bytes.{bytes}
 use Rattle.leb128.specs.Numbers.{number, zigzag, unzigzag, Read, got, nothing, numberAt}
 use Rattle.leb128.proofs.Signs.{unzigzag-zigzag}
@@ -30,7 +30,7 @@ number-read code at v next n c r h e =
     let s = same-got (r ∙ number-at code at n c h e) in
     (s .0, ap (λ (k : ℕ). drop k code) (s .1) ∙ drop-behind code at (number n) c e)
 
-none-got : {a m : ℕ} → _≡_ {A = Read ℕ} nothing (got a m) → ⊥
+pub none-got : {A : Type 0} {a : A} {n : ℕ} → _≡_ {A = Read A} nothing (got a n) → ⊥
 none-got e = let z : _≡_ {A = ℕ} 0 1 = cc in omega arith
 
 pub number-unread : (code : List ℕ) (at n : ℕ) (c : List ℕ) → nothing ≡ numberAt code at → n < 2 ^ 32 → drop at code ≡ number n ++ c → ⊥

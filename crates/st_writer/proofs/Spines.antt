@@ -3,13 +3,13 @@
 use Prim.Native.Nat.{ℕ, zero, suc, _+_, _^_, _≤_, _<_}
 use native.Mathlib.Omega.{arith}
 use mathlib.Core.Path.{_≡_, refl, sym, ap, subst, _∙_}
-use mathlib.Core.Bool.{Bool, true, false}
-use mathlib.Core.List.{List, [], _∷_, _++_}
+use mathlib.Core.Bool.{true, false, true≢false}
+use mathlib.Core.List.{List, _∷_, _++_}
 use lib.ListN.{length, getD, drop}
 use Rattle.arith.specs.Values.{equal, notEqual, less, lessEqual, greater, greaterEqual, add, subtract, multiply, divide, modulo}
 use Rattle.lexer.specs.Bytes.{bytes}
 use Rattle.leb128.specs.Numbers.{number, zigzag}
-use Rattle.bytecode.proofs.RoundTrip.{Begins, begins}
+use Rattle.bytecode.proofs.RoundTrip.{begins}
 use Rattle.st.specs.Syntax.{Identifier, or, and, Operator, connects, relates, computes}
 use Rattle.st.specs.Printed.{spelling, expressionPrinted}
 use Rattle.st_writer.specs.Inner.Fronts.{openings, signBytes, Fronts}
@@ -55,9 +55,6 @@ infix-code (computes subtract) = record { large = omega arith; between = refl }
 infix-code (computes multiply) = record { large = omega arith; between = refl }
 infix-code (computes divide) = record { large = omega arith; between = refl }
 infix-code (computes modulo) = record { large = omega arith; between = refl }
-
-true≢false : true ≡ false → ⊥
-true≢false e = let z : _≡_ {A = ℕ} 0 1 = cc in omega arith
 
 -- ---- the spine
 

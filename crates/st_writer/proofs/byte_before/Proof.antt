@@ -2,8 +2,6 @@ use borrow.Author.Needs.{needs}
 use native.Mathlib.Omega.{arith}
 use Rattle.st_writer.proofs.byte_before.Statement.{statement}
 use Rattle.st_writer.proofs.byte_before.Tie as tie
-use Rattle.st_writer.proofs.byte_before.Reads as reads
-use Rattle.st_writer.proofs.byte_before.Lts as lts
 use Rattle.st_writer.proofs.Laws.{byte-first, byte-stored, byte-past}
 
 returns : tie.Need-returns

@@ -7,9 +7,6 @@ use Rattle.st_writer.specs.Inner.Fronts.{Fronts}
 use Rattle.st_writer.proofs.Laws.{word-none, word-more, word-all}
 use Rattle.st_writer.proofs.bytes_before.Statement.{statement}
 use Rattle.st_writer.proofs.bytes_before.Tie as tie
-use Rattle.st_writer.proofs.bytes_before.Reads as reads
-use Rattle.st_writer.proofs.bytes_before.Lts as lts
-use Rattle.st_writer.proofs.byte_before.Reads as byte-before-reads
 
 abbrev Inv-loop : tie.InvT-loop
 Inv-loop out₀ to word i₀ place₀ out i place = (i ≤ length word) × Fronts (λ l. drop i word ++ l) out₀ out to place

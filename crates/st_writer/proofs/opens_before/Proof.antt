@@ -4,9 +4,6 @@ use Prim.Native.Nat.{_≤_, _-_}
 use Rattle.st_writer.specs.Inner.Fronts.{openings, Fronts}
 use Rattle.st_writer.proofs.opens_before.Statement.{statement}
 use Rattle.st_writer.proofs.opens_before.Tie as tie
-use Rattle.st_writer.proofs.opens_before.Reads as reads
-use Rattle.st_writer.proofs.opens_before.Lts as lts
-use Rattle.st_writer.proofs.byte_before.Reads as byte-before-reads
 use Rattle.st_writer.proofs.Laws.{opens-more, opens-none, opens-all}
 
 abbrev Inv-loop : tie.InvT-loop

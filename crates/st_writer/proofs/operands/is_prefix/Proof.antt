@@ -1,8 +1,5 @@
 -- `st_writer::operands::is_prefix` meets its contract. Assumes nothing.
-use borrow.Author.Needs.{needs}
-use mathlib.Core.Path.{sym, _∙_}
 use borrow.Author.Tests.{ne-eqb}
-use borrow.Author.Tests.{eq-eqb}
 use Rattle.st_writer.specs.Inner.Operands.{isPrefix}
 use Rattle.st_writer.proofs.operands.is_prefix.Statement.{statement}
 use Rattle.st_writer.proofs.operands.is_prefix.Tie as tie

@@ -1,7 +1,7 @@
 -- `st_writer::operands::leaf` meets its contract. Assumes nothing.
 use borrow.Author.Needs.{needs}
 use native.Mathlib.Omega.{arith}
-use mathlib.Core.Path.{refl, sym, ap, _∙_}
+use mathlib.Core.Path.{sym, ap, _∙_}
 use Rattle.leb128.specs.Results.{unsignedRead}
 use Rattle.bytecode.proofs.Fetching.{number-within}
 use Rattle.st_writer.proofs.Numbers.{leaf-none, leaf-put}

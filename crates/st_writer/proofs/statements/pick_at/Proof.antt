@@ -2,7 +2,6 @@
 use borrow.Author.Needs.{needs}
 use borrow.Author.Tests.{ne-eqb}
 use mathlib.Core.Path.{sym, ap, _∙_}
-use Prim.Native.Nat.{ℕ}
 use Rattle.st_writer.proofs.Listed.{pick-none, pick-is}
 use Rattle.st_writer.specs.Inner.Statements.{isPickCode}
 use Rattle.st_writer.proofs.statements.pick_at.Statement.{statement}
