@@ -10,10 +10,12 @@ use Rattle.leb128.specs.Numbers.{Read, got, nothing}
 use Rattle.leb128.proofs.RoundTrip.{drop-behind}
 use Rattle.leb128.proofs.Stores.{take-sets}
 use Rattle.semantics.specs.Program.{Program}
-use Rattle.bytecode.specs.Instructions.{Instruction, encode, encodeAll, decoded, fetch}
+use Rattle.bytecode.specs.Instructions.{Instruction, encode, encodeAll, decoded, fetchOne}
+use Rattle.bytecode.specs.Signature.{signature}
 use Rattle.bytecode.specs.Translation.{codeRules, Translatable}
-use Rattle.bytecode.proofs.RoundTrip.{AllSmall, fetch-encoded, encoded-inside}
+use Rattle.bytecode.proofs.RoundTrip.{Small, AllSmall, fetch-encoded, encoded-inside}
 use Rattle.bytecode.proofs.Soundness.{translated-small, past-end}
+use Rattle.bytecode.proofs.Timeless.{Timeless, TimelessIn, timeless-rules, timeless-one}
 use Rattle.st_writer.specs.Inner.Fronts.{Fronts}
 use Rattle.st_writer.specs.Inner.Mirrored.{mirrored}
 use Rattle.st_writer.proofs.Numbers.{none-got}
@@ -23,6 +25,7 @@ pub record Copied (code : List ℕ) (is : List Instruction) (at : ℕ) (before a
   pub rest : List Instruction
   pub front : List ℕ → List ℕ
   pub small : AllSmall rest
+  pub untimed : Timeless rest
   pub stands : drop at code ≡ encodeAll rest
   pub wrote : Fronts front before after (length code) to
   pub whole : (l : List ℕ) → mirrored is l ≡ mirrored rest (front l)
@@ -32,19 +35,22 @@ Copying code at before after to = (p : Program) → Translatable p → code ≡ 
 
 pub copy-starts : (code out : List ℕ) → Copying code 0 out out (length code)
 copy-starts code out p t e =
-    record { rest = codeRules (p .rules); front = λ l. l; small = translated-small p t; stands = e; wrote = fronts-nothing out (length code); whole = λ l. refl }
+    record { rest = codeRules (p .rules); front = λ l. l; small = translated-small p t; untimed = timeless-rules (p .rules); stands = e; wrote = fronts-nothing out (length code); whole = λ l. refl }
 
 decoded-got : (o : Option Instruction) (next : ℕ) (i : Instruction) (n : ℕ) → decoded o next ≡ got i n → next ≡ n
 decoded-got none next i n e = absurd (none-got e)
 decoded-got (some j) next i n e = cc
 
+one-encoded : (code : List ℕ) (at : ℕ) (i : Instruction) (rest : List ℕ) → Small i → TimelessIn (signature i .role) → drop at code ≡ encode i ++ rest → fetchOne code at ≡ got i (at + length (encode i))
+one-encoded code at i rest g u d = timeless-one code at i (at + length (encode i)) (fetch-encoded code at i rest g d) u
+
 -- an instruction is malformed nowhere
-pub copy-broken : (code : List ℕ) (at : ℕ) (m₀ m₁ : List ℕ) (to : ℕ) → at < length code → nothing ≡ fetch code at → Copying code at m₀ m₁ to → (p : Program) → Translatable p
+pub copy-broken : (code : List ℕ) (at : ℕ) (m₀ m₁ : List ℕ) (to : ℕ) → at < length code → nothing ≡ fetchOne code at → Copying code at m₀ m₁ to → (p : Program) → Translatable p
     → code ≡ encodeAll (codeRules (p .rules)) → ⊥
-copy-broken code at m₀ m₁ to h f s p t e = go (s p t e .rest) (s p t e .small) (s p t e .stands) where
-  go : (is : List Instruction) → AllSmall is → drop at code ≡ encodeAll is → ⊥
-  go [] g d = let x = past-end code at d in omega arith
-  go (i ∷ is) g d = none-got (f ∙ fetch-encoded code at i (encodeAll is) (g .0) d)
+copy-broken code at m₀ m₁ to h f s p t e = go (s p t e .rest) (s p t e .small) (s p t e .untimed) (s p t e .stands) where
+  go : (is : List Instruction) → AllSmall is → Timeless is → drop at code ≡ encodeAll is → ⊥
+  go [] g u d = let x = past-end code at d in omega arith
+  go (i ∷ is) g u d = none-got (f ∙ one-encoded code at i (encodeAll is) (g .0) (u .0) d)
 
 take-part : (n : ℕ) (a b : List ℕ) → n ≡ length a → take n (a ++ b) ≡ a
 take-part n a b e = rw e (go a) where
@@ -53,21 +59,23 @@ take-part n a b e = rw e (go a) where
   go (x ∷ k) = ap (λ (l : List ℕ). x ∷ l) (go k)
 
 -- the instruction at the place is put before the others
-pub copy-goes : (code : List ℕ) (at next : ℕ) (o : Option Instruction) (m₀ m₁ m₂ : List ℕ) (to p : ℕ) → at < length code → decoded o next ≡ fetch code at → Copying code at m₀ m₁ to
+pub copy-goes : (code : List ℕ) (at next : ℕ) (o : Option Instruction) (m₀ m₁ m₂ : List ℕ) (to p : ℕ) → at < length code → decoded o next ≡ fetchOne code at → Copying code at m₀ m₁ to
     → Fronts (λ l. take (next - at) (drop at code) ++ l) m₁ m₂ to p → Copying code next m₀ m₂ p
 unfolding mirrored
-copy-goes code at next o m₀ m₁ m₂ to p h f s w q t e = go (s q t e .rest) refl (s q t e .small) (s q t e .stands) where
-  go : (is : List Instruction) → s q t e .rest ≡ is → AllSmall (s q t e .rest) → drop at code ≡ encodeAll (s q t e .rest) → Copied code (codeRules (q .rules)) next m₀ m₂ p
-  go [] r g d = let x = past-end code at (d ∙ ap encodeAll r) in absurd (omega arith)
-  go (i ∷ is) r g d =
+copy-goes code at next o m₀ m₁ m₂ to p h f s w q t e = go (s q t e .rest) refl (s q t e .small) (s q t e .untimed) (s q t e .stands) where
+  go : (is : List Instruction) → s q t e .rest ≡ is → AllSmall (s q t e .rest) → Timeless (s q t e .rest) → drop at code ≡ encodeAll (s q t e .rest) → Copied code (codeRules (q .rules)) next m₀ m₂ p
+  go [] r g u d = let x = past-end code at (d ∙ ap encodeAll r) in absurd (omega arith)
+  go (i ∷ is) r g u d =
       let d₂ : drop at code ≡ encode i ++ encodeAll is = d ∙ ap encodeAll r in
       let g₂ : AllSmall (i ∷ is) = subst AllSmall r g in
-      let n : next ≡ at + length (encode i) = decoded-got o next i _ (f ∙ fetch-encoded code at i (encodeAll is) (g₂ .0) d₂) in
+      let u₂ : Timeless (i ∷ is) = subst Timeless r u in
+      let n : next ≡ at + length (encode i) = decoded-got o next i _ (f ∙ one-encoded code at i (encodeAll is) (g₂ .0) (u₂ .0) d₂) in
       let k : take (next - at) (drop at code) ≡ encode i = ap (take (next - at)) d₂ ∙ take-part (next - at) (encode i) (encodeAll is) (omega arith) in
       record {
         rest = is;
         front = λ l. take (next - at) (drop at code) ++ s q t e .front l;
         small = g₂ .1;
+        untimed = u₂ .1;
         stands = ap (λ (j : ℕ). drop j code) n ∙ drop-behind code at (encode i) (encodeAll is) d₂;
         wrote = fronts-then (s q t e .wrote) w;
         whole = λ l. s q t e .whole l ∙ ap (λ (js : List Instruction). mirrored js (s q t e .front l)) r ∙ ap (λ (j : List ℕ). mirrored is (j ++ s q t e .front l)) (sym k);
