@@ -26,7 +26,7 @@ pub enum Translated {
 
 // The whole text, into lent memory as far as there is room: all inputs, then all variables, into the table; the rules; and last the
 // header's two counts.
-fn descend(text: &[u8], starts: &mut [usize], ends: &mut [usize], out: &mut [u8]) -> Step
+pub fn descend(text: &[u8], starts: &mut [usize], ends: &mut [usize], out: &mut [u8]) -> Step
     requires { ⌜ length (now text) ≤ textLimit ⌝ }
     requires { ⌜ TableRoom (now starts) (now ends) 0 ⌝ }
     ensures { λ r. ⌜ Descends (now (text .entry)) (program (now (text .entry))) (now (out .entry)) (now (out .exit)) (now (starts .exit)) (now (ends .exit)) r ⌝ }
