@@ -42,21 +42,21 @@ module _ {A : Type 0} (xs : List A) (d : A) where
   one-more i z h = let e : suc (i - 1) ≡ i = omega arith in drop-cons xs (i - 1) d (omega arith) ∙ ap (λ (k : ℕ). getD xs (i - 1) d ∷ drop k xs) e
 
   none-more : {B : Type 0} (f : List A → B) (i : ℕ) → i ≡ length xs → f (drop i xs) ≡ f []
-  none-more f i h = ap f (drop-of-length-le xs (omega arith))
+  none-more f i h = let l : length xs ≤ i = omega arith in ap f (drop-of-length-le xs l)
 
 -- ---- the lines of the first names
-module _ (ws : List Identifier) (zs : List ℤ) (n : ℕ) (few : n ≤ length ws) (long : length ws ≤ length zs) (previous : Bool) {m : List ℕ} {to : ℕ} where
+module _ (ws : List Identifier) (zs : List ℤ) (n : ℕ) (few : n ≤ length ws) (long : length ws ≤ length zs) (previous : Bool) where
   abbrev firsts : List Declaration
   firsts = take n (declarationsOf ws zs)
 
   firsts-counted : length firsts ≡ n
   firsts-counted = length-take-le n (declarationsOf ws zs) (omega (arith, declarations-counted ws zs long))
 
-  pub lines-begun : Fronts (linesPrinted (map (lineFor previous) (drop n firsts))) m m to to
+  pub lines-begun : {m : List ℕ} {to : ℕ} → Fronts (linesPrinted (map (lineFor previous) (drop n firsts))) m m to to
   unfolding linesPrinted
-  lines-begun = as-front (λ l. none-more firsts nameless (λ (ds : List Declaration). linesPrinted (map (lineFor previous) ds) l) n (sym firsts-counted)) (fronts-nothing m to)
+  lines-begun {m} {to} = as-front (λ l. none-more firsts nameless (λ (ds : List Declaration). linesPrinted (map (lineFor previous) ds) l) n (sym firsts-counted)) (fronts-nothing m to)
 
-  pub lines-more : {k j : List ℕ} {p q : ℕ} (i : ℕ) → 0 < i → i ≤ n → Fronts (linesPrinted (map (lineFor previous) (drop i firsts))) m k to p
+  pub lines-more : {m k j : List ℕ} {to p q : ℕ} (i : ℕ) → 0 < i → i ≤ n → Fronts (linesPrinted (map (lineFor previous) (drop i firsts))) m k to p
       → Fronts (linePrinted (lineFor previous (record { name = getD ws (i - 1) []; start = getD zs (i - 1) (pos 0) }))) k j p q → Fronts (linesPrinted (map (lineFor previous) (drop (i - 1) firsts))) m j to q
   unfolding linesPrinted
   lines-more i z h a b =
@@ -65,15 +65,15 @@ module _ (ws : List Identifier) (zs : List ℤ) (n : ℕ) (few : n ≤ length ws
       as-front (λ l. ap (λ (ds : List Declaration). linesPrinted (map (lineFor previous) ds) l) e) (fronts-then a b)
 
 -- ---- names from one on, each with its previous value
-module _ (ws : List Identifier) (zs : List ℤ) (long : length ws ≤ length zs) {m : List ℕ} {to : ℕ} where
+module _ (ws : List Identifier) (zs : List ℤ) (long : length ws ≤ length zs) where
   abbrev all : List Declaration
   all = declarationsOf ws zs
 
-  pub pairs-begun : (n : ℕ) → n ≡ length ws → Fronts (linesPrinted (withPrevious (drop n all))) m m to to
+  pub pairs-begun : {m : List ℕ} {to : ℕ} (n : ℕ) → n ≡ length ws → Fronts (linesPrinted (withPrevious (drop n all))) m m to to
   unfolding linesPrinted withPrevious
-  pairs-begun n e = as-front (λ l. none-more all nameless (λ (ds : List Declaration). linesPrinted (withPrevious ds) l) n (e ∙ sym (declarations-counted ws zs long))) (fronts-nothing m to)
+  pairs-begun {m} {to} n e = as-front (λ l. none-more all nameless (λ (ds : List Declaration). linesPrinted (withPrevious ds) l) n (e ∙ sym (declarations-counted ws zs long))) (fronts-nothing m to)
 
-  pub pairs-more : {k i j : List ℕ} {p q r : ℕ} (n : ℕ) → 0 < n → n ≤ length ws → Fronts (linesPrinted (withPrevious (drop n all))) m k to p
+  pub pairs-more : {m k i j : List ℕ} {to p q r : ℕ} (n : ℕ) → 0 < n → n ≤ length ws → Fronts (linesPrinted (withPrevious (drop n all))) m k to p
       → Fronts (linePrinted (lineFor true (record { name = getD ws (n - 1) []; start = getD zs (n - 1) (pos 0) }))) k i p q
       → Fronts (linePrinted (lineFor false (record { name = getD ws (n - 1) []; start = getD zs (n - 1) (pos 0) }))) i j q r → Fronts (linesPrinted (withPrevious (drop (n - 1) all))) m j to r
   unfolding linesPrinted withPrevious

@@ -26,24 +26,24 @@ abbrev μ-loop : tie.MeasureT-loop
 
 loop-holds : tie.Need-loop-holds Inv-loop μ-loop
 loop-holds c =
-    let n = names-counted (@args .text .now) _ _ _ (@pre .0) in
-    (omega arith, lines-begun _ _ _ (omega (arith, n, @pre .1 .0)) (omega (arith, n, @pre .1 .1)) _)
+    let n = names-counted (c .before .before .before .before .args .text .now) _ _ _ (c .before .before .before .before .pre .0) in
+    (omega arith, lines-begun (tableNames (c .before .before .before .before .args .text .now) (c .before .before .before .before .args .starts .now) (c .before .before .before .before .args .ends .now) (c .before .before .before .before .args .count)) (c .before .before .before .before .args .values .now) (c .before .before .before .before .args .inputs) (omega (arith, n, c .before .before .before .before .pre .1 .0)) (omega (arith, n, c .before .before .before .before .pre .1 .1)) (c .before .before .before .before .args .previous))
 
 line-before-requires : tie.Need-line-before-requires Inv-loop μ-loop
-line-before-requires c κs = @pre .0
+line-before-requires c κs = c .before .before .before .before .before .before .before .before .pre .0
 
 loop-again : tie.Need-loop-again Inv-loop μ-loop
 loop-again c =
-    let n = names-counted (@args .text .now) _ _ _ (@pre .0) in
-    let l = @loop .inv in
-    let f : SFits w32 (getD (@args .values .now) (@loop .i - 1) (pos 0)) = search needs in
-    (omega (arith, l .0), lines-more _ _ _ (omega (arith, n, @pre .1 .0)) (omega (arith, n, @pre .1 .1)) _ _ (@loop-test .taken) (l .0) (l .1) (rw (same32 f) at (@line-before .ensures)))
+    let n = names-counted (c .before .before .before .before .before .before .before .before .before .before .before .args .text .now) _ _ _ (c .before .before .before .before .before .before .before .before .before .before .before .pre .0) in
+    let l = c .before .before .before .before .before .before .loop .inv in
+    let f : SFits w32 (getD (c .before .before .before .before .before .before .before .before .before .before .before .args .values .now) (c .before .before .before .before .before .before .loop .i - 1) (pos 0)) = search needs in
+    (omega (arith, l .0), lines-more (tableNames (c .before .before .before .before .before .before .before .before .before .before .before .args .text .now) (c .before .before .before .before .before .before .before .before .before .before .before .args .starts .now) (c .before .before .before .before .before .before .before .before .before .before .before .args .ends .now) (c .before .before .before .before .before .before .before .before .before .before .before .args .count)) (c .before .before .before .before .before .before .before .before .before .before .before .args .values .now) (c .before .before .before .before .before .before .before .before .before .before .before .args .inputs) (omega (arith, n, c .before .before .before .before .before .before .before .before .before .before .before .pre .1 .0)) (omega (arith, n, c .before .before .before .before .before .before .before .before .before .before .before .pre .1 .1)) (c .before .before .before .before .before .before .before .before .before .before .before .args .previous) (c .before .before .before .before .before .before .loop .i) (c .before .before .before .before .before .loop-test .taken) (l .0) (l .1) (rw (same32 f) at (c .before .before .line-before .ensures)))
 
 same-length : tie.Need-same-length Inv-loop μ-loop
-same-length c = @loop .inv .1 .same
+same-length c = c .before .loop .inv .1 .same
 
 returns : tie.Need-returns Inv-loop μ-loop
-returns c = let z : @loop .i ≡ 0 = omega (arith, @loop-test .left) in rw z at (@loop .inv .1)
+returns c = let z : c .before .loop .i ≡ 0 = omega (arith, c .loop-test .left) in rw z at (c .before .loop .inv .1)
 
 pub lines-before-spec : {M : Type 1} → statement M
 lines-before-spec =

@@ -26,28 +26,28 @@ abbrev μ-loop : tie.MeasureT-loop
 
 loop-holds : tie.Need-loop-holds Inv-loop μ-loop
 loop-holds c =
-    let n = names-counted (@args .text .now) _ _ _ (@pre .0) in
-    (@pre .1 .0, omega arith, pairs-begun _ _ (omega (arith, n, @pre .1 .1)) _ (sym n))
+    let n = names-counted (c .before .before .before .before .args .text .now) _ _ _ (c .before .before .before .before .pre .0) in
+    (c .before .before .before .before .pre .1 .0, omega arith, pairs-begun (tableNames (c .before .before .before .before .args .text .now) (c .before .before .before .before .args .starts .now) (c .before .before .before .before .args .ends .now) (c .before .before .before .before .args .count)) (c .before .before .before .before .args .values .now) (omega (arith, n, c .before .before .before .before .pre .1 .1)) _ (sym n))
 
 line-before-requires : tie.Need-line-before-requires Inv-loop μ-loop
-line-before-requires c κs = @pre .0
+line-before-requires c κs = c .before .before .before .before .before .before .before .before .pre .0
 
 line-before-requires-2 : tie.Need-line-before-requires-2 Inv-loop μ-loop
-line-before-requires-2 c κs = @pre .0
+line-before-requires-2 c κs = c .before .before .before .before .before .before .before .before .before .before .before .before .pre .0
 
 loop-again : tie.Need-loop-again Inv-loop μ-loop
 loop-again c =
-    let n = names-counted (@args .text .now) _ _ _ (@pre .0) in
-    let l = @loop .inv in
-    let t = @loop-test .taken in
-    let f : SFits w32 (getD (@args .values .now) (@loop .i - 1) (pos 0)) = search needs in
-    (omega arith, omega (arith, l .1), pairs-more _ _ (omega (arith, n, @pre .1 .1)) _ (omega arith) (omega (arith, n, l .1)) (l .2) (rw (same32 f) at (@line-before .ensures)) (rw (same32 f) at (@line-before2 .ensures)))
+    let n = names-counted (c .before .before .before .before .before .before .before .before .before .before .before .before .before .before .before .args .text .now) _ _ _ (c .before .before .before .before .before .before .before .before .before .before .before .before .before .before .before .pre .0) in
+    let l = c .before .before .before .before .before .before .before .before .before .before .loop .inv in
+    let t = c .before .before .before .before .before .before .before .before .before .loop-test .taken in
+    let f : SFits w32 (getD (c .before .before .before .before .before .before .before .before .before .before .before .before .before .before .before .args .values .now) (c .before .before .before .before .before .before .before .before .before .before .loop .i - 1) (pos 0)) = search needs in
+    (omega arith, omega (arith, l .1), pairs-more (tableNames (c .before .before .before .before .before .before .before .before .before .before .before .before .before .before .before .args .text .now) (c .before .before .before .before .before .before .before .before .before .before .before .before .before .before .before .args .starts .now) (c .before .before .before .before .before .before .before .before .before .before .before .before .before .before .before .args .ends .now) (c .before .before .before .before .before .before .before .before .before .before .before .before .before .before .before .args .count)) (c .before .before .before .before .before .before .before .before .before .before .before .before .before .before .before .args .values .now) (omega (arith, n, c .before .before .before .before .before .before .before .before .before .before .before .before .before .before .before .pre .1 .1)) (c .before .before .before .before .before .before .before .before .before .before .loop .i) (omega arith) (omega (arith, n, l .1)) (l .2) (rw (same32 f) at (c .before .before .before .before .before .before .line-before .ensures)) (rw (same32 f) at (c .before .before .line-before2 .ensures)))
 
 same-length : tie.Need-same-length Inv-loop μ-loop
-same-length c = @loop .inv .2 .same
+same-length c = c .before .loop .inv .2 .same
 
 returns : tie.Need-returns Inv-loop μ-loop
-returns c = let z : @loop .i ≡ @args .first = omega (arith, @loop-test .left, @loop .inv .0) in rw z at (@loop .inv .2)
+returns c = let z : c .before .loop .i ≡ c .before .before .before .before .before .before .args .first = omega (arith, c .loop-test .left, c .before .loop .inv .0) in rw z at (c .before .loop .inv .2)
 
 pub pairs-before-spec : {M : Type 1} → statement M
 pairs-before-spec =

@@ -7,7 +7,7 @@ use Rattle.st_sections.proofs.saving_before.Tie as tie
 
 returns : tie.Need-returns
 unfolding statementPrinted expressionPrinted
-returns c = fronts-then (fronts-then (fronts-then (fronts-then (@bytes-before .ensures) (@name-before .ensures)) (@bytes-before2 .ensures)) (@name-before2 .ensures)) (@byte-before .ensures)
+returns c = fronts-then (fronts-then (fronts-then (fronts-then (c .before .before .before .before .before .before .before .before .before .before .before .before .before .before .before .before .before .before .before .bytes-before .ensures) (c .before .before .before .before .before .before .before .before .before .before .before .before .before .before .before .name-before .ensures)) (c .before .before .before .before .before .before .before .before .before .before .bytes-before2 .ensures)) (c .before .before .before .before .before .before .name-before2 .ensures)) (c .before .before .byte-before .ensures)
 
 pub saving-before-spec : {M : Type 1} → statement M
 saving-before-spec =

@@ -21,22 +21,22 @@ abbrev μ-loop : tie.MeasureT-loop
 μ-loop text starts ends count out₀ to i₀ place₀ out i place = i
 
 loop-holds : tie.Need-loop-holds Inv-loop μ-loop
-loop-holds c = (omega arith, savings-begun _ _ (sym (names-counted (@args .text .now) _ _ _ (@pre))))
+loop-holds c = (omega arith, savings-begun (tableNames (c .before .before .before .before .args .text .now) (c .before .before .before .before .args .starts .now) (c .before .before .before .before .args .ends .now) (c .before .before .before .before .args .count)) _ (sym (names-counted (c .before .before .before .before .args .text .now) _ _ _ (c .before .before .before .before .pre))))
 
 saving-before-requires : tie.Need-saving-before-requires Inv-loop μ-loop
-saving-before-requires c κs = @pre
+saving-before-requires c κs = c .before .before .before .before .before .before .before .pre
 
 loop-again : tie.Need-loop-again Inv-loop μ-loop
 loop-again c =
-    let n = names-counted (@args .text .now) _ _ _ (@pre) in
-    let l = @loop .inv in
-    (omega (arith, l .0), savings-more _ _ (@loop-test .taken) (omega (arith, n, l .0)) (l .1) (@saving-before .ensures))
+    let n = names-counted (c .before .before .before .before .before .before .before .before .before .before .args .text .now) _ _ _ (c .before .before .before .before .before .before .before .before .before .before .pre) in
+    let l = c .before .before .before .before .before .loop .inv in
+    (omega (arith, l .0), savings-more (tableNames (c .before .before .before .before .before .before .before .before .before .before .args .text .now) (c .before .before .before .before .before .before .before .before .before .before .args .starts .now) (c .before .before .before .before .before .before .before .before .before .before .args .ends .now) (c .before .before .before .before .before .before .before .before .before .before .args .count)) (c .before .before .before .before .before .loop .i) (c .before .before .before .before .loop-test .taken) (omega (arith, n, l .0)) (l .1) (c .before .before .saving-before .ensures))
 
 same-length : tie.Need-same-length Inv-loop μ-loop
-same-length c = @loop .inv .1 .same
+same-length c = c .before .loop .inv .1 .same
 
 returns : tie.Need-returns Inv-loop μ-loop
-returns c = let z : @loop .i ≡ 0 = omega (arith, @loop-test .left) in rw z at (@loop .inv .1)
+returns c = let z : c .before .loop .i ≡ 0 = omega (arith, c .loop-test .left) in rw z at (c .before .loop .inv .1)
 
 pub savings-before-spec : {M : Type 1} → statement M
 savings-before-spec =
