@@ -5,8 +5,8 @@ use mathlib.Core.Path.{_≡_, refl, sym, ap, subst, _∙_}
 use mathlib.Core.Bool.{Bool, true, false, cond}
 use mathlib.Core.List.{List, [], _∷_, _++_, map}
 use lib.IntN.{ℤ}
-use lib.ListN.{length, take, drop, length-map}
-use lib.Seq.{sets, length-sets}
+use lib.ListN.{length, take, drop, length-map, length-drop}
+use lib.Seq.{sets, length-sets, take-all}
 use borrow.Author.Tests.{le-leb, lt-leb}
 use Rattle.limits.specs.Limits.{textLimit, nameLimit}
 use Rattle.limits.specs.Answer as A
@@ -61,14 +61,14 @@ module _ (text : List ℕ) where
   place-within : (f : ℕ) (named : Bool) (at : ℕ) → at ≤ length text → reservedFrom f text named at ≤ length text
   unfolding reservedFrom
   place-within zero named at h = omega arith
-  place-within (suc f) named at h = go (tokenAt text at) refl (token-moved text at h)
+  place-within (suc f) named at h = go (tokenAt text at) refl (token-moved text at h) (λ b n l. place-within f b n l)
     where
-      go : (t : TokenRead) → tokenAt text at ≡ t → Moved at (length text) t → reservedFrom (suc f) text named at ≤ length text
-      go (fault q) e m = rw e (omega arith)
-      go (token k s n) e m =
-          let on = place-within f (declaresName k) n (m .2 .0) in
+      go : (t : TokenRead) → tokenAt text at ≡ t → Moved at (length text) t → ((b : Bool) (n : ℕ) → n ≤ length text → reservedFrom f text b n ≤ length text) → reservedFrom (suc f) text named at ≤ length text
+      go (fault q) e m more = rw e (omega arith)
+      go (token k s n) e m more =
+          let on = more (declaresName k) n (m .2) in
           rw e (cond-prop (λ (x : ℕ). x ≤ length text) (is k ending) _ _ (λ u. omega arith)
-          (λ u. cond-prop (λ (x : ℕ). x ≤ length text) named _ _ (λ v. cond-prop (λ (x : ℕ). x ≤ length text) (isStWord (part text s n)) _ _ (λ w. omega (arith, m .1, m .2 .0)) (λ w. on)) (λ v. on)))
+          (λ u. cond-prop (λ (x : ℕ). x ≤ length text) named _ _ (λ v. cond-prop (λ (x : ℕ). x ≤ length text) (isStWord (part text s n)) _ _ (λ w. omega (arith, m .1, m .2)) (λ w. on)) (λ v. on)))
 
   pub reserved-within : reservedPlace text ≤ length text
   unfolding reservedPlace
@@ -137,6 +137,10 @@ module _ (text before after starts ends : List ℕ) {r : Step} (short : length t
 starts-of : (ns : List Name) → Parts.starts (map (λ n. n .range) ns) ≡ map (λ n. n .range .start) ns
 starts-of [] = refl
 starts-of (n ∷ ns) = ap (λ (l : List ℤ). n .range .start ∷ l) (starts-of ns)
+
+-- the part of the image that starts at the header's end
+pub code-rest : (image : List ℕ) (place : ℕ) → take (length image - place) (drop place image) ≡ drop place image
+code-rest image place = take-all (length image - place) (drop place image) (omega (arith, length-drop place image))
 
 module _ {text starts ends image : List ℕ} (c : Compiled text starts ends image) where
   translatable : Translatable (c .program)
