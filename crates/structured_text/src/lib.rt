@@ -45,7 +45,7 @@ fn print_before(
     requires { ⌜ (inputs ≤ count) × (count ≤ length (now values)) ⌝ }
     ensures { λ r. ⌜ ((p : Program) → Translatable p → now (code .entry) ≡ mirrored (codeRules (p .rules)) []
         → Fronts (wholePrinted inputs (tableNames (now (text .entry)) (now (starts .entry)) (now (ends .entry)) count) (now (values .entry)) (p .rules))
-            (now (out .entry)) (now (out .exit)) to r) ⌝ }
+        (now (out .entry)) (now (out .exit)) to r) ⌝ }
 {
     let savings = st_sections::savings_before(text, starts, ends, count, out, to);
     let rules = st_writer::statements::rules_before(text, starts, ends, count, code, out, savings);
