@@ -6,7 +6,7 @@ use Rattle.scan.specs.Services.{AfterScan}
 use Rattle.charge.specs.Charge.{Charge}
 use Rattle.paused.specs.Responses.{packed}
 
--- translate, replay and watch: the count is the image's length, or that of the watches; a refusal has count 0
+-- translate, structured_text, replay and watch: the count is the length of what is written, or that of the watches; a refusal has count 0
 abbrev pub packedTranslation : Answer ℕ → ℕ
 packedTranslation (accepted length) = packed 0 0 length
 packedTranslation (refused number place) = packed number place 0

@@ -14,6 +14,7 @@ ghost use Rattle.rounds.specs.Visits.{visitOf};
 ghost use Rattle.rounds.specs.Together.{together, callOf};
 ghost use Rattle.rolvenko.specs.Packed.{packedTranslation, packedCheck, packedScan, packedCharge};
 ghost use Rattle.translate.specs.Services.{translationOf};
+ghost use Rattle.structured_text.specs.Services.{structuredTextOf};
 ghost use Rattle.watch.specs.Services.{watchOf};
 
 #[no_mangle]
@@ -24,6 +25,17 @@ pub extern "C" fn rolvenko_translate(text: &[u8], image: &mut [u8]) -> u64
     match translate::translate(text, image) {
         translate::Translated::Image(length) => paused::pack(0, 0, length as u64),
         translate::Translated::Refused(number, place) => paused::pack(number, place, 0),
+    }
+}
+
+#[no_mangle]
+pub extern "C" fn rolvenko_structured_text(text: &[u8], out: &mut [u8]) -> u64
+    ensures { λ r. ⌜ r ≡ packedTranslation (structuredTextOf (now (text .entry)) (now (out .entry)) .answer) ⌝ }
+    ensures { λ r. ⌜ now (out .exit) ≡ structuredTextOf (now (text .entry)) (now (out .entry)) .buffer ⌝ }
+{
+    match structured_text::structured_text(text, out) {
+        structured_text::Written::Text(length) => paused::pack(0, 0, length as u64),
+        structured_text::Written::Refused(number, place) => paused::pack(number, place, 0),
     }
 }
 

@@ -4,3 +4,4 @@ pub mod Growth
 pub mod Bound
 pub mod FirstReserved
 pub mod Walk
+pub mod Service

@@ -14,6 +14,7 @@ use Rattle.lexer.specs.Lexer.{tokenAt}
 use Rattle.lexer.specs.Names.{tableNames, Table}
 use Rattle.expressions.proofs.Scopes.{names-counted}
 use Rattle.st_program.specs.Written.{isStWord, noneStWord}
+use Rattle.st_writer.proofs.Laws.{name-at}
 use Rattle.structured_text.specs.Services.{declaresName, reservedFrom, reservedPlace}
 
 pub or-none : (t : Bool) → (t || false) ≡ t
@@ -69,14 +70,6 @@ module _ {text : List ℕ} {named : Bool} {at : ℕ} (w : Walking text named at)
 
 -- ---- names
 
-name-in : (text starts ends : List ℕ) (n i : ℕ) → n ≤ length starts → n ≤ length ends → i < n → getD (tableNames text starts ends n) i [] ≡ part text (getD starts i 0) (getD ends i 0)
-unfolding tableNames
-name-in text [] ends n i hs he h = absurd (omega arith)
-name-in text (s ∷ starts) [] n i hs he h = absurd (omega arith)
-name-in text (s ∷ starts) (e ∷ ends) zero i hs he h = absurd (omega arith)
-name-in text (s ∷ starts) (e ∷ ends) (suc n) zero hs he h = refl
-name-in text (s ∷ starts) (e ∷ ends) (suc n) (suc i) hs he h = name-in text starts ends n i (omega arith) (omega arith) (omega arith)
-
 module _ (text : List ℕ) {starts ends : List ℕ} {n : ℕ} (t : Table starts ends n) (i : ℕ) where
   abbrev names : List (List ℕ)
   names = tableNames text starts ends n
@@ -84,7 +77,7 @@ module _ (text : List ℕ) {starts ends : List ℕ} {n : ℕ} (t : Table starts 
   names-from : i < n → drop i names ≡ part text (getD starts i 0) (getD ends i 0) ∷ drop (i + 1) names
   names-from h =
       let l : i < length names = omega (arith, names-counted text starts ends n t) in
-      drop-cons names i [] l ∙ rw (add-one i, name-in text starts ends n i (t .in-starts) (t .in-ends) h)
+      drop-cons names i [] l ∙ rw (add-one i, name-at text starts ends n i t h)
 
   pub none-here : i < n → isStWord (part text (getD starts i 0) (getD ends i 0)) ≡ true → false ≡ noneStWord (drop i names)
   none-here h e = rw (names-from h, e)

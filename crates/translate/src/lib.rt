@@ -67,7 +67,7 @@ fn tail(text: &[u8], starts: &[usize], ends: &[usize], count: usize, behind: Pla
 
 // The whole text, into lent memory as far as there is room: all inputs, then all variables, into the table; the rules; the watches; and
 // last the header's two counts. Told are where the rules end and how many watches there are.
-fn descend(text: &[u8], starts: &mut [usize], ends: &mut [usize], out: &mut [u8]) -> Step
+pub fn descend(text: &[u8], starts: &mut [usize], ends: &mut [usize], out: &mut [u8]) -> Step
     requires { ⌜ length (now text) ≤ textLimit ⌝ }
     requires { ⌜ TableRoom (now starts) (now ends) 0 ⌝ }
     ensures { λ r. ⌜ Descends (now (text .entry)) (program (now (text .entry))) (now (out .entry)) (now (out .exit)) (now (starts .exit)) (now (ends .exit)) r ⌝ }
