@@ -33,8 +33,7 @@ use Rattle.grammar.specs.Parse.{program, parse, programOf}
 use Rattle.grammar.specs.Spelled.{namesOf}
 use Rattle.grammar.proofs.Image.{image-emitted}
 use Rattle.grammar.proofs.Accepted.{parse-few, parse-short, program-parsed, program-translatable}
-use Rattle.grammar.proofs.Places.{Within}
-use Rattle.grammar.proofs.PlacesText.{parse-limited}
+use Rattle.grammar.proofs.PlacesText.{Placed, parse-limited}
 use Rattle.grammar.proofs.ConverseText.{short-parse}
 use Rattle.phrases.proofs.Writing.{refused-part}
 use Rattle.declarations.specs.Inner.Tables.{TableHolds}
@@ -83,7 +82,7 @@ module _ (text buffer : List ℕ) where
 
   pub text-refused : (k x : ℕ) → parse text ≡ refused k x → Served (W.Refused k x) buffer
   unfolding structuredTextOf programOf
-  text-refused k x e = (rw e, subst (Within textLimit) e (parse-limited text) .2)
+  text-refused k x e = (rw e, subst (Placed textLimit) e (parse-limited text) .1)
 
   pub long-refused : textLimit < length text → Served (W.Refused 9 0) buffer
   long-refused h = text-refused 9 0 (parse-long text h)
