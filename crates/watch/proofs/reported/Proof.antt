@@ -9,10 +9,10 @@ use Rattle.watch.proofs.reported.Statement.{statement}
 use Rattle.watch.proofs.reported.Tie as tie
 
 number-requires : tie.Need-number-requires
-number-requires c κs = subst FailedWithin (@place .given .1) (c .before .before .before .pre)
+number-requires c κs = subst FailedWithin (c .before .failed .given .1) (c .before .before .before .pre)
 
 returns : tie.Need-returns
-returns c = c .number .ensures ∙ ap (λ (f : Failed). reported (failedAt f)) (sym (@place .given .1))
+returns c = c .number .ensures ∙ ap (λ (f : Failed). reported (failedAt f)) (sym (c .before .before .failed .given .1))
 
 returns-2 : tie.Need-returns-2
 returns-2 c = ap (λ (f : Failed). reported (failedAt f)) (sym (c .enum-told .given .1))
