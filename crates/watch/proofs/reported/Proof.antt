@@ -9,13 +9,14 @@ use Rattle.watch.proofs.reported.Statement.{statement}
 use Rattle.watch.proofs.reported.Tie as tie
 
 number-requires : tie.Need-number-requires
-number-requires c κs = subst FailedWithin (@place .given .1) (@pre)
+number-requires c κs = subst FailedWithin (c .before .failed .given .1) (c .before .before .before .pre)
 
 returns : tie.Need-returns
-returns c = @number .ensures ∙ ap (λ (f : Failed). reported (failedAt f)) (sym (@place .given .1))
+returns c = c .number .ensures ∙ ap (λ (f : Failed). reported (failedAt f)) (sym (c .before .before .failed .given .1))
 
 returns-2 : tie.Need-returns-2
-returns-2 c = ap (λ (f : Failed). reported (failedAt f)) (sym (@enum-told .given .1))
+returns-2 c = ap (λ (f : Failed). reported (failedAt f)) (sym (c .enum-told .given .1))
 
 pub reported-spec : {M : Type 1} → statement M
-reported-spec = tie.close (tie.spec number-requires returns returns-2)
+reported-spec = tie.close
+    (tie.spec (λ c. search needs) number-requires (λ c. search needs) returns returns-2)
