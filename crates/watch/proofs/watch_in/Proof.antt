@@ -17,7 +17,7 @@ reports-requires : tie.Need-reports-requires
 reports-requires c κs =
     let x = survey-read (c .before .before .before .before .before .before .before .before .before .before .before .before .before .before .before .survey .ensures) (c .before .before .before .before .before .before .before .before .before .names .given .1) in
     let e = sym (c .before .before .before .before .before .before .before .is-trace .ensures) ∙ not-false _ (c .before .before .before .before .before .before .if1 .left) in
-    (watch-counted _ _ _ x e (c .before .before .before .before .before .if2 .left), (e, (count-inside _ _ _ x e (c .before .before .before .before .before .if2 .left), c .before .before .before .before .before .before .before .before .before .before .before .before .before .before .before .before .before .before .before .before .before .before .pre .1 .0, c .before .before .before .before .before .before .before .before .before .before .before .before .before .before .before .before .before .before .before .before .before .before .pre .1 .1)))
+    (watch-counted (c .before .before .before .before .before .before .before .before .before .before .before .before .before .before .before .before .before .before .before .before .before .before .args .text .now) (c .before .before .before .before .before .before .before .before .before .before .before .before .before .before .before .before .before .before .before .before .before .before .args .trace .now) (c .before .before .before .before .before .before .before .before .before .before .before .before .before .before .before .before .before .before .before .before .before .before .args .report .now) x e (c .before .before .before .before .before .if2 .left), (e, (count-inside (c .before .before .before .before .before .before .before .before .before .before .before .before .before .before .before .before .before .before .before .before .before .before .args .text .now) (c .before .before .before .before .before .before .before .before .before .before .before .before .before .before .before .before .before .before .before .before .before .before .args .trace .now) (c .before .before .before .before .before .before .before .before .before .before .before .before .before .before .before .before .before .before .before .before .before .before .args .report .now) x e (c .before .before .before .before .before .if2 .left), c .before .before .before .before .before .before .before .before .before .before .before .before .before .before .before .before .before .before .before .before .before .before .pre .1 .0, c .before .before .before .before .before .before .before .before .before .before .before .before .before .before .before .before .before .before .before .before .before .before .pre .1 .1)))
 
 returns-3 : tie.Need-returns-3
 returns-3 c =
