@@ -1,5 +1,5 @@
 -- Watches that were read once: what is read of them again, one by one. Assumes nothing.
-use mathlib.Core.Path.{_≡_, refl, ap, sym, _∙_}
+use mathlib.Core.Path.{_≡_, refl, ap, sym, subst, _∙_}
 use mathlib.Core.Bool.{Bool, true, false}
 use mathlib.Core.List.{List, [], _∷_, _++_, append-assoc, append-nil}
 use Prim.Native.Nat.{ℕ, zero, suc, _+_, _-_, _≤_, _<_}
@@ -40,10 +40,7 @@ watches-grow sc (suc left) done a =
 
 module _ (sc : Scope) (left : ℕ) (done : List Watch) (a : ℕ) (ws : List Watch) (m : ℕ) (e : watchesFrom left sc done a ≡ accepted ws m) where
   grown : Grows left done (accepted ws m)
-  grown = go (watchesFrom left sc done a) (watches-grow sc left done a) e
-    where
-      go : (p : Parsed (List Watch)) → Grows left done p → p ≡ accepted ws m → Grows left done (accepted ws m)
-      go p g f = rw (← f) g
+  grown = subst (Grows left done) e (watches-grow sc left done a)
 
   -- at most as many as may be read
   pub watches-few : length ws ≤ left + length done

@@ -45,8 +45,8 @@ report-append [] w trace = refl
 report-append (v ∷ ws) w trace = ap (λ (l : List ℤ). reported (firstFailure v (placesOf trace)) ∷ l) (report-append ws w trace)
 
 -- the watch read in the scope of all names, as a program holds them
-pub free-writes : {text starts ends : List ℕ} {names n : ℕ} {all : Names} {before after : List ℕ} {r : Step} → (all .count ≡ names) × (flagsOf names (all .known) ≡ free names) → Writes codeOfWatch numberTold (endOfFirst 0) (watchAt (scopeOf text starts ends all) n) 0 before after r → Writes codeOfWatch numberTold (endOfFirst 0) (watchAt (freeScope text starts ends names) n) 0 before after r
-free-writes {text} {starts} {ends} {names} {n} {all} {before} {after} {r} e w = subst (λ (sc : Scope). Writes codeOfWatch numberTold (endOfFirst 0) (watchAt sc n) 0 before after r) (scope-free text starts ends names all e) w
+pub free-writes : (text starts ends : List ℕ) (names n : ℕ) (all : Names) {before after : List ℕ} {r : Step} → (all .count ≡ names) × (flagsOf names (all .known) ≡ free names) → Writes codeOfWatch numberTold (endOfFirst 0) (watchAt (scopeOf text starts ends all) n) 0 before after r → Writes codeOfWatch numberTold (endOfFirst 0) (watchAt (freeScope text starts ends names) n) 0 before after r
+free-writes text starts ends names n all {before} {after} {r} e w = subst (λ (sc : Scope). Writes codeOfWatch numberTold (endOfFirst 0) (watchAt sc n) 0 before after r) (scope-free text starts ends names all e) w
 
 -- what was reported so far
 pub record Reports (text starts ends : List ℕ) (names at count : ℕ) (trace : Trace) (report₀ report : List ℤ) (a i : ℕ) : Type 0 where

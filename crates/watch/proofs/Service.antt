@@ -33,7 +33,7 @@ use Rattle.watch.proofs.Counting.{watches-few}
 
 -- ---- what the survey says of the text
 
-counts : Answer WatchCounts → WatchCounts
+abbrev counts : Answer WatchCounts → WatchCounts
 counts (A.accepted c) = c
 counts (A.refused k p) = record { names = 0; watches = 0 }
 

@@ -13,7 +13,7 @@ use Rattle.limits.specs.Limits.{reportLength}
 use Rattle.semantics.specs.Program.{Program}
 use Rattle.semantics.specs.Formula.{State, Trace}
 use Rattle.semantics.specs.Shape.{shapeOf, stateLength, statesOf, isTrace, placesIn, tracedStates, valuesOf}
-use Rattle.semantics.specs.Rows.{referenceReplies, traceOf, InRanges, AllInRanges}
+use Rattle.semantics.specs.Rows.{referenceReplies, acceptedStates, traceOf, InRanges, AllInRanges}
 use Rattle.semantics.proofs.Reference.{trace-in-range}
 use Rattle.grammar.specs.Parsed.{accepted}
 use Rattle.grammar.specs.Parse.{parse, programOf}
@@ -65,7 +65,7 @@ module _ (p : Program) (some : 0 < stateLength (shapeOf p)) (s : State) (ts : Tr
 pub watch-of-trace : (text : List ℕ) (p : Program) (m : ℕ) → parse text ≡ accepted p m → 0 < stateLength (shapeOf p) → (s : State) → InRanges p s → (rows : List (List ℤ)) (report : List ℤ) → length report ≡ reportLength
     → watchOf text (valuesOf (traceOf s (referenceReplies p s rows))) report ≡ watchedStates (p .watches) (traceOf s (referenceReplies p s rows)) report
 watch-of-trace text p m e some s i rows report h =
-    watch-of-states p some s _ (trace-in-range p (parse-translatable text p m e .well-formed) rows s i) text m report e h
+    watch-of-states p some s (acceptedStates (referenceReplies p s rows)) (trace-in-range p (parse-translatable text p m e .well-formed) rows s i) text m report e h
 
 pub watch-of-start : (text : List ℕ) (p : Program) (m : ℕ) → parse text ≡ accepted p m → stateLength (shapeOf p) ≡ 0 → (report : List ℤ) → length report ≡ reportLength → watchOf text [] report ≡ watchedStates (p .watches) ([] ∷ []) report
 unfolding watchOf programOf isTrace placesIn

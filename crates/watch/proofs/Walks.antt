@@ -35,10 +35,10 @@ module _ (names middle end : ℕ) (code : List ℕ) (xs : List TracePlace) (r : 
       length-part = length-take-le (end - middle) (drop middle code) (omega (arith, length-drop middle code))
   by-pair c (some y) d l h i e f = f c y d (l .0)
 
-pub walk-alone-of : {names middle end : ℕ} {code : List ℕ} {xs : List TracePlace} {r : Failed} (w : Watch) → WatchCode w names middle end code → middle ≡ end
+pub walk-alone-of : {names middle end : ℕ} {code : List ℕ} (xs : List TracePlace) (r : Failed) (w : Watch) → WatchCode w names middle end code → middle ≡ end
     → ((c : Condition) → ConditionCode c names (take middle code) → failedAt r ≡ firstFailure (record { first = c; later = none }) xs) → failedAt r ≡ firstFailure w xs
-walk-alone-of {names} {middle} {end} {code} {xs} {r} w d e f = by-alone names middle end code xs r (w .first) (w .later) (d .first) (d .later) e f
+walk-alone-of {names} {middle} {end} {code} xs r w d e f = by-alone names middle end code xs r (w .first) (w .later) (d .first) (d .later) e f
 
-pub walk-paired-of : {names middle end : ℕ} {code : List ℕ} {xs : List TracePlace} {r : Failed} (w : Watch) → WatchCode w names middle end code → end ≤ length code → (middle ≡ end → ⊥)
+pub walk-paired-of : {names middle end : ℕ} {code : List ℕ} (xs : List TracePlace) (r : Failed) (w : Watch) → WatchCode w names middle end code → end ≤ length code → (middle ≡ end → ⊥)
     → ((c d : Condition) → ConditionCode c names (take middle code) → ConditionCode d names (take (end - middle) (drop middle code)) → failedAt r ≡ firstFailure (record { first = c; later = some d }) xs) → failedAt r ≡ firstFailure w xs
-walk-paired-of {names} {middle} {end} {code} {xs} {r} w d i e f = by-pair names middle end code xs r (w .first) (w .later) (d .first) (d .later) (d .ordered) i e f
+walk-paired-of {names} {middle} {end} {code} xs r w d i e f = by-pair names middle end code xs r (w .first) (w .later) (d .first) (d .later) (d .ordered) i e f

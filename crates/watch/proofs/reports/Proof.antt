@@ -1,11 +1,15 @@
 -- `watch::reports` meets its contract. Assumes nothing.
 use mathlib.Core.Path.{_≡_, refl, ap, _∙_}
 use mathlib.Core.List.{List}
-use Prim.Native.Nat.{ℕ, _-_, _^_, _<_}
+use Prim.Native.Nat.{ℕ, _-_, _^_, _≤_, _<_}
 use native.Mathlib.Omega.{arith}
 use lib.IntN.{ℤ}
 use lib.ListN.{length, length-set}
 use borrow.Author.Needs.{needs}
+use mir.Facts.{toZ-ofZ}
+use mir.Syntax.{w64}
+use mir.Val.{SFits}
+use Rattle.limits.specs.Limits.{imageRoom}
 use Rattle.lexer.proofs.Tokens.{is-fault}
 use Rattle.semantics.specs.Shape.{tracedStates, statesOf}
 use Rattle.watching.specs.Watching.{placesOf, firstFailure}
@@ -26,60 +30,70 @@ Inv-loop text starts ends names at count trace report₀ code₀ vals₀ places 
 abbrev μ-loop : tie.MeasureT-loop
 μ-loop text starts ends names at count trace report₀ code₀ vals₀ places free a₀ i₀ report code vals a i = count - i
 
-first-names-requires : tie.Need-first-names-requires
-first-names-requires c κs = @pre .0 .stand .few
+first-names-requires : tie.Need-first-names-requires Inv-loop μ-loop
+first-names-requires c κs = c .before .before .before .before .before .pre .0 .stand .few
 
 loop-holds : tie.Need-loop-holds Inv-loop μ-loop
-loop-holds c = (reports-first _ _ (@pre .0), refl, refl, refl)
+loop-holds c = (reports-first _ _ (c .before .before .before .before .before .before .pre .0), refl, refl, refl)
 
 returns : tie.Need-returns Inv-loop μ-loop
-returns c = λ ws m e. reports-token (@loop .inv .0) (@loop-test .taken) (is-fault _ _ _ (@token-at .ensures) _ _ (@enum-told .given .1) .0)
+returns c = λ ws m e. reports-token (c .before .before .before .before .loop .inv .0) (c .before .before .before .loop-test .taken) (is-fault _ _ _ (c .before .before .token-at .ensures) _ _ (c .enum-told .given .1) .0)
 
 watch-requires : tie.Need-watch-requires Inv-loop μ-loop
 watch-requires c κs =
-    let f = found-token _ _ (@token-at .ensures) (@word .given .1) in
-    let e = @first-names .ensures .0 in
-    let t = @loop .inv .0 .table in
-    (record { table = record { in-starts = omega (arith, e, t .in-starts); in-ends = omega (arith, e, t .in-ends) }; few = omega (arith, e, @loop .inv .0 .few-names) }, reports-room (@loop .inv .0) (@loop-test .taken) f)
+    let f = found-token _ _ (c .before .before .before .before .token-at .ensures) (c .before .before .word .given .1) in
+    let e = c .before .before .before .before .before .before .before .first-names .ensures .0 in
+    let t = c .before .before .before .before .before .before .loop .inv .0 .table in
+    (record { table = record { in-starts = omega (arith, e, t .in-starts); in-ends = omega (arith, e, t .in-ends) }; few = omega (arith, e, c .before .before .before .before .before .before .loop .inv .0 .few-names) }, reports-room (c .before .before .before .before .before .before .loop .inv .0) (c .before .before .before .before .before .loop-test .taken) f)
 
 returns-2 : tie.Need-returns-2 Inv-loop μ-loop
 returns-2 c =
-    let f = found-token _ _ (@token-at .ensures) (@word .given .1) in
-    λ ws m e. reports-read (@loop .inv .0) (@loop-test .taken) f (refused-part (free-writes (@first-names .ensures) (@watch .ensures)) (@enum-told2 .given .1))
+    let f = found-token _ _ (c .before .before .before .before .before .before .before .before .before .token-at .ensures) (c .before .before .before .before .before .before .before .word .given .1) in
+    λ ws m e. reports-read (c .before .before .before .before .before .before .before .before .before .before .before .loop .inv .0) (c .before .before .before .before .before .before .before .before .before .before .loop-test .taken) f (refused-part (free-writes _ _ _ _ _ _ (c .before .before .before .before .before .before .before .before .before .before .before .before .first-names .ensures) (c .before .before .before .before .watch .ensures)) (c .enum-told2 .given .1))
 
 walk-requires : tie.Need-walk-requires Inv-loop μ-loop
 walk-requires c κs =
-    let f = found-token _ _ (@token-at .ensures) (@word .given .1) in
-    let g = got (free-writes (@first-names .ensures) (@watch .ensures)) (@read .given .1) in
-    let large = omega (arith, @loop .inv .2, @pre .1 .1 .1) in
-    let x = @loop .inv .0 in
-    let h = @loop-test .taken in
-    ((reports-code x h f g large .ordered, reports-inside x h f g large), (omega (arith, @loop .inv .3, @pre .1 .1 .2), rw (@places .ensures) (trace-whole _ _ (@pre .1 .0) .all)))
+    let f = found-token _ _ (c .before .before .before .before .before .before .before .before .before .before .before .before .token-at .ensures) (c .before .before .before .before .before .before .before .before .before .before .word .given .1) in
+    let g = got (free-writes _ _ _ _ _ _ (c .before .before .before .before .before .before .before .before .before .before .before .before .before .before .before .first-names .ensures) (c .before .before .before .before .before .before .before .watch .ensures)) (c .before .before .before .read .given .1) in
+    let large : imageRoom ≤ length (c .before .before .before .before .before .before .before .before .before .before .before .before .before .before .loop .code) = omega (arith, c .before .before .before .before .before .before .before .before .before .before .before .before .before .before .loop .inv .2, c .before .before .before .before .before .before .before .before .before .before .before .before .before .before .before .before .before .before .before .before .before .pre .1 .1 .1) in
+    let x = c .before .before .before .before .before .before .before .before .before .before .before .before .before .before .loop .inv .0 in
+    let h = c .before .before .before .before .before .before .before .before .before .before .before .before .before .loop-test .taken in
+    ((reports-code x h f g large .ordered, reports-inside x h f g large), (omega (arith, c .before .before .before .before .before .before .before .before .before .before .before .before .before .before .loop .inv .3, c .before .before .before .before .before .before .before .before .before .before .before .before .before .before .before .before .before .before .before .before .before .pre .1 .1 .2), rw (c .before .before .before .before .before .before .before .before .before .before .before .before .before .before .before .before .places .ensures) (trace-whole _ _ (c .before .before .before .before .before .before .before .before .before .before .before .before .before .before .before .before .before .before .before .before .before .pre .1 .0) .all)))
 
 reported-requires : tie.Need-reported-requires Inv-loop μ-loop
 reported-requires c κs =
-    let f = found-token _ _ (@token-at .ensures) (@word .given .1) in
-    let g = got (free-writes (@first-names .ensures) (@watch .ensures)) (@read .given .1) in
-    let large = omega (arith, @loop .inv .2, @pre .1 .1 .1) in
-    let small : @places .result < 2 ^ 63 = omega (arith, @places .ensures, places-small _ _ (@pre .1 .0), @good) in
-    failed-within (g .tree) _ _ _ _ small (@walk .ensures (g .tree) (reports-code (@loop .inv .0) (@loop-test .taken) f g large))
+    let f = found-token _ _ (c .before .before .before .before .before .before .before .before .before .before .before .before .before .before .token-at .ensures) (c .before .before .before .before .before .before .before .before .before .before .before .before .word .given .1) in
+    let g = got (free-writes _ _ _ _ _ _ (c .before .before .before .before .before .before .before .before .before .before .before .before .before .before .before .before .before .first-names .ensures) (c .before .before .before .before .before .before .before .before .before .watch .ensures)) (c .before .before .before .before .before .read .given .1) in
+    let large : imageRoom ≤ length (c .before .before .before .before .before .before .before .before .before .before .before .before .before .before .before .before .loop .code) = omega (arith, c .before .before .before .before .before .before .before .before .before .before .before .before .before .before .before .before .loop .inv .2, c .before .before .before .before .before .before .before .before .before .before .before .before .before .before .before .before .before .before .before .before .before .before .before .pre .1 .1 .1) in
+    let small : c .before .before .before .before .before .before .before .before .before .before .before .before .before .before .before .before .before .before .places .result < 2 ^ 63 = omega (arith, c .before .before .before .before .before .before .before .before .before .before .before .before .before .before .before .before .before .before .places .ensures, places-small _ _ (c .before .before .before .before .before .before .before .before .before .before .before .before .before .before .before .before .before .before .before .before .before .before .before .pre .1 .0), c .before .before .before .before .before .before .before .before .before .before .before .before .before .before .before .before .before .before .before .before .before .before .before .good) in
+    failed-within (g .tree) _ _ _ (c .before .walk .result) small (c .before .walk .ensures (g .tree) (reports-code (c .before .before .before .before .before .before .before .before .before .before .before .before .before .before .before .before .loop .inv .0) (c .before .before .before .before .before .before .before .before .before .before .before .before .before .before .before .loop-test .taken) f g large))
+
+mul-t28 : tie.Need-mul-t28 Inv-loop μ-loop
+mul-t28 c = record { fits = omega (arith, c .before .before .before .before .before .before .before .before .before .before .before .before .before .before .before .before .loop-test .taken, c .before .before .before .before .before .before .before .before .before .before .before .before .before .before .before .before .before .before .before .before .before .before .before .before .pre .1 .1 .0, c .before .before .before .before .before .before .before .before .before .before .before .before .before .before .before .before .before .before .before .before .before .before .before .before .good) }
+
+slice-set-from-report : tie.Need-slice-set-from-report Inv-loop μ-loop
+slice-set-from-report c = omega (arith, c .before .before .before .before .before .before .before .before .before .before .before .before .before .before .before .before .loop-test .taken, c .before .before .before .before .before .before .before .before .before .before .before .before .before .before .before .before .before .loop .inv .1, c .before .before .before .before .before .before .before .before .before .before .before .before .before .before .before .before .before .before .before .before .before .before .before .before .pre .1 .1 .0)
+
+add-i : tie.Need-add-i Inv-loop μ-loop
+add-i c = record { fits = omega (arith, c .before .before .before .before .before .before .before .before .before .before .before .before .before .before .before .before .loop-test .taken, c .before .before .before .before .before .before .before .before .before .before .before .before .before .before .before .before .before .before .before .before .before .before .before .before .fits .count .fits) }
 
 loop-less : tie.Need-loop-less Inv-loop μ-loop
-loop-less c = omega (arith, @loop-test .taken)
+loop-less c = omega (arith, c .before .before .before .before .before .before .before .before .before .before .before .before .before .before .before .before .loop-test .taken)
 
 loop-again : tie.Need-loop-again Inv-loop μ-loop
 loop-again c =
-    let f = found-token _ _ (@token-at .ensures) (@word .given .1) in
-    let g = got (free-writes (@first-names .ensures) (@watch .ensures)) (@read .given .1) in
-    let large = omega (arith, @loop .inv .2, @pre .1 .1 .1) in
-    let told = @walk .ensures (g .tree) (reports-code (@loop .inv .0) (@loop-test .taken) f g large) in
-    let e = @reported .ensures ∙ ap reported (told ∙ ap (λ (k : ℕ). firstFailure (g .tree) (placesOf (statesOf k (@args .names) (@args .trace .now)))) (@places .ensures)) in
-    (reports-more (@loop .inv .0) (@loop-test .taken) f g large _ e, length-set _ _ _ ∙ @loop .inv .1, @watch .kept .1 .1 .1 .1 .1 .0 ∙ @loop .inv .2, @walk .kept .1 .1 .1 .1 .1 .1 .0 ∙ @loop .inv .3)
+    let f = found-token _ _ (c .before .before .before .before .before .before .before .before .before .before .before .before .before .before .before .token-at .ensures) (c .before .before .before .before .before .before .before .before .before .before .before .before .before .word .given .1) in
+    let g = got (free-writes _ _ _ _ _ _ (c .before .before .before .before .before .before .before .before .before .before .before .before .before .before .before .before .before .before .first-names .ensures) (c .before .before .before .before .before .before .before .before .before .before .watch .ensures)) (c .before .before .before .before .before .before .read .given .1) in
+    let large : imageRoom ≤ length (c .before .before .before .before .before .before .before .before .before .before .before .before .before .before .before .before .before .loop .code) = omega (arith, c .before .before .before .before .before .before .before .before .before .before .before .before .before .before .before .before .before .loop .inv .2, c .before .before .before .before .before .before .before .before .before .before .before .before .before .before .before .before .before .before .before .before .before .before .before .before .pre .1 .1 .1) in
+    let told = c .before .before .walk .ensures (g .tree) (reports-code (c .before .before .before .before .before .before .before .before .before .before .before .before .before .before .before .before .before .loop .inv .0) (c .before .before .before .before .before .before .before .before .before .before .before .before .before .before .before .before .loop-test .taken) f g large) in
+    let e = c .reported .ensures ∙ ap reported (told ∙ ap (λ (k : ℕ). firstFailure (g .tree) (placesOf (statesOf k (c .before .before .before .before .before .before .before .before .before .before .before .before .before .before .before .before .before .before .before .before .before .before .before .before .args .names) (c .before .before .before .before .before .before .before .before .before .before .before .before .before .before .before .before .before .before .before .before .before .before .before .before .args .trace .now)))) (c .before .before .before .before .before .before .before .before .before .before .before .before .before .before .before .before .before .before .before .places .ensures)) in
+    let s : SFits w64 (c .reported .result) = search needs in
+    rw (toZ-ofZ {w = w64} s) (reports-more (c .before .before .before .before .before .before .before .before .before .before .before .before .before .before .before .before .before .loop .inv .0) (c .before .before .before .before .before .before .before .before .before .before .before .before .before .before .before .before .loop-test .taken) f g large _ e, length-set {A = ℤ} (c .before .before .before .before .before .before .before .before .before .before .before .before .before .before .before .before .before .loop .report) (c .before .before .before .before .before .before .before .before .before .before .before .before .before .before .before .before .before .loop .i) (c .reported .result) ∙ c .before .before .before .before .before .before .before .before .before .before .before .before .before .before .before .before .before .loop .inv .1, c .before .before .before .before .before .before .before .before .before .before .watch .kept .1 .1 .1 .1 .1 .0 ∙ c .before .before .before .before .before .before .before .before .before .before .before .before .before .before .before .before .before .loop .inv .2, c .before .before .walk .kept .1 .1 .1 .1 .1 .1 .0 ∙ c .before .before .before .before .before .before .before .before .before .before .before .before .before .before .before .before .before .loop .inv .3)
 
 returns-3 : tie.Need-returns-3 Inv-loop μ-loop
-returns-3 c = reports-end (@loop .inv .0) (@loop-test .left)
+returns-3 c = reports-end (c .before .loop .inv .0) (c .loop-test .left)
 
 pub reports-spec : {M : Type 1} → statement M
 reports-spec =
     tie.close
-    (tie.spec Inv-loop μ-loop (λ c κs. search needs) first-names-requires loop-holds (λ c κs. search needs) (λ c. search needs) (λ c. search needs) (λ c. search needs) returns watch-requires (λ c. search needs) returns-2 walk-requires reported-requires (λ c. search needs) loop-less loop-again returns-3)
+    (tie.spec Inv-loop μ-loop (λ c κs. search needs) first-names-requires loop-holds (λ c κs. search needs) (λ c. search needs) (λ c. search needs) (λ c. search needs) (λ c. search needs) (λ c. search needs) returns watch-requires (λ c. search needs) (λ c. search needs) (λ c. search needs) (λ c. search needs) (λ c. search needs) returns-2 walk-requires reported-requires mul-t28 slice-set-from-report add-i loop-less loop-again (λ c. search needs) (λ c. search needs) (λ c. search needs) returns-3)

@@ -8,25 +8,26 @@ use Rattle.watch.proofs.watch_in.Statement.{statement}
 use Rattle.watch.proofs.watch_in.Tie as tie
 
 returns : tie.Need-returns
-returns c = watch-cut _ _ _ (survey-read (@survey .ensures) (@names .given .1)) (sym (@is-trace .ensures) ∙ not-true _ (@if1 .taken))
+returns c = watch-cut _ _ _ (survey-read (c .before .before .before .before .before .before .before .before .before .survey .ensures) (c .before .before .before .names .given .1)) (sym (c .before .is-trace .ensures) ∙ not-true _ (c .if1 .taken))
 
 returns-2 : tie.Need-returns-2
-returns-2 c = watch-misfit _ _ _ (survey-read (@survey .ensures) (@names .given .1)) (sym (@is-trace .ensures) ∙ not-false _ (@if1 .left)) (@if2 .taken)
+returns-2 c = watch-misfit _ _ _ (survey-read (c .before .before .before .before .before .before .before .before .before .before .survey .ensures) (c .before .before .before .before .names .given .1)) (sym (c .before .before .is-trace .ensures) ∙ not-false _ (c .before .if1 .left)) (c .if2 .taken)
 
 reports-requires : tie.Need-reports-requires
 reports-requires c κs =
-    let x = survey-read (@survey .ensures) (@names .given .1) in
-    let e = sym (@is-trace .ensures) ∙ not-false _ (@if1 .left) in
-    (watch-counted _ _ _ x e (@if2 .left), (e, (count-inside _ _ _ x e (@if2 .left), @pre .1 .0, @pre .1 .1)))
+    let x = survey-read (c .before .before .before .before .before .before .before .before .before .before .before .before .before .before .before .survey .ensures) (c .before .before .before .before .before .before .before .before .before .names .given .1) in
+    let e = sym (c .before .before .before .before .before .before .before .is-trace .ensures) ∙ not-false _ (c .before .before .before .before .before .before .if1 .left) in
+    (watch-counted (c .before .before .before .before .before .before .before .before .before .before .before .before .before .before .before .before .before .before .before .before .before .before .args .text .now) (c .before .before .before .before .before .before .before .before .before .before .before .before .before .before .before .before .before .before .before .before .before .before .args .trace .now) (c .before .before .before .before .before .before .before .before .before .before .before .before .before .before .before .before .before .before .before .before .before .before .args .report .now) x e (c .before .before .before .before .before .if2 .left), (e, (count-inside (c .before .before .before .before .before .before .before .before .before .before .before .before .before .before .before .before .before .before .before .before .before .before .args .text .now) (c .before .before .before .before .before .before .before .before .before .before .before .before .before .before .before .before .before .before .before .before .before .before .args .trace .now) (c .before .before .before .before .before .before .before .before .before .before .before .before .before .before .before .before .before .before .before .before .before .before .args .report .now) x e (c .before .before .before .before .before .if2 .left), c .before .before .before .before .before .before .before .before .before .before .before .before .before .before .before .before .before .before .before .before .before .before .pre .1 .0, c .before .before .before .before .before .before .before .before .before .before .before .before .before .before .before .before .before .before .before .before .before .before .pre .1 .1)))
 
 returns-3 : tie.Need-returns-3
 returns-3 c =
-    let x = survey-read (@survey .ensures) (@names .given .1) in
-    let e = sym (@is-trace .ensures) ∙ not-false _ (@if1 .left) in
-    watch-reported _ _ _ x e (@if2 .left) _ (@reports .ensures _ _ (x .stand .read))
+    let x = survey-read (c .before .before .before .before .before .before .before .before .before .before .before .before .before .before .before .before .before .before .before .before .survey .ensures) (c .before .before .before .before .before .before .before .before .before .before .before .before .before .before .names .given .1) in
+    let e = sym (c .before .before .before .before .before .before .before .before .before .before .before .before .is-trace .ensures) ∙ not-false _ (c .before .before .before .before .before .before .before .before .before .before .before .if1 .left) in
+    watch-reported _ _ _ x e (c .before .before .before .before .before .before .before .before .before .before .if2 .left) _ (c .before .before .before .before .reports .ensures _ _ (x .stand .read))
 
 returns-4 : tie.Need-returns-4
-returns-4 c = watch-refused _ _ _ _ _ (survey-refused (@survey .ensures) (@number .given .1))
+returns-4 c = watch-refused _ _ _ _ _ (survey-refused (c .before .before .before .before .before .before .before .survey .ensures) (c .before .number .given .1))
 
 pub watch-in-spec : {M : Type 1} → statement M
-watch-in-spec = tie.close (tie.spec (λ c κs. search needs) returns returns-2 reports-requires returns-3 returns-4)
+watch-in-spec = tie.close
+    (tie.spec (λ c κs. search needs) (λ c. search needs) (λ c κs. search needs) (λ c. search needs) (λ c. search needs) returns (λ c. search needs) (λ c. search needs) returns-2 reports-requires (λ c. search needs) (λ c. search needs) (λ c. search needs) (λ c. search needs) (λ c. search needs) (λ c. search needs) returns-3 (λ c. search needs) (λ c. search needs) returns-4)
