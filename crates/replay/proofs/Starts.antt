@@ -11,10 +11,12 @@ use borrow.Author.Tests.{eqb-true}
 use Rattle.limits.specs.Answer.{Answer, accepted, refused}
 use Rattle.semantics.specs.Formula.{State}
 use Rattle.bytecode.specs.Check.{checkHeader, checkOf}
-use Rattle.bytecode.specs.Parts.{shapeIn}
+use Rattle.bytecode.specs.Parts.{headerOf, shapeIn}
 use Rattle.bytecode.specs.Results.{HeaderStands}
 use Rattle.bytecode.proofs.Walk.{check-sound}
-use Rattle.semantics.specs.Shape.{stateLength, startingState}
+use Rattle.bytecode.proofs.Limits.{no-times}
+use Rattle.semantics.specs.Program.{Range}
+use Rattle.semantics.specs.Shape.{withTimes, stateLength, startingState}
 use Rattle.scan.specs.Services.{AfterStart, started, startOf}
 use Rattle.scan.specs.Results.{afterStart}
 use Rattle.scan.specs.Inner.Parts.{KnownImage}
@@ -45,6 +47,10 @@ started-image image s s₁ e l =
 
 pub started-short : (image : List ℕ) (s s₁ : State) → afterStart S.Done s₁ ≡ startOf image s → length image ≤ 65536
 started-short image s s₁ e = check-sound image (start-sized image s (sym (ap {A = AfterStart} (λ r. r .answer) e)) .0) .short
+
+-- a sound image has no timers: the state has a value for each name and no more
+pub started-named : {image : List ℕ} {s : State} → StartedImage image s → length s ≡ length (headerOf image .ranges)
+started-named {image = image} x = x .sized ∙ ap (λ (l : List Range). length (withTimes (headerOf image .ranges) l)) (no-times image (x .sound))
 
 -- ---- what the rows need
 

@@ -6,7 +6,7 @@ use lib.ListN.{length}
 use lib.Seq.{length-take-le}
 use Rattle.limits.specs.Limits.{nameLimit}
 use Rattle.bytecode.proofs.SoundHeader.{headed-stands, headed-broken, header-not-broken, header-counts}
-use Rattle.replay.proofs.Starts.{known-by}
+use Rattle.replay.proofs.Starts.{started-named, known-by}
 use borrow.Author.Needs.{needs}
 use Rattle.replay.proofs.scan_started.Statement.{statement}
 use Rattle.replay.proofs.scan_started.Tie as tie
@@ -16,7 +16,7 @@ returns c = header-not-broken (c .before .before .before .before .before .before
 
 -- as many names as the state has values, and there is room for them
 named : (c : tie.After-known-told) → c .before .inputs .given .0 .1 .0 ≡ length (c .before .before .before .before .before .before .before .before .before .before .before .before .before .before .args .state .now)
-named c = sym (c .before .before .before .before .before .before .before .before .before .before .before .before .before .before .pre .1 .0 .sized ∙ header-counts (c .before .before .before .before .before .before .before .before .before .before .before .before .before .before .args .image .now) (headed-stands (c .before .before .before .before .before .before .header .ensures) (c .before .inputs .given .1)) .names-are)
+named c = sym (started-named (c .before .before .before .before .before .before .before .before .before .before .before .before .before .before .pre .1 .0) ∙ header-counts (c .before .before .before .before .before .before .before .before .before .before .before .before .before .before .args .image .now) (headed-stands (c .before .before .before .before .before .before .header .ensures) (c .before .inputs .given .1)) .names-are)
 
 few : (c : tie.After-known-told) → length (c .before .before .before .before .before .before .before .before .before .before .before .before .before .before .args .state .now) ≤ nameLimit
 few c = omega (arith, named c, headed-stands (c .before .before .before .before .before .before .header .ensures) (c .before .inputs .given .1) .extends .few)
