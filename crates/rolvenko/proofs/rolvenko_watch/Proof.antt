@@ -13,12 +13,12 @@ use Rattle.rolvenko.proofs.rolvenko_watch.Tie as tie
 
 pack-requires : tie.Need-pack-requires
 pack-requires c κs =
-    let l = subst WatchedWithin (c .before .count .given .1) (c .before .before .before .before .before .watch .ensures .1) in
+    let l = subst WatchedWithin (c .before .count .given .1) (c .before .before .before .before .watch .ensures .1) in
     (omega arith, omega (arith, l))
 
 pack-requires-2 : tie.Need-pack-requires-2
 pack-requires-2 c κs =
-    let l = subst WatchedWithin (c .before .number .given .1) (c .before .before .before .before .before .watch .ensures .1) in
+    let l = subst WatchedWithin (c .before .number .given .1) (c .before .before .before .before .watch .ensures .1) in
     (omega (arith, l), omega arith)
 
 -- the answer r with the report left is the definition's
@@ -27,12 +27,12 @@ answered {left = left} e h = ap (λ (x : Watched). packedTranslation (afterWatch
 
 returns : tie.Need-returns
 returns c =
-    let e = c .before .before .before .before .before .before .watch .ensures .0 in
+    let e = c .before .before .before .before .before .watch .ensures .0 in
     (c .pack .ensures ∙ answered (c .before .before .count .given .1) e, ap {A = AfterWatch} (λ x. x .report) e)
 
 returns-2 : tie.Need-returns-2
 returns-2 c =
-    let e = c .before .before .before .before .before .before .watch .ensures .0 in
+    let e = c .before .before .before .before .before .watch .ensures .0 in
     (c .pack2 .ensures ∙ answered (c .before .before .number .given .1) e, ap {A = AfterWatch} (λ x. x .report) e)
 
 pub rolvenko-watch-spec : {M : Type 1} → statement M
