@@ -160,52 +160,66 @@ each-at P i end (x ∷ xs) h e j g l = go (ℕ-discrete j i) (λ q. each-at P (s
     go (yes q) ih = rw (q, ← (h .0)) (e .0)
     go (no q) ih = ih (omega arith)
 
-module _ (p : Program) (t : Translatable p) where
-  abbrev found : List ℕ
-  found = limitsBy (codeRules (p .timers) (p .rules)) (replicate (length (rangesOf p)) 0)
+-- a table that has 0 at the names before the timers, and at each timer its limit
+module _ (n first : ℕ) (ts : List Timer) (numbered : Numbered first n ts) (found : List ℕ) where
+  abbrev told-table : List ℕ
+  told-table = replicate first 0 ++ map (λ x. x .limit) ts
 
-  limits-given : found ≡ shapeOf p .limits
-  limits-given =
+  at-timer : (x : Timer) → first ≤ x .id → getD (map (λ y. y .limit) ts) (x .id - first) 0 ≡ x .limit → getD told-table (x .id) 0 ≡ x .limit
+  at-timer x l e =
+      let zeros : length (replicate {A = ℕ} first 0) ≡ first = length-replicate first 0 in
+      let c : length (replicate {A = ℕ} first 0) + (x .id - first) ≡ x .id = omega arith in
+      rw c at (getD-append-add (replicate first 0) (map (λ y. y .limit) ts) (x .id - first) 0 ∙ e)
+
+  at-timers : EachTimer (λ x. getD found (x .id) 0 ≡ x .limit) ts → EachTimer (λ x. getD found (x .id) 0 ≡ getD told-table (x .id) 0) ts
+  at-timers h =
+      each-map (λ x. ((first ≤ x .id) × (x .id < n)) × ((getD found (x .id) 0 ≡ x .limit) × (getD (map (λ y. y .limit) ts) (x .id - first) 0 ≡ x .limit))) (λ x. getD found (x .id) 0 ≡ getD told-table (x .id) 0)
+      (λ x q. q .1 .0 ∙ sym (at-timer x (q .0 .0) (q .1 .1))) ts
+      (each-both (λ x. (first ≤ x .id) × (x .id < n)) (λ x. (getD found (x .id) 0 ≡ x .limit) × (getD (map (λ y. y .limit) ts) (x .id - first) 0 ≡ x .limit)) ts (numbered-from first first n ts (omega arith) numbered)
+      (each-both (λ x. getD found (x .id) 0 ≡ x .limit) (λ x. getD (map (λ y. y .limit) ts) (x .id - first) 0 ≡ x .limit) ts h
+      (at-own (λ y. y .limit) 0 first n (map (λ y. y .limit) ts) [] first ts numbered (omega arith) refl)))
+
+  table-is : length found ≡ n → ((i : ℕ) → i < first → getD found i 0 ≡ 0) → EachTimer (λ x. getD found (x .id) 0 ≡ x .limit) ts → found ≡ told-table
+  table-is size names timers =
+      let count = numbered-length first n ts numbered in
+      let whole : length told-table ≡ n = omega (arith, length-append (replicate first 0) (map (λ x. x .limit) ts), length-map ts (λ x. x .limit), length-replicate {A = ℕ} first 0) in
+      ext-getD 0 found told-table (size ∙ sym whole) (λ i h. cell i h (at-timers timers))
+    where
+      cell : (i : ℕ) → i < length found → EachTimer (λ x. getD found (x .id) 0 ≡ getD told-table (x .id) 0) ts → getD found i 0 ≡ getD told-table i 0
+      cell i h behind = go (ltb i first) (ltb-true i first) (ltb-false i first)
+        where
+          go : (b : Bool) → (b ≡ true → i < first) → (b ≡ false → first ≤ i) → getD found i 0 ≡ getD told-table i 0
+          go true y f =
+              let l : length (replicate {A = ℕ} first 0) ≡ first = length-replicate first 0 in
+              let c : i < first = y refl in
+              names i c ∙ sym (List·getD-append (replicate first 0) (map (λ x. x .limit) ts) 0 i (omega arith) ∙ getD-replicate first i 0 0 c)
+          go false y f = each-at (λ j. getD found j 0 ≡ getD told-table j 0) first n ts numbered behind i (f refl) (omega arith)
+
+module _ (p : Program) (t : Translatable p) where
+  abbrev TimerPlaced : Timer → Type 0
+  TimerPlaced = Placed (settingOf (shapeOf p) []) (length (rangesOf p)) (firstTimer p) (ownerOf p)
+
+  first-told : Told (settingOf (shapeOf p) []) (length (rangesOf p)) (firstTimer p) (ownerOf p) (p .timers) (t .well-formed .timed .numbered) (placed p (t .well-formed .timed) [])
+      (knownFirst (p .inputs) (length (rangesOf p))) (replicate (length (rangesOf p)) 0)
+  first-told =
       let n = length (rangesOf p) in
-      let first = firstTimer p in
-      let ts = p .timers in
-      let known = knownFirst (p .inputs) n in
       let fit = t .well-formed .timed in
-      let count : first + length ts ≡ n = timer-count p fit in
-      let k = settingOf (shapeOf p) [] in
-      let at-place = placed p fit [] in
-      let told : Told k n first (ownerOf p) ts (fit .numbered) at-place known (replicate n 0) = record {
+      let count = timer-count p fit in
+      record {
         size = length-replicate n 0;
         names = λ i h. getD-replicate n i 0 0 (omega arith);
         timers =
-            each-map (λ x. Placed k n first (ownerOf p) x × TimerFits (rangesOf p) (p .inputs) first x) (λ x. getD (replicate n 0) (x .id) 0 ≡ cond (getD known (x .watched) false) (x .limit) 0)
-            (λ x q. rw (variable-unknown (p .inputs) n (x .watched) (q .1 .a-variable)) (getD-replicate n (x .id) 0 0 (q .0 .below))) ts
-            (each-both (Placed k n first (ownerOf p)) (TimerFits (rangesOf p) (p .inputs) first) ts at-place (fit .each));
-      } in
-      let a = told-rules k n first (ownerOf p) ts (fit .numbered) at-place known (p .rules) (replicate n 0) (length-known (p .inputs) n) (t .well-formed .ordered) told in
-      let own = at-own (λ x. x .limit) 0 first n (map (λ x. x .limit) ts) [] first ts (fit .numbered) (omega arith) refl in
-      let zeros : length (replicate {A = ℕ} first 0) ≡ first = length-replicate first 0 in
-      let whole : length (shapeOf p .limits) ≡ n = omega (arith, length-append (replicate first 0) (map (λ x. x .limit) ts), length-map ts (λ x. x .limit)) in
-      let behind : EachTimer (λ x. getD found (x .id) 0 ≡ getD (shapeOf p .limits) (x .id) 0) ts =
-      each-map (λ x. Placed k n first (ownerOf p) x × ((getD found (x .id) 0 ≡ x .limit) × (getD (map (λ y. y .limit) ts) (x .id - first) 0 ≡ x .limit))) (λ x. getD found (x .id) 0 ≡ getD (shapeOf p .limits) (x .id) 0) (λ x q.
-      let b = q .0 .after in
-      let c : length (replicate {A = ℕ} first 0) + (x .id - first) ≡ x .id = omega arith in
-      let d : getD (shapeOf p .limits) (x .id) 0 ≡ x .limit = rw c at (getD-append-add (replicate first 0) (map (λ y. y .limit) ts) (x .id - first) 0 ∙ q .1 .1) in
-      q .1 .0 ∙ sym d) ts (each-both (Placed k n first (ownerOf p)) (λ x. (getD found (x .id) 0 ≡ x .limit) × (getD (map (λ y. y .limit) ts) (x .id - first) 0 ≡ x .limit)) ts at-place
-      (each-both (λ x. getD found (x .id) 0 ≡ x .limit) (λ x. getD (map (λ y. y .limit) ts) (x .id - first) 0 ≡ x .limit) ts (a .2) own)) in
-      ext-getD 0 found (shapeOf p .limits) (a .0 ∙ sym whole) (λ i h. cell i h (a .0) (a .1) behind)
-    where
-      cell : (i : ℕ) → i < length found → length found ≡ length (rangesOf p) → ((j : ℕ) → j < firstTimer p → getD found j 0 ≡ 0)
-          → EachTimer (λ x. getD found (x .id) 0 ≡ getD (shapeOf p .limits) (x .id) 0) (p .timers) → getD found i 0 ≡ getD (shapeOf p .limits) i 0
-      cell i h size names behind = go (ltb i (firstTimer p)) (ltb-true i (firstTimer p)) (ltb-false i (firstTimer p))
-        where
-          go : (b : Bool) → (b ≡ true → i < firstTimer p) → (b ≡ false → firstTimer p ≤ i) → getD found i 0 ≡ getD (shapeOf p .limits) i 0
-          go true y f =
-              let l : length (replicate {A = ℕ} (firstTimer p) 0) ≡ firstTimer p = length-replicate (firstTimer p) 0 in
-              let c : i < firstTimer p = y refl in
-              names i c ∙ sym (List·getD-append (replicate (firstTimer p) 0) (map (λ x. x .limit) (p .timers)) 0 i (omega arith) ∙ getD-replicate (firstTimer p) i 0 0 c)
-          go false y f =
-              each-at (λ j. getD found j 0 ≡ getD (shapeOf p .limits) j 0) (firstTimer p) (length (rangesOf p)) (p .timers) (t .well-formed .timed .numbered) behind i (f refl) (omega arith)
+            each-map (λ x. TimerPlaced x × TimerFits (rangesOf p) (p .inputs) (firstTimer p) x) (λ x. getD (replicate n 0) (x .id) 0 ≡ cond (getD (knownFirst (p .inputs) n) (x .watched) false) (x .limit) 0)
+            (λ x q. rw (variable-unknown (p .inputs) n (x .watched) (q .1 .a-variable)) (getD-replicate n (x .id) 0 0 (q .0 .below))) (p .timers)
+            (each-both TimerPlaced (TimerFits (rangesOf p) (p .inputs) (firstTimer p)) (p .timers) (placed p fit []) (fit .each));
+      }
+
+  limits-given : limitsBy (codeRules (p .timers) (p .rules)) (replicate (length (rangesOf p)) 0) ≡ shapeOf p .limits
+  limits-given =
+      let n = length (rangesOf p) in
+      let fit = t .well-formed .timed in
+      let a = told-rules (settingOf (shapeOf p) []) n (firstTimer p) (ownerOf p) (p .timers) (fit .numbered) (placed p fit []) (knownFirst (p .inputs) n) (p .rules) (replicate n 0) (length-known (p .inputs) n) (t .well-formed .ordered) first-told in
+      table-is n (firstTimer p) (p .timers) (fit .numbered) (limitsBy (codeRules (p .timers) (p .rules)) (replicate n 0)) (a .0) (a .1) (a .2)
 
   pub limits-of : limitsOf (imageOf p) ≡ shapeOf p .limits
   unfolding limitsOf
