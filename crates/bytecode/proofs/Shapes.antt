@@ -169,7 +169,7 @@ module _ (n first : ℕ) (ts : List Timer) (numbered : Numbered first n ts) (fou
   at-timer x l e =
       let zeros : length (replicate {A = ℕ} first 0) ≡ first = length-replicate first 0 in
       let c : length (replicate {A = ℕ} first 0) + (x .id - first) ≡ x .id = omega arith in
-      rw c at (getD-append-add (replicate first 0) (map (λ y. y .limit) ts) (x .id - first) 0 ∙ e)
+      ap (λ (i : ℕ). getD told-table i 0) (sym c) ∙ getD-append-add (replicate first 0) (map (λ y. y .limit) ts) (x .id - first) 0 ∙ e
 
   at-timers : EachTimer (λ x. getD found (x .id) 0 ≡ x .limit) ts → EachTimer (λ x. getD found (x .id) 0 ≡ getD told-table (x .id) 0) ts
   at-timers h =
