@@ -10,9 +10,10 @@ use lib.IntN.{ℤ}
 use lib.ListN.{length}
 use borrow.Author.Tests.{ne-eqb, lt-leb}
 use Rattle.arith.specs.Values.{Outcome, ok, refusal, _>>=_, arithmetic, negation}
-use Rattle.semantics.specs.Program.{Range, changing, rising, falling, Expression, Condition, UsableE, UsableC}
+use Rattle.semantics.specs.Program.{changing, rising, falling, Expression, Condition, UsableE, UsableC}
 use Rattle.semantics.specs.Program as P
 use Rattle.semantics.specs.Formula.{State}
+use Rattle.semantics.specs.Shape.{Setting}
 use Rattle.bytecode.specs.Instructions.{Instruction, constant, current, previous, operation, negate, comparison, negated, both, either, gate, pick, assign, settle, timer, instructionOf}
 use Rattle.bytecode.specs.Translation.{codeE, codeC}
 use Rattle.bytecode.specs.Signature.{Role, pushes, computes, tests, opens, picks, lets, settles, times}
@@ -41,7 +42,7 @@ between low high code h = and-no (leb low code) (lt-leb code high h)
 
 -- ---- code bytes over 18
 
-module _ (ns : List Range) (s : State) (c : Bool) (vs : List ℤ) (t : State) where
+module _ (ns : Setting) (s : State) (c : Bool) (vs : List ℤ) (t : State) where
   abbrev Refuses : Option Instruction → Type 0
   Refuses o = CalculatesOr o → refusal 11 ≡ performed ns s o c vs t
 
@@ -81,8 +82,8 @@ module _ (ns : List Range) (s : State) (c : Bool) (vs : List ℤ) (t : State) wh
     where
       go : (i : Instruction) (ws : List ℤ) → Calculates i → Calm (perform ns s i c ws t)
       go (constant z) ws p = calm-cond (ltb (length ws) 40) _ _ refl tt
-      go (current i) ws p = calm-cond (ltb i (length ns)) _ _ (calm-cond (ltb (length ws) 40) _ _ refl tt) tt
-      go (previous i) ws p = calm-cond (ltb i (length ns)) _ _ (calm-cond (ltb (length ws) 40) _ _ refl tt) tt
+      go (current i) ws p = calm-cond (ltb i (length (ns .ranges))) _ _ (calm-cond (ltb (length ws) 40) _ _ refl tt) tt
+      go (previous i) ws p = calm-cond (ltb i (length (ns .ranges))) _ _ (calm-cond (ltb (length ws) 40) _ _ refl tt) tt
       go (operation o) [] p = tt
       go (operation o) (b ∷ []) p = tt
       go (operation o) (b ∷ a ∷ ws) p = calm-bind (arithmetic o a b) ws
