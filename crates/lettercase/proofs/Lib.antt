@@ -1,2 +1,1 @@
-pub mod RecasedNames
 pub mod Recased

@@ -32,7 +32,7 @@ use Rattle.grammar.specs.Parsed.{Parsed, accepted, refused}
 use Rattle.grammar.specs.Parse.{program, parse, programOf}
 use Rattle.grammar.specs.Spelled.{namesOf}
 use Rattle.grammar.proofs.Image.{image-emitted}
-use Rattle.grammar.proofs.Accepted.{parse-few, parse-short, program-parsed, program-translatable}
+use Rattle.grammar.proofs.Accepted.{parse-few, parse-short, program-parsed, program-translatable, parse-spelled}
 use Rattle.grammar.proofs.PlacesText.{Placed, parse-limited}
 use Rattle.grammar.proofs.ConverseText.{short-parse}
 use Rattle.phrases.proofs.Writing.{refused-part}
@@ -123,7 +123,7 @@ module _ (text before after starts ends : List ℕ) {r : Step} (short : length t
       record {
         program = m .read;
         parsed = rw (m .parsed);
-        made = m .there ∙ image-emitted (m .read);
+        made = m .there ∙ image-emitted (m .read) (parse-spelled text (m .read) (m .end) (m .parsed) .untimed);
         held = d .named (m .read) (m .end) (sym (short-parse text short) ∙ m .parsed);
         table = record { in-starts = omega arith; in-ends = omega arith };
       }

@@ -19,7 +19,7 @@ use Rattle.lexer.specs.Names.{tableNames}
 use Rattle.grammar.specs.Parsed.{Parsed, accepted, refused}
 use Rattle.grammar.specs.Parse.{parse, answerOf, programOf}
 use Rattle.grammar.specs.Declarations.{spellings}
-use Rattle.grammar.proofs.Accepted.{name-length, parse-short, parse-named, parse-few, parse-growth, parse-translatable}
+use Rattle.grammar.proofs.Accepted.{name-length, parse-short, parse-named, parse-few, parse-growth, parse-translatable, parse-spelled}
 use Rattle.grammar.proofs.Image.{image-emitted}
 use Rattle.translate.specs.declared.Translated.{Translated}
 use Rattle.translate.specs.declared.Analysis.{Analysis}
@@ -58,7 +58,7 @@ text-accepted text {starts} {ends} r {size} {inputs} {names} h a = by (parse tex
           program = p;
           place = n;
           parsed = q;
-          sized = ap {A = HeaderCounts} (λ x. x .end) m ∙ ap length (image-emitted p);
+          sized = ap {A = HeaderCounts} (λ x. x .end) m ∙ ap length (image-emitted p (parse-spelled text p n q .untimed));
           counted = c;
           spelled = rw c (h .named p n q .spelled);
         }

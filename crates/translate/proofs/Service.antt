@@ -18,7 +18,7 @@ use Rattle.grammar.specs.Inner.Bytes.{header, bytesR, image}
 use Rattle.grammar.specs.Parse.{program, parse, answerOf, programOf}
 use Rattle.grammar.proofs.Combine.{same-value}
 use Rattle.grammar.proofs.Image.{image-emitted}
-use Rattle.grammar.proofs.Accepted.{parse-translatable, parse-few, parse-growth, parse-short as accepted-short}
+use Rattle.grammar.proofs.Accepted.{parse-translatable, parse-few, parse-growth, parse-short as accepted-short, parse-spelled}
 use Rattle.grammar.proofs.PlacesText.{Placed, parse-limited}
 use Rattle.grammar.proofs.ConverseText.{short-parse}
 use Rattle.lexer.specs.declared.Place.{Place}
@@ -151,11 +151,11 @@ module _ (text buffer : List ℕ) where
   module _ (q : Program) (n : ℕ) (e : parse text ≡ accepted q n) where
     pub translation-short : length buffer < length (image q) → afterTranslation (T.Refused 10 (length text)) buffer ≡ translationOf text buffer
     unfolding translationOf programOf
-    translation-short h = rw (e, ← image-emitted, lt-leb (length (image q)) (length buffer) h)
+    translation-short h = rw (e, ← image-emitted q (parse-spelled text q n e .untimed), lt-leb (length (image q)) (length buffer) h)
 
     pub translation-stored : (left : List ℕ) → length (image q) ≤ length buffer → left ≡ image q ++ drop (length (image q)) buffer → afterTranslation (T.Image (length (image q))) left ≡ translationOf text buffer
     unfolding translationOf programOf
-    translation-stored left h w = rw (e, ← image-emitted, le-leb (length (image q)) (length buffer) h, w)
+    translation-stored left h w = rw (e, ← image-emitted q (parse-spelled text q n e .untimed), le-leb (length (image q)) (length buffer) h, w)
 
 -- ---- how large the numbers of an answer are
 
@@ -209,7 +209,7 @@ module _ (text before after starts ends : List ℕ) {r : Step} (short : length t
   image-made x h e =
       let g = got (d .writes) e in
       let p : parse text ≡ accepted (g .tree) (x .at) = short-parse text short ∙ g .is in
-      let l : length (image (g .tree)) ≡ length (imageOf (g .tree)) = ap {A = List ℕ} length (image-emitted (g .tree)) in
+      let l : length (image (g .tree)) ≡ length (imageOf (g .tree)) = ap {A = List ℕ} length (image-emitted (g .tree) (parse-spelled text (g .tree) (x .at) p .untimed)) in
       let f : length (image (g .tree)) ≤ length before = omega (arith, parse-growth text (g .tree) (x .at) p) in
       let m : x .to ≡ length (image (g .tree)) = omega (arith, g .ended) in
       record {
