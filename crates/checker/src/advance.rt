@@ -312,13 +312,13 @@ pub fn timer(w: Walk, id: u64) -> Advanced
     if w.gate != 0 {
         return Advanced::Broken;
     }
-    if w.held != 0 {
+    if 0 < w.held {
         return Advanced::Broken;
     }
     if !is_unset(w, id) {
         return Advanced::Broken;
     }
-    if w.picking != 0 {
+    if 0 < w.picking {
         return Advanced::Broken;
     }
     Advanced::Kept(ruled(w, id))

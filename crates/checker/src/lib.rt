@@ -91,44 +91,6 @@ pub enum Surveyed {
     Refused(u8, usize),
 }
 
-// With the ranges that the walk over timers asks for: the image is read again from its start.
-fn survey_ranges(image: &[u8], low: &mut [i32], high: &mut [i32], start: &mut [i32]) -> Surveyed
-    requires { ⌜ length (now image) ≤ imageLimit ⌝ }
-    requires { ⌜ (length (now low) ≡ nameLimit) × (length (now high) ≡ nameLimit) × (length (now start) ≡ nameLimit) ⌝ }
-    ensures { λ r. ⌜ surveyedAnswer r ≡ checkOf (now (image .entry)) ⌝ }
-    ensures { λ r. ⌜ SurveyedBy (now (image .entry)) r ⌝ }
-{
-    match bytecode::header(image, low, high, start) {
-        bytecode::Headed::Broken(place) => Surveyed::Refused(limits::BROKEN_IMAGE, place),
-        bytecode::Headed::Header(inputs, names, place) => {
-            let code = &image[place..];
-            match timed::walk(
-                code,
-                place,
-                &low[..names],
-                &high[..names],
-                &start[..names],
-                inputs,
-            ) {
-                Checked::Sound => Surveyed::Timed,
-                Checked::Refused(number, at) => Surveyed::Refused(number, at),
-            }
-        }
-    }
-}
-
-// Only an image with a timer pays for these.
-fn survey_timed(image: &[u8]) -> Surveyed
-    requires { ⌜ length (now image) ≤ imageLimit ⌝ }
-    ensures { λ r. ⌜ surveyedAnswer r ≡ checkOf (now (image .entry)) ⌝ }
-    ensures { λ r. ⌜ SurveyedBy (now (image .entry)) r ⌝ }
-{
-    let mut low = [0i32; limits::NAME_LIMIT];
-    let mut high = [0i32; limits::NAME_LIMIT];
-    let mut start = [0i32; limits::NAME_LIMIT];
-    survey_ranges(image, &mut low, &mut high, &mut start)
-}
-
 // The code behind a header that was read.
 fn survey_code(image: &[u8], inputs: usize, names: usize, place: usize) -> Surveyed
     requires { ⌜ ReadHeader (now image) inputs names place ⌝ }
@@ -138,7 +100,7 @@ fn survey_code(image: &[u8], inputs: usize, names: usize, place: usize) -> Surve
     match walk_from(&image[place..], 0, initial(inputs, names)) {
         Verdict::Sound => Surveyed::Plain,
         Verdict::Broken(at) => Surveyed::Refused(limits::BROKEN_IMAGE, place + at),
-        Verdict::Timed => survey_timed(image),
+        Verdict::Timed => timed::survey_timed(image),
     }
 }
 

@@ -1,5 +1,6 @@
 // The walk over a whole code that may have timers: one instruction at a time, with the ranges of the header at hand. Only where the fast walk met a timer.
 use crate::Checked;
+use crate::Surveyed;
 use crate::advance;
 use crate::advance::Advanced;
 use crate::advance::Walk;
@@ -14,8 +15,8 @@ ghost use Rattle.limits.specs.Limits.{imageLimit, nameLimit};
 ghost use Rattle.arith.specs.Values.{eqZ};
 ghost use Rattle.semantics.specs.Program.{Range, knownFirst};
 ghost use Rattle.bytecode.specs.Instructions.{Instruction, timer as timerOf, instructionOf};
-ghost use Rattle.bytecode.specs.Check.{known as knownAs, suits as suitsOf, checkCode};
-ghost use Rattle.checker.specs.Results.{checkedAnswer, CheckedWithin};
+ghost use Rattle.bytecode.specs.Check.{known as knownAs, suits as suitsOf, checkCode, checkOf};
+ghost use Rattle.checker.specs.Results.{checkedAnswer, CheckedWithin, surveyedAnswer, SurveyedBy};
 ghost use Rattle.checker.specs.Inner.Walk.{knownOf, advancedKnown, advanceBy, Small, SmallAfter};
 ghost use Rattle.checker.specs.Inner.Timed.{RangesStand, LastBy, PlainBy, TimedBy, TurnsBy};
 
@@ -207,4 +208,42 @@ pub fn walk(
         return Checked::Sound;
     }
     Checked::Refused(limits::BROKEN_IMAGE, base + code.len())
+}
+
+// With the ranges that the walk over timers asks for: the image is read again from its start.
+fn survey_ranges(image: &[u8], low: &mut [i32], high: &mut [i32], start: &mut [i32]) -> Surveyed
+    requires { ⌜ length (now image) ≤ imageLimit ⌝ }
+    requires { ⌜ (length (now low) ≡ nameLimit) × (length (now high) ≡ nameLimit) × (length (now start) ≡ nameLimit) ⌝ }
+    ensures { λ r. ⌜ surveyedAnswer r ≡ checkOf (now (image .entry)) ⌝ }
+    ensures { λ r. ⌜ SurveyedBy (now (image .entry)) r ⌝ }
+{
+    match bytecode::header(image, low, high, start) {
+        bytecode::Headed::Broken(place) => Surveyed::Refused(limits::BROKEN_IMAGE, place),
+        bytecode::Headed::Header(inputs, names, place) => {
+            let code = &image[place..];
+            match walk(
+                code,
+                place,
+                &low[..names],
+                &high[..names],
+                &start[..names],
+                inputs,
+            ) {
+                Checked::Sound => Surveyed::Timed,
+                Checked::Refused(number, at) => Surveyed::Refused(number, at),
+            }
+        }
+    }
+}
+
+// Only an image with a timer pays for these.
+pub fn survey_timed(image: &[u8]) -> Surveyed
+    requires { ⌜ length (now image) ≤ imageLimit ⌝ }
+    ensures { λ r. ⌜ surveyedAnswer r ≡ checkOf (now (image .entry)) ⌝ }
+    ensures { λ r. ⌜ SurveyedBy (now (image .entry)) r ⌝ }
+{
+    let mut low = [0i32; limits::NAME_LIMIT];
+    let mut high = [0i32; limits::NAME_LIMIT];
+    let mut start = [0i32; limits::NAME_LIMIT];
+    survey_ranges(image, &mut low, &mut high, &mut start)
 }

@@ -1,4 +1,4 @@
--- `checker::survey_ranges` meets its contract: the header again, and the walk over timers. Assumes nothing.
+-- `checker::timed::survey_ranges` meets its contract: the header again, and the walk over timers. Assumes nothing.
 use mathlib.Core.Path.{sym, ap, subst, _∙_}
 use native.Mathlib.Omega.{arith}
 use lib.ListN.{length-drop}
@@ -7,8 +7,8 @@ use borrow.Author.Needs.{needs}
 use Rattle.bytecode.proofs.SoundHeader.{headed-stands, headed-broken}
 use Rattle.checker.specs.Results.{checkedAnswer, CheckedWithin}
 use Rattle.checker.proofs.Checking.{rest-of, broken-header, room-low, room-high, room-start, timed-walked}
-use Rattle.checker.proofs.survey_ranges.Statement.{statement}
-use Rattle.checker.proofs.survey_ranges.Tie as tie
+use Rattle.checker.proofs.timed.survey_ranges.Statement.{statement}
+use Rattle.checker.proofs.timed.survey_ranges.Tie as tie
 
 sub-code : tie.Need-sub-code
 sub-code c = headed-stands (c .before .before .before .before .before .before .header .ensures) (c .before .inputs .given .1) .extends .inside
