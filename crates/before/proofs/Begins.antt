@@ -2,14 +2,13 @@
 use Prim.Native.Nat.{ℕ, _^_, _≤_, _<_}
 use native.Mathlib.Omega.{arith}
 use mathlib.Core.Path.{_≡_, sym, _∙_}
-use mathlib.Core.Bool.{true, false}
 use mathlib.Core.List.{List}
 use lib.IntN.{ℤ}
 use lib.ListN.{length, take}
 use borrow.Author.Tests.{eq-eqb, ne-eqb}
 use Rattle.limits.specs.Answer.{accepted, refused}
 use Rattle.semantics.specs.Formula.{State}
-use Rattle.semantics.specs.Shape.{cells, stateLength}
+use Rattle.semantics.specs.Shape.{stateLength}
 use Rattle.bytecode.specs.Check.{checkOf}
 use Rattle.bytecode.specs.Parts.{headerOf, shapeIn}
 use Rattle.shapes.specs.declared.Measured.{Measured}

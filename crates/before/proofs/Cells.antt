@@ -7,7 +7,7 @@ use mathlib.Core.List.{List, [], _∷_, _++_}
 use lib.IntN.{ℤ}
 use lib.ListN.{length, length-append}
 use Rattle.semantics.specs.Program.{Range, within}
-use Rattle.semantics.specs.Shape.{Shape, nameCount, hasTimer, timeRanges, withTimes, cells, allWithin}
+use Rattle.semantics.specs.Shape.{Shape, nameCount, hasTimer, timeRanges, cells, allWithin}
 use Rattle.semantics.proofs.Timers.{times-append}
 
 times-some : (ls : List ℕ) → hasTimer ls ≡ true → 1 ≤ length (timeRanges ls)

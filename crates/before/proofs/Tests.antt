@@ -1,5 +1,5 @@
 -- The tests before the code. Assumes nothing.
-use Prim.Native.Nat.{ℕ, _+_, _^_, _≤_, _<_}
+use Prim.Native.Nat.{ℕ, _+_, _^_, _<_}
 use native.Mathlib.Omega.{arith}
 use mathlib.Core.Path.{_≡_, refl, sym, ap, _∙_}
 use mathlib.Core.Bool.{Bool, true, false, _&&_}
@@ -12,7 +12,7 @@ use borrow.Author.Tests.{eq-eqb, ne-eqb}
 use Rattle.limits.specs.Answer.{accepted, refused}
 use Rattle.arith.specs.Values.{count}
 use Rattle.semantics.specs.Formula.{State, at}
-use Rattle.semantics.specs.Shape.{Shape, nameCount, hasTimer, cells, allWithin, millisOf}
+use Rattle.semantics.specs.Shape.{Shape, hasTimer, cells, allWithin, millisOf}
 use Rattle.semantics.specs.ReferenceScan.{withInputs}
 use Rattle.bytecode.proofs.Walk.{refused≢accepted}
 use Rattle.shapes.specs.declared.Measured.{Measured}
@@ -21,7 +21,7 @@ use Rattle.machine.proofs.Changes.{names-length}
 use Rattle.before.specs.declared.Before.{Before}
 use Rattle.before.specs.declared.Before.the-variants as T
 use Rattle.before.specs.Before.{testedBefore}
-use Rattle.before.specs.Inner.Known.{beforeAnswer, inRanges, CopiedBy, KnownShape, testedRow, Prepared, PreparedBy}
+use Rattle.before.specs.Inner.Known.{inRanges, CopiedBy, KnownShape, testedRow, PreparedBy}
 use Rattle.before.proofs.Cells.{no-elapsed, some-elapsed, names-within}
 
 -- a refusal comes before the next test; without one, that test decides

@@ -1,17 +1,16 @@
 -- What start and scan store, and the scans of sound images without timers. Assumes nothing.
-use mathlib.Core.Path.{_≡_, refl, sym, ap, _∙_}
+use mathlib.Core.Path.{_≡_}
 use mathlib.Core.Bool.{true, false}
-use mathlib.Core.List.{List, map, _++_}
-use Prim.Native.Nat.{ℕ, _+_, _-_, _≤_}
+use mathlib.Core.List.{List, _++_}
+use Prim.Native.Nat.{ℕ, _+_, _-_}
 use native.Mathlib.Omega.{arith}
 use borrow.Author.Tests.{eq-eqb, ne-eqb}
 use lib.IntN.{ℤ, pos}
-use lib.ListN.{length, take, drop, replicate, length-map, List·getD-eq-default}
+use lib.ListN.{length, take, replicate, List·getD-eq-default}
 use lib.Seq.{sets, length-sets}
 use Rattle.limits.specs.Answer.{accepted, refused}
-use Rattle.semantics.specs.Program.{Range}
 use Rattle.semantics.specs.Formula.{State, at}
-use Rattle.semantics.specs.Shape.{hasTimer, timersOf, cells, stateLength, allWithin, millisOf, Setting, settingOf, countTrue}
+use Rattle.semantics.specs.Shape.{hasTimer, timersOf, stateLength, allWithin, settingOf, countTrue}
 use Rattle.semantics.proofs.Counted.{state-length, starting-state}
 use Rattle.bytecode.specs.Check.{checkOf}
 use Rattle.bytecode.specs.Parts.{headerOf, limitsOf, shapeIn, starts}
@@ -23,7 +22,6 @@ use Rattle.scan.specs.Results.{afterStart, afterScan}
 use Rattle.scan.specs.Inner.Parts.{plainSetting}
 use Rattle.scan.specs.declared.Started.the-variants as S
 use Rattle.scan.specs.declared.Scanned.the-variants as R
-use Rattle.scan.proofs.Scans.{tests-refuse}
 
 -- ---- start
 

@@ -1,12 +1,12 @@
 -- A code checked and run in one pass on a copy of the state, and the ways to it: what each answers is the answer of the scan. Assumes nothing.
-use mathlib.Core.Path.{_≡_, refl, sym, ap, subst, _∙_}
+use mathlib.Core.Path.{_≡_, sym, ap, subst, _∙_}
 use mathlib.Core.Bool.{true, false}
 use mathlib.Core.List.{List, []}
 use mathlib.Core.Option.{none}
 use Prim.Native.Nat.{ℕ, _+_, _≤_}
 use native.Mathlib.Omega.{arith}
 use lib.IntN.{ℤ}
-use lib.ListN.{length, take, drop}
+use lib.ListN.{length, drop}
 use lib.Seq.{take-all}
 use Rattle.limits.specs.Answer.{Answer, accepted, refused}
 use Rattle.semantics.specs.Program.{Range, knownFirst}
@@ -30,7 +30,7 @@ use Rattle.scan.specs.Services.{refusedScan, scanOf}
 use Rattle.scan.specs.Results.{afterScan}
 use Rattle.scan.specs.Inner.Parts.{scannedOver, KnownHeader}
 use Rattle.scan.proofs.Scans.{tests-pass}
-use Rattle.scan.proofs.Images.{scan-refused, scan-wrong-state, scan-wrong-row, scan-wrong-value, scan-wrong-input, plain-passes}
+use Rattle.scan.proofs.Images.{scan-refused, scan-wrong-value, scan-wrong-input, plain-passes}
 
 -- ---- the header
 

@@ -1,5 +1,4 @@
 -- `scan::scan_code` meets its contract. The run works on a copy; the laws are those of Joined. Assumes nothing.
-use Prim.Native.Nat.{_≤_}
 use mathlib.Core.Path.{_≡_, sym, _∙_}
 use native.Mathlib.Omega.{arith}
 use lib.ListN.{length, drop, length-drop}

@@ -1,7 +1,6 @@
 -- `scan::scan_known` meets its contract: the tests before the code, then the code. Assumes nothing.
 use mathlib.Core.Path.{_≡_, sym, ap, subst, _∙_}
 use native.Mathlib.Omega.{arith}
-use lib.ListN.{length}
 use Rattle.limits.specs.Answer.{accepted}
 use Rattle.semantics.specs.Shape.{settingOf}
 use Rattle.bytecode.specs.Parts.{shapeIn}

@@ -1,7 +1,6 @@
 -- `scan::start_in` meets its contract. The ways are the laws of Images. Assumes nothing.
 use mathlib.Core.Path.{_≡_, sym, subst, _∙_}
 use native.Mathlib.Omega.{arith}
-use lib.ListN.{length}
 use Rattle.bytecode.specs.Parts.{shapeIn}
 use Rattle.bytecode.proofs.SoundHeader.{header-not-broken, headed-stands, headed-broken, starts-stored}
 use Rattle.shapes.specs.Results.{Measures, ShapedAs}
