@@ -4,14 +4,15 @@ use native.Mathlib.Omega.{arith}
 use mathlib.Core.Path.{_≡_, refl, subst, _∙_}
 use mathlib.Core.Bool.{Bool, true, false, not, cond}
 use mathlib.Core.List.{List, [], _∷_}
-use lib.Dec.{ltb}
+use lib.Dec.{leb, ltb}
 use lib.IntN.{ℤ}
 use lib.ListN.{length, set, length-set}
 use borrow.Author.Tests.{ltb-true}
-use Rattle.limits.specs.Limits.{stackLimit}
+use Rattle.limits.specs.Limits.{stackLimit, timeLimit}
 use Rattle.arith.specs.Values.{Outcome, ok, refusal, _>>=_, arithmetic, negation}
-use Rattle.semantics.specs.Program.{Range}
+use Rattle.semantics.specs.Program.{Timer}
 use Rattle.semantics.specs.Formula.{State, at}
+use Rattle.semantics.specs.Shape.{Setting, timeCell, newTime, due, timePlace, timed}
 use Rattle.semantics.specs.ReferenceScan.{ranged, picked}
 use Rattle.bytecode.specs.Instructions.{Instruction, constant, current, previous, operation, negate, comparison, negated, both, either, gate, pick, assign, settle, timer}
 use Rattle.machine.specs.Step.{Machine, machine, yes, push, pop, gated, settled, perform, step}
@@ -27,7 +28,7 @@ abbrev pub SizedIn : ℕ → Outcome Machine → Type 0
 SizedIn w (ok m) = Sized w m
 SizedIn w (refusal k) = Unit {0}
 
-module _ (ns : List Range) (s : State) (w : ℕ) where
+module _ (ns : Setting) (s : State) (w : ℕ) where
   cond-sized : (b : Bool) (o : Outcome Machine) → SizedIn w o → SizedIn w (cond b o (refusal 11))
   cond-sized true o h = h
   cond-sized false o h = tt
@@ -57,10 +58,16 @@ module _ (ns : List Range) (s : State) (w : ℕ) where
   settled-sized v z true vs t h = h
   settled-sized v z false vs t h = (h .0, length-set t v z ∙ h .1)
 
+  timed-sized : (x : Timer) (t : State) → length (timed ns s x t) ≡ length t
+  unfolding timed
+  timed-sized x t =
+      let e = newTime ns s x (at t (x .watched)) in
+      length-set (set t (timeCell ns x) e) (x .id) (due (x .limit) (at t (x .watched)) e) ∙ length-set t (timeCell ns x) e
+
   perform-sized : (i : Instruction) (c : Bool) (vs : List ℤ) (t : State) → length vs ≤ stackLimit → length t ≡ w → SizedIn w (perform ns s i c vs t)
   perform-sized (constant z) c vs t l e = push-sized z c vs t e
-  perform-sized (current i) c vs t l e = cond-sized (ltb i (length ns)) _ (push-sized (at t i) c vs t e)
-  perform-sized (previous i) c vs t l e = cond-sized (ltb i (length ns)) _ (push-sized (at s i) c vs t e)
+  perform-sized (current i) c vs t l e = cond-sized (ltb i (length (ns .ranges))) _ (push-sized (at t i) c vs t e)
+  perform-sized (previous i) c vs t l e = cond-sized (ltb i (length (ns .ranges))) _ (push-sized (at s i) c vs t e)
   perform-sized (operation o) c vs t l e =
       pop-sized vs _ l λ b vs₁ l₁. pop-sized vs₁ _ (omega arith) λ a vs₂ l₂. bind-sized (arithmetic o a b) _ λ z. (omega arith, e)
   perform-sized negate c vs t l e = pop-sized vs _ l λ a vs₁ l₁. bind-sized (negation a) _ λ z. (omega arith, e)
@@ -70,11 +77,15 @@ module _ (ns : List Range) (s : State) (w : ℕ) where
   perform-sized either c vs t l e = pop-sized vs _ l λ b vs₁ l₁. pop-sized vs₁ _ (omega arith) λ a vs₂ l₂. (omega arith, e)
   perform-sized gate c vs t l e = pop-sized vs _ l λ a vs₁ l₁. gated-sized (yes a) c vs₁ t (omega arith, e)
   perform-sized (pick side v) c vs t l e =
-      pop-sized vs _ l λ x vs₁ l₁. cond-sized (ltb v (length ns)) _ (bind-sized (picked side ns s v x) _ λ z. (omega arith, length-set t v z ∙ e))
+      pop-sized vs _ l λ x vs₁ l₁. cond-sized (ltb v (length (ns .ranges))) _ (bind-sized (picked side (ns .ranges) s v x) _ λ z. (omega arith, length-set t v z ∙ e))
   perform-sized (assign v) c vs t l e =
-      pop-sized vs _ l λ x vs₁ l₁. cond-sized (ltb v (length ns)) _ (bind-sized (ranged ns v x) _ λ z. (omega arith, length-set t v z ∙ e))
-  perform-sized (settle v) c vs t l e = cond-sized (ltb v (length ns)) _ (settled-sized v (at s v) c vs t (l, e))
-  perform-sized (timer u v n) c vs t l e = tt
+      pop-sized vs _ l λ x vs₁ l₁. cond-sized (ltb v (length (ns .ranges))) _ (bind-sized (ranged (ns .ranges) v x) _ λ z. (omega arith, length-set t v z ∙ e))
+  perform-sized (settle v) c vs t l e = cond-sized (ltb v (length (ns .ranges))) _ (settled-sized v (at s v) c vs t (l, e))
+  perform-sized (timer u v n) c vs t l e =
+      cond-sized (ltb u (length (ns .ranges))) _
+      (cond-sized (ltb v (length (ns .ranges))) _
+      (cond-sized (ltb (timePlace (ns .timers) u) (length (ns .ranges))) _
+      (cond-sized (leb n timeLimit) _ (l, timed-sized (record { id = u; watched = v; limit = n }) t ∙ e))))
 
   step-sized : (i : Instruction) (m : Machine) → Sized w m → SizedIn w (step ns s i m)
   step-sized i (machine false c vs t) h = perform-sized i c vs t (h .0) (h .1)
