@@ -79,7 +79,7 @@ module _ (ns ms : Setting) (a : Alike ns ms) (s : State) where
   perform-alike (assign v) c [] t = refl
   perform-alike (assign v) c (x ∷ vs) t = rw (count-alike, ranged-alike v x)
   perform-alike (settle v) c vs t = rw count-alike
-  perform-alike (timer u v n) c vs t = rw (count-alike, a .flags, timed-alike (record { id = u; watched = v; limit = n }) t)
+  perform-alike (timer u v n) c vs t = rw (timed-alike (record { id = u; watched = v; limit = n }) t, count-alike, a .flags)
 
   step-alike : (i : Instruction) (m : Machine) → step ns s i m ≡ step ms s i m
   step-alike i (machine false c vs t) = perform-alike i c vs t
