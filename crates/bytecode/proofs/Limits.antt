@@ -103,7 +103,7 @@ check-alike ns ms base code (suc f) at last other c h = inside (ltb at (length c
 
 -- ---- tables of limits
 
-length-limit : (r : Role) (ls : List ℕ) → length (limitIn r ls) ≡ length ls
+pub length-limit : (r : Role) (ls : List ℕ) → length (limitIn r ls) ≡ length ls
 length-limit (pushes fits) ls = refl
 length-limit computes ls = refl
 length-limit tests ls = refl
