@@ -19,8 +19,6 @@ use Rattle.machine.specs.Step.{Machine, machine}
 use Rattle.machine.specs.Runs.{Ran, ran, run, resume}
 use Rattle.machine.proofs.Laws.{run-end, run-divided}
 use Rattle.machine.proofs.Copies.{length-over}
--- STUB use Rattle.machine.proofs.Refusals.{at-work, turned, RefusedByRules}
--- STUB use Rattle.machine.proofs.SoundRuns.{sound-by-rules}
 use Rattle.runs.proofs.Divided.{run-place, run-counts, run-exact, run-min, run-goes}
 use Rattle.runs.proofs.Sizes.{Sized, SizedIn, run-sized}
 use Rattle.scan.specs.Services.{AfterScan, finished, scanCode, scanOf}
@@ -28,7 +26,7 @@ use Rattle.paused.specs.Memory.{startPlace, lowPlace, highPlace, slice, checkpo
 use Rattle.lifecycle.specs.Calls.{layoutFor}
 use Rattle.divided.specs.Expected.{Scan, whole, Played, Expected}
 use Rattle.divided.proofs.May.{Placed, placed, May}
-use Rattle.divided.proofs.Left.{Stands, Numbered}
+use Rattle.divided.proofs.Left.{Stands}
 
 -- what a scan works with, and its current values before the code
 abbrev pub settingFor : Scan → Setting
@@ -92,9 +90,6 @@ module _ (o : Scan) (y : May (o .image) (o .start) (o .row)) where
 
   pub goes-place : (b : ℕ) → goes o b .place ≤ imageLimit
   goes-place b = run-place (settingFor o) (o .start) (codeOf (o .image)) imageLimit b 0 0 (machine false false [] (begunWith o)) (omega arith) code-short
-
-  pub goes-numbered : (b : ℕ) → Numbered (goes o b .last)
-  goes-numbered b = ?
 
   -- the steps of the whole scan
   pub goes-min : (b : ℕ) → goes o b .steps ≡ min b (goes o (codeLength o) .steps)

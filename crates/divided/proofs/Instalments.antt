@@ -29,8 +29,8 @@ use Rattle.resumable.proofs.Advancing.{advance-idle, advance-over, advance-zero
 use Rattle.divided.specs.Expected.{Scan, whole, says, played, advanceScan, plays, stepsNow, furtherBy, expect, expects}
 use Rattle.paused.proofs.Bits.{flags-bits}
 use Rattle.divided.proofs.Stored.{length-timers}
-use Rattle.divided.proofs.Left.{Stands, Numbered, kept-left, stands-left}
-use Rattle.divided.proofs.Agrees.{settingFor, begunWith, goes, codeLength, Standing, Agrees, Matches, few-numbers, code-short, goes-sized, goes-place, goes-numbered, goes-min, goes-within, whole-steps, on-from, done-within, over-refused, over-ended, not-over}
+use Rattle.divided.proofs.Left.{Stands, kept-left, stands-left}
+use Rattle.divided.proofs.Agrees.{settingFor, begunWith, goes, codeLength, Standing, Agrees, Matches, few-numbers, code-short, goes-sized, goes-place, goes-min, goes-within, whole-steps, on-from, done-within, over-refused, over-ended, not-over}
 
 module _ {image : List ℕ} {cells : List ℤ} {w : Option (List ℤ)} (o : Scan) (x : Agrees image cells w (some o)) (n : ℕ) where
   -- 0 steps: nothing moves
@@ -85,7 +85,6 @@ module _ {image : List ℕ} {cells : List ℤ} {w : Option (List ℤ)} (o : Scan
       further =
           let y = x .scan .may in
           let z = subst (λ (r : Ran). SizedIn (length (o .start)) (r .last)) joined-is (goes-sized o y (o .done + min n imageLimit)) in
-          let v = subst (λ (r : Ran). Numbered (r .last)) joined-is (goes-numbered o y (o .done + min n imageLimit)) in
           let u = subst (λ (r : Ran). r .place ≤ imageLimit) joined-is (goes-place o y (o .done + min n imageLimit)) in
           let few = few-numbers o y in
           let k = kept-left (o .done) (codeLength o) (d .steps) (d .place) (length (o .start)) cells (x .long) few (d .last) z in
@@ -108,7 +107,7 @@ module _ {image : List ℕ} {cells : List ℤ} {w : Option (List ℤ)} (o : Scan
                       (machine false false [] (begunWith o)) same-steps
                       ∙ joined-is;
                   counted = omega (arith, x .scan .counted);
-                  stands = stands-left (o .done) (codeLength o) (d .steps) (d .place) (length (o .start)) cells (x .long) few u total (d .last) z v;
+                  stands = stands-left (o .done) (codeLength o) (d .steps) (d .place) (length (o .start)) cells (x .long) few u total (d .last) z;
                 };
           }
 

@@ -111,10 +111,6 @@ abbrev pub Stands : List ℤ → ℕ → ℕ → ℕ → ℕ → Outcome Machine
 Stands cells w len total place (ok (machine b c vs t)) = Going cells w len total place b c vs t
 Stands cells w len total place (refusal k) = checkpointOf cells ≡ record { phase = 3; number = k; place = place; steps = total; held = 0; picked = false; passing = false }
 
-abbrev pub Numbered : Outcome Machine → Type 0
-Numbered (ok m) = Unit {0}
-Numbered (refusal k) = k ≤ 30
-
 two-phases : (b : Bool) → cond b 2 1 ≤ 3
 two-phases true = omega arith
 two-phases false = omega arith
@@ -125,10 +121,10 @@ module _ (before len n place w : ℕ) (cells : List ℤ) (l : length cells ≡ p
       kept-both (kept-both (kept-current t cells (omega (arith, z .1))) (kept-held (stacked vs) _ (omega (arith, z .0, length-stacked vs)))) (kept-progress (wentTo before len n place (machine b c vs t)) (sets (sets cells currentPlace t) heldPlace (stacked vs)))
   kept-left (refusal k) z = kept-progress (stoppedAt before n place k) cells
 
-  pub stands-left : place ≤ imageLimit → before + n ≤ imageLimit → (o : Outcome Machine) → SizedIn w o → Numbered o → Stands (leftAfter before len n place o cells) w len (before + n) place o
-  stands-left h k (refusal j) z q =
-      checkpoint-stored cells (stoppedAt before n place j) (omega (arith, l)) (record { phases = omega arith; numbers = q; places = h; counts = k; stack = omega arith })
-  stands-left h k (ok (machine b c vs t)) z q =
+  pub stands-left : place ≤ imageLimit → before + n ≤ imageLimit → (o : Outcome Machine) → SizedIn w o → Stands (leftAfter before len n place o cells) w len (before + n) place o
+  stands-left h k (refusal j) z =
+      checkpoint-stored cells (stoppedAt before n place j) (omega (arith, l)) (record { phases = omega arith; numbers = z; places = h; counts = k; stack = omega arith })
+  stands-left h k (ok (machine b c vs t)) z =
       let p = wentTo before len n place (machine b c vs t) in
       let x = sets cells currentPlace t in
       let y = sets x heldPlace (stacked vs) in

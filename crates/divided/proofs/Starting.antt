@@ -78,7 +78,7 @@ module _ (image : List ℕ) (cells : List ℤ) (i : List ℕ) (s : State) where
               reached = ran 0 0 (ok first);
               went = refl;
               counted = refl;
-              stands = stands-left 0 (codeLength o) 0 0 (length s) (formed i s row (rowTaken cells)) (f .long) (few-numbers o y) (omega arith) (omega arith) (ok first) z tt;
+              stands = stands-left 0 (codeLength o) 0 0 (length s) (formed i s row (rowTaken cells)) (f .long) (few-numbers o y) (omega arith) (omega arith) (ok first) z;
             };
       }
 
