@@ -33,10 +33,10 @@ fn place(timing: Timing, t: usize) -> usize
 fn elapsed(millis: u64, n: u64, before: i32, now: i32, since: i32) -> u64
     ensures { λ r. ⌜ (r ≡ elapsedOf millis n before now since) × (r ≤ n) ⌝ }
 {
-    if now == 0 {
+    if arith::is_equal(now, 0) {
         return 0;
     }
-    if before == 0 {
+    if arith::is_equal(before, 0) {
         return 0;
     }
     let past = arith::count(since);
@@ -53,7 +53,7 @@ fn elapsed(millis: u64, n: u64, before: i32, now: i32, since: i32) -> u64
 fn due(n: u64, now: i32, e: u64) -> i32
     ensures { λ r. ⌜ r ≡ dueOf n now (pos e) ⌝ }
 {
-    if now == 1 {
+    if arith::is_equal(now, 1) {
         if e == n {
             return 1;
         }
