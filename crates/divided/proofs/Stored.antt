@@ -2,7 +2,7 @@
 use Prim.Native.Nat.{ℕ, zero, suc, _+_, _≤_, _<_}
 use native.Mathlib.Omega.{arith}
 use mathlib.Core.Path.{_≡_, refl, sym, ap, _∙_}
-use mathlib.Core.Bool.{Bool, true, false, cond}
+use mathlib.Core.Bool.{Bool, true, false, cond, false≢true}
 use mathlib.Core.List.{List, [], _∷_, map}
 use mathlib.Core.Option.{Option, none, some}
 use lib.IntN.{ℤ, pos}
@@ -10,12 +10,13 @@ use lib.ListN.{length, getD, set, length-map, length-set}
 use lib.Seq.{sets, length-sets, getD-set-same, getD-set-other}
 use Rattle.limits.specs.Limits.{imageLimit, nameLimit, stateLimit, pausedLength}
 use Rattle.semantics.specs.Formula.{State}
-use Rattle.semantics.specs.Shape.{isLimit, nameCount, timersOf, stateLength, settingOf}
+use Rattle.semantics.specs.Shape.{isLimit, hasTimer, nameCount, timersOf, stateLength, settingOf}
 use Rattle.bytecode.specs.Parts.{lows, highs, limitsOf, shapeIn}
 use Rattle.bytecode.proofs.Limits.{limits-length}
-use Rattle.paused.specs.Memory.{layoutPlace, timersPlace, startPlace, lowPlace, highPlace, rowPlace, waitingPlace, slice, clipped, checkpointOf, layoutOf, layoutCells, timerCells, waitingLength, waitingIn, waitingOf}
+use Rattle.paused.specs.Memory.{layoutPlace, timersPlace, startPlace, lowPlace, highPlace, rowPlace, waitingPlace, slice, clipped, checkpointOf, layoutOf, layoutCells, bitsOf, timerCells, waitingLength, waitingIn, waitingOf}
 use Rattle.paused.proofs.ReadBack.{getD-sets-before, getD-sets-behind, getD-sets-same, slice-sets-before, slice-sets-behind, slice-sets-same, clipped-is, clipped-alike, layout-alike, LayoutReadable, layout-stored, waiting-alike}
 use Rattle.paused.proofs.Bits.{bits-below}
+use Rattle.before.proofs.Cells.{no-elapsed}
 use Rattle.lifecycle.specs.Calls.{layoutFor, formed, rowTaken, withRow, withoutScan}
 use Rattle.divided.proofs.May.{Placed}
 
@@ -101,15 +102,21 @@ pub record Formed (image : List ℕ) (s : State) (row cells : List ℤ) : Type 0
 pub length-timers : (image : List ℕ) → length (timersOf (shapeIn image)) ≡ nameCount (shapeIn image)
 length-timers image = length-map (limitsOf image) isLimit ∙ limits-length image
 
--- the names' layout, as it is read back
-readable : (image : List ℕ) (s : State) (row : List ℤ) → Placed image → length s ≤ stateLimit → LayoutReadable (layoutFor image s row)
-readable image s row y few =
+no-bits : (ls : List ℕ) → hasTimer ls ≡ false → bitsOf (map isLimit ls) ≡ 0
+no-bits [] e = refl
+no-bits (zero ∷ ls) e = rw (no-bits ls e)
+no-bits (suc n ∷ ls) e = absurd (false≢true (sym e))
+
+-- a layout, as it is read back
+readable : (image : List ℕ) (s : State) (row : List ℤ) → Placed image → length s ≡ stateLength (shapeIn image) → length s ≤ stateLimit → LayoutReadable (layoutFor image s row)
+readable image s row y e few =
     record {
       images = y .short;
       bases = y .inside;
       sizes = few;
       few = y .few;
       bits = bits-below (timersOf (shapeIn image)) 64 (omega (arith, length-timers image, y .few));
+      untimed = λ q. no-bits (limitsOf image) (no-elapsed (shapeIn image) (sym e ∙ q));
     }
 
 pub forms : (image : List ℕ) (s : State) (row cells : List ℤ) → length cells ≡ pausedLength → Placed image → length s ≡ stateLength (shapeIn image) → length s ≤ stateLimit → Formed image s row cells
@@ -129,7 +136,7 @@ forms image s row cells l y e few =
     let ld : length d ≡ 640 = length-sets c layoutPlace f ∙ lc in
     record {
       long = length-sets d timersPlace t ∙ ld;
-      layout = layout-stored c (layoutFor image s row) (omega arith) (readable image s row y few);
+      layout = layout-stored c (layoutFor image s row) (omega arith) (readable image s row y e few);
       waits =
           waiting-alike _ _
           (getD-sets-before t d timersPlace waitingPlace (omega arith) ∙ getD-sets-behind f c layoutPlace waitingPlace (omega arith) ∙ getD-sets-before s b startPlace waitingPlace (omega arith)

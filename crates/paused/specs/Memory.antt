@@ -1,7 +1,7 @@
 -- The memory of a paused scan and of the row that waits. Document 02, A.8. Any content has a meaning: each number is clipped.
 -- Assumes nothing.
 use Prim.Native.Nat.{ℕ, zero, suc, _+_, _*_, _/_, _%_, min}
-use mathlib.Core.Bool.{Bool, true, false}
+use mathlib.Core.Bool.{Bool, true, false, cond}
 use mathlib.Core.List.{List, [], _∷_, _++_}
 use mathlib.Core.Option.{Option, none, some}
 use lib.Dec.{eqb}
@@ -78,9 +78,12 @@ checkpointOf cells =
 abbrev pub partLimit : ℕ
 partLimit = 65535
 
--- which names are timers, as the bits of a number
-unfoldable pub timersAt : List ℤ → ℕ
-timersAt cells = clipped cells 120 partLimit + 65536 * (clipped cells 121 partLimit + 65536 * (clipped cells 122 partLimit + 65536 * clipped cells 123 partLimit))
+-- which names are timers, as the bits of a number; none where a state has no more numbers than names
+unfoldable pub partsAt : List ℤ → ℕ
+partsAt cells = clipped cells 120 partLimit + 65536 * (clipped cells 121 partLimit + 65536 * (clipped cells 122 partLimit + 65536 * clipped cells 123 partLimit))
+
+abbrev pub timersAt : ℕ → ℕ → List ℤ → ℕ
+timersAt size names cells = cond (eqb size names) 0 (partsAt cells)
 
 -- the length of the image, the place of its code, the numbers of a state, the names, the milliseconds, the timers
 unfoldable pub layoutOf : List ℤ → Layout
@@ -91,7 +94,7 @@ layoutOf cells =
       size = clipped cells 10 stateLimit;
       names = clipped cells 11 nameLimit;
       millis = count (getD cells 12 (pos 0));
-      timers = timersAt cells;
+      timers = timersAt (clipped cells 10 stateLimit) (clipped cells 11 nameLimit) cells;
     }
 
 unfoldable pub waitingLength : List ℤ → ℕ

@@ -171,11 +171,14 @@ fn part(memory: &[i32], i: usize) -> u64
     cell(memory, i, PART_LIMIT) as u64
 }
 
-// The timers, one bit a name.
-fn timers_in(memory: &[i32]) -> u64
+// The timers, one bit a name. An image without them is not read for any.
+fn timers_in(memory: &[i32], size: usize, names: usize) -> u64
     requires { ⌜ length (now memory) ≡ pausedLength ⌝ }
-    ensures { λ r. ⌜ r ≡ timersAt (now (memory .entry)) ⌝ }
+    ensures { λ r. ⌜ r ≡ timersAt size names (now (memory .entry)) ⌝ }
 {
+    if size == names {
+        return 0;
+    }
     let a = part(memory, TIMERS);
     let b = part(memory, TIMERS + 1);
     let c = part(memory, TIMERS + 2);
@@ -188,13 +191,15 @@ pub fn layout_in(memory: &[i32]) -> Layout
     ensures { λ r. ⌜ r ≡ layoutOf (now (memory .entry)) ⌝ }
 {
     let image = cell(memory, IMAGE, limits::IMAGE_LIMIT);
+    let size = cell(memory, SIZE, limits::STATE_LIMIT);
+    let names = cell(memory, NAMES, limits::NAME_LIMIT);
     Layout {
         image,
         base: cell(memory, BASE, image),
-        size: cell(memory, SIZE, limits::STATE_LIMIT),
-        names: cell(memory, NAMES, limits::NAME_LIMIT),
+        size,
+        names,
         millis: arith::count(memory[MILLIS]),
-        timers: timers_in(memory),
+        timers: timers_in(memory, size, names),
     }
 }
 
