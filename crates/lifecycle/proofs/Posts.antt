@@ -1,21 +1,18 @@
 -- The tests of a post. Assumes nothing.
-use Prim.Native.Nat.{ℕ, _+_, _≤_, _<_}
-use native.Mathlib.Omega.{arith}
+use Prim.Native.Nat.{ℕ, _+_}
 use mathlib.Core.Path.{_≡_, refl, sym, ap, _∙_}
-use mathlib.Core.Bool.{Bool, true, false, cond}
 use mathlib.Core.List.{List}
 use lib.Dec.{eqb}
 use lib.IntN.{ℤ, pos}
 use lib.ListN.{length, set}
 use lib.Seq.{sets}
-use borrow.Author.Tests.{eq-eqb, ne-eqb, eqb-true, eqb-false}
+use borrow.Author.Tests.{eq-eqb, ne-eqb}
 use Rattle.before.specs.Before.{testedBefore}
-use Rattle.limits.specs.Limits.{nameLimit, wrongLength, pausedLength}
+use Rattle.limits.specs.Limits.{wrongLength, pausedLength}
 use Rattle.limits.specs.Answer.{accepted, refused}
 use Rattle.bytecode.specs.Check.{checkOf}
 use Rattle.bytecode.specs.Parts.{shapeIn}
-use Rattle.semantics.specs.Shape.{Shape, nameCount, stateLength, rowLength}
-use Rattle.before.proofs.Cells.{no-elapsed, some-elapsed}
+use Rattle.semantics.specs.Shape.{rowLength}
 use Rattle.paused.specs.declared.Response.the-variants as R
 use Rattle.paused.specs.Memory.{rowPlace, waitingPlace}
 use Rattle.resumable.specs.Instalment.{AfterCall, afterCall}
@@ -31,30 +28,15 @@ row-wrong len row cells h = rw (ne-eqb (length row) len h)
 pub row-done : (len : ℕ) (row cells : List ℤ) → length row ≡ len → (a b : List ℤ) → a ≡ sets cells rowPlace row → b ≡ set a waitingPlace (pos (length row + 1)) → afterCall (R.Done 0) b ≡ rowPosted len row cells
 row-done len row cells h a b e f = rw (eq-eqb (length row) len h, f, e)
 
--- the length of a row by the numbers of a state
-pub row-length : (k : Shape) (inputs names size : ℕ) → k .inputs ≡ inputs → nameCount k ≡ names → stateLength k ≡ size → cond (eqb size names) inputs (inputs + 1) ≡ rowLength k
-row-length k inputs names size i n z = by (eqb size names) (eqb-true size names) (eqb-false size names)
-  where
-    by : (b : Bool) → (b ≡ true → size ≡ names) → (b ≡ false → size ≡ names → ⊥) → cond b inputs (inputs + 1) ≡ rowLength k
-    by true y f = rw (no-elapsed k (z ∙ y refl ∙ sym n), i)
-    by false y f = rw (some-elapsed k (λ e. f refl (sym z ∙ e ∙ n)), i)
-
-pub row-short : (inputs names size : ℕ) → inputs ≤ names → names ≤ nameLimit → ((size ≡ names → ⊥) → inputs < names) → cond (eqb size names) inputs (inputs + 1) ≤ nameLimit
-row-short inputs names size a b h = by (eqb size names) (eqb-false size names)
-  where
-    by : (b : Bool) → (b ≡ false → size ≡ names → ⊥) → cond b inputs (inputs + 1) ≤ nameLimit
-    by true f = omega arith
-    by false f = omega (arith, h (f refl))
-
 module _ (image : List ℕ) (row cells : List ℤ) where
   pub post-elsewhere : (length cells ≡ pausedLength → ⊥) → afterCall R.Idle cells ≡ postOf image row cells
   unfolding postOf
   post-elsewhere h = rw (ne-eqb (length cells) pausedLength h)
 
-  pub post-refused : length cells ≡ pausedLength → (n p : ℕ) → refused n p ≡ checkOf image → afterCall (R.Refused n p 0) cells ≡ postOf image row cells
+  pub post-refused : length cells ≡ pausedLength → (n p : ℕ) → checkOf image ≡ refused n p → afterCall (R.Refused n p 0) cells ≡ postOf image row cells
   unfolding postOf
-  post-refused l n p e = rw (eq-eqb (length cells) pausedLength l, ← e)
+  post-refused l n p e = rw (eq-eqb (length cells) pausedLength l, e)
 
-  pub post-sound : length cells ≡ pausedLength → accepted tt ≡ checkOf image → (len : ℕ) → len ≡ rowLength (shapeIn image) → rowPosted len row cells ≡ postOf image row cells
+  pub post-sound : length cells ≡ pausedLength → checkOf image ≡ accepted tt → (len : ℕ) → len ≡ rowLength (shapeIn image) → rowPosted len row cells ≡ postOf image row cells
   unfolding postOf
-  post-sound l e len h = rw (eq-eqb (length cells) pausedLength l, ← e, h)
+  post-sound l e len h = rw (eq-eqb (length cells) pausedLength l, e, h)

@@ -9,7 +9,7 @@ use shapes::Shaped;
 ghost use mathlib.Core.Path.{_≡_};
 ghost use mathlib.Core.Bool.{cond};
 ghost use Prim.Native.Nat.{_+_, _≤_, _<_, _^_};
-ghost use lib.Dec.{eqb};
+ghost use lib.Dec.{eqb, ltb};
 ghost use lib.IntN.{pos};
 ghost use lib.ListN.{length, take, set};
 ghost use Rattle.paused.specs.Responses.{ResponseWithin};
@@ -204,12 +204,12 @@ pub fn begin(paused: &mut [i32], image: &[u8], state: &[i32]) -> Response
 // The numbers of a row: the milliseconds too, where states have elapsed times.
 fn row_length(inputs: usize, names: usize, size: usize) -> usize
     requires { ⌜ inputs ≤ nameLimit ⌝ }
-    ensures { λ r. ⌜ r ≡ cond (eqb size names) inputs (inputs + 1) ⌝ }
+    ensures { λ r. ⌜ r ≡ cond (ltb names size) (inputs + 1) inputs ⌝ }
 {
-    if size == names {
-        return inputs;
+    if names < size {
+        return inputs + 1;
     }
-    inputs + 1
+    inputs
 }
 
 // A row of so many numbers, or 12.
@@ -241,8 +241,6 @@ pub fn post(paused: &mut [i32], image: &[u8], row: &[i32]) -> Response
     let shaped = shapes::shape(image, &mut low, &mut high);
     match shaped {
         Shaped::Refused(number, place) => Response::Refused(number, place, 0),
-        Shaped::Shape(inputs, names, size, _, _) => {
-            post_row(paused, row, row_length(inputs, names, size))
-        }
+        Shaped::Shape(m) => post_row(paused, row, row_length(m.inputs, m.names, m.size)),
     }
 }

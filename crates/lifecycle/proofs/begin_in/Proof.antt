@@ -27,7 +27,7 @@ part-before-code-end c = omega (arith, c .before .before .waiting .ensures, wait
 before-code-requires : tie.Need-before-code-requires
 before-code-requires c κs =
     let y = c .before .before .before .before .before .before .before .before .before .before .before .before .before .pre in
-    (record { lows = λ h. omega (arith, h, y .lows); highs = λ h. omega (arith, h, y .highs); copies = λ h. omega (arith, h, y .copies) }, ?)
+    record { lows = λ h. omega (arith, h, y .lows); highs = λ h. omega (arith, h, y .highs); copies = λ h. omega (arith, h, y .copies) }
 
 begin-code-requires : tie.Need-begin-code-requires
 begin-code-requires c κs =
