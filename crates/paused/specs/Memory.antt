@@ -1,4 +1,4 @@
--- The memory of a paused scan and of the row that waits. Document 02, A.8. Any content has a meaning: each number is clipped.
+-- The memory of a paused scan and of the row that waits. Document 02, A.7 and A.8. Any content has a meaning: each number is clipped.
 -- Assumes nothing.
 use Prim.Native.Nat.{ℕ, zero, suc, _+_, _*_, _/_, _%_, min}
 use mathlib.Core.Bool.{Bool, true, false, cond}
@@ -78,10 +78,11 @@ checkpointOf cells =
 abbrev pub partLimit : ℕ
 partLimit = 65535
 
--- which names are timers, as the bits of a number; none where a state has no more numbers than names
+-- four numbers of 16 bits as one, the lowest first
 unfoldable pub partsAt : List ℤ → ℕ
 partsAt cells = clipped cells 120 partLimit + 65536 * (clipped cells 121 partLimit + 65536 * (clipped cells 122 partLimit + 65536 * clipped cells 123 partLimit))
 
+-- which names are timers, as the bits of a number: none where a state has no more numbers than names
 abbrev pub timersAt : ℕ → ℕ → List ℤ → ℕ
 timersAt size names cells = cond (eqb size names) 0 (partsAt cells)
 

@@ -171,7 +171,7 @@ fn part(memory: &[i32], i: usize) -> u64
     cell(memory, i, PART_LIMIT) as u64
 }
 
-// The timers, one bit a name. An image without them is not read for any.
+// The timers, one bit a name; none where a state has no more numbers than names.
 fn timers_in(memory: &[i32], size: usize, names: usize) -> u64
     requires { ⌜ length (now memory) ≡ pausedLength ⌝ }
     ensures { λ r. ⌜ r ≡ timersAt size names (now (memory .entry)) ⌝ }
