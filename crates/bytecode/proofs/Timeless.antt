@@ -66,9 +66,10 @@ pub timeless-R : (r : Rule) → Timeless (codeR r)
 timeless-R (function v e) = timeless-append (codeE e) _ (timeless-E e) (tt, tt)
 timeless-R (change v ks cs) = timeless-append (codeK v ks) _ (timeless-K v ks) (tt, tt)
 
-pub timeless-rules : (rs : List Rule) → Timeless (codeRules rs)
+-- without timers, that of all rules
+pub timeless-rules : (rs : List Rule) → Timeless (codeRules [] rs)
 timeless-rules [] = tt
-timeless-rules (r ∷ rs) = timeless-append (codeR r) (codeRules rs) (timeless-R r) (timeless-rules rs)
+timeless-rules (r ∷ rs) = timeless-append (codeR r) (codeRules [] rs) (timeless-R r) (timeless-rules rs)
 
 -- ---- instructions of one operand at most
 
@@ -144,47 +145,3 @@ module _ (bytes : List ℕ) (at : ℕ) (i : Instruction) (next : ℕ) where
       go : (b : Bool) → cond b (timerAt bytes (at + 1)) (fetchOne bytes at) ≡ got i next → fetchOne bytes at ≡ got i next
       go true q = absurd (timer-timed q h)
       go false q = q
-
--- while no 23 is sound, what suits has no timer
-pub suits-no-timer : (ns : List Range) (last : Option Instruction) (r : Role) → T (suitsIn ns last r) → TimelessIn r
-suits-no-timer ns last (pushes fits) h = tt
-suits-no-timer ns last computes h = tt
-suits-no-timer ns last tests h = tt
-suits-no-timer ns last opens h = tt
-suits-no-timer ns last (picks side v) h = tt
-suits-no-timer ns last (lets v) h = tt
-suits-no-timer ns last (settles v) h = tt
-suits-no-timer ns last (times t w n) h = h
-
-suits-alike : (ns ms : List Range) (last : Option Instruction) (r : Role) → suitsIn ns last r ≡ suitsIn ms last r
-suits-alike ns ms last (pushes fits) = refl
-suits-alike ns ms last computes = refl
-suits-alike ns ms last tests = refl
-suits-alike ns ms last opens = refl
-suits-alike ns ms last (picks side v) = refl
-suits-alike ns ms last (lets v) = refl
-suits-alike ns ms last (settles v) = refl
-suits-alike ns ms last (times t w n) = refl
-
--- and the ranges are not looked at
-pub check-alike : (ns ms : List Range) (base : ℕ) (code : List ℕ) (f at : ℕ) (last : Option Instruction) (c : Known) → checkCode ns base code f at last c ≡ checkCode ms base code f at last c
-check-alike ns ms base code zero at last c = refl
-check-alike ns ms base code (suc f) at last c = inside (ltb at (length code)) (λ next i c₁. check-alike ns ms base code f next (some i) c₁)
-  where
-    more : (o : Option Known) (i : Instruction) (next : ℕ) → ((c₁ : Known) → checkCode ns base code f next (some i) c₁ ≡ checkCode ms base code f next (some i) c₁)
-        → ifSome o (base + at) (λ c₁. checkCode ns base code f next (some i) c₁) ≡ ifSome o (base + at) (λ c₁. checkCode ms base code f next (some i) c₁)
-    more none i next ih = refl
-    more (some c₁) i next ih = ih c₁
-
-    read : (r : Read Instruction) → ((next : ℕ) (i : Instruction) (c₁ : Known) → checkCode ns base code f next (some i) c₁ ≡ checkCode ms base code f next (some i) c₁)
-        → item r (base + at) (suits ns last) (λ i next. ifSome (advance i c) (base + at) λ c₁. checkCode ns base code f next (some i) c₁)
-        ≡ item r (base + at) (suits ms last) (λ i next. ifSome (advance i c) (base + at) λ c₁. checkCode ms base code f next (some i) c₁)
-    read nothing ih = refl
-    read (got i next) ih =
-        ap₂ (λ (b : Bool) (a : Answer (Unit {0})). tested b (base + at) a) (suits-alike ns ms last (signature i .role)) (more (advance i c) i next (ih next i))
-
-    inside : (b : Bool) → ((next : ℕ) (i : Instruction) (c₁ : Known) → checkCode ns base code f next (some i) c₁ ≡ checkCode ms base code f next (some i) c₁)
-        → cond b (item (fetch code at) (base + at) (suits ns last) (λ i next. ifSome (advance i c) (base + at) λ c₁. checkCode ns base code f next (some i) c₁)) (ends (complete c) (base + length code))
-        ≡ cond b (item (fetch code at) (base + at) (suits ms last) (λ i next. ifSome (advance i c) (base + at) λ c₁. checkCode ms base code f next (some i) c₁)) (ends (complete c) (base + length code))
-    inside true ih = read (fetch code at) ih
-    inside false ih = refl

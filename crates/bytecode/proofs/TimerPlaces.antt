@@ -13,13 +13,13 @@ use Rattle.arith.proofs.Basics.{T-true, and-left, and-right, and-T, eqZ-true}
 use Rattle.semantics.specs.Program.{Range, rangeAt, bitRange, isBinary}
 use Rattle.bytecode.specs.Instructions.{Instruction}
 use Rattle.bytecode.specs.Signature.{Role, pushes, computes, tests, opens, picks, lets, settles, times, signature}
-use Rattle.bytecode.specs.Check.{followsIn, follows, isTimerRange, timersWork, suitsIn}
+use Rattle.bytecode.specs.Check.{followsIn, follows, isTimerRange, suitsIn}
 use Rattle.bytecode.specs.Sound.{RuleIn, TimerStands}
 use Rattle.bytecode.specs.Inner.Places.{lastOf}
 
 -- ---- the instruction before
 
-last-append : (last : Option Instruction) (is : List Instruction) (i : Instruction) → lastOf last (is ++ i ∷ []) ≡ some i
+pub last-append : (last : Option Instruction) (is : List Instruction) (i : Instruction) → lastOf last (is ++ i ∷ []) ≡ some i
 last-append last [] i = refl
 last-append last (j ∷ is) i = last-append (some j) is i
 
@@ -68,7 +68,7 @@ timer-range n h =
     let z : n .start ≡ pos 0 = eqZ-true (n .start) (pos 0) (T-true _ (and-right (eqZ (n .low) (pos 0) && eqZ (n .high) (pos 1)) (eqZ (n .start) (pos 0)) h)) in
     ap₂ (λ (x y : ℤ). record { low = x; high = y; start = n .start }) l u ∙ ap (λ (x : ℤ). record { low = pos 0; high = pos 1; start = x }) z
 
-bit-timer : T (isTimerRange bitRange)
+pub bit-timer : T (isTimerRange bitRange)
 unfolding isTimerRange isBinary
 bit-timer = tt
 
@@ -79,24 +79,21 @@ module _ (ns : List Range) (before : List Instruction) (t w n : ℕ) where
   stands-suits x =
       let a : T (isTimerRange (rangeAt ns t)) = subst (λ (r : Range). T (isTimerRange r)) (sym (x .own)) bit-timer in
       let f : T (follows (lastOf none before) t w) = rw (x .directly, last-append none (x .earlier) (x .last)) (rule-follows (signature (x .last) .role) t w (x .rule)) in
-      and-T timersWork (isTimerRange (rangeAt ns t) && isBinary (rangeAt ns w) && (leb 1 n && leb n timeLimit) && follows (lastOf none before) t w) (x .landed)
-      (and-T (isTimerRange (rangeAt ns t) && isBinary (rangeAt ns w) && (leb 1 n && leb n timeLimit)) (follows (lastOf none before) t w)
+      and-T (isTimerRange (rangeAt ns t) && isBinary (rangeAt ns w) && (leb 1 n && leb n timeLimit)) (follows (lastOf none before) t w)
       (and-T (isTimerRange (rangeAt ns t) && isBinary (rangeAt ns w)) (leb 1 n && leb n timeLimit) (and-T (isTimerRange (rangeAt ns t)) (isBinary (rangeAt ns w)) a (x .watched))
-      (and-T (leb 1 n) (leb n timeLimit) (le→leb 1 n (x .least)) (le→leb n timeLimit (x .most)))) f)
+      (and-T (leb 1 n) (leb n timeLimit) (le→leb 1 n (x .least)) (le→leb n timeLimit (x .most)))) f
 
   pub suits-stands : T (suitsIn ns (lastOf none before) (times t w n)) → TimerStands ns before t w n
-  suits-stands g =
-      let landed = and-left timersWork (isTimerRange (rangeAt ns t) && isBinary (rangeAt ns w) && (leb 1 n && leb n timeLimit) && follows (lastOf none before) t w) g in
-      let h = and-right timersWork (isTimerRange (rangeAt ns t) && isBinary (rangeAt ns w) && (leb 1 n && leb n timeLimit) && follows (lastOf none before) t w) g in
+  suits-stands h =
       let a = and-left (isTimerRange (rangeAt ns t) && isBinary (rangeAt ns w) && (leb 1 n && leb n timeLimit)) (follows (lastOf none before) t w) h in
       let f = and-right (isTimerRange (rangeAt ns t) && isBinary (rangeAt ns w) && (leb 1 n && leb n timeLimit)) (follows (lastOf none before) t w) h in
       let b = and-left (isTimerRange (rangeAt ns t) && isBinary (rangeAt ns w)) (leb 1 n && leb n timeLimit) a in
       let l = and-right (isTimerRange (rangeAt ns t) && isBinary (rangeAt ns w)) (leb 1 n && leb n timeLimit) a in
-      go (lastOf none before) refl landed (timer-range (rangeAt ns t) (and-left (isTimerRange (rangeAt ns t)) (isBinary (rangeAt ns w)) b)) (and-right (isTimerRange (rangeAt ns t)) (isBinary (rangeAt ns w)) b)
+      go (lastOf none before) refl (timer-range (rangeAt ns t) (and-left (isTimerRange (rangeAt ns t)) (isBinary (rangeAt ns w)) b)) (and-right (isTimerRange (rangeAt ns t)) (isBinary (rangeAt ns w)) b)
       (leb→le 1 n (and-left (leb 1 n) (leb n timeLimit) l)) (leb→le n timeLimit (and-right (leb 1 n) (leb n timeLimit) l)) f
     where
-      go : (last : Option Instruction) → lastOf none before ≡ last → T timersWork → rangeAt ns t ≡ bitRange → T (isBinary (rangeAt ns w)) → 1 ≤ n → n ≤ timeLimit → T (follows last t w) → TimerStands ns before t w n
-      go none e landed own watched least most f = absurd f
-      go (some i) e landed own watched least most f =
+      go : (last : Option Instruction) → lastOf none before ≡ last → rangeAt ns t ≡ bitRange → T (isBinary (rangeAt ns w)) → 1 ≤ n → n ≤ timeLimit → T (follows last t w) → TimerStands ns before t w n
+      go none e own watched least most f = absurd f
+      go (some i) e own watched least most f =
           let x = last-ends before i e in
-          record { landed = landed; own = own; watched = watched; least = least; most = most; earlier = x .earlier; last = i; directly = x .directly; rule = follows-rule (signature i .role) t w f }
+          record { own = own; watched = watched; least = least; most = most; earlier = x .earlier; last = i; directly = x .directly; rule = follows-rule (signature i .role) t w f }
