@@ -3,3 +3,4 @@ pub mod Steps
 pub mod Walking
 pub mod Checking
 pub mod Stretching
+pub mod Timing

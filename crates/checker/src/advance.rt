@@ -3,10 +3,10 @@ ghost use mathlib.Core.List.{[]};
 ghost use mathlib.Core.Path.{_≡_};
 ghost use mathlib.Core.Option.{none};
 ghost use mathlib.Core.Bool.{true, false};
-ghost use Prim.Native.Nat.{_<_, _^_};
+ghost use Prim.Native.Nat.{ℕ, _<_, _^_};
 ghost use lib.ListN.{getD, set};
 ghost use Rattle.arith.specs.Inner.Flags.{flagsOf};
-ghost use Rattle.bytecode.specs.Instructions.{current as currentOf, previous as previousOf, gate as gateOf, pick as pickOf, assign as assignOf, settle as settleOf, instructionOf};
+ghost use Rattle.bytecode.specs.Instructions.{current as currentOf, previous as previousOf, gate as gateOf, pick as pickOf, assign as assignOf, settle as settleOf, timer as timerOf, instructionOf};
 ghost use Rattle.bytecode.specs.Signature.{truth};
 ghost use Rattle.bytecode.specs.Check.{known as knownAs, advance as advanceOf, unset as unsetOf, fresh, opened};
 ghost use Rattle.checker.specs.Inner.Walk.{sortOf, sortsOf, openOf, sideOf, picksOf, knownOf, advancedKnown, Small, SmallAfter};
@@ -298,6 +298,27 @@ pub fn settle(w: Walk, id: u64) -> Advanced
         return Advanced::Broken;
     }
     if !may_settle(w, id) {
+        return Advanced::Broken;
+    }
+    Advanced::Kept(ruled(w, id))
+}
+
+// A timer is as a let, but that it takes nothing; what else is asked of it goes by the ranges and the instruction before.
+pub fn timer(w: Walk, id: u64) -> Advanced
+    requires { ⌜ Small w ⌝ }
+    ensures { λ r. ⌜ ((watched limit : ℕ) → advancedKnown r ≡ advanceOf (timerOf id watched limit) (knownOf w)) ⌝ }
+    ensures { λ r. ⌜ SmallAfter r ⌝ }
+{
+    if w.gate != 0 {
+        return Advanced::Broken;
+    }
+    if 0 < w.held {
+        return Advanced::Broken;
+    }
+    if !is_unset(w, id) {
+        return Advanced::Broken;
+    }
+    if 0 < w.picking {
         return Advanced::Broken;
     }
     Advanced::Kept(ruled(w, id))

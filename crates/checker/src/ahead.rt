@@ -7,13 +7,20 @@ ghost use mathlib.Core.Path.{_≡_};
 ghost use mathlib.Core.Bool.{true};
 ghost use Prim.Native.Nat.{_+_, _<_};
 ghost use lib.ListN.{length};
+ghost use Rattle.bytecode.specs.Instructions.{fetchOne};
 ghost use Rattle.checker.specs.Inner.Walk.{Small};
-ghost use Rattle.checker.specs.Inner.Stretches.{withTruth, LeadsTo, TakenBy};
+ghost use Rattle.checker.specs.Inner.Stretches.{plainRead, PlainWithin, withTruth, LeadsTo, TakenBy};
 
-// The walk and the place behind instructions; or the first of them breaks soundness.
+// The walk and the place behind instructions; or the first of them breaks soundness or is a timer.
 pub enum Stretch {
     Taken(Walk, usize),
     Broken,
+}
+
+// A code byte, its operand (0 where it has none) and the place behind; or no code byte, or a malformed operand.
+enum Plain {
+    Instruction(u8, u64, usize),
+    Malformed,
 }
 
 fn wide(x: u8) -> u64
@@ -93,12 +100,31 @@ fn operation_ahead(code: &[u8], at: usize, w: Walk) -> bool
     w.sorts % 2 == advance::NUMBER
 }
 
+// The instruction at a place, if it is no timer. Only `single` calls it, so that it is compiled into the walk.
+fn read(code: &[u8], at: usize) -> Plain
+    ensures { λ r. ⌜ plainRead r ≡ fetchOne (now (code .entry)) at ⌝ }
+    ensures { λ r. ⌜ PlainWithin (length (now (code .entry))) at r ⌝ }
+{
+    if code.len() <= at {
+        return Plain::Malformed;
+    }
+    let byte = code[at];
+    let behind = at + 1;
+    if bytecode::has_operand(byte) {
+        let leb128::Unsigned::Number(n, next) = leb128::unsigned_at(code, behind) else {
+            return Plain::Malformed;
+        };
+        return Plain::Instruction(byte, n, next);
+    }
+    Plain::Instruction(byte, 0, behind)
+}
+
 // One instruction.
 fn single(code: &[u8], at: usize, w: Walk) -> Stretch
     requires { ⌜ (Small w) × (at < length (now code)) ⌝ }
     ensures { λ r. ⌜ TakenBy (now (code .entry)) at w r ⌝ }
 {
-    let bytecode::Fetched::Instruction(byte, n, next) = bytecode::fetch(code, at) else {
+    let Plain::Instruction(byte, n, next) = read(code, at) else {
         return Stretch::Broken;
     };
     let Advanced::Kept(k) = advance::advance(byte, n, w) else {

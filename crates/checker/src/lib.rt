@@ -1,20 +1,18 @@
 // Whether an image is sound.
-ghost use mathlib.Core.List.{List, []};
 ghost use mathlib.Core.Path.{_≡_};
-ghost use mathlib.Core.Option.{none};
-ghost use mathlib.Core.Bool.{false};
-ghost use Prim.Native.Nat.{_+_, _≤_};
+ghost use Prim.Native.Nat.{_≤_};
 ghost use lib.ListN.{length};
 ghost use Rattle.limits.specs.Limits.{imageLimit, nameLimit};
-ghost use Rattle.semantics.specs.Program.{Range, knownFirst};
-ghost use Rattle.bytecode.specs.Check.{known as knownAs, complete as completeOf, checkCode, checkOf};
+ghost use Rattle.bytecode.specs.Check.{complete as completeOf, checkOf};
 ghost use Rattle.checker.specs.Inner.Walk.{knownOf, Small, initialWalk};
-ghost use Rattle.checker.specs.Results.{checkedAnswer, CheckedWithin, Judges, VerdictWithin};
+ghost use Rattle.checker.specs.Inner.Surveys.{ReadHeader};
+ghost use Rattle.checker.specs.Results.{checkedAnswer, CheckedWithin, surveyedAnswer, SurveyedBy, Judges, VerdictWithin};
 use advance::Walk;
 use ahead::Stretch;
 
 pub mod advance;
 pub mod ahead;
+pub mod timed;
 
 // Sound, or refused with document 01's number and place.
 pub enum Checked {
@@ -54,13 +52,15 @@ pub fn initial(inputs: usize, names: usize) -> Walk
     }
 }
 
-// Sound, or the place in the code of the instruction that breaks soundness; its length where something is only missing there.
+// Sound and without timers; or the place in the code of the instruction that breaks soundness, its length where something is only missing there; or a timer
+// was met, and nothing is said.
 pub enum Verdict {
     Sound,
     Broken(usize),
+    Timed,
 }
 
-// The walk alone, from a place of the code on.
+// The walk alone, from a place of the code on, up to a timer.
 pub fn walk_from(code: &[u8], from: usize, first: Walk) -> Verdict
     requires { ⌜ Small first ⌝ }
     ensures { λ r. ⌜ Judges (now (code .entry)) from (knownOf first) r ⌝ }
@@ -70,6 +70,9 @@ pub fn walk_from(code: &[u8], from: usize, first: Walk) -> Verdict
     let mut w = first;
     while at < code.len() {
         let Stretch::Taken(k, next) = ahead::ahead(code, at, w) else {
+            if code[at] == bytecode::opcode::TIMER {
+                return Verdict::Timed;
+            }
             return Verdict::Broken(at);
         };
         w = k;
@@ -81,16 +84,40 @@ pub fn walk_from(code: &[u8], from: usize, first: Walk) -> Verdict
     Verdict::Broken(code.len())
 }
 
-// The walk over the whole code, which begins at `base` of the image.
-fn check_code(code: &[u8], base: usize, inputs: usize, names: usize) -> Checked
-    requires { ⌜ (inputs ≤ names) × (names ≤ nameLimit) × (base + length (now code) ≤ imageLimit) ⌝ }
-    ensures { λ r. ⌜ ((ns : List Range) → checkedAnswer r ≡ checkCode ns base (now (code .entry)) (length (now (code .entry))) 0 none
-        (knownAs [] false none (knownFirst inputs names))) ⌝ }
-    ensures { λ r. ⌜ CheckedWithin r ⌝ }
+// Sound and without timers, sound, or refused with document 01's number and place.
+pub enum Surveyed {
+    Plain,
+    Timed,
+    Refused(u8, usize),
+}
+
+// The code behind a header that was read.
+fn survey_code(image: &[u8], inputs: usize, names: usize, place: usize) -> Surveyed
+    requires { ⌜ ReadHeader (now image) inputs names place ⌝ }
+    ensures { λ r. ⌜ surveyedAnswer r ≡ checkOf (now (image .entry)) ⌝ }
+    ensures { λ r. ⌜ SurveyedBy (now (image .entry)) r ⌝ }
 {
-    match walk_from(code, 0, initial(inputs, names)) {
-        Verdict::Sound => Checked::Sound,
-        Verdict::Broken(at) => Checked::Refused(limits::BROKEN_IMAGE, base + at),
+    match walk_from(&image[place..], 0, initial(inputs, names)) {
+        Verdict::Sound => Surveyed::Plain,
+        Verdict::Broken(at) => Surveyed::Refused(limits::BROKEN_IMAGE, place + at),
+        Verdict::Timed => timed::survey_timed(image),
+    }
+}
+
+// As `check`; a sound image without timers is told apart.
+pub fn survey(image: &[u8]) -> Surveyed
+    ensures { λ r. ⌜ surveyedAnswer r ≡ checkOf (now (image .entry)) ⌝ }
+    ensures { λ r. ⌜ SurveyedBy (now (image .entry)) r ⌝ }
+{
+    if limits::IMAGE_LIMIT < image.len() {
+        return Surveyed::Refused(limits::TOO_LONG, 0);
+    }
+    let mut low = [0i32; 1];
+    let mut high = [0i32; 1];
+    let mut start = [0i32; 1];
+    match bytecode::header(image, &mut low, &mut high, &mut start) {
+        bytecode::Headed::Broken(place) => Surveyed::Refused(limits::BROKEN_IMAGE, place),
+        bytecode::Headed::Header(inputs, names, place) => survey_code(image, inputs, names, place),
     }
 }
 
@@ -98,19 +125,9 @@ pub fn check(image: &[u8]) -> Checked
     ensures { λ r. ⌜ checkedAnswer r ≡ checkOf (now (image .entry)) ⌝ }
     ensures { λ r. ⌜ CheckedWithin r ⌝ }
 {
-    if limits::IMAGE_LIMIT < image.len() {
-        return Checked::Refused(limits::TOO_LONG, 0);
-    }
-    let mut low = [0i32; 1];
-    let mut high = [0i32; 1];
-    let mut start = [0i32; 1];
-    match bytecode::header(image, &mut low, &mut high, &mut start) {
-        bytecode::Headed::Broken(place) => Checked::Refused(limits::BROKEN_IMAGE, place),
-        bytecode::Headed::Header(inputs, names, place) => check_code(
-            &image[place..],
-            place,
-            inputs,
-            names,
-        ),
+    match survey(image) {
+        Surveyed::Plain => Checked::Sound,
+        Surveyed::Timed => Checked::Sound,
+        Surveyed::Refused(number, place) => Checked::Refused(number, place),
     }
 }

@@ -1,13 +1,11 @@
 -- `checker::walk_from` meets its contract. The loop's invariant: what is left of the walk makes the whole. Assumes nothing.
-use Prim.Native.Nat.{_+_, _-_}
-use mathlib.Core.Path.{sym, ap, subst, _∙_}
-use mathlib.Core.Bool.{Bool}
+use Prim.Native.Nat.{_-_}
+use mathlib.Core.Path.{sym, subst, _∙_}
 use lib.ListN.{length}
-use Rattle.bytecode.specs.Check.{ends}
 use Rattle.checker.specs.declared.Verdict.the-variants as J
 use Rattle.checker.specs.Inner.Walk.{knownOf}
 use Rattle.checker.specs.Inner.Stretches.{TakenBy}
-use Rattle.checker.proofs.Walking.{Walking, walks-here, walks-on, judges-on, judges-end}
+use Rattle.checker.proofs.Walking.{Walking, walks-here, walks-on, judges-on, judges-complete, judges-missing}
 use Rattle.checker.proofs.Stretching.{stretch-walks, stretch-onward}
 use borrow.Author.Needs.{needs}
 use native.Mathlib.Omega.{arith}
@@ -26,10 +24,11 @@ loop-holds c = record { small = c .before .pre; walks = walks-here _ _ _ }
 ahead-requires : tie.Need-ahead-requires Inv-loop μ-loop
 ahead-requires c κs = (c .before .loop .inv .small, c .loop-test .taken)
 
-returns : tie.Need-returns Inv-loop μ-loop
-returns c =
-    let l = c .before .before .before .loop-test .taken in
-    (judges-on _ _ _ _ _ (J.Broken (c .before .before .before .before .loop .at)) (c .before .before .before .before .loop .inv .walks) (subst (λ r. TakenBy (c .before .before .before .before .before .before .args .code .now) (c .before .before .before .before .loop .at) (c .before .before .before .before .loop .w) r) (c .enum-told .given .1) (c .before .before .ahead .ensures)), omega arith)
+returns-2 : tie.Need-returns-2 Inv-loop μ-loop
+returns-2 c =
+    let b = subst (λ r. TakenBy (c .before .before .before .before .before .before .before .before .args .code .now) (c .before .before .before .before .before .before .loop .at) (c .before .before .before .before .before .before .loop .w) r) (c .before .before .enum-told .given .1) (c .before .before .before .before .ahead .ensures) in
+    let l = c .before .before .before .before .before .loop-test .taken in
+    (judges-on _ _ _ _ _ (J.Broken (c .before .before .before .before .before .before .loop .at)) (c .before .before .before .before .before .before .loop .inv .walks) (b (c .if1 .left)), omega arith)
 
 loop-less : tie.Need-loop-less Inv-loop μ-loop
 loop-less c =
@@ -44,16 +43,13 @@ loop-again c =
 complete-requires : tie.Need-complete-requires Inv-loop μ-loop
 complete-requires c κs = c .before .loop .inv .small
 
-returns-2 : tie.Need-returns-2 Inv-loop μ-loop
-returns-2 c =
-    (judges-on _ _ _ _ _ J.Sound (c .before .before .before .loop .inv .walks) (judges-end _ _ _ J.Sound (c .before .before .loop-test .left) (λ base. ap (λ (t : Bool). ends t (base + length (c .before .before .before .before .before .args .code .now))) (sym (c .if1 .taken) ∙ c .before .complete .ensures))), tt)
-
 returns-3 : tie.Need-returns-3 Inv-loop μ-loop
-returns-3 c =
-    let code = c .before .before .before .before .before .args .code .now in
-    (judges-on _ _ _ _ _ (J.Broken (length code)) (c .before .before .before .loop .inv .walks) (judges-end _ _ _ (J.Broken (length code)) (c .before .before .loop-test .left) (λ base. ap (λ (t : Bool). ends t (base + length code)) (sym (c .if1 .left) ∙ c .before .complete .ensures))), omega arith)
+returns-3 c = (judges-on _ _ _ _ _ J.Sound (c .before .before .before .loop .inv .walks) (judges-complete _ _ _ (c .before .before .loop-test .left) (sym (c .before .complete .ensures) ∙ c .if2 .taken)), tt)
+
+returns-4 : tie.Need-returns-4 Inv-loop μ-loop
+returns-4 c = (judges-on _ _ _ _ _ (J.Broken (length (c .before .before .before .before .before .args .code .now))) (c .before .before .before .loop .inv .walks) (judges-missing _ _ _ (c .before .before .loop-test .left) (sym (c .before .complete .ensures) ∙ c .if2 .left)), omega arith)
 
 pub walk-from-spec : {M : Type 1} → statement M
 walk-from-spec =
     tie.close
-    (tie.spec Inv-loop μ-loop loop-holds ahead-requires (λ c. search needs) (λ c. search needs) returns loop-less loop-again complete-requires returns-2 returns-3)
+    (tie.spec Inv-loop μ-loop loop-holds ahead-requires (λ c. search needs) (λ c. search needs) (λ c. search needs) (λ c. search needs) returns-2 loop-less loop-again complete-requires returns-3 returns-4)
