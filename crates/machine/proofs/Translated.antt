@@ -3,26 +3,26 @@ use Prim.Native.Nat.{ℕ, zero, suc, _+_, _-_, _≤_, _<_}
 use native.Mathlib.Omega.{arith}
 use mathlib.Core.Path.{_≡_, refl, sym, ap, _∙_}
 use mathlib.Core.Logic.{_≢_}
-use mathlib.Core.Bool.{Bool, true, false, false≢true}
+use mathlib.Core.Bool.{Bool, true, false, cond, false≢true}
 use mathlib.Core.List.{List, [], _∷_, _++_}
 use mathlib.Core.Option.{Option, none, some}
-use lib.Dec.{ltb, ltb→lt}
+use lib.Dec.{eqb, ltb, ltb→lt}
 use lib.IntN.{ℤ, pos}
 use lib.ListN.{length, set, getD, drop, length-append, length-set, length-drop}
 use lib.Seq.{getD-set-other}
-use borrow.Author.Tests.{lt-ltb, le-ltb}
+use borrow.Author.Tests.{lt-ltb, le-ltb, le-leb, eqb-true}
+use Rattle.limits.specs.Limits.{timeLimit}
 use Rattle.arith.specs.Values.{Outcome, ok, refusal, _>>=_}
-use Rattle.semantics.specs.Program.{Expression, Condition, Side, Case, Rule, function, change, target, UsableE, UsableC, UsableK, UsableR, OrderedRules}
+use Rattle.semantics.specs.Program.{Expression, Condition, Side, Case, Rule, function, change, target, UsableE, UsableC, UsableK, UsableR, Timer, timersKnown, OrderedRules, EachTimer}
 use Rattle.semantics.specs.Program as P
 use Rattle.semantics.specs.Formula.{State, at, evalE, evalC}
-use Rattle.semantics.specs.Shape.{Setting}
-use Rattle.semantics.specs.ReferenceScan.{tryCase, tryCases, orPrevious, newValue}
+use Rattle.semantics.specs.Shape.{Setting, timeCell, timed}
+use Rattle.semantics.specs.ReferenceScan.{tryCase, tryCases, orPrevious, newValue, runTimers, scanRules}
 use Rattle.arith.proofs.Basics.{bind-assoc, bind-cong}
-use Rattle.semantics.proofs.Cells.{Agree}
+use Rattle.semantics.proofs.Cells.{Agree, not-taken, known-length}
 use Rattle.semantics.proofs.Unique.{evalC-agree}
-use Rattle.semantics.proofs.Untimed.{plainRules}
-use Rattle.bytecode.specs.Instructions.{Instruction, constant, current, previous, operation, negate, comparison, negated, both, either, gate, pick, encode, encodeAll}
-use Rattle.bytecode.specs.Translation.{codeE, codeC, codeCase, codeK, codeR, codeRules, depthE, depthC, ShallowK, ShallowR, Shallow}
+use Rattle.bytecode.specs.Instructions.{Instruction, constant, current, previous, operation, negate, comparison, negated, both, either, gate, pick, timer, encode, encodeAll}
+use Rattle.bytecode.specs.Translation.{codeE, codeC, codeCase, codeK, codeR, codeT, codeRules, depthE, depthC, ShallowK, ShallowR, Shallow}
 use Rattle.leb128.proofs.RoundTrip.{drop-behind}
 use Rattle.bytecode.proofs.RoundTrip.{AllSmall, fetch-encoded, length-encode, encoded-inside}
 use Rattle.bytecode.proofs.Soundness.{known-inside}
@@ -56,7 +56,7 @@ module _ (ns : Setting) (s : State) where
   push-ok : (z : ℤ) (c : Bool) (vs : List ℤ) (t : State) → length vs < 40 → push z c vs t ≡ ok (machine false c (z ∷ vs) t)
   push-ok z c vs t h = rw (lt-ltb (length vs) 40 h)
 
-  module _ (ids : List Bool) (size : length ids ≡ length (ns .ranges)) where
+  module _ (ids : List Bool) (size : length ids ≤ length (ns .ranges)) where
     -- an expression pushes its value
     pub exec-E : (e : Expression) (c : Bool) (vs : List ℤ) (t : State) → UsableE ids e → depthE e + length vs ≤ 40
         → exec ns s (codeE e) (machine false c vs t) ≡ (evalE s t e >>= λ z. ok (machine false c (z ∷ vs) t))
@@ -154,17 +154,35 @@ module _ (ns : Setting) (s : State) where
         let l : ltb v (length (ns .ranges)) ≡ true = lt-ltb v (length (ns .ranges)) (omega arith) in
         exec-append (codeK v ks) _ _ ∙ rw (exec-K v i f ks none t u (d .1)) (simp (bind-assoc, l, settled-is v i f))
 
-  pub exec-rules : (rs : List Rule) (ids : List Bool) (t : State) → length ids ≡ length (ns .ranges) → OrderedRules [] ids rs → Shallow rs
-      → exec ns s (codeRules rs) (machine false false [] t) ≡ (plainRules (ns .ranges) s t rs >>= λ u. ok (machine false false [] u))
-  exec-rules [] ids t l o d = refl
-  exec-rules (r ∷ rs) ids t l o d =
-      let l₁ : length (set ids (target r) true) ≡ length (ns .ranges) = length-set ids (target r) true ∙ l in
-      let o₁ : OrderedRules [] (set ids (target r) true) rs = o .3 in
-      let d₁ : Shallow rs = d .1 in
-      exec-append (codeR r) (codeRules rs) _
-      ∙ rw (exec-R ids l r t (o .0) (d .0) (ltb→lt (target r) (length ids) (o .1)) (o .2), bind-assoc)
-      (bind-cong {m = newValue (ns .ranges) s t r} refl λ z. exec-rules rs (set ids (target r) true) (set t (target r) z) l₁ o₁ d₁)
-      ∙ sym (bind-assoc (newValue (ns .ranges) s t r) (λ z. plainRules (ns .ranges) s (set t (target r) z) rs) _)
+  -- room for a timer's cells, and its limit
+  abbrev pub Room : Timer → Type 0
+  Room x = (x .id < length (ns .ranges)) × (timeCell ns x < length (ns .ranges)) × (x .limit ≤ timeLimit)
+
+  -- the timers of v
+  exec-T : (v : ℕ) → v < length (ns .ranges) → (ts : List Timer) → EachTimer Room ts → (t : State) → exec ns s (codeT v ts) (machine false false [] t) ≡ ok (machine false false [] (runTimers ns s v ts t))
+  exec-T v h [] r t = refl
+  exec-T v h (x ∷ xs) r t = go (eqb (x .watched) v) (eqb-true (x .watched) v) (λ t₁. exec-T v h xs (r .1) t₁)
+    where
+      go : (b : Bool) → (b ≡ true → x .watched ≡ v) → ((t₁ : State) → exec ns s (codeT v xs) (machine false false [] t₁) ≡ ok (machine false false [] (runTimers ns s v xs t₁)))
+          → exec ns s (cond b (timer (x .id) v (x .limit) ∷ codeT v xs) (codeT v xs)) (machine false false [] t) ≡ ok (machine false false [] (runTimers ns s v xs (cond b (timed ns s x t) t)))
+      go false f ih = ih t
+      go true f ih =
+          let q : timed ns s (record { id = x .id; watched = v; limit = x .limit }) t ≡ timed ns s x t = ap {A = ℕ} {B = State} (λ w. timed ns s (record { id = x .id; watched = w; limit = x .limit }) t) (sym (f refl)) in
+          rw (lt-ltb (x .id) (length (ns .ranges)) (r .0 .0), lt-ltb v (length (ns .ranges)) h, lt-ltb (timeCell ns x) (length (ns .ranges)) (r .0 .1), le-leb (x .limit) timeLimit (r .0 .2), q) (ih (timed ns s x t))
+
+  pub exec-rules : (ts : List Timer) → EachTimer Room ts → (rs : List Rule) (ids : List Bool) (t : State) → length ids ≤ length (ns .ranges) → OrderedRules ts ids rs → Shallow rs
+      → exec ns s (codeRules ts rs) (machine false false [] t) ≡ (scanRules ns ts s t rs >>= λ u. ok (machine false false [] u))
+  exec-rules ts room [] ids t l o d = refl
+  exec-rules ts room (r ∷ rs) ids t l o d =
+      let v = target r in
+      let inside : v < length ids = ltb→lt v (length ids) (o .1) in
+      let m : length (timersKnown v ts (set ids v true)) ≡ length ids = known-length v ts (set ids v true) ∙ length-set ids v true in
+      let l₁ : length (timersKnown v ts (set ids v true)) ≤ length (ns .ranges) = omega arith in
+      exec-append (codeR r) (codeT v ts ++ codeRules ts rs) _
+      ∙ rw (exec-R ids l r t (o .0) (d .0) inside (not-taken ts ids v (o .2) .1), bind-assoc)
+      (bind-cong {m = newValue (ns .ranges) s t r} refl λ z.
+      exec-append (codeT v ts) (codeRules ts rs) _ ∙ rw (exec-T v (omega arith) ts room (set t v z)) (exec-rules ts room rs (timersKnown v ts (set ids v true)) (runTimers ns s v ts (set t v z)) l₁ (o .3) (d .1)))
+      ∙ sym (bind-assoc (newValue (ns .ranges) s t r) (λ z. scanRules ns ts s (runTimers ns s v ts (set t v z)) rs) _)
 
   -- the bytes of instructions run as the instructions
   pub run-exec : (code : List ℕ) (is : List Instruction) (budget at n : ℕ) (m : Machine) → drop at code ≡ encodeAll is → AllSmall is → length (encodeAll is) ≤ budget
