@@ -9,17 +9,16 @@ use lib.IntN.{ℤ, pos}
 use lib.ListN.{length, getD, drop, length-map, length-drop}
 use Rattle.arith.specs.Values.{Outcome, ok, refusal, _>>=_}
 use Rattle.arith.proofs.Basics.{ok≢refusal, ok-inj}
-use Rattle.semantics.specs.Program.{Range, Condition, free}
+use Rattle.semantics.specs.Program.{Condition, free}
 use Rattle.semantics.specs.Formula.{State, evalC}
 use Rattle.semantics.specs.Program.{noRange}
+use Rattle.semantics.specs.Shape.{Setting}
 use Rattle.semantics.proofs.Reference.{length-known}
 use Rattle.leb128.specs.Numbers.{Read, got, nothing}
 use Rattle.leb128.proofs.RoundTrip.{drop-behind}
-use Rattle.bytecode.specs.Instructions.{Instruction, encode, encodeAll, decoded, fetchOne}
+use Rattle.bytecode.specs.Instructions.{Instruction, timer, encode, encodeAll, decoded, fetch}
 use Rattle.bytecode.specs.Translation.{codeC}
-use Rattle.bytecode.specs.Signature.{signature}
 use Rattle.bytecode.proofs.RoundTrip.{fetch-encoded, encoded-inside}
-use Rattle.bytecode.proofs.Timeless.{timeless-one}
 use Rattle.machine.specs.declared.Registers.{Registers}
 use Rattle.machine.specs.declared.Stepped.{Stepped}
 use Rattle.machine.specs.declared.Stepped.the-variants.{Next, Refused}
@@ -30,13 +29,13 @@ use Rattle.machine.proofs.Translated.{yes-bit, exec, exec-C}
 use Rattle.machine.proofs.Stack.{held-top, not-none}
 use Rattle.evaluation.specs.Conditions.{ConditionCode}
 use Rattle.evaluation.specs.Inner.Instructions.{Calculates, CalculatesOr}
-use Rattle.evaluation.proofs.Working.{Calm, calm, calculates-timeless, Fit, fit-C}
+use Rattle.evaluation.proofs.Working.{Calm, calm, Fit, fit-C}
 
--- as many ranges as names: no condition looks at one
-abbrev pub unranged : State → List Range
-unranged t = map (λ z. noRange) t
+-- as many ranges as names, no timers: no condition looks at one
+abbrev pub unranged : State → Setting
+unranged t = record { ranges = map (λ z. noRange) t; timers = []; millis = 0 }
 
-pub unranged-length : (t : State) → length t ≡ length (unranged t)
+pub unranged-length : (t : State) → length t ≡ length (unranged t .ranges)
 unranged-length t = sym (length-map t (λ z. noRange))
 
 -- what a condition leaves
@@ -69,7 +68,7 @@ begins code s t vals k h p q r =
         spelled = d .spelled;
         fit = fit-C (free (length t)) (omega (arith, d .few, length-known (length t) (length t))) c (d .usable);
         calmly = p;
-        same = rw (h, p, q) (exec-C (unranged t) s (free (length t)) (length-known (length t) (length t) ∙ unranged-length t) c false [] t (d .usable) (omega (arith, d .shallow)));
+        same = rw (h, p, q) (exec-C (unranged t) s (free (length t)) (omega (arith, length-known (length t) (length t), unranged-length t)) c false [] t (d .usable) (omega (arith, d .shallow)));
       };
     }
 
@@ -77,6 +76,9 @@ begins code s t vals k h p q r =
 
 none-got : {X : Type 0} {i : Instruction} {n : ℕ} → _≡_ {A = Read Instruction} nothing (got i n) → X
 none-got e = let z : _≡_ {A = ℕ} 0 1 = cc in let f : ⊥ = omega arith in absurd f
+
+got-same : {i j : Instruction} {m n : ℕ} → _≡_ {A = Read Instruction} (got i m) (got j n) → i ≡ j
+got-same e = cc
 
 got-some : (o : Option Instruction) (next : ℕ) (i : Instruction) (n : ℕ) → decoded o next ≡ got i n → (o ≡ some i) × (next ≡ n)
 got-some none next i n e = none-got e
@@ -113,7 +115,7 @@ pub record Taken (code : List ℕ) (s t : State) (c : Condition) (k : Registers)
 -- what `work` did
 abbrev pub Done : State → State → Registers → List ℤ → Option Instruction → Stepped → List ℤ → Type 0
 Done s t k vals o r vs =
-    (ns : List Range) → length s ≡ length ns → length t ≡ length ns → CalculatesOr o → stepOutcome r vs t ≡ performed ns s o (k .picked) (heldOf vals (k .held)) t
+    (ns : Setting) → length s ≡ length (ns .ranges) → length t ≡ length (ns .ranges) → CalculatesOr o → stepOutcome r vs t ≡ performed ns s o (k .picked) (heldOf vals (k .held)) t
 
 abbrev refused-first : Outcome Machine → Outcome Bool
 refused-first (ok m) = ok true
@@ -131,18 +133,26 @@ module _ {code : List ℕ} {s t : State} {c : Condition} {k : Registers} {vals :
       go [] d e = value (evalC s t c) refl e
       go (i ∷ is) d e = let b : ⊥ = omega (arith, encoded-inside code at i (encodeAll is) d) in absurd b
 
-  one-encoded : (i : Instruction) (is : List Instruction) → drop at code ≡ encodeAll (i ∷ is) → Fit (i ∷ is) → fetchOne code at ≡ got i (at + length (encode i))
-  one-encoded i is d q = timeless-one code at i (at + length (encode i)) (fetch-encoded code at i (encodeAll is) (q .0) d) (calculates-timeless (signature i .role) (q .1))
+  one-encoded : (i : Instruction) (is : List Instruction) → drop at code ≡ encodeAll (i ∷ is) → Fit (i ∷ is) → fetch code at ≡ got i (at + length (encode i))
+  one-encoded i is d q = fetch-encoded code at i (encodeAll is) (q .0) d
 
   -- an instruction that is malformed is never met
-  pub broken : at < length code → nothing ≡ fetchOne code at → ⊥
+  pub broken : at < length code → nothing ≡ fetch code at → ⊥
   broken h f = go (r .rest) (r .spelled) (r .fit)
     where
       go : (is : List Instruction) → drop at code ≡ encodeAll is → Fit is → ⊥
       go [] d q = no-rest code at h d
       go (i ∷ is) d q = none-got (f ∙ one-encoded i is d q)
 
-  pub taken : at < length code → (o : Option Instruction) (next : ℕ) → decoded o next ≡ fetchOne code at → Taken code s t c k vals o next
+  -- nor is a timer
+  pub untimed : at < length code → (u w n next : ℕ) → got (timer u w n) next ≡ fetch code at → ⊥
+  untimed h u w n next f = go (r .rest) (r .spelled) (r .fit)
+    where
+      go : (is : List Instruction) → drop at code ≡ encodeAll is → Fit is → ⊥
+      go [] d q = no-rest code at h d
+      go (i ∷ is) d q = subst Calculates (sym (got-same (f ∙ one-encoded i is d q))) (q .1)
+
+  pub taken : at < length code → (o : Option Instruction) (next : ℕ) → decoded o next ≡ fetch code at → Taken code s t c k vals o next
   taken h o next f = go (r .rest) (r .spelled) (r .fit) (r .same)
     where
       go : (is : List Instruction) → drop at code ≡ encodeAll is → Fit is → exec (unranged t) s is (machineOf k vals t) ≡ left s t c → Taken code s t c k vals o next

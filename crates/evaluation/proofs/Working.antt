@@ -10,18 +10,17 @@ use lib.IntN.{ℤ}
 use lib.ListN.{length}
 use borrow.Author.Tests.{ne-eqb, lt-leb}
 use Rattle.arith.specs.Values.{Outcome, ok, refusal, _>>=_, arithmetic, negation}
-use Rattle.semantics.specs.Program.{Range, changing, rising, falling, Expression, Condition, UsableE, UsableC}
+use Rattle.semantics.specs.Program.{changing, rising, falling, Expression, Condition, UsableE, UsableC}
 use Rattle.semantics.specs.Program as P
 use Rattle.semantics.specs.Formula.{State}
+use Rattle.semantics.specs.Shape.{Setting}
 use Rattle.bytecode.specs.Instructions.{Instruction, constant, current, previous, operation, negate, comparison, negated, both, either, gate, pick, assign, settle, timer, instructionOf}
 use Rattle.bytecode.specs.Translation.{codeE, codeC}
-use Rattle.bytecode.specs.Signature.{Role, pushes, computes, tests, opens, picks, lets, settles, times}
 use Rattle.bytecode.proofs.RoundTrip.{Small}
-use Rattle.bytecode.proofs.Timeless.{TimelessIn}
 use Rattle.bytecode.proofs.Soundness.{known-inside}
 use Rattle.machine.specs.Step.{Machine, machine, perform}
 use Rattle.machine.specs.Inner.Groups.{performed}
-use Rattle.evaluation.specs.Inner.Instructions.{CalculatesIn, Calculates, CalculatesOr}
+use Rattle.evaluation.specs.Inner.Instructions.{Calculates, CalculatesOr}
 
 -- an instruction of a condition passes nothing over
 abbrev pub Calm : Outcome Machine → Type 0
@@ -41,7 +40,7 @@ between low high code h = and-no (leb low code) (lt-leb code high h)
 
 -- ---- code bytes over 18
 
-module _ (ns : List Range) (s : State) (c : Bool) (vs : List ℤ) (t : State) where
+module _ (ns : Setting) (s : State) (c : Bool) (vs : List ℤ) (t : State) where
   abbrev Refuses : Option Instruction → Type 0
   Refuses o = CalculatesOr o → refusal 11 ≡ performed ns s o c vs t
 
@@ -81,8 +80,8 @@ module _ (ns : List Range) (s : State) (c : Bool) (vs : List ℤ) (t : State) wh
     where
       go : (i : Instruction) (ws : List ℤ) → Calculates i → Calm (perform ns s i c ws t)
       go (constant z) ws p = calm-cond (ltb (length ws) 40) _ _ refl tt
-      go (current i) ws p = calm-cond (ltb i (length ns)) _ _ (calm-cond (ltb (length ws) 40) _ _ refl tt) tt
-      go (previous i) ws p = calm-cond (ltb i (length ns)) _ _ (calm-cond (ltb (length ws) 40) _ _ refl tt) tt
+      go (current i) ws p = calm-cond (ltb i (length (ns .ranges))) _ _ (calm-cond (ltb (length ws) 40) _ _ refl tt) tt
+      go (previous i) ws p = calm-cond (ltb i (length (ns .ranges))) _ _ (calm-cond (ltb (length ws) 40) _ _ refl tt) tt
       go (operation o) [] p = tt
       go (operation o) (b ∷ []) p = tt
       go (operation o) (b ∷ a ∷ ws) p = calm-bind (arithmetic o a b) ws
@@ -106,17 +105,6 @@ module _ (ns : List Range) (s : State) (c : Bool) (vs : List ℤ) (t : State) wh
       go (timer u w n) ws p = absurd p
 
 -- ---- the code of a condition
-
--- a condition has no timer
-pub calculates-timeless : (r : Role) → CalculatesIn r → TimelessIn r
-calculates-timeless (pushes fits) p = tt
-calculates-timeless computes p = tt
-calculates-timeless tests p = tt
-calculates-timeless opens p = absurd p
-calculates-timeless (picks side v) p = absurd p
-calculates-timeless (lets v) p = absurd p
-calculates-timeless (settles v) p = absurd p
-calculates-timeless (times t w n) p = p
 
 -- small operands, and only instructions of conditions
 abbrev pub Fit : List Instruction → Type 0

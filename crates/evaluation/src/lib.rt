@@ -1,4 +1,5 @@
 // One condition worked out at a place of a trace, and a watch walked over a trace that is lent as its states in turn.
+use bytecode::Fetched;
 use machine::Registers;
 use machine::Stepped;
 ghost use mathlib.Core.Path.{_≡_};
@@ -9,7 +10,7 @@ ghost use Prim.Native.Nat.{_+_, _*_, _≤_, _<_, _^_};
 ghost use lib.ListN.{length, take, drop};
 ghost use Rattle.limits.specs.Limits.{stackLimit};
 ghost use Rattle.arith.specs.Values.{Outcome, ok};
-ghost use Rattle.semantics.specs.Program.{Range, Condition};
+ghost use Rattle.semantics.specs.Program.{Condition};
 ghost use Rattle.semantics.specs.Formula.{evalC};
 ghost use Rattle.bytecode.specs.Instructions.{instructionOf};
 ghost use Rattle.machine.specs.Step.{bit};
@@ -17,7 +18,7 @@ ghost use Rattle.machine.specs.Held.{heldOf};
 ghost use Rattle.machine.specs.Inner.Memory.{stepOutcome, Stack, Few};
 ghost use Rattle.machine.specs.Inner.Groups.{performed};
 ghost use Rattle.watching.specs.Watching.{isYes, implied, placesOf, firstFailure};
-ghost use Rattle.semantics.specs.Shape.{statesOf};
+ghost use Rattle.semantics.specs.Shape.{Setting, statesOf};
 ghost use Rattle.evaluation.specs.Conditions.{ConditionCode, Tells};
 ghost use Rattle.evaluation.specs.Walks.{failedAt};
 ghost use Rattle.evaluation.specs.Inner.Instructions.{CalculatesOr};
@@ -39,7 +40,7 @@ pub enum Failed {
 fn work(prev: &[i32], cur: &[i32], vals: &mut [i32], m: Registers, code: u8, n: u64) -> Stepped
     requires { ⌜ Stack m (now vals) ⌝ }
     requires { ⌜ n < 2 ^ 32 ⌝ }
-    ensures { λ r. ⌜ ((ns : List Range) → length (now (prev .entry)) ≡ length ns → length (now (cur .entry)) ≡ length ns → CalculatesOr (instructionOf code n)
+    ensures { λ r. ⌜ ((ns : Setting) → length (now (prev .entry)) ≡ length (ns .ranges) → length (now (cur .entry)) ≡ length (ns .ranges) → CalculatesOr (instructionOf code n)
         → stepOutcome r (now (vals .exit)) (now (cur .entry))
         ≡ performed ns (now (prev .entry)) (instructionOf code n) (m .picked) (heldOf (now (vals .entry)) (m .held)) (now (cur .entry))) ⌝ }
     ensures { λ r. ⌜ Few r ⌝ }
@@ -87,16 +88,19 @@ pub fn evaluate(code: &[u8], prev: &[i32], cur: &[i32], vals: &mut [i32]) -> Tru
     let mut at: usize = 0;
     while at < code.len() {
         let f = bytecode::fetch(code, at);
-        let bytecode::Fetched::Instruction(op, n, next) = f else {
-            return Truth::Fault;
-        };
-        let s = work(prev, cur, vals, k, op, n);
-        match s {
-            Stepped::Next(t) => {
+        match f {
+            Fetched::Instruction(op, n, next) => {
+                let s = work(prev, cur, vals, k, op, n);
+                let Stepped::Next(t) = s else {
+                    return Truth::Fault;
+                };
                 k = t;
                 at = next;
             }
-            Stepped::Refused(_) => {
+            Fetched::Timer(_, _, _, _) => {
+                return Truth::Fault;
+            }
+            Fetched::Malformed => {
                 return Truth::Fault;
             }
         }
