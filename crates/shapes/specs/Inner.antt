@@ -1,0 +1,2 @@
+-- What serves proofs and inner contracts only.
+pub mod Times
