@@ -86,10 +86,10 @@ module _ (ns : List Range) (inputs index : ℕ) (state row : List ℤ) (small : 
         let k : getElem? (paired (combinations ns) (combinations (take inputs ns))) index ≡ some (record { state = s; row = r }) = rw n at (pair-at s r (combinations ns) (combinations (take inputs ns)) (index / rows) (index % rows) a b) in
         rw (small, eq-eqb (length state) (length ns) e, eq-eqb (length row) inputs f, k)
 
-pub combination-refused : (image : List ℕ) (index : ℕ) (state row : List ℤ) (number place : ℕ) → refused number place ≡ checkOf image
+pub combination-refused : (image : List ℕ) (index : ℕ) (state row : List ℤ) (number place : ℕ) → checkOf image ≡ refused number place
     → afterClosing (C.Refused number place) state row ≡ combinationOf image index state row
 unfolding combinationOf
-combination-refused image index state row number place e = rw (← e)
+combination-refused image index state row number place e = rw e
 
 module _ (image : List ℕ) (sound : checkOf image ≡ accepted tt) (index : ℕ) (state row : List ℤ) where
   -- 26 a timer

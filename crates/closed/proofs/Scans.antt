@@ -139,9 +139,9 @@ chosen : (b : Bool) (image : List ℕ) (state row : List ℤ) (x : AfterClosed) 
 chosen true image state row x e = e
 chosen false image state row x e = refl
 
-pub closed-refused : (image : List ℕ) (state row : List ℤ) (number place : ℕ) → refused number place ≡ checkOf image → afterClosing (C.Refused number place) state row ≡ closedIn image state row
+pub closed-refused : (image : List ℕ) (state row : List ℤ) (number place : ℕ) → checkOf image ≡ refused number place → afterClosing (C.Refused number place) state row ≡ closedIn image state row
 unfolding closedIn
-closed-refused image state row number place e = rw (← e)
+closed-refused image state row number place e = rw e
 
 module _ (image : List ℕ) (sound : checkOf image ≡ accepted tt) where
   -- 26 a timer

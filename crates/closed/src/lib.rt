@@ -203,10 +203,13 @@ fn closed_in(
     let shaped = shapes::shape(image, low, high);
     match shaped {
         Shaped::Refused(number, place) => Closing::Refused(number, place),
-        Shaped::Shape(inputs, names, size, _, place) => {
-            if size != names {
+        Shaped::Shape(m) => {
+            if m.names < m.size {
                 return Closing::Refused(limits::NOT_SMALL, 0);
             }
+            let inputs = m.inputs;
+            let names = m.names;
+            let place = m.place;
             closed_ranges(
                 &image[place..],
                 inputs,
@@ -322,11 +325,12 @@ fn combination_in(
     let shaped = shapes::shape(image, low, high);
     match shaped {
         Shaped::Refused(number, place) => Closing::Refused(number, place),
-        Shaped::Shape(inputs, names, size, _, _) => {
-            if size != names {
+        Shaped::Shape(m) => {
+            if m.names < m.size {
                 return Closing::Refused(limits::NOT_SMALL, 0);
             }
-            combination_ranges(inputs, &low[..names], &high[..names], index, state, row)
+            let names = m.names;
+            combination_ranges(m.inputs, &low[..names], &high[..names], index, state, row)
         }
     }
 }
