@@ -2,23 +2,20 @@
 use Prim.Native.Nat.{ℕ}
 use native.Mathlib.Omega.{arith}
 use mathlib.Core.Path.{_≡_, refl, sym, ap, subst, _∙_}
-use mathlib.Core.Bool.{Bool}
 use mathlib.Core.List.{List, [], _∷_, map}
-use lib.Dec.{T}
 use lib.IntN.{ℤ}
 use lib.ListN.{length, take, length-map}
 use Rattle.limits.specs.Answer.{accepted}
 use Rattle.arith.specs.Values.{Outcome, ok, refusal}
-use Rattle.semantics.specs.Program.{Program, Range}
+use Rattle.semantics.specs.Program.{Program}
 use Rattle.semantics.specs.Formula.{State}
-use Rattle.semantics.specs.Shape.{shapeOf, cells, stateLength, allWithin}
+use Rattle.semantics.specs.Shape.{shapeOf, cells, stateLength}
 use Rattle.semantics.specs.ReferenceScan.{referenceScan}
 use Rattle.semantics.specs.Rows.{Reply, reply, referenceReplies, startsOf, InRanges}
-use Rattle.semantics.proofs.Untimed.{plain-cells, plain-states, plain-length, plain-row}
 use Rattle.semantics.proofs.Reference.{starts-in-range}
 use Rattle.bytecode.specs.Translation.{imageOf, Translatable}
 use Rattle.bytecode.specs.Parts.{shapeIn}
-use Rattle.bytecode.proofs.Limits.{no-times, no-timer}
+use Rattle.bytecode.proofs.Shapes.{limits-of}
 use Rattle.bytecode.proofs.Soundness.{header-of}
 use Rattle.grammar.proofs.Accepted.{program-translatable}
 use Rattle.translate.specs.Services.{translationOf}
@@ -41,18 +38,10 @@ none-refused (a ∷ l) h = (ap verdictOf (h .0), none-refused l (h .1))
 
 module _ (p : Program) (t : Translatable p) (k : Closed (imageOf p)) where
   state-in : (s : State) → InRanges p s → InRangeState (shapeIn (imageOf p)) s
-  state-in s g =
-      record {
-        size = rw (header-of p t, no-times (imageOf p) (k .sound)) (g .size ∙ plain-states p (t .untimed));
-        ranges = rw (header-of p t, no-times (imageOf p) (k .sound)) (subst (λ (l : List Range). T (allWithin l s)) (plain-cells p (t .untimed)) (g .ranges));
-      }
+  state-in s g = record { size = rw (header-of p t, limits-of p t) (g .size); ranges = rw (header-of p t, limits-of p t) (g .ranges) }
 
   row-in : (row : List ℤ) → RowInRanges p row → InRangeRow (shapeIn (imageOf p)) row
-  row-in row g =
-      record {
-        size = rw (header-of p t, no-timer (imageOf p) (k .sound)) (g .size ∙ plain-length p (t .untimed));
-        ranges = rw (header-of p t, no-timer (imageOf p) (k .sound)) (subst (λ (b : Bool). T b) (plain-row p (t .untimed) row) (g .ranges));
-      }
+  row-in row g = record { size = rw (header-of p t, limits-of p t) (g .size); ranges = rw (header-of p t, limits-of p t) (g .ranges) }
 
   rows-in : (rows : List (List ℤ)) → RowsInRanges p rows → InRangeRows (shapeIn (imageOf p)) rows
   rows-in [] g = tt
@@ -66,7 +55,7 @@ module _ (p : Program) (t : Translatable p) (k : Closed (imageOf p)) where
   image-runs rows h =
       let size : length (startsOf p) ≡ stateLength (shapeOf p) = length-map (cells (shapeOf p)) (λ n. n .start) in
       let q : startOf (imageOf p) (startsOf p) .state ≡ startsOf p = ap {A = AfterStart} (λ r. r .state) (start-translated p t (startsOf p) size) in
-      let all : AllAccepted (scansOf (imageOf p) (startOf (imageOf p) (startsOf p) .state) rows) = closed-runs (imageOf p) k (startsOf p) (rw (header-of p t, no-times (imageOf p) (k .sound)) (size ∙ plain-states p (t .untimed))) rows (rows-in rows h) in
+      let all : AllAccepted (scansOf (imageOf p) (startOf (imageOf p) (startsOf p) .state) rows) = closed-runs (imageOf p) k (startsOf p) (rw (header-of p t, limits-of p t) size) rows (rows-in rows h) in
       let here : AllAccepted (scansOf (imageOf p) (startsOf p) rows) = subst (λ (s : State). AllAccepted (scansOf (imageOf p) s rows)) q all in
       subst NoneRefused (scans-agree p t rows (startsOf p) (starts-in-range p (t .well-formed))) (none-refused (scansOf (imageOf p) (startsOf p) rows) here)
 

@@ -2,7 +2,7 @@
 use Prim.Native.Nat.{ℕ}
 use native.Mathlib.Omega.{arith}
 use mathlib.Core.Path.{_≡_, refl, sym, ap, ap₂, _∙_, subst}
-use mathlib.Core.Bool.{Bool, true, false, _&&_}
+use mathlib.Core.Bool.{Bool, true, false}
 use mathlib.Core.List.{List, [], _∷_}
 use lib.Dec.{eqb}
 use lib.IntN.{ℤ}
@@ -10,30 +10,28 @@ use lib.ListN.{length, take}
 use borrow.Author.Tests.{eq-eqb}
 use Rattle.limits.specs.Answer.{Answer, accepted, refused}
 use Rattle.arith.specs.Values.{Outcome, ok, refusal, _>>=_, check}
-use Rattle.semantics.specs.Program.{Program, Range, rangesOf, knownFirst}
+use Rattle.semantics.specs.Program.{Program, rangesOf, knownFirst, firstTimer, EachTimer, TimerFits}
 use Rattle.semantics.specs.Formula.{State, writtenOf, GX, All}
-use Rattle.semantics.specs.Shape.{shapeOf, cells, stateLength, allWithin}
-use Rattle.semantics.specs.ReferenceScan.{withInputs, referenceScan}
+use Rattle.semantics.specs.Shape.{shapeOf, stateLength, rowLength, stateInRange, rowInRange, settingOf}
+use Rattle.semantics.specs.ReferenceScan.{scanRules, withInputs, referenceScan}
 use Rattle.semantics.specs.Rows.{Reply, reply, referenceReplies, startsOf, traceOf, InRanges, OnlyTrace}
 use Rattle.arith.proofs.Basics.{T-true, bind-assoc}
-use Rattle.semantics.proofs.Untimed.{plainRules, plainScan, untimed-order, plain-cells, plain-states, plain-scan}
+use Rattle.semantics.proofs.Timers.{each-map, each-both, Placed, ownerOf, timer-count, cells-length, placed}
 use Rattle.semantics.proofs.Written.{written-trace}
 use Rattle.semantics.proofs.Reference.{length-known, reference-next, reference-trace, starts-in-range}
 use Rattle.bytecode.specs.Instructions.{encodeAll}
 use Rattle.bytecode.specs.Translation.{codeRules, imageOf, Translatable}
-use Rattle.bytecode.specs.Check.{checkOf}
-use Rattle.bytecode.specs.Parts.{headerOf, codeOf, instructionsIn}
-use Rattle.bytecode.proofs.Timeless.{timeless-rules}
-use Rattle.bytecode.proofs.Limits.{no-times, no-timer}
+use Rattle.bytecode.specs.Parts.{instructionsIn}
 use Rattle.bytecode.proofs.Soundness.{header-of, code-of, translated-small, check-translated}
+use Rattle.bytecode.proofs.Shapes.{limits-of}
 use Rattle.machine.specs.Step.{Machine, machine}
 use Rattle.machine.proofs.Ranges.{currentOf}
-use Rattle.machine.proofs.Translated.{exec-rules, run-exec}
+use Rattle.machine.proofs.Translated.{Room, exec-rules, run-exec}
 use Rattle.grammar.specs.Parse.{programOf}
 use Rattle.grammar.proofs.Accepted.{program-translatable}
 use Rattle.grammar.proofs.ConverseText.{accepted-exactly}
 use Rattle.translate.specs.Services.{translationOf}
-use Rattle.scan.specs.Services.{AfterStart, startOf, started, AfterScan, finished, runOf, scanCode, testedScan, scanned, scanOf, scansOf}
+use Rattle.scan.specs.Services.{AfterStart, startOf, started, AfterScan, finished, runOf, scanCode, testedScan, scanOf, scansOf}
 use Rattle.scan.proofs.Steps.{scan-steps}
 use Rattle.translate.proofs.Kept.{image-stored, stored-image}
 use Rattle.correctness.specs.TraceCorrect.{replyOf, repliesOf, StepsIf, StepsAre, begun, found, TraceCorrect, Demand3}
@@ -53,32 +51,51 @@ bind-ok (ok a) = refl
 bind-ok (refusal k) = refl
 
 module _ (p : Program) (t : Translatable p) where
-  run-reference : (s : State) (row : List ℤ) → runOf (imageOf p) s row .last ≡ (plainRules (rangesOf p) s (withInputs s row) (p .rules) >>= λ u. ok (machine false false [] u))
-  run-reference s row =
-      let code = encodeAll (codeRules (p .rules)) in
-      rw (header-of p t, code-of p t)
-      (run-exec (rangesOf p) s code (codeRules (p .rules)) (length code) 0 0 (machine false false [] (withInputs s row)) refl (translated-small p t) (timeless-rules (p .rules)) (omega arith)
-      ∙ exec-rules (rangesOf p) s (p .rules) (knownFirst (p .inputs) (length (rangesOf p))) (withInputs s row) (length-known (p .inputs) (length (rangesOf p))) (untimed-order p (t .untimed) (t .well-formed .ordered)) (t .shallow))
+  -- what a scan of a row gives
+  abbrev worked : State → List ℤ → Outcome State
+  worked s row = scanRules (settingOf (shapeOf p) row) (p .timers) s (withInputs s (take (p .inputs) row)) (p .rules)
 
-  code-reply : (s : State) (row : List ℤ) → replyOf (scanCode (imageOf p) s row) ≡ reply s (plainRules (rangesOf p) s (withInputs s row) (p .rules))
+  room : (s : State) (row : List ℤ) → EachTimer (Room (settingOf (shapeOf p) row) s) (p .timers)
+  room s row =
+      let fit = t .well-formed .timed in
+      let k = settingOf (shapeOf p) row in
+      let n = length (rangesOf p) in
+      let c = cells-length p fit in
+      let d = timer-count p fit in
+      each-map (λ x. Placed k n (firstTimer p) (ownerOf p) x × TimerFits (rangesOf p) (p .inputs) (firstTimer p) x) (Room k s) (λ x q.
+      let a = q .0 .below in
+      let b = q .0 .after in
+      let e = q .0 .place in
+      (omega arith, omega arith, q .1 .most)) (p .timers)
+      (each-both (Placed k n (firstTimer p) (ownerOf p)) (TimerFits (rangesOf p) (p .inputs) (firstTimer p)) (p .timers) (placed p fit row) (fit .each))
+
+  run-reference : (s : State) (row : List ℤ) → runOf (imageOf p) s row .last ≡ (worked s row >>= λ u. ok (machine false false [] u))
+  run-reference s row =
+      let code = encodeAll (codeRules (p .timers) (p .rules)) in
+      let k = settingOf (shapeOf p) row in
+      let u = withInputs s (take (p .inputs) row) in
+      let c = cells-length p (t .well-formed .timed) in
+      let l = length-known (p .inputs) (length (rangesOf p)) in
+      rw (header-of p t, limits-of p t, code-of p t)
+      (run-exec k s code (codeRules (p .timers) (p .rules)) (length code) 0 0 (machine false false [] u) refl (translated-small p t) (omega arith)
+      ∙ exec-rules k s (p .timers) (room s row) (p .rules) (knownFirst (p .inputs) (length (rangesOf p))) u (omega arith) (t .well-formed .ordered) (t .shallow))
+
+  code-reply : (s : State) (row : List ℤ) → replyOf (scanCode (imageOf p) s row) ≡ reply s (worked s row)
   unfolding scanCode
   code-reply s row =
-      let e : (runOf (imageOf p) s row .last >>= λ m. ok (currentOf m)) ≡ plainRules (rangesOf p) s (withInputs s row) (p .rules)
-      = rw (run-reference s row) (bind-assoc (plainRules (rangesOf p) s (withInputs s row) (p .rules)) _ _ ∙ bind-ok (plainRules (rangesOf p) s (withInputs s row) (p .rules))) in
+      let e : (runOf (imageOf p) s row .last >>= λ m. ok (currentOf m)) ≡ worked s row = rw (run-reference s row) (bind-assoc (worked s row) _ _ ∙ bind-ok (worked s row)) in
       reply-finished s _ (runOf (imageOf p) s row .last) ∙ ap (reply s) e
 
   -- the scan of the image answers and leaves what the reference scan does
   pub scan-reply : (s : State) → InRanges p s → (row : List ℤ) → replyOf (scanOf (imageOf p) s row) ≡ reply s (referenceScan p s row)
-  unfolding scanOf plainScan
+  unfolding scanOf referenceScan
   scan-reply s g row =
-      let l : eqb (length s) (length (rangesOf p)) ≡ true = eq-eqb (length s) (length (rangesOf p)) (g .size ∙ plain-states p (t .untimed)) in
-      let r : allWithin (rangesOf p) s ≡ true = ap (λ (l : List Range). allWithin l s) (sym (plain-cells p (t .untimed))) ∙ T-true _ (g .ranges) in
-      let inner : replyOf (testedScan (allWithin (rangesOf p) row) 13 s (scanCode (imageOf p) s row)) ≡ reply s (check (allWithin (rangesOf p) row) 13 (plainRules (rangesOf p) s (withInputs s row) (p .rules)))
-      = reply-tested (allWithin (rangesOf p) row) 13 s _ _ (code-reply s row) in
-      let outer : replyOf (testedScan (eqb (length row) (p .inputs)) 12 s (testedScan (allWithin (rangesOf p) row) 13 s (scanCode (imageOf p) s row)))
-      ≡ reply s (check (eqb (length row) (p .inputs)) 12 (check (allWithin (rangesOf p) row) 13 (plainRules (rangesOf p) s (withInputs s row) (p .rules))))
-      = reply-tested (eqb (length row) (p .inputs)) 12 s _ _ inner in
-      rw (plain-scan p (t .untimed) s row) (rw (check-translated p t, no-times (imageOf p) (check-translated p t), no-timer (imageOf p) (check-translated p t), header-of p t, l, r) outer)
+      let k = shapeOf p in
+      let l : eqb (length s) (stateLength k) ≡ true = eq-eqb (length s) (stateLength k) (g .size) in
+      let r : stateInRange k s ≡ true = T-true _ (g .ranges) in
+      let inner = reply-tested (rowInRange k row) 13 s (scanCode (imageOf p) s row) (worked s row) (code-reply s row) in
+      let outer = reply-tested (eqb (length row) (rowLength k)) 12 s (testedScan (rowInRange k row) 13 s (scanCode (imageOf p) s row)) (check (rowInRange k row) 13 (worked s row)) inner in
+      rw (check-translated p t, header-of p t, limits-of p t, l, r) outer
 
   kept : (s : State) → InRanges p s → (row : List ℤ) (o : Outcome State) → referenceScan p s row ≡ o → InRanges p (reply s o .state)
   kept s g row (ok u) e = reference-next p (t .well-formed) s g row u e .kept
@@ -107,7 +124,7 @@ module _ (p : Program) (t : Translatable p) where
   pub start-translated : (lent : State) → length lent ≡ stateLength (shapeOf p) → startOf (imageOf p) lent ≡ record { answer = accepted tt; state = startsOf p }
   unfolding startOf
   start-translated lent l =
-      rw (check-translated p t, no-times (imageOf p) (check-translated p t), header-of p t, plain-cells p (t .untimed), eq-eqb (length lent) (length (rangesOf p)) (l ∙ plain-states p (t .untimed)))
+      rw (check-translated p t, header-of p t, limits-of p t, eq-eqb (length lent) (stateLength (shapeOf p)) l)
 
   pub image-correct : (lent : State) → length lent ≡ stateLength (shapeOf p) → (rows : List (List ℤ)) → TraceCorrect p (imageOf p) lent rows
   image-correct lent l rows =

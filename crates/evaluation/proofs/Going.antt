@@ -18,6 +18,7 @@ use Rattle.leb128.specs.Numbers.{Read, got, nothing}
 use Rattle.leb128.proofs.RoundTrip.{drop-behind}
 use Rattle.bytecode.specs.Instructions.{Instruction, timer, encode, encodeAll, decoded, fetch}
 use Rattle.bytecode.specs.Translation.{codeC}
+use Rattle.bytecode.specs.Signature.{times}
 use Rattle.bytecode.proofs.RoundTrip.{fetch-encoded, encoded-inside}
 use Rattle.machine.specs.declared.Registers.{Registers}
 use Rattle.machine.specs.declared.Stepped.{Stepped}
@@ -29,7 +30,7 @@ use Rattle.machine.proofs.Translated.{yes-bit, exec, exec-C}
 use Rattle.machine.proofs.Stack.{held-top, not-none}
 use Rattle.evaluation.specs.Conditions.{ConditionCode}
 use Rattle.evaluation.specs.Inner.Instructions.{Calculates, CalculatesOr}
-use Rattle.evaluation.proofs.Working.{Calm, calm, Fit, fit-C}
+use Rattle.evaluation.proofs.Working.{Calm, calm, calculates-timeless, Fit, fit-C}
 
 -- as many ranges as names, no timers: no condition looks at one
 abbrev pub unranged : State → Setting
@@ -76,9 +77,6 @@ begins code s t vals k h p q r =
 
 none-got : {X : Type 0} {i : Instruction} {n : ℕ} → _≡_ {A = Read Instruction} nothing (got i n) → X
 none-got e = let z : _≡_ {A = ℕ} 0 1 = cc in let f : ⊥ = omega arith in absurd f
-
-got-same : {i j : Instruction} {m n : ℕ} → _≡_ {A = Read Instruction} (got i m) (got j n) → i ≡ j
-got-same e = cc
 
 got-some : (o : Option Instruction) (next : ℕ) (i : Instruction) (n : ℕ) → decoded o next ≡ got i n → (o ≡ some i) × (next ≡ n)
 got-some none next i n e = none-got e
@@ -148,9 +146,12 @@ module _ {code : List ℕ} {s t : State} {c : Condition} {k : Registers} {vals :
   pub untimed : at < length code → (u w n next : ℕ) → got (timer u w n) next ≡ fetch code at → ⊥
   untimed h u w n next f = go (r .rest) (r .spelled) (r .fit)
     where
+      timed-not : (i : Instruction) → Calculates i → timer u w n ≡ i → ⊥
+      timed-not i p e = calculates-timeless (times u w n) (subst (λ (j : Instruction). Calculates j) (sym e) p)
+
       go : (is : List Instruction) → drop at code ≡ encodeAll is → Fit is → ⊥
       go [] d q = no-rest code at h d
-      go (i ∷ is) d q = subst Calculates (sym (got-same (f ∙ one-encoded i is d q))) (q .1)
+      go (i ∷ is) d q = let e : got (timer u w n) next ≡ got i (at + length (encode i)) = f ∙ one-encoded i is d q in timed-not i (q .1) cc
 
   pub taken : at < length code → (o : Option Instruction) (next : ℕ) → decoded o next ≡ fetch code at → Taken code s t c k vals o next
   taken h o next f = go (r .rest) (r .spelled) (r .fit) (r .same)

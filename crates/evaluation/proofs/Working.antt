@@ -16,11 +16,13 @@ use Rattle.semantics.specs.Formula.{State}
 use Rattle.semantics.specs.Shape.{Setting}
 use Rattle.bytecode.specs.Instructions.{Instruction, constant, current, previous, operation, negate, comparison, negated, both, either, gate, pick, assign, settle, timer, instructionOf}
 use Rattle.bytecode.specs.Translation.{codeE, codeC}
+use Rattle.bytecode.specs.Signature.{Role, pushes, computes, tests, opens, picks, lets, settles, times}
 use Rattle.bytecode.proofs.RoundTrip.{Small}
+use Rattle.bytecode.proofs.Timeless.{TimelessIn}
 use Rattle.bytecode.proofs.Soundness.{known-inside}
 use Rattle.machine.specs.Step.{Machine, machine, perform}
 use Rattle.machine.specs.Inner.Groups.{performed}
-use Rattle.evaluation.specs.Inner.Instructions.{Calculates, CalculatesOr}
+use Rattle.evaluation.specs.Inner.Instructions.{CalculatesIn, Calculates, CalculatesOr}
 
 -- an instruction of a condition passes nothing over
 abbrev pub Calm : Outcome Machine → Type 0
@@ -105,6 +107,17 @@ module _ (ns : Setting) (s : State) (c : Bool) (vs : List ℤ) (t : State) where
       go (timer u w n) ws p = absurd p
 
 -- ---- the code of a condition
+
+-- a condition has no timer
+pub calculates-timeless : (r : Role) → CalculatesIn r → TimelessIn r
+calculates-timeless (pushes fits) p = tt
+calculates-timeless computes p = tt
+calculates-timeless tests p = tt
+calculates-timeless opens p = absurd p
+calculates-timeless (picks side v) p = absurd p
+calculates-timeless (lets v) p = absurd p
+calculates-timeless (settles v) p = absurd p
+calculates-timeless (times t w n) p = p
 
 -- small operands, and only instructions of conditions
 abbrev pub Fit : List Instruction → Type 0

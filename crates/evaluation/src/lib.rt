@@ -1,5 +1,4 @@
 // One condition worked out at a place of a trace, and a watch walked over a trace that is lent as its states in turn.
-use bytecode::Fetched;
 use machine::Registers;
 use machine::Stepped;
 ghost use mathlib.Core.Path.{_≡_};
@@ -18,7 +17,7 @@ ghost use Rattle.machine.specs.Held.{heldOf};
 ghost use Rattle.machine.specs.Inner.Memory.{stepOutcome, Stack, Few};
 ghost use Rattle.machine.specs.Inner.Groups.{performed};
 ghost use Rattle.watching.specs.Watching.{isYes, implied, placesOf, firstFailure};
-ghost use Rattle.semantics.specs.Shape.{Setting, statesOf};
+ghost use Rattle.semantics.specs.Shape.{statesOf, Setting};
 ghost use Rattle.evaluation.specs.Conditions.{ConditionCode, Tells};
 ghost use Rattle.evaluation.specs.Walks.{failedAt};
 ghost use Rattle.evaluation.specs.Inner.Instructions.{CalculatesOr};
@@ -87,20 +86,23 @@ pub fn evaluate(code: &[u8], prev: &[i32], cur: &[i32], vals: &mut [i32]) -> Tru
     };
     let mut at: usize = 0;
     while at < code.len() {
-        let f = bytecode::fetch(code, at);
-        match f {
-            Fetched::Instruction(op, n, next) => {
+        match bytecode::fetch(code, at) {
+            bytecode::Fetched::Instruction(op, n, next) => {
                 let s = work(prev, cur, vals, k, op, n);
-                let Stepped::Next(t) = s else {
-                    return Truth::Fault;
-                };
-                k = t;
-                at = next;
+                match s {
+                    Stepped::Next(t) => {
+                        k = t;
+                        at = next;
+                    }
+                    Stepped::Refused(_) => {
+                        return Truth::Fault;
+                    }
+                }
             }
-            Fetched::Timer(_, _, _, _) => {
+            bytecode::Fetched::Timer(_, _, _, _) => {
                 return Truth::Fault;
             }
-            Fetched::Malformed => {
+            bytecode::Fetched::Malformed => {
                 return Truth::Fault;
             }
         }

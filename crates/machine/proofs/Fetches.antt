@@ -4,15 +4,16 @@ use native.Mathlib.Omega.{arith}
 use mathlib.Core.Path.{_≡_, refl, sym, ap, _∙_}
 use mathlib.Core.Bool.{Bool, true, false, cond, _&&_, false≢true}
 use mathlib.Core.List.{List}
-use mathlib.Core.Option.{none, some}
+use mathlib.Core.Option.{Option, none, some}
 use lib.Dec.{eqb, leb}
 use lib.ListN.{length, getD}
-use borrow.Author.Tests.{le-leb, lt-leb, ne-eqb}
+use borrow.Author.Tests.{le-leb, lt-leb, eq-eqb, ne-eqb}
 use Rattle.leb128.specs.Numbers.{Read, got, nothing, numberAt, unzigzag}
 use Rattle.leb128.proofs.Laws.{one-group}
-use Rattle.bytecode.specs.Instructions.{Instruction, constant, operation, comparison, operationOf, comparisonOf, instructionOf, hasOperand, decoded, fetchOne, timerAt, fetch}
+use Rattle.bytecode.specs.Instructions.{Instruction, constant, operation, comparison, operationOf, comparisonOf, instructionOf, hasOperand, decoded, fetchOne, fetch}
 use Rattle.bytecode.proofs.Codes.{operation-of, comparison-of}
-use Rattle.bytecode.proofs.Fetching.{fetch-alone, fetch-number, fetch-malformed, fetch-other}
+use Rattle.bytecode.proofs.Fetching.{fetch-alone, fetch-number, fetch-malformed, fetch-other, timer-unfetched}
+use Rattle.bytecode.proofs.Timeless.{code-timeless, timeless-one}
 
 -- ---- which codes have an operand
 
@@ -59,10 +60,16 @@ module _ (code : List ℕ) (at : ℕ) (inside : at < length code) where
       pub read-malformed : numberAt code (at + 1) ≡ nothing → fetch code at ≡ nothing
       read-malformed e = fetch-other code at (rw is (operand-other byte has)) ∙ fetch-malformed code at inside (ap hasOperand is ∙ has) e
 
--- a 23
-pub fetch-timer : (code : List ℕ) (at : ℕ) → getD code at 0 ≡ 23 → fetch code at ≡ timerAt code (at + 1)
-unfolding fetch
-fetch-timer code at is = rw is
+-- a 23 is no other instruction
+pub timer-only : (code : List ℕ) (at : ℕ) → getD code at 0 ≡ 23 → (byte n next : ℕ) → decoded (instructionOf byte n) next ≡ fetch code at → fetch code at ≡ nothing
+timer-only code at is byte n next e = by (instructionOf byte n) refl
+  where
+    by : (o : Option Instruction) → instructionOf byte n ≡ o → fetch code at ≡ nothing
+    by none q = sym e ∙ rw q
+    by (some i) q =
+        let f : fetch code at ≡ got i next = sym e ∙ rw q in
+        let g : nothing ≡ got i next = sym (timer-unfetched code at (eq-eqb (getD code at 0) 23 is)) ∙ timeless-one code at i next f (code-timeless byte n i q) in
+        let z : _≡_ {A = ℕ} 0 1 = cc in let b : ⊥ = omega arith in absurd b
 
 -- ---- operands of one byte
 

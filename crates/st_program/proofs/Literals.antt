@@ -78,8 +78,8 @@ all-starts (n ∷ ns) h =
     (T-true (isInt32 z) (and-left (isInt32 z) (leZ (n .range .low) z) (and-left (isInt32 z && leZ (n .range .low) z) (leZ z (n .range .high)) (h .0 .2))), all-starts ns (h .1))
 
 module _ (text : List ℕ) (p : Program) (e : programOf text ≡ accepted p) where
-  pub accepted-in-st : InSt p
-  accepted-in-st =
+  pub accepted-in-st : p .timers ≡ [] → InSt p
+  accepted-in-st untimed =
       let r = program-parsed text p e in
       let s = parse-spelled text p (r .0) (r .1) in
       let n = parse-named text p (r .0) (r .1) in
@@ -88,7 +88,7 @@ module _ (text : List ℕ) (p : Program) (e : programOf text ≡ accepted p) whe
         named = all-names (namesOf p) (n .each);
         distinct = n .distinct;
         literal = literal-rules (normals (namesOf p)) (s .rule-tokens) (p .rules) (s .spells-rules);
-        untimed = program-translatable text p e .untimed;
+        untimed = untimed;
       }
 
   pub accepted-starts : AllStarts (p .names)

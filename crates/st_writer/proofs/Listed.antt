@@ -261,11 +261,11 @@ module _ (names : List Identifier) where
           whole = λ l. s rs g e .whole l ∙ ap (λ (x : List Rule). rulesPrinted names x (f l)) q;
         }
 
-  pub rules-end : (code : List ℕ) (a : ℕ) (m₀ m₁ : List ℕ) (to p : ℕ) → length code ≤ a → Rules code a m₀ m₁ to p → (x : Program) → Translatable x → code ≡ mirrored (codeRules (x .rules)) []
+  pub rules-end : (code : List ℕ) (a : ℕ) (m₀ m₁ : List ℕ) (to p : ℕ) → length code ≤ a → Rules code a m₀ m₁ to p → (x : Program) → Translatable x → x .timers ≡ [] → code ≡ mirrored (codeRules [] (x .rules)) []
       → Fronts (statementsPrinted (map (ruleInSt names) (x .rules))) m₀ m₁ to p
   unfolding rulesCode rulesPrinted ruleCode
-  rules-end code a m₀ m₁ to p h s x t e =
-      go (s (onto (x .rules) []) (program-small x t) (e ∙ mirrored-rules (x .rules))) _ refl where
+  rules-end code a m₀ m₁ to p h s x t z e =
+      go (s (onto (x .rules) []) (program-small x t z) (e ∙ mirrored-rules (x .rules))) _ refl where
         go : (r : RulesLeft (onto (x .rules) []) code a m₀ m₁ to p) (qs : List Rule) → r .left ≡ qs → Fronts (statementsPrinted (map (ruleInSt names) (x .rules))) m₀ m₁ to p
         go r [] q = as-front (λ l. sym (rules-onto (x .rules) [] l) ∙ r .whole l ∙ ap (λ (k : List Rule). rulesPrinted names k (r .front l)) q) (r .wrote)
         go r (function v y ∷ qs) q = let i = begins code a 21 _ (r .stands ∙ ap rulesCode q) .inside in absurd (omega arith)

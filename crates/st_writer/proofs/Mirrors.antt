@@ -1,8 +1,8 @@
 -- Mirrored code: what the mirror holds of each part of a program, and how it is made. Assumes nothing.
 use Prim.Native.Nat.{ℕ, _+_}
-use mathlib.Core.Path.{_≡_, refl, ap, _∙_}
+use mathlib.Core.Path.{_≡_, refl, ap, subst, _∙_}
 use mathlib.Core.List.{List, [], _∷_, _++_}
-use Rattle.semantics.specs.Program.{Expression, Condition, Case, Rule, function, change, Program}
+use Rattle.semantics.specs.Program.{Expression, Condition, Case, Rule, function, change, Timer, Program}
 use Rattle.semantics.specs.Program as P
 use Rattle.leb128.specs.Numbers.{nothing}
 use Rattle.leb128.proofs.RoundTrip.{zigzag-small}
@@ -61,12 +61,12 @@ unfolding mirrored ruleCode casesCode
 mirrored-rule (function v e) l = mirrored-one (codeE e) _ l ∙ rw (mirrored-E e l)
 mirrored-rule (change v ks cs) l = mirrored-one (codeK v ks) _ l ∙ rw (mirrored-cases v ks [] l)
 
-mirrored-onto : (rs qs : List Rule) → mirrored (codeRules rs) (rulesCode qs) ≡ rulesCode (onto rs qs)
+mirrored-onto : (rs qs : List Rule) → mirrored (codeRules [] rs) (rulesCode qs) ≡ rulesCode (onto rs qs)
 unfolding mirrored rulesCode
 mirrored-onto [] qs = refl
-mirrored-onto (r ∷ rs) qs = mirrored-joined (codeR r) (codeRules rs) (rulesCode qs) ∙ rw (mirrored-rule r (rulesCode qs)) (mirrored-onto rs (r ∷ qs))
+mirrored-onto (r ∷ rs) qs = mirrored-joined (codeR r) (codeRules [] rs) (rulesCode qs) ∙ rw (mirrored-rule r (rulesCode qs)) (mirrored-onto rs (r ∷ qs))
 
-pub mirrored-rules : (rs : List Rule) → mirrored (codeRules rs) [] ≡ rulesCode (onto rs [])
+pub mirrored-rules : (rs : List Rule) → mirrored (codeRules [] rs) [] ≡ rulesCode (onto rs [])
 unfolding rulesCode
 mirrored-rules rs = mirrored-onto rs []
 
@@ -104,9 +104,12 @@ small-R : (r : Rule) → ShallowR r → AllSmall (codeR r) → SmallRule r
 small-R (function v e) d h = let r = small-joined (codeE e) _ h in (r .1 .0, small-E e (r .0))
 small-R (change v ks cs) d h = let r = small-joined (codeK v ks) _ h in (r .1 .0, small-K v ks (r .0), d .0)
 
-small-rules : (rs qs : List Rule) → Shallow rs → AllSmall (codeRules rs) → SmallRules qs → SmallRules (onto rs qs)
+small-rules : (rs qs : List Rule) → Shallow rs → AllSmall (codeRules [] rs) → SmallRules qs → SmallRules (onto rs qs)
 small-rules [] qs d h g = g
-small-rules (r ∷ rs) qs d h g = let x = small-joined (codeR r) (codeRules rs) h in small-rules rs (r ∷ qs) (d .1) (x .1) (small-R r (d .0) (x .0), g)
+small-rules (r ∷ rs) qs d h g = let x = small-joined (codeR r) (codeRules [] rs) h in small-rules rs (r ∷ qs) (d .1) (x .1) (small-R r (d .0) (x .0), g)
 
-pub program-small : (p : Program) → Translatable p → SmallRules (onto (p .rules) [])
-program-small p t = small-rules (p .rules) [] (t .shallow) (translated-small p t) tt
+pub untimed-small : (p : Program) → Translatable p → p .timers ≡ [] → AllSmall (codeRules [] (p .rules))
+untimed-small p t z = subst (λ (ts : List Timer). AllSmall (codeRules ts (p .rules))) z (translated-small p t)
+
+pub program-small : (p : Program) → Translatable p → p .timers ≡ [] → SmallRules (onto (p .rules) [])
+program-small p t z = small-rules (p .rules) [] (t .shallow) (untimed-small p t z) tt

@@ -117,17 +117,23 @@ pub fn sign_before(out: &mut [u8], to: usize, op: u8) -> usize
 // Code mirrored: its instructions in reverse order, so that an operation comes before its operands.
 pub fn mirror(code: &[u8], out: &mut [u8])
     requires { ⌜ length (now code) ≤ length (now out) ⌝ }
-    ensures { λ _. ⌜ ((p : Program) → Translatable p → now (code .entry) ≡ encodeAll (codeRules (p .rules))
-        → take (length (now (code .entry))) (now (out .exit)) ≡ mirrored (codeRules (p .rules)) []) ⌝ }
+    ensures { λ _. ⌜ ((p : Program) → Translatable p → p .timers ≡ [] → now (code .entry) ≡ encodeAll (codeRules [] (p .rules))
+        → take (length (now (code .entry))) (now (out .exit)) ≡ mirrored (codeRules [] (p .rules)) []) ⌝ }
 {
     let mut at: usize = 0;
     let mut to = code.len();
     while at < code.len() {
-        let f = bytecode::fetch(code, at);
-        let bytecode::Fetched::Instruction(_, _, next) = f else {
-            return;
-        };
-        to = bytes_before(out, to, &code[at..next]);
-        at = next;
+        match bytecode::fetch(code, at) {
+            bytecode::Fetched::Instruction(_, _, next) => {
+                to = bytes_before(out, to, &code[at..next]);
+                at = next;
+            }
+            bytecode::Fetched::Timer(_, _, _, _) => {
+                return;
+            }
+            bytecode::Fetched::Malformed => {
+                return;
+            }
+        }
     }
 }

@@ -167,7 +167,7 @@ pub fn rules_before(
     to: usize,
 ) -> usize
     requires { ⌜ Table (now starts) (now ends) count ⌝ }
-    ensures { λ r. ⌜ ((p : Program) → Translatable p → now (code .entry) ≡ mirrored (codeRules (p .rules)) []
+    ensures { λ r. ⌜ ((p : Program) → Translatable p → p .timers ≡ [] → now (code .entry) ≡ mirrored (codeRules [] (p .rules)) []
         → Fronts (statementsPrinted (map (ruleInSt (tableNames (now (text .entry)) (now (starts .entry)) (now (ends .entry)) count)) (p .rules)))
         (now (out .entry)) (now (out .exit)) to r) ⌝ }
 {

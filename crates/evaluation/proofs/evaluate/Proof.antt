@@ -23,27 +23,18 @@ loop-holds : tie.Need-loop-holds Inv-loop μ-loop
 loop-holds c = begins (c .before .args .code .now) (c .before .args .prev .now) (c .before .args .cur .now) (c .before .args .vals .now) _ refl refl refl (c .before .pre)
 
 work-requires : tie.Need-work-requires Inv-loop μ-loop
-work-requires c κs = (c .before .before .before .before .before .before .loop .inv .stack, subst (FetchedWithin (length (c .before .before .before .before .before .before .before .before .args .code .now)) (c .before .before .before .before .before .before .loop .at)) (c .before .before .f .given .1) (c .before .before .before .before .fetch .ensures .1) .operand)
-
-same-length : tie.Need-same-length Inv-loop μ-loop
-same-length c = let d = c .before .before .before .before .before .before .before .before .before .before .loop .inv .deep in search needs
-
-returns : tie.Need-returns Inv-loop μ-loop
-returns c =
-    let i = c .before .before .before .before .before .before .before .before .before .before .loop .inv in
-    let f = c .before .before .before .before .before .before .f .given in
-    λ x d l. (_, refused (taken (i .goes x d l) (c .before .before .before .before .before .before .before .before .before .loop-test .taken) (instructionOf (f .0 .0) (f .0 .1 .0)) (f .0 .1 .1 .0) (sym (ap fetchedRead (f .1)) ∙ c .before .before .before .before .before .before .before .before .fetch .ensures .0)) l (c .before .before .before .work .result) (c .before .before .before .work .last .1 .1 .0) (c .before .before .before .work .ensures .0) _ (c .enum-told .given .1))
+work-requires c κs = (c .before .before .before .before .before .before .loop .inv .stack, subst (FetchedWithin (length (c .before .before .before .before .before .before .before .before .args .code .now)) (c .before .before .before .before .before .before .loop .at)) (c .before .before .op .given .1) (c .before .before .before .before .fetch .ensures .1) .operand)
 
 loop-less : tie.Need-loop-less Inv-loop μ-loop
 loop-less c =
-    let b = subst (FetchedWithin (length (c .before .before .before .before .before .before .before .before .before .before .before .before .before .args .code .now)) (c .before .before .before .before .before .before .before .before .before .before .before .loop .at)) (c .before .before .before .before .before .before .before .f .given .1) (c .before .before .before .before .before .before .before .before .before .fetch .ensures .1) in
+    let b = subst (FetchedWithin (length (c .before .before .before .before .before .before .before .before .before .before .before .before .before .args .code .now)) (c .before .before .before .before .before .before .before .before .before .before .before .loop .at)) (c .before .before .before .before .before .before .before .op .given .1) (c .before .before .before .before .before .before .before .before .before .fetch .ensures .1) in
     omega (arith, b .behind, c .before .before .before .before .before .before .before .before .before .before .loop-test .taken)
 
 loop-again : tie.Need-loop-again Inv-loop μ-loop
 loop-again c =
-    let b = subst (FetchedWithin (length (c .before .before .before .before .before .before .before .before .before .before .before .before .before .args .code .now)) (c .before .before .before .before .before .before .before .before .before .before .before .loop .at)) (c .before .before .before .before .before .before .before .f .given .1) (c .before .before .before .before .before .before .before .before .before .fetch .ensures .1) in
+    let b = subst (FetchedWithin (length (c .before .before .before .before .before .before .before .before .before .before .before .before .before .args .code .now)) (c .before .before .before .before .before .before .before .before .before .before .before .loop .at)) (c .before .before .before .before .before .before .before .op .given .1) (c .before .before .before .before .before .before .before .before .before .fetch .ensures .1) in
     let i = c .before .before .before .before .before .before .before .before .before .before .before .loop .inv in
-    let f = c .before .before .before .before .before .before .before .f .given in
+    let f = c .before .before .before .before .before .before .before .op .given in
     let few = subst Few (c .before .s .given .1) (c .before .before .before .before .work .ensures .1) in
     let deep = c .before .before .before .before .work .kept .1 .1 .0 in
     record {
@@ -52,6 +43,15 @@ loop-again c =
       within = b .inside;
       goes = λ x d l. again (taken (i .goes x d l) (c .before .before .before .before .before .before .before .before .before .before .loop-test .taken) (instructionOf (f .0 .0) (f .0 .1 .0)) (f .0 .1 .1 .0) (sym (ap fetchedRead (f .1)) ∙ c .before .before .before .before .before .before .before .before .before .fetch .ensures .0)) l (c .before .before .before .before .work .result) (c .before .before .before .before .work .last .1 .1 .0) (c .before .before .before .before .work .ensures .0) (c .before .s .given .0 .0) (c .before .s .given .1);
     }
+
+same-length : tie.Need-same-length Inv-loop μ-loop
+same-length c = let d = c .before .before .before .before .before .before .before .before .before .before .loop .inv .deep in search needs
+
+returns : tie.Need-returns Inv-loop μ-loop
+returns c =
+    let i = c .before .before .before .before .before .before .before .before .before .before .loop .inv in
+    let f = c .before .before .before .before .before .before .op .given in
+    λ x d l. (_, refused (taken (i .goes x d l) (c .before .before .before .before .before .before .before .before .before .loop-test .taken) (instructionOf (f .0 .0) (f .0 .1 .0)) (f .0 .1 .1 .0) (sym (ap fetchedRead (f .1)) ∙ c .before .before .before .before .before .before .before .before .fetch .ensures .0)) l (c .before .before .before .work .result) (c .before .before .before .work .last .1 .1 .0) (c .before .before .before .work .ensures .0) _ (c .enum-told .given .1))
 
 same-length-2 : tie.Need-same-length-2 Inv-loop μ-loop
 same-length-2 c = let d = c .before .before .before .before .loop .inv .deep in search needs
@@ -81,5 +81,5 @@ returns-4 c =
 pub evaluate-spec : {M : Type 1} → statement M
 evaluate-spec =
     tie.close
-    (tie.spec Inv-loop μ-loop loop-holds (λ c κs. search needs) (λ c. search needs) work-requires (λ c. search needs) (λ c. search needs) same-length returns
-    loop-less loop-again (λ c. search needs) same-length-2 returns-2 (λ c. search needs) same-length-3 returns-3 answer-requires same-length-4 returns-4)
+    (tie.spec Inv-loop μ-loop loop-holds (λ c κs. search needs) (λ c. search needs) work-requires (λ c. search needs) loop-less loop-again
+    (λ c. search needs) same-length returns (λ c. search needs) same-length-2 returns-2 (λ c. search needs) same-length-3 returns-3 answer-requires same-length-4 returns-4)

@@ -30,7 +30,7 @@ same-length : tie.Need-same-length Inv-loop μ-loop
 same-length c = c .before .loop .inv .0
 
 returns : tie.Need-returns Inv-loop μ-loop
-returns c = λ p t e. rules-end _ _ _ _ _ _ _ (c .loop-test .left) (c .before .loop .inv .1) p t e
+returns c = λ p t z e. rules-end _ _ _ _ _ _ _ (c .loop-test .left) (c .before .loop .inv .1) p t z e
 
 pub rules-before-spec : {M : Type 1} → statement M
 rules-before-spec =
