@@ -2,7 +2,7 @@
 use Prim.Native.Nat.{ℕ, zero, suc, _+_, _≤_, _<_}
 use mathlib.Core.Path.{_≡_, refl, sym, ap, ap₂, subst, _∙_}
 use mathlib.Core.Bool.{Bool, true, false, cond, _&&_}
-use mathlib.Core.List.{List, [], _∷_, map}
+use mathlib.Core.List.{List, []}
 use mathlib.Core.Option.{Option, none, some}
 use native.Mathlib.Omega.{arith}
 use lib.Dec.{eqb, leb, ltb}
@@ -12,12 +12,11 @@ use borrow.Author.Tests.{eq-eqb, ne-eqb, eqb-true, eqb-false, le-leb, lt-leb, lt
 use Rattle.limits.specs.Limits.{timeLimit}
 use Rattle.limits.specs.Answer.{refused}
 use Rattle.arith.specs.Values.{eqZ}
-use Rattle.semantics.specs.Program.{Range, noRange, rangeAt, changing, rising, falling, isBinary, knownFirst}
-use Rattle.leb128.specs.Numbers.{unzigzag, got, nothing}
-use Rattle.bytecode.specs.Instructions.{Instruction, constant, current, previous, operation, negate, comparison, negated, both, either, gate, pick, assign, settle, timer, operationOf, comparisonOf, instructionOf, fetch}
+use Rattle.semantics.specs.Program.{Range, noRange, rangeAt, isBinary, knownFirst}
+use Rattle.leb128.specs.Numbers.{got, nothing}
+use Rattle.bytecode.specs.Instructions.{Instruction, timer, instructionOf, fetch}
 use Rattle.bytecode.specs.Signature.{signature}
-use Rattle.bytecode.specs.Check.{Known, known, advance, follows, isTimerRange, suits, complete, ends, checkCode}
-use Rattle.bytecode.specs.Parts.{lows, highs, starts}
+use Rattle.bytecode.specs.Check.{known, advance, follows, isTimerRange, suits, complete, ends, checkCode}
 use Rattle.bytecode.proofs.Timeless.{suits-timeless, code-timeless}
 use Rattle.checker.specs.declared.advance.Walk.{Walk}
 use Rattle.checker.specs.declared.timed.Last.{Last}

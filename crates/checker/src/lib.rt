@@ -2,7 +2,7 @@
 ghost use mathlib.Core.Path.{_≡_};
 ghost use Prim.Native.Nat.{_≤_};
 ghost use lib.ListN.{length};
-ghost use Rattle.limits.specs.Limits.{imageLimit, nameLimit};
+ghost use Rattle.limits.specs.Limits.{nameLimit};
 ghost use Rattle.bytecode.specs.Check.{complete as completeOf, checkOf};
 ghost use Rattle.checker.specs.Inner.Walk.{knownOf, Small, initialWalk};
 ghost use Rattle.checker.specs.Inner.Surveys.{ReadHeader};

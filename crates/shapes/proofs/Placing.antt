@@ -1,7 +1,7 @@
 -- The loop that places the elapsed times: what is left to place makes the whole. Assumes nothing.
-use Prim.Native.Nat.{ℕ, zero, suc, _+_, _/_, _%_, _^_, _≤_, _<_}
-use mathlib.Core.Path.{_≡_, refl, sym, ap, subst, _∙_}
-use mathlib.Core.Bool.{Bool, true, false}
+use Prim.Native.Nat.{ℕ, zero, suc, _+_, _/_, _^_, _≤_, _<_}
+use mathlib.Core.Path.{_≡_, refl, sym, ap, _∙_}
+use mathlib.Core.Bool.{true, false}
 use mathlib.Core.List.{List, [], _∷_, map, append-nil}
 use native.Mathlib.Omega.{arith}
 use native.Mathlib.Numerals.{add-one}
@@ -10,8 +10,7 @@ use lib.Bits.{bitOr}
 use lib.IntN.{ℤ, pos}
 use lib.ListN.{length, getD, set, drop, length-map, length-set}
 use lib.Pow.{pow-mono}
-use lib.Seq.{sets, drop-cons, drop-length, set-getD, length-sets}
-use borrow.Author.Tests.{ne-eqb}
+use lib.Seq.{sets, drop-cons, drop-length, set-getD}
 use Rattle.arith.specs.Inner.Flags.{flagsOf}
 use Rattle.arith.proofs.Flags.{length-flags, flag-at, flag-set, set-low}
 use Rattle.leb128.proofs.Stores.{sets-front}

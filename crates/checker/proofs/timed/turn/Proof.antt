@@ -1,8 +1,7 @@
 -- `checker::timed::turn` meets its contract: an instruction of one operand at most, a timer, or nothing. Assumes nothing.
-use mathlib.Core.Path.{_≡_, sym, ap, subst, _∙_}
+use mathlib.Core.Path.{sym, ap, subst, _∙_}
 use lib.ListN.{length}
 use borrow.Author.Needs.{needs}
-use Rattle.leb128.specs.Numbers.{got}
 use Rattle.bytecode.specs.Instructions.{decoded}
 use Rattle.bytecode.specs.Results.{fetchedRead, FetchedWithin}
 use Rattle.checker.proofs.Timing.{nothing-turns, plain-turns, timer-turns}
