@@ -7,11 +7,28 @@ use Prim.Native.Nat.{ℕ, zero, suc, _<_}
 use native.Mathlib.Omega.{arith}
 use lib.ListN.{length, getD, set, length-set}
 use lib.Seq.{getD-set-same, getD-set-other}
-use lib.Dec.{T, eqb, ltb}
-use borrow.Author.Tests.{eqb-true, eqb-false, ltb-true, ltb-false, lt-ltb, le-ltb}
-use Rattle.semantics.specs.Program.{Rule, Timer, target, knownFirst, allTrue, timersKnown, OrderedRules}
+use lib.Dec.{T, eqb, ltb, leb}
+use borrow.Author.Tests.{eqb-true, eqb-false, ltb-true, ltb-false, lt-ltb, le-ltb, leb-true, leb-false, le-leb, lt-leb}
+use Rattle.semantics.specs.Program.{Rule, Timer, target, knownFirst, allTrue, isTimer, taken, timersKnown, OrderedRules, Numbered}
 use Rattle.semantics.proofs.Reference.{length-known}
 use Rattle.semantics.proofs.Cells.{known-length}
+
+-- the timers are the names from the first of them on
+pub timer-from : (first end : ℕ) (ts : List Timer) (v : ℕ) → Numbered first end ts → v < end → isTimer ts v ≡ leb first v
+timer-from first end [] v num h = sym (lt-leb first v (omega (arith, num)))
+timer-from first end (x ∷ xs) v num h = go (eqb (x .id) v) refl (timer-from (suc first) end xs v (num .1) h)
+  where
+    go : (b : Bool) → eqb (x .id) v ≡ b → isTimer xs v ≡ leb (suc first) v → cond b true (isTimer xs v) ≡ leb first v
+    go true e ih = let q = eqb-true (x .id) v e in sym (le-leb first v (omega (arith, num .0)))
+    go false e ih = ih ∙ later (leb first v) refl (λ z. eqb-false (x .id) v e (num .0 ∙ z))
+      where
+        later : (b : Bool) → leb first v ≡ b → (first ≡ v → ⊥) → leb (suc first) v ≡ leb first v
+        later true t n = let l = leb-true first v t in le-leb (suc first) v (omega arith) ∙ sym t
+        later false t n = let l = leb-false first v t in lt-leb (suc first) v (omega arith) ∙ sym t
+
+-- so a rule is asked for a name before them that is not known
+pub taken-from : (first end : ℕ) (ts : List Timer) (known : List Bool) (v : ℕ) → Numbered first end ts → v < end → taken ts known v ≡ cond (leb first v) true (getD known v false)
+taken-from first end ts known v num h = ap (λ (b : Bool). cond b true (getD known v false)) (timer-from first end ts v num h)
 
 -- what is known after rules, each of which makes its variable and the timers of that known
 abbrev pub knownAfter : List Timer → List Bool → List Rule → List Bool
