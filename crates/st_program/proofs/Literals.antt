@@ -1,15 +1,15 @@
 -- The program of an accepted text: its names are names, its starts DINTs, and its numbers carry no sign. Assumes nothing.
 use Prim.Native.Nat.{ℕ, zero, suc}
 use mathlib.Core.Path.{_≡_, refl, subst}
-use mathlib.Core.Bool.{Bool, true, false, _&&_}
+use mathlib.Core.Bool.{Bool, true, false, _&&_, false≢true}
 use mathlib.Core.List.{List, [], _∷_, _++_, map, append-nil}
 use mathlib.Core.Option.{Option, none, some}
 use lib.ListN.{length, getElem?}
 use lib.Signed.{leZ}
 use Rattle.limits.specs.Answer.{accepted}
 use Rattle.arith.specs.Values.{isInt32}
-use Rattle.arith.proofs.Basics.{T-true, and-left}
-use Rattle.semantics.specs.Program.{Name, Range, Expression, Condition, Side, rising, falling, Case, Rule, Program, rangesOf}
+use Rattle.arith.proofs.Basics.{T-true, and-left, and-both}
+use Rattle.semantics.specs.Program.{Name, Range, Expression, Condition, Side, rising, falling, Case, Rule, Timer, Program, rangesOf}
 use Rattle.bytecode.specs.Translation.{Translatable, RangesFit}
 use Rattle.grammar.specs.Derivation as D
 use Rattle.grammar.specs.Derivation.{IsName, Tokens, normals, Level, LevelC, SpellsE, SpellsC}
@@ -24,6 +24,7 @@ use Rattle.st_program.proofs.Cases.{LiteralK}
 use Rattle.st_program.proofs.Rules.{LiteralR, LiteralAll}
 use Rattle.st_program.proofs.FirstStore.{AllNames}
 use Rattle.st_program.proofs.Printable.{AllStarts}
+use Rattle.st_program.specs.Written.{noneStWord, noTimer, hasSt}
 use Rattle.st_program.proofs.Cycle.{InSt}
 
 module _ (names : List (List ℕ)) where
@@ -93,3 +94,12 @@ module _ (text : List ℕ) (p : Program) (e : programOf text ≡ accepted p) whe
 
   pub accepted-starts : AllStarts (p .names)
   accepted-starts = all-starts (p .names) (program-translatable text p e .ranges-fit)
+
+-- a program that has Structured Text has no timers
+pub st-untimed : (p : Program) → hasSt p ≡ true → p .timers ≡ []
+unfolding hasSt
+st-untimed p h = go (p .timers) (and-both (noTimer (p .timers)) (noneStWord (namesOf p)) h .0)
+  where
+    go : (ts : List Timer) → noTimer ts ≡ true → ts ≡ []
+    go [] e = refl
+    go (x ∷ xs) e = absurd (false≢true e)

@@ -23,7 +23,7 @@ use Rattle.st.specs.Printed.{programPrinted}
 use Rattle.st.proofs.Lexed.{NameWord}
 use Rattle.st.proofs.Expressions.{Writable}
 use Rattle.st.proofs.Programs.{WritableA, WritableK, AllWritable, WritableS, AllWritableS, WritableD, program-read, nothing-read}
-use Rattle.st_program.specs.Written.{nameAt, expressionInSt, conditionInSt, branchInSt, ruleInSt, currentLine, previousLine, variableLines, savingLine, programInSt, stBytes, isStWord, noneStWord, hasSt}
+use Rattle.st_program.specs.Written.{nameAt, expressionInSt, conditionInSt, branchInSt, ruleInSt, currentLine, previousLine, variableLines, savingLine, programInSt, stBytes, isStWord, noneStWord, hasSt, noTimer}
 use Rattle.st_program.proofs.Values.{Literal, LiteralC, known-in}
 use Rattle.st_program.proofs.Cases.{LiteralK}
 use Rattle.st_program.proofs.Rules.{LiteralR, LiteralAll}
@@ -153,7 +153,7 @@ none-ruled ns k (r ∷ rs) o ws e f =
 module _ (p : Program) (w : InSt p) (starts : AllStarts (p .names)) (h : hasSt p ≡ true) where
   words : AllWords (namesOf p)
   unfolding hasSt
-  words = all-words (namesOf p) (w .named) h
+  words = all-words (namesOf p) (w .named) (and-both (noTimer (p .timers)) (noneStWord (namesOf p)) h .1)
 
   pub printed-read : programRead (stBytes p) ≡ some (programInSt p)
   unfolding stBytes programInSt

@@ -1,10 +1,10 @@
--- A program of the text as one of Structured Text. Document 02, A.4: each comment is a sentence of it, or says how one is read. Assumes nothing.
+-- A program of the text as one of Structured Text. Document 02, A.4 and A.7: each comment is a sentence of it, or says how one is read. Assumes nothing.
 use Prim.Native.Nat.{ℕ, suc}
-use mathlib.Core.Bool.{Bool, true, not, _&&_}
+use mathlib.Core.Bool.{Bool, true, false, not, _&&_}
 use mathlib.Core.List.{List, [], _∷_, _++_, map}
 use lib.IntN.{ℤ, pos, negsuc}
 use lib.ListN.{getD, take, drop}
-use Rattle.semantics.specs.Program.{Name, Expression, constant, current, previous, operation, negate, Condition, comparison, negated, both, either, Case, Rule, function, change, Program}
+use Rattle.semantics.specs.Program.{Name, Expression, constant, current, previous, operation, negate, Condition, comparison, negated, both, either, Case, Rule, function, change, Timer, Program}
 use Rattle.grammar.specs.Spelled.{namesOf}
 use Rattle.st.specs.Syntax.{Identifier, or, and, connects, relates, computes, StExpression, number, variable, negative, complement, binary, Branch, Statement, assign, choose, Declaration, StProgram}
 use Rattle.lexer.specs.Bytes.{bytes}
@@ -89,5 +89,10 @@ abbrev pub noneStWord : List (List ℕ) → Bool
 noneStWord [] = true
 noneStWord (w ∷ ws) = not (isStWord w) && noneStWord ws
 
+-- 21 a timer (document 02, A.7)
+abbrev pub noTimer : List Timer → Bool
+noTimer [] = true
+noTimer (x ∷ xs) = false
+
 unfoldable pub hasSt : Program → Bool
-hasSt p = noneStWord (namesOf p)
+hasSt p = noTimer (p .timers) && noneStWord (namesOf p)
