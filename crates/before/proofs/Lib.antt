@@ -1,2 +1,4 @@
+pub mod Stored
+pub mod Cells
 pub mod Tests
-pub mod Scans
+pub mod Begins

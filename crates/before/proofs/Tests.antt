@@ -1,64 +1,111 @@
 -- The tests before the code. Assumes nothing.
-use Prim.Native.Nat.{ℕ, _≤_}
+use Prim.Native.Nat.{ℕ, _+_, _^_, _≤_, _<_}
 use native.Mathlib.Omega.{arith}
 use mathlib.Core.Path.{_≡_, refl, sym, ap, _∙_}
-use mathlib.Core.Bool.{Bool, true, false}
-use mathlib.Core.List.{List, map}
-use lib.IntN.{ℤ}
-use lib.ListN.{length, take, length-map}
-use lib.Seq.{sets}
+use mathlib.Core.Bool.{Bool, true, false, _&&_}
+use mathlib.Core.List.{List}
+use lib.IntN.{ℤ, pos, negsuc}
+use lib.ListN.{length, take, List·getD-eq-default}
+use lib.Seq.{take-all, length-take-le}
+use lib.Signed.{nonNeg}
 use borrow.Author.Tests.{eq-eqb, ne-eqb}
 use Rattle.limits.specs.Answer.{accepted, refused}
-use Rattle.semantics.specs.Program.{Range}
-use Rattle.semantics.specs.Formula.{State}
-use Rattle.semantics.specs.Shape.{allWithin}
+use Rattle.arith.specs.Values.{count}
+use Rattle.semantics.specs.Formula.{State, at}
+use Rattle.semantics.specs.Shape.{Shape, nameCount, hasTimer, cells, allWithin, millisOf}
 use Rattle.semantics.specs.ReferenceScan.{withInputs}
-use Rattle.leb128.proofs.Stores.{take-sets}
-use Rattle.bytecode.specs.Check.{checkOf}
-use Rattle.bytecode.specs.Parts.{headerOf, lows, highs}
-use Rattle.bytecode.proofs.Limits.{no-times, no-timer}
-use Rattle.bytecode.proofs.SoundHeader.{SoundCounts}
-use Rattle.before.specs.Before.{beforeCode}
+use Rattle.bytecode.proofs.Walk.{refused≢accepted}
+use Rattle.shapes.specs.declared.Measured.{Measured}
+use Rattle.machine.specs.declared.Timing.{Timing}
+use Rattle.machine.proofs.Changes.{names-length}
 use Rattle.before.specs.declared.Before.{Before}
 use Rattle.before.specs.declared.Before.the-variants as T
-use Rattle.before.specs.Inner.Known.{beforeAnswer, inRanges, CopiedBy, Begun, BegunBy}
+use Rattle.before.specs.Before.{testedBefore}
+use Rattle.before.specs.Inner.Known.{beforeAnswer, inRanges, CopiedBy, KnownShape, testedRow, Prepared, PreparedBy}
+use Rattle.before.proofs.Cells.{no-elapsed, some-elapsed, names-within}
 
--- a field of each range, stored at the front
-pub stored : (f : Range → ℤ) (ns : List Range) (n : ℕ) (l left : List ℤ) → length ns ≡ n → n ≤ length l → left ≡ sets l 0 (map f ns) → take n left ≡ map f ns
-stored f ns n l left e h s =
-    let q : length (map f ns) ≡ n = length-map ns f ∙ e in
-    ap (λ (k : ℕ). take k left) (sym q) ∙ rw s (take-sets l (map f ns) (omega arith))
+-- a refusal comes before the next test; without one, that test decides
+then-refused : (a b d : Bool) (n p : ℕ) → testedBefore a 18 (testedBefore b 13 (accepted tt)) ≡ refused n p → refused n p ≡ testedBefore a 18 (testedBefore (b && d) 13 (accepted tt))
+then-refused true true d n p e = refused≢accepted tt n p (sym e)
+then-refused true false d n p e = sym e
+then-refused false b d n p e = sym e
 
-module _ (image : List ℕ) (s : State) (row : List ℤ) where
-  pub before-refused : (n p : ℕ) → refused n p ≡ checkOf image → refused n p ≡ beforeCode image s row
-  unfolding beforeCode
-  before-refused n p e = rw (← e)
+then-tested : (a b d : Bool) → testedBefore a 18 (testedBefore b 13 (accepted tt)) ≡ accepted tt → testedBefore d 13 (accepted tt) ≡ testedBefore a 18 (testedBefore (b && d) 13 (accepted tt))
+then-tested true true d e = refl
+then-tested true false d e = refused≢accepted tt 13 0 e
+then-tested false b d e = refused≢accepted tt 18 0 e
 
-  module _ (sound : checkOf image ≡ accepted tt) {inputs names : ℕ} (k : SoundCounts image inputs names) where
-    pub before-state : (length s ≡ names → ⊥) → refused 12 0 ≡ beforeCode image s row
-    unfolding beforeCode
-    before-state h = rw (sound, no-times image sound, k .names-are, ne-eqb (length s) names h)
+counted : (z : ℤ) → millisOf z ≡ count z
+counted (pos n) = refl
+counted (negsuc n) = refl
 
-    pub before-row : length s ≡ names → (length row ≡ inputs → ⊥) → refused 12 0 ≡ beforeCode image s row
-    unfolding beforeCode
-    before-row h n = rw (sound, no-times image sound, no-timer image sound, k .names-are, eq-eqb (length s) names h, k .inputs-are, ne-eqb (length row) inputs n)
+module _ {k : Shape} {m : Measured} {low high : List ℤ} (x : KnownShape k m low high) (s : State) (row : List ℤ) (sized : length low ≡ length s) where
+  abbrev timingOf : ℕ → Timing
+  timingOf n = record { names = m .names; timers = m .timers; millis = n }
 
-    pub before-rest : length s ≡ names → length row ≡ inputs → inRanges (headerOf image .ranges) s row ≡ beforeCode image s row
-    unfolding beforeCode
-    before-rest h n = rw (sound, no-times image sound, no-timer image sound, k .names-are, k .inputs-are, eq-eqb (length s) names h, eq-eqb (length row) inputs n)
+  numbers : length (cells k) ≡ length s
+  numbers = names-length (cells k) low high (x .ranges) ∙ sized
 
--- what a start keeps, by the answer
-pub begun-by : (image : List ℕ) (s : State) (row low high work part : List ℤ) (names place : ℕ) → checkOf image ≡ accepted tt → length s ≡ names → SoundCounts image (length row) names → place ≡ headerOf image .place → place ≤ length image
-    → take names low ≡ lows (headerOf image .ranges) → take names high ≡ highs (headerOf image .ranges) → take names work ≡ part → (r : Before) → CopiedBy place s row part r
-    → BegunBy image s row low high work r
-begun-by image s row low high work part names place sound n k e i l h w (T.Code at) c =
-    record {
-      names = rw (no-times image sound) (n ∙ sym (k .names-are));
-      few = omega (arith, k .few);
-      code = c .0 ∙ e;
-      inside = omega (arith, c .0, i);
-      lowest = rw n l;
-      highest = rw n h;
-      copied = rw n w ∙ c .1;
-    }
-begun-by image s row low high work part names place sound n k e i l h w (T.Refused number at) c = omega (arith, c)
+  -- ---- as many numbers as names
+
+  module _ (h : length s ≡ m .names) where
+    untimed : hasTimer (k .limits) ≡ false
+    untimed = no-elapsed k (numbers ∙ h ∙ sym (x .names-are))
+
+    pub plain-length : (length row ≡ m .inputs → ⊥) → refused 12 0 ≡ testedRow k s row
+    plain-length n = rw (untimed, x .inputs-are, ne-eqb (length row) (m .inputs) n)
+
+    module _ (n : length row ≡ m .inputs) where
+      pub plain-rest : inRanges (cells k) s row ≡ testedRow k s row
+      plain-rest = rw (untimed, x .inputs-are, eq-eqb (length row) (m .inputs) n, names-within k row (omega (arith, x .among, x .names-are)))
+
+      pub plain-prepared : (work : List ℤ) (r : Before) → CopiedBy (m .place) (timingOf 0) s row work r → PreparedBy k m s row work r
+      plain-prepared work (T.Refused number at₁) c = c
+      plain-prepared work (T.Code at₁ timing) c =
+          let out : at row (k .inputs) ≡ pos 0 = List·getD-eq-default row (pos 0) (omega (arith, x .inputs-are)) in (
+            c .0,
+            record {
+              names-are = rw (c .1);
+              timers-are = rw (c .1);
+              short = rw (c .1) (omega arith);
+              timed = rw (c .1) (record { flags = x .flags; time = ap millisOf out });
+              copied = c .2 ∙ ap (withInputs s) (sym (take-all (k .inputs) row (omega (arith, x .inputs-are))));
+            },
+          )
+
+  -- ---- more numbers: elapsed times
+
+  module _ (h : length s ≡ m .names → ⊥) where
+    some-timer : hasTimer (k .limits) ≡ true
+    some-timer = some-elapsed k (λ e. h (sym numbers ∙ e ∙ x .names-are))
+
+    pub timed-length : (length row ≡ m .inputs + 1 → ⊥) → refused 12 0 ≡ testedRow k s row
+    timed-length n = rw (some-timer, x .inputs-are, ne-eqb (length row) (m .inputs + 1) n)
+
+    module _ (n : length row ≡ m .inputs + 1) where
+      inputs-within : allWithin (cells k) (take (m .inputs) row) ≡ allWithin (k .ranges) (take (m .inputs) row)
+      inputs-within = names-within k (take (m .inputs) row) (omega (arith, length-take-le (m .inputs) row (omega arith), x .among, x .names-are))
+
+      pub timed-refused : (j p : ℕ) → inRanges (cells k) s (take (m .inputs) row) ≡ refused j p → refused j p ≡ testedRow k s row
+      timed-refused j p e =
+          rw (some-timer, x .inputs-are, eq-eqb (length row) (m .inputs + 1) n, ← inputs-within)
+          (then-refused (allWithin (cells k) s) (allWithin (cells k) (take (m .inputs) row)) (nonNeg (at row (m .inputs))) j p e)
+
+      pub timed-tested : (b : Bool) → nonNeg (at row (m .inputs)) ≡ b → inRanges (cells k) s (take (m .inputs) row) ≡ accepted tt → testedBefore b 13 (accepted tt) ≡ testedRow k s row
+      timed-tested b z e =
+          rw (some-timer, x .inputs-are, eq-eqb (length row) (m .inputs + 1) n, ← inputs-within, z)
+          (then-tested (allWithin (cells k) s) (allWithin (cells k) (take (m .inputs) row)) b e)
+
+      pub timed-prepared : (ms : ℕ) (work : List ℤ) (r : Before) → ms ≡ count (at row (m .inputs)) → ms < 2 ^ 31 → CopiedBy (m .place) (timingOf ms) s (take (m .inputs) row) work r
+          → PreparedBy k m s row work r
+      timed-prepared ms work (T.Refused number at₁) e l c = c
+      timed-prepared ms work (T.Code at₁ timing) e l c = (
+        c .0,
+        record {
+          names-are = rw (c .1);
+          timers-are = rw (c .1);
+          short = rw (c .1) (omega arith);
+          timed = rw (c .1) (record { flags = x .flags; time = rw (x .inputs-are) (counted (at row (m .inputs)) ∙ sym e) });
+          copied = rw (x .inputs-are) (c .2);
+        },
+      )

@@ -5,11 +5,14 @@ use native.Mathlib.Omega.{arith}
 use mathlib.Core.Path.{_≡_, refl, sym, subst, _∙_}
 use mathlib.Core.Bool.{Bool, true, false, cond, false≢true}
 use mathlib.Core.List.{List, []}
-use mathlib.Core.Option.{none, some}
+use mathlib.Core.Option.{some}
 use lib.IntN.{ℤ}
 use lib.ListN.{length}
-use Rattle.semantics.specs.Program.{Range, knownFirst}
-use Rattle.bytecode.specs.Check.{complete, known, checkCode}
+use Rattle.limits.specs.Answer.{accepted, refused}
+use Rattle.semantics.specs.Shape.{Setting}
+use Rattle.bytecode.specs.Check.{complete}
+use Rattle.bytecode.specs.Inner.Timers.{NoTimers}
+use Rattle.bytecode.proofs.Fetching.{one-fetched}
 use Rattle.bytecode.proofs.RoundTrip.{one-next}
 use Rattle.bytecode.proofs.Soundness.{advance-small}
 use Rattle.arith.specs.Inner.Flags.{flagsOf}
@@ -18,11 +21,11 @@ use Rattle.checker.specs.Inner.Walk.{knownOf}
 use Rattle.checker.specs.declared.Verdict.{Verdict}
 use Rattle.checker.specs.declared.Verdict.the-variants as J
 use Rattle.checker.specs.Inner.Walk.{initialWalk}
-use Rattle.checker.specs.Results.{verdictAnswer, Judges}
-use Rattle.checker.proofs.Walking.{WalksTo, walks-here, walks-on, walks-step, judges-on, judges-end, judges-whole, initial-small}
+use Rattle.checker.specs.Results.{Judges}
+use Rattle.checker.proofs.Walking.{WalksTo, walks-here, walks-on, walks-step, judges-on, judges-complete, judges-missing, answers-whole, initial-small}
 use Rattle.machine.specs.declared.Registers.{Registers}
 use Rattle.machine.specs.declared.Stepped.the-variants.{Next, Refused}
-use Rattle.machine.specs.Inner.Memory.{heldOf, OneEach}
+use Rattle.machine.specs.Inner.Memory.{heldOf, RangesIn, OneEach}
 use Rattle.machine.specs.Inner.Dispatch.{dispatchedOf}
 use Rattle.machine.proofs.Loop.{Going, ended, stopped, again}
 use Rattle.machine.proofs.Dispatching.{one-done}
@@ -33,6 +36,10 @@ use Rattle.fused.specs.declared.Ended.{Ended}
 use Rattle.fused.specs.declared.Ended.the-variants as E
 use Rattle.fused.specs.Inner.Passes.{registersOf, Ready, BreaksAt, Moves, Refuses, RefusedBy, CheckedCode, BrokenCode, Succeeds, Fails, RunBy}
 use Rattle.fused.specs.Inner.Leaps.{Goes, lastly, first, LeapsBy}
+
+-- the settings that lows and highs stand for
+abbrev Settings : List ℤ → List ℤ → Setting → Type 0
+Settings low high ns = RangesIn (ns .ranges) low high
 
 -- nothing held, nothing picked, nothing passed over
 abbrev idle : Registers
@@ -45,7 +52,7 @@ fresh inputs names = record { walk = initialWalk inputs names; at = 0; picked = 
 pub record Fusing (code : List ℕ) (low high prev : List ℤ) (inputs : ℕ) (cur₀ vals₀ cur vals : List ℤ) (b : Progress) (steps : ℕ) : Type 0 where
   pub ready : Ready low high prev cur vals b
   pub walks : WalksTo code 0 (knownOf (initialWalk inputs (length low))) (b .at) (knownOf (b .walk))
-  pub going : Going code low high prev cur₀ vals₀ 0 (length code) idle cur vals (registersOf b) (b .at) steps
+  pub going : Going code (Settings low high) low high prev cur₀ vals₀ 0 (length code) idle cur vals (registersOf b) (b .at) steps
   pub few : steps ≤ b .at
 
 pub fusing-begins : (code : List ℕ) (low high prev : List ℤ) (inputs : ℕ) (cur vals : List ℤ) → OneEach low high prev cur → inputs ≤ length low → length low ≤ 64 → 40 ≤ length vals
@@ -81,7 +88,7 @@ module _ {code : List ℕ} {low high prev : List ℤ} {inputs : ℕ} {cur₀ val
       let i = m .instruction in
       let behind : b .at < k .at = one-next code (b .at) i (k .at) (m .fetched) .1 in
       let names : length (flagsOf (k .walk .names) (k .walk .known)) ≡ length (flagsOf (b .walk .names) (b .walk .known)) = advance-small i (knownOf (b .walk)) (knownOf (k .walk)) (omega (arith, length-flags (b .walk .names) (b .walk .known), f .ready .small .few-names)) (m .advanced) .1 in
-      let c = one-done code low high prev (b .at) (registersOf b) vals cur l (some i) (k .at) (m .fetched) vals₁ cur₁ (Next (registersOf k)) (few-held (k .passing) (k .walk .held) (m .small .few-held))
+      let c = one-done code (Settings low high) prev (b .at) (registersOf b) vals cur l (some i) (k .at) (one-fetched code (b .at) i (k .at) (m .fetched)) vals₁ cur₁ (Next (registersOf k)) (few-held (k .passing) (k .walk .held) (m .small .few-held))
       (λ ns q. sym (m .acted ns q)) (dispatchedOf (k .at) (Next (registersOf k))) refl in
       record {
         ready = record {
@@ -97,15 +104,18 @@ module _ {code : List ℕ} {low high prev : List ℤ} {inputs : ℕ} {cur₀ val
       }
 
   -- what the walk finds from here on
-  module _ (r : Verdict) (j : Judges code (b .at) (knownOf (b .walk)) r) where
-    whole : (ns : List Range) (base : ℕ) → verdictAnswer base r ≡ checkCode ns base code (length code) 0 none (known [] false none (knownFirst inputs (length low)))
-    whole = judges-whole code inputs (length low) (initialWalk inputs (length low)) r refl (judges-on code 0 _ (b .at) (knownOf (b .walk)) r (f .walks) j)
+  whole : (r : Verdict) → Judges code (b .at) (knownOf (b .walk)) r → Judges code 0 (knownOf (initialWalk inputs (length low))) r
+  whole r j = judges-on code 0 _ (b .at) (knownOf (b .walk)) r (f .walks) j
 
   pub fusing-breaks : (at : ℕ) → Judges code (b .at) (knownOf (b .walk)) (J.Broken at) → BrokenCode code inputs (length low) at
-  fusing-breaks at j ns base = sym (whole (J.Broken at) j ns base)
+  fusing-breaks at j ns base = sym (answers-whole code inputs (length low) (λ base₁. refused 11 (base₁ + at)) (whole (J.Broken at) j) ns base)
 
-  fusing-sound : Judges code (b .at) (knownOf (b .walk)) J.Sound → CheckedCode code inputs (length low)
-  fusing-sound j ns base = sym (whole J.Sound j ns base)
+  module _ (j : Judges code (b .at) (knownOf (b .walk)) J.Sound) where
+    fusing-sound : CheckedCode code inputs (length low)
+    fusing-sound ns base = sym (answers-whole code inputs (length low) (λ base₁. accepted tt) (whole J.Sound j .0) ns base)
+
+    fusing-untimed : NoTimers code 0
+    fusing-untimed = whole J.Sound j .1
 
   -- with what is answered of the rest of the code
   module _ (k : Progress) (number : ℕ) (l : b .at < length code) (m : Refuses code low high prev b vals cur k number) where
@@ -119,9 +129,10 @@ module _ {code : List ℕ} {low high prev : List ℤ} {inputs : ℕ} {cur₀ val
     fusing-refused rest =
         record {
           sound = fusing-sound (behind J.Sound rest);
+          untimed = fusing-untimed (behind J.Sound rest);
           place = b .at;
           went = λ ns q. sym (stopped (f .going) (omega (arith, f .few)) number
-              (one-done code low high prev (b .at) (registersOf b) vals cur l (some (m .instruction)) (k .at) (m .fetched) vals cur (Refused number) tt (λ ns₁ q₁. sym (m .acted ns₁ q₁)) (dispatchedOf (k .at) (Refused number)) refl) ns q);
+              (one-done code (Settings low high) prev (b .at) (registersOf b) vals cur l (some (m .instruction)) (k .at) (one-fetched code (b .at) (m .instruction) (k .at) (m .fetched)) vals cur (Refused number) tt (λ ns₁ q₁. sym (m .acted ns₁ q₁)) (dispatchedOf (k .at) (Refused number)) refl) ns q);
           within = omega (arith, f .few);
         }
 
@@ -129,13 +140,15 @@ module _ {code : List ℕ} {low high prev : List ℤ} {inputs : ℕ} {cur₀ val
     fusing-stops cur₁ (E.Done n) h = absurd h
     fusing-stops cur₁ (E.Refused j n) h = rw (h .0, h .1) (fusing-refused (h .2))
     fusing-stops cur₁ (E.Broken at) h = (fusing-breaks at (behind (J.Broken at) (h .0)), h .1)
+    fusing-stops cur₁ E.Timed h = tt
 
   module _ (l : length code ≤ b .at) where
     pub fusing-ends : true ≡ complete (knownOf (b .walk)) → Succeeds code low high prev inputs cur₀ cur steps
     unfolding heldOf
     fusing-ends done =
         record {
-          sound = fusing-sound (judges-end code (b .at) _ J.Sound l (λ base. rw (← done)));
+          sound = fusing-sound (judges-complete code (b .at) _ l (sym done));
+          untimed = fusing-untimed (judges-complete code (b .at) _ l (sym done));
           place = b .at;
           passing = b .passing;
           picked = b .picked;
@@ -145,7 +158,7 @@ module _ {code : List ℕ} {low high prev : List ℤ} {inputs : ℕ} {cur₀ val
         }
 
     pub fusing-misses : false ≡ complete (knownOf (b .walk)) → BrokenCode code inputs (length low) (length code)
-    fusing-misses missing = fusing-breaks (length code) (judges-end code (b .at) _ (J.Broken (length code)) l (λ base. rw (← missing)))
+    fusing-misses missing = fusing-breaks (length code) (judges-missing code (b .at) _ l (sym missing))
 
 -- ---- several instructions
 

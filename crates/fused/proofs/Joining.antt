@@ -9,6 +9,7 @@ use lib.IntN.{ℤ, pos}
 use lib.ListN.{length, getD}
 use Rattle.arith.specs.Values.{ok}
 use Rattle.semantics.specs.Program.{Range}
+use Rattle.semantics.specs.Shape.{Setting}
 use Rattle.leb128.specs.Numbers.{Read, got, nothing, numberAt}
 use Rattle.bytecode.specs.Instructions.{Instruction, instructionOf, hasOperand, decoded, fetchOne}
 use Rattle.bytecode.specs.Check.{advance}
@@ -28,7 +29,7 @@ use Rattle.machine.specs.declared.Stepped.{Stepped}
 use Rattle.machine.specs.declared.Stepped.the-variants as S
 use Rattle.machine.specs.Step.{Machine, machine, step}
 use Rattle.machine.specs.Inner.Memory.{heldOf, machineOf, stepOutcome, stepped, RangesIn}
-use Rattle.machine.proofs.Refusals.{Matches, Kept as KeptBy, step-keeps}
+use Rattle.machine.proofs.Refusals.{Matches, Kept as KeptBy, timeless-stands, step-keeps}
 use Rattle.machine.proofs.Changes.{names-length}
 use Rattle.machine.proofs.Stack.{length-held}
 use Rattle.fused.specs.declared.Progress.{Progress}
@@ -41,6 +42,10 @@ abbrev pub rangesBy : List ℤ → List ℤ → List Range
 rangesBy [] high = []
 rangesBy (l ∷ low) [] = []
 rangesBy (l ∷ low) (h ∷ high) = record { low = l; high = h; start = pos 0 } ∷ rangesBy low high
+
+-- and no timers
+abbrev pub settingBy : List ℤ → List ℤ → Setting
+settingBy low high = record { ranges = rangesBy low high; timers = []; millis = 0 }
 
 ranges-by : (low high : List ℤ) → length high ≡ length low → RangesIn (rangesBy low high) low high
 ranges-by [] [] e = record { lows = refl; highs = refl }
@@ -72,10 +77,10 @@ module _ {low high prev cur vals : List ℤ} {b : Progress} (r : Ready low high 
   here = ranges-by low high (r .named .highs)
 
   -- the machine goes on as the walk does
-  pub kept : (i : Instruction) (k : Walk) → TimelessIn (signature i .role) → (ns : List Range) → RangesIn ns low high → advance i (knownOf (b .walk)) ≡ some (knownOf k) → KeptBy (knownOf k) (step ns prev i (machineOf (registersOf b) vals cur))
+  pub kept : (i : Instruction) (k : Walk) → TimelessIn (signature i .role) → (ns : Setting) → RangesIn (ns .ranges) low high → advance i (knownOf (b .walk)) ≡ some (knownOf k) → KeptBy (knownOf k) (step ns prev i (machineOf (registersOf b) vals cur))
   kept i k y ns q e =
-      let size : length (idsOf (knownOf (b .walk))) ≡ length ns = length-flags (b .walk .names) (b .walk .known) ∙ r .sized ∙ sym (names-length ns low high q) in
-      step-keeps ns prev i (knownOf (b .walk)) (knownOf k) (machineOf (registersOf b) vals cur) y size e (matches (b .walk) (b .passing) (b .picked) vals cur (r .opened))
+      let size : length (idsOf (knownOf (b .walk))) ≡ length (ns .ranges) = length-flags (b .walk .names) (b .walk .known) ∙ r .sized ∙ sym (names-length (ns .ranges) low high q) in
+      step-keeps ns prev i (knownOf (b .walk)) (knownOf k) (machineOf (registersOf b) vals cur) (timeless-stands ns prev (signature i .role) y) (omega arith) e (matches (b .walk) (b .passing) (b .picked) vals cur (r .opened))
 
   -- ---- an instruction that is not passed over
 
@@ -87,7 +92,7 @@ module _ {low high prev cur vals : List ℤ} {b : Progress} (r : Ready low high 
     not-passing = rw go
 
     module _ (i : Instruction) (f : fetchOne code (b .at) ≡ got i next) (inside : next ≤ length code) (e : advance i (knownOf (b .walk)) ≡ some (knownOf k)) (small : Small k) where
-      takes : (t : Registers) → ((ns : List Range) → RangesIn ns low high → ok (machineOf t vals₁ cur₁) ≡ step ns prev i (machineOf doing vals cur))
+      takes : (t : Registers) → ((ns : Setting) → RangesIn (ns .ranges) low high → ok (machineOf t vals₁ cur₁) ≡ step ns prev i (machineOf doing vals cur))
           → Moves code low high prev b vals cur vals₁ cur₁ (record { walk = k; at = next; picked = t .picked; passing = t .passing })
       takes t a =
           record {
@@ -97,16 +102,16 @@ module _ {low high prev cur vals : List ℤ} {b : Progress} (r : Ready low high 
             advanced = e;
             small = small;
             acted = λ ns q. sym (acts ns q) ∙ ap (λ (vs : List ℤ). ok (machine (t .passing) (t .picked) vs cur₁)) (aligned k (t .passing) (t .picked) (t .held) vals₁ cur₁ (matched ns q));
-            opened = opens k (t .passing) (t .picked) (t .held) vals₁ cur₁ (matched (rangesBy low high) here);
+            opened = opens k (t .passing) (t .picked) (t .held) vals₁ cur₁ (matched (settingBy low high) here);
           }
         where
-          acts : (ns : List Range) → RangesIn ns low high → ok (machineOf t vals₁ cur₁) ≡ step ns prev i (machineOf (registersOf b) vals cur)
+          acts : (ns : Setting) → RangesIn (ns .ranges) low high → ok (machineOf t vals₁ cur₁) ≡ step ns prev i (machineOf (registersOf b) vals cur)
           acts ns q = a ns q ∙ ap (λ (m : Machine). step ns prev i m) not-passing
 
-          matched : (ns : List Range) → RangesIn ns low high → Matches (knownOf k) (machineOf t vals₁ cur₁)
+          matched : (ns : Setting) → RangesIn (ns .ranges) low high → Matches (knownOf k) (machineOf t vals₁ cur₁)
           matched ns q = subst (λ o. KeptBy (knownOf k) o) (sym (acts ns q)) (kept i k (one-timeless code (b .at) i next f) ns q e)
 
-      done : (s : Stepped) → ((ns : List Range) → RangesIn ns low high → stepOutcome s vals₁ cur₁ ≡ step ns prev i (machineOf doing vals cur))
+      done : (s : Stepped) → ((ns : Setting) → RangesIn (ns .ranges) low high → stepOutcome s vals₁ cur₁ ≡ step ns prev i (machineOf doing vals cur))
           → MovesBy code low high prev b vals cur vals₁ cur₁ (movedOf k next s)
       done (S.Next t) a = takes t a
       done (S.Refused number) a =
@@ -114,7 +119,7 @@ module _ {low high prev cur vals : List ℤ} {b : Progress} (r : Ready low high 
 
     -- read as this instruction, with this place behind it
     pub arrives : (o : Option Instruction) → fetchOne code (b .at) ≡ decoded o next → next ≤ length code → (a : Advanced) → a ≡ Kept k → advancedKnown a ≡ advanceBy o (knownOf (b .walk)) → SmallAfter a
-        → (s : Stepped) → ((ns : List Range) → RangesIn ns low high → stepOutcome s vals₁ cur₁ ≡ stepped ns prev o (machineOf doing vals cur))
+        → (s : Stepped) → ((ns : Setting) → RangesIn (ns .ranges) low high → stepOutcome s vals₁ cur₁ ≡ stepped ns prev o (machineOf doing vals cur))
         → (m : Moved) → m ≡ movedOf k next s → MovesBy code low high prev b vals cur vals₁ cur₁ m
     arrives none f inside a is e small s acts m q = none≢some _ (sym e ∙ ap advancedKnown is)
     arrives (some i) f inside a is e small s acts m q =

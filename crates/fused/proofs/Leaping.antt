@@ -9,8 +9,8 @@ use lib.IntN.{ℤ}
 use lib.ListN.{length, getD, set, length-set}
 use borrow.Author.Tests.{lt-ltb}
 use Rattle.arith.specs.Inner.Flags.{flagsOf}
-use Rattle.semantics.specs.Program.{Range}
 use Rattle.semantics.specs.Formula.{State, at as valueAt}
+use Rattle.semantics.specs.Shape.{Setting}
 use Rattle.leb128.specs.Numbers.{unzigzag}
 use Rattle.bytecode.specs.Instructions.{Instruction, constant, current, previous, operation, comparison, operationOf, comparisonOf, instructionOf, hasOperand}
 use Rattle.bytecode.specs.Check.{advance}
@@ -60,7 +60,7 @@ module _ (code : List ℕ) (at : ℕ) where
 -- ---- a value that is put on top
 
 module _ (w : Walk) (i : ℕ) (l : i < w .names) where
-  module _ (ns : List Range) (s t : State) (c : Bool) (vs : List ℤ) (e : length ns ≡ w .names) where
+  module _ (ns : Setting) (s t : State) (c : Bool) (vs : List ℤ) (e : length (ns .ranges) ≡ w .names) where
     previous-loaded : perform ns s (previous i) c vs t ≡ push (valueAt s i) c vs t
     previous-loaded = rw (e, lt-ltb i (w .names) l)
 
@@ -71,7 +71,7 @@ module _ (code : List ℕ) (prev cur : List ℤ) (at : ℕ) (w : Walk) (small : 
     (least : 10 ≤ getD code (at + 4) 0) (most : getD code (at + 4) 0 ≤ 15) (id : getD code (at + 1) 0 < w .names) (short : getD code (at + 3) 0 < 128)
     (shut : w .gate ≡ 0) (room : w .held + 2 ≤ 40) where
   seen : (byte : ℕ) → getD code at 0 ≡ byte → hasOperand byte ≡ true → (loading : Instruction) → instructionOf byte (getD code (at + 1) 0) ≡ some loading
-      → advance loading (knownOf w) ≡ pushed (knownOf w) → (x : ℤ) → ((ns : List Range) (c : Bool) (vs : List ℤ) → length ns ≡ w .names → perform ns prev loading c vs cur ≡ push x c vs cur)
+      → advance loading (knownOf w) ≡ pushed (knownOf w) → (x : ℤ) → ((ns : Setting) (c : Bool) (vs : List ℤ) → length (ns .ranges) ≡ w .names → perform ns prev loading c vs cur ≡ push x c vs cur)
       → found ≡ truthOf (getD code (at + 4) 0) x (unzigzag (getD code (at + 3) 0)) → ComparisonSeen code prev cur at w found
   seen byte is has loading i e x loads f =
       record {
@@ -146,7 +146,7 @@ module _ (code : List ℕ) {low high prev cur vals : List ℤ} {b : Progress} (r
       arrives r go code (b .at + 2) (withNumber (b .walk)) vals-one cur (some (c .loading)) (c .first) (omega (arith, c .inside)) (Kept (withNumber (b .walk))) refl
       (sym (c .admitted ∙ pushed-is (b .walk) (omega (arith, c .room)))) (ready-one .small) (S.Next (holding (b .walk .held + 1)))
       (λ ns q. push-put vals (b .walk .held) (c .x) (b .picked) cur (omega (arith, c .room)) (r .room)
-      ∙ sym (c .loaded ns (b .picked) (heldOf vals (b .walk .held)) (names-length ns low high q ∙ sym (r .sized))))
+      ∙ sym (c .loaded ns (b .picked) (heldOf vals (b .walk .held)) (names-length (ns .ranges) low high q ∙ sym (r .sized))))
       (M.On one-on) refl
 
   move-two : Moves code low high prev one-on vals-one cur vals-two cur two-on

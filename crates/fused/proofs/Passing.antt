@@ -11,7 +11,7 @@ use lib.ListN.{length}
 use borrow.Author.Tests.{eqb-true, eqb-false, ltb-true, ltb-false}
 use Rattle.arith.specs.Inner.Flags.{flagsOf}
 use Rattle.arith.specs.Values.{ok}
-use Rattle.semantics.specs.Program.{Range}
+use Rattle.semantics.specs.Shape.{Setting}
 use Rattle.bytecode.specs.Instructions.{Instruction, instructionOf, decoded, fetchOne}
 use Rattle.bytecode.specs.Signature.{Sort}
 use Rattle.bytecode.proofs.Timeless.{one-timeless}
@@ -31,7 +31,7 @@ use Rattle.fused.specs.declared.Progress.{Progress}
 use Rattle.fused.specs.declared.Moved.{Moved}
 use Rattle.fused.specs.declared.Moved.the-variants as M
 use Rattle.fused.specs.Inner.Passes.{registersOf, passedOver, Ready, Passes, PassesBy, Moves, MovesBy}
-use Rattle.fused.proofs.Joining.{rangesBy, aligned, opens, here, kept}
+use Rattle.fused.proofs.Joining.{settingBy, aligned, opens, here, kept}
 
 -- whether passing over goes on behind an instruction
 abbrev pub GoesOn : Option Instruction → Bool → Type 0
@@ -94,16 +94,16 @@ module _ (code : List ℕ) {low high prev cur vals : List ℤ} {b : Progress} (r
         advanced = p .advanced;
         small = p .small;
         acted = λ ns q. acts ns ∙ rw (p .passing-is, p .same-picked) (ap (λ (vs : List ℤ). ok (machine on (b .picked) vs cur)) (aligned (k .walk) on (b .picked) 0 vals cur (matched ns q)));
-        opened = rw (p .passing-is) (opens (k .walk) on (b .picked) 0 vals cur (matched (rangesBy low high) (here r)));
+        opened = rw (p .passing-is) (opens (k .walk) on (b .picked) 0 vals cur (matched (settingBy low high) (here r)));
       }
     where
       on : Bool
       on = not (isPick (p .instruction))
 
-      acts : (ns : List Range) → step ns prev (p .instruction) (machineOf (registersOf b) vals cur) ≡ ok (machine (not (isPick (p .instruction))) (b .picked) (heldOf vals 0) cur)
+      acts : (ns : Setting) → step ns prev (p .instruction) (machineOf (registersOf b) vals cur) ≡ ok (machine (not (isPick (p .instruction))) (b .picked) (heldOf vals 0) cur)
       acts ns = rw go
 
-      matched : (ns : List Range) → RangesIn ns low high → Matches (knownOf (k .walk)) (machine (not (isPick (p .instruction))) (b .picked) (heldOf vals 0) cur)
+      matched : (ns : Setting) → RangesIn (ns .ranges) low high → Matches (knownOf (k .walk)) (machine (not (isPick (p .instruction))) (b .picked) (heldOf vals 0) cur)
       matched ns q = subst (λ o. KeptBy (knownOf (k .walk)) o) (acts ns) (kept r (p .instruction) (k .walk) (one-timeless code (b .at) (p .instruction) (k .at) (p .fetched)) ns q (p .advanced))
 
   pub over-moves-by : (m : Moved) → PassesBy code b m → MovesBy code low high prev b vals cur vals cur m

@@ -37,11 +37,13 @@ pub enum Moved {
     Broken,
 }
 
-// The steps of a run to the end of sound code; the number of its refusal and the steps; or the place in the code that breaks soundness.
+// The steps of a run to the end of sound code; the number of its refusal and the steps; or the place in the code that breaks soundness. Timers are not worked
+// here: a code that has one may end so.
 pub enum Ended {
     Done(usize),
     Refused(u8, usize),
     Broken(usize),
+    Timed,
 }
 
 // The operand of the instruction at a place.
@@ -321,6 +323,7 @@ fn refused(code: &[u8], behind: usize, w: Walk, number: u8, steps: usize) -> End
     match checker::walk_from(code, behind, w) {
         Verdict::Sound => Ended::Refused(number, steps),
         Verdict::Broken(at) => Ended::Broken(at),
+        Verdict::Timed => Ended::Timed,
     }
 }
 
@@ -358,7 +361,11 @@ fn run_in(
                 return refused(code, behind, w, number, steps + 1);
             }
             Leap::Broken => {
-                return Ended::Broken(b.at);
+                let at = b.at;
+                if code[at] == 23 {
+                    return Ended::Timed;
+                }
+                return Ended::Broken(at);
             }
         }
     }

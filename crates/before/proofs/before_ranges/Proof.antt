@@ -16,7 +16,7 @@ returns-2 c =
 returns-3 : tie.Need-returns-3
 returns-3 c = (
   λ ns r. rw (sym (c .before .before .before .before .before .before .all-in-range .ensures ns r) ∙ not-false _ (c .before .before .before .before .before .if1 .left), sym (c .before .before .before .before .all-in-range2 .ensures ns r) ∙ not-false _ (c .before .before .before .if2 .left)),
-  (refl, c .before .take-row .ensures),
+  (refl, refl, c .before .take-row .ensures),
 )
 
 pub before-ranges-spec : {M : Type 1} → statement M

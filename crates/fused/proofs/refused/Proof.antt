@@ -15,4 +15,4 @@ returns-2 c =
     (subst (Judges (c .before .before .before .before .before .args .code .now) (c .before .before .before .before .before .args .behind) (knownOf (c .before .before .before .before .before .args .w))) (c .before .at .given .1) (c .before .before .before .walk-from .ensures .0), subst (VerdictWithin (length (c .before .before .before .before .before .args .code .now))) (c .before .at .given .1) (c .before .before .before .walk-from .ensures .1))
 
 pub refused-spec : {M : Type 1} → statement M
-refused-spec = tie.close (tie.spec (λ c κs. search needs) (λ c. search needs) (λ c. search needs) returns returns-2)
+refused-spec = tie.close (tie.spec (λ c κs. search needs) (λ c. search needs) (λ c. search needs) (λ c. search needs) returns returns-2 (λ c. search needs))

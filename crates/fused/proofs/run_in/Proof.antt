@@ -53,19 +53,19 @@ returns c =
     let inv = c .before .before .before .before .before .before .before .before .before .before .before .before .loop .inv in
     fusing-stops inv _ _ (c .before .before .before .before .before .before .before .before .before .before .if1 .taken) (leapt-refused inv _ _ (c .before .before .before .before .before .before .before .advance-ahead .result) _ _ (c .before .before .before .before .before .before .before .advance-ahead .ensures) (c .before .before .before .m2 .given .1)) _ (c .refused .result) (c .refused .ensures)
 
-returns-2 : tie.Need-returns-2 Inv-loop μ-loop
-returns-2 c =
-    let inv = c .before .before .before .before .before .before .before .before .before .loop .inv in
-    (fusing-breaks inv _ (leapt-broken inv _ _ (c .before .before .before .before .advance-ahead .result) (c .before .before .before .before .advance-ahead .ensures) (c .enum-told .given .1)), omega (arith, c .before .before .before .before .before .before .before .if1 .taken))
+returns-3 : tie.Need-returns-3 Inv-loop μ-loop
+returns-3 c =
+    let inv = c .before .before .before .before .before .before .before .before .before .before .before .loop .inv in
+    (fusing-breaks inv _ (leapt-broken inv _ _ (c .before .before .before .before .before .before .advance-ahead .result) (c .before .before .before .before .before .before .advance-ahead .ensures) (c .before .before .enum-told .given .1) (c .if2 .left)), omega (arith, c .before .before .before .before .before .before .before .before .before .if1 .taken))
 
 complete-requires : tie.Need-complete-requires Inv-loop μ-loop
 complete-requires c κs = c .before .before .before .loop .inv .ready .small
 
-returns-3 : tie.Need-returns-3 Inv-loop μ-loop
-returns-3 c = fusing-ends (c .before .before .before .before .before .loop .inv) (c .before .before .before .if1 .left) (sym (c .if2 .taken) ∙ c .before .complete .ensures)
-
 returns-4 : tie.Need-returns-4 Inv-loop μ-loop
-returns-4 c = (fusing-misses (c .before .before .before .before .before .loop .inv) (c .before .before .before .if1 .left) (sym (c .if2 .left) ∙ c .before .complete .ensures), omega arith)
+returns-4 c = fusing-ends (c .before .before .before .before .before .loop .inv) (c .before .before .before .if1 .left) (sym (c .if3 .taken) ∙ c .before .complete .ensures)
+
+returns-5 : tie.Need-returns-5 Inv-loop μ-loop
+returns-5 c = (fusing-misses (c .before .before .before .before .before .loop .inv) (c .before .before .before .if1 .left) (sym (c .if3 .left) ∙ c .before .complete .ensures), omega arith)
 
 pub run-in-spec : {M : Type 1} → statement M
 run-in-spec =
@@ -73,5 +73,6 @@ run-in-spec =
     (tie.spec Inv-loop μ-loop
     initial-requires loop-holds advance-ahead-requires (λ c. search needs) add-steps loop-less loop-again
     (λ c. search needs) add-refused refused-requires (λ c. search needs) (λ c. search needs) returns
-    (λ c. search needs) (λ c. search needs) (λ c. search needs) returns-2
-    complete-requires (λ c. search needs) (λ c. search needs) returns-3 (λ c. search needs) (λ c. search needs) returns-4)
+    (λ c. search needs) (λ c. search needs) (λ c. search needs) (λ c. search needs) (λ c. search needs)
+    (λ c. search needs) (λ c. search needs) returns-3
+    complete-requires (λ c. search needs) (λ c. search needs) returns-4 (λ c. search needs) (λ c. search needs) returns-5)

@@ -7,7 +7,7 @@ use lib.IntN.{ℤ}
 use lib.ListN.{length}
 use Rattle.limits.specs.Limits.{stackLimit}
 use Rattle.arith.specs.Values.{Operation, Comparison, compares}
-use Rattle.semantics.specs.Program.{Range}
+use Rattle.semantics.specs.Shape.{Setting}
 use Rattle.leb128.specs.Numbers.{got, unzigzag}
 use Rattle.bytecode.specs.Instructions.{Instruction, constant, operation, comparison, fetchOne}
 use Rattle.bytecode.specs.Check.{advance}
@@ -39,7 +39,7 @@ pub record ComparisonSeen (code : List ℕ) (prev cur : List ℤ) (at : ℕ) (w 
   pub room : w .held + 2 ≤ stackLimit
   pub shut : w .gate ≡ 0
   pub admitted : advance loading (knownOf w) ≡ pushed (knownOf w)
-  pub loaded : (ns : List Range) (c : Bool) (vs : List ℤ) → length ns ≡ w .names → perform ns prev loading c vs cur ≡ push x c vs cur
+  pub loaded : (ns : Setting) (c : Bool) (vs : List ℤ) → length (ns .ranges) ≡ w .names → perform ns prev loading c vs cur ≡ push x c vs cur
   pub finds : found ≡ compares relation x (unzigzag operand)
 
 abbrev pub SeenBy : List ℕ → List ℤ → List ℤ → ℕ → Walk → Seen → Type 0

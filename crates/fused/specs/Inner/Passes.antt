@@ -10,15 +10,17 @@ use Rattle.limits.specs.Limits.{stackLimit, brokenImage}
 use Rattle.limits.specs.Answer.{accepted, refused}
 use Rattle.arith.specs.Values.{ok, refusal}
 use Rattle.semantics.specs.Program.{Range, knownFirst}
+use Rattle.semantics.specs.Shape.{Setting}
 use Rattle.leb128.specs.Numbers.{got}
 use Rattle.bytecode.specs.Instructions.{Instruction, fetchOne}
 use Rattle.bytecode.specs.Check.{known, advance, checkCode}
+use Rattle.bytecode.specs.Inner.Timers.{NoTimers}
 use Rattle.checker.specs.declared.advance.Walk.{Walk}
 use Rattle.checker.specs.declared.advance.Advanced.{Advanced}
 use Rattle.checker.specs.declared.advance.Advanced.the-variants.{Kept, Broken}
 use Rattle.checker.specs.declared.Verdict.the-variants as J
 use Rattle.checker.specs.Inner.Walk.{knownOf, openOf, Small}
-use Rattle.checker.specs.Results.{Judges}
+use Rattle.checker.specs.Results.{Judges, BreaksUnlessTimed}
 use Rattle.machine.specs.declared.Registers.{Registers}
 use Rattle.machine.specs.declared.Stepped.{Stepped}
 use Rattle.machine.specs.declared.Stepped.the-variants as S
@@ -55,9 +57,9 @@ pub record Ready (low high prev cur vals : List ℤ) (b : Progress) : Type 0 whe
   pub named : OneEach low high prev cur
   pub opened : b .passing ≡ true → openOf (b .walk .gate) ≡ true
 
--- the instruction at hand breaks soundness
+-- the instruction at hand breaks soundness, if it is no timer
 abbrev pub BreaksAt : List ℕ → Progress → Type 0
-BreaksAt code b = Judges code (b .at) (knownOf (b .walk)) (J.Broken (b .at))
+BreaksAt code b = BreaksUnlessTimed code (b .at) (knownOf (b .walk))
 
 -- the instruction at hand is passed over: the walk moves, and passing over ends at a pick
 pub record Passes (code : List ℕ) (b k : Progress) : Type 0 where
@@ -81,7 +83,7 @@ pub record Moves (code : List ℕ) (low high prev : List ℤ) (b : Progress) (va
   pub inside : k .at ≤ length code
   pub advanced : advance instruction (knownOf (b .walk)) ≡ some (knownOf (k .walk))
   pub small : Small (k .walk)
-  pub acted : (ns : List Range) → RangesIn ns low high → step ns prev instruction (machineOf (registersOf b) vals cur) ≡ ok (machineOf (registersOf k) vals₁ cur₁)
+  pub acted : (ns : Setting) → RangesIn (ns .ranges) low high → step ns prev instruction (machineOf (registersOf b) vals cur) ≡ ok (machineOf (registersOf k) vals₁ cur₁)
   pub opened : k .passing ≡ true → openOf (k .walk .gate) ≡ true
 
 -- the walk moves, and the machine refuses the instruction
@@ -91,7 +93,7 @@ pub record Refuses (code : List ℕ) (low high prev : List ℤ) (b : Progress) (
   pub inside : k .at ≤ length code
   pub advanced : advance instruction (knownOf (b .walk)) ≡ some (knownOf (k .walk))
   pub small : Small (k .walk)
-  pub acted : (ns : List Range) → RangesIn ns low high → step ns prev instruction (machineOf (registersOf b) vals cur) ≡ refusal number
+  pub acted : (ns : Setting) → RangesIn (ns .ranges) low high → step ns prev instruction (machineOf (registersOf b) vals cur) ≡ refusal number
 
 abbrev pub MovesBy : List ℕ → List ℤ → List ℤ → List ℤ → Progress → List ℤ → List ℤ → List ℤ → List ℤ → Moved → Type 0
 MovesBy code low high prev b vals cur vals₁ cur₁ (M.On k) = Moves code low high prev b vals cur vals₁ cur₁ k
@@ -100,11 +102,12 @@ MovesBy code low high prev b vals cur vals₁ cur₁ M.Broken = BreaksAt code b
 
 -- ---- the whole code
 
--- a refusal of the machine stands where the rest of the code is sound
+-- a refusal of the machine stands where the rest of the code is sound; of a code with timers nothing is said
 abbrev pub RefusedBy : List ℕ → ℕ → Walk → ℕ → ℕ → Ended → Type 0
 RefusedBy code behind w number steps (E.Done n) = ⊥
 RefusedBy code behind w number steps (E.Refused m n) = (m ≡ number) × (n ≡ steps) × Judges code behind (knownOf w) J.Sound
 RefusedBy code behind w number steps (E.Broken at) = Judges code behind (knownOf w) (J.Broken at) × (at ≤ length code)
+RefusedBy code behind w number steps E.Timed = Unit {0}
 
 -- the walk finds the code sound
 abbrev pub CheckedCode : List ℕ → ℕ → ℕ → Type 0
@@ -114,24 +117,27 @@ CheckedCode code inputs names = (ns : List Range) (base : ℕ) → checkCode ns 
 abbrev pub BrokenCode : List ℕ → ℕ → ℕ → ℕ → Type 0
 BrokenCode code inputs names at = (ns : List Range) (base : ℕ) → checkCode ns base code (length code) 0 none (known [] false none (knownFirst inputs names)) ≡ refused brokenImage (base + at)
 
--- sound code, and its run succeeds after n steps and leaves these current values
+-- sound code without timers, and its run succeeds after n steps and leaves these current values
 pub record Succeeds (code : List ℕ) (low high prev : List ℤ) (inputs : ℕ) (cur cur₁ : List ℤ) (n : ℕ) : Type 0 where
   pub sound : CheckedCode code inputs (length low)
+  pub untimed : NoTimers code 0
   pub place : ℕ
   pub passing : Bool
   pub picked : Bool
   pub held : List ℤ
-  pub went : (ns : List Range) → RangesIn ns low high → run ns prev code (length code) 0 0 (machine false false [] cur) ≡ ran n place (ok (machine passing picked held cur₁))
+  pub went : (ns : Setting) → RangesIn (ns .ranges) low high → run ns prev code (length code) 0 0 (machine false false [] cur) ≡ ran n place (ok (machine passing picked held cur₁))
   pub within : n ≤ length code
 
--- sound code, and its run is refused at the step n
+-- sound code without timers, and its run is refused at the step n
 pub record Fails (code : List ℕ) (low high prev : List ℤ) (inputs : ℕ) (cur : List ℤ) (number n : ℕ) : Type 0 where
   pub sound : CheckedCode code inputs (length low)
+  pub untimed : NoTimers code 0
   pub place : ℕ
-  pub went : (ns : List Range) → RangesIn ns low high → run ns prev code (length code) 0 0 (machine false false [] cur) ≡ ran n place (refusal number)
+  pub went : (ns : Setting) → RangesIn (ns .ranges) low high → run ns prev code (length code) 0 0 (machine false false [] cur) ≡ ran n place (refusal number)
   pub within : n ≤ length code
 
 abbrev pub RunBy : List ℕ → List ℤ → List ℤ → List ℤ → ℕ → List ℤ → List ℤ → Ended → Type 0
 RunBy code low high prev inputs cur cur₁ (E.Done n) = Succeeds code low high prev inputs cur cur₁ n
 RunBy code low high prev inputs cur cur₁ (E.Refused number n) = Fails code low high prev inputs cur number n
 RunBy code low high prev inputs cur cur₁ (E.Broken at) = BrokenCode code inputs (length low) at × (at ≤ length code)
+RunBy code low high prev inputs cur cur₁ E.Timed = Unit {0}
