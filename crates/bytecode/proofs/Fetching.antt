@@ -10,9 +10,7 @@ use lib.ListN.{length, getD, drop, length-drop, List·getD-eq-default}
 use borrow.Author.Tests.{lt-ltb, le-ltb, ltb-true, eqb-true, ne-eqb}
 use Rattle.leb128.specs.Numbers.{Found, found, none, grouped, numberIn, Read, got, nothing, _then_, below32, numberAt}
 use Rattle.bytecode.specs.Instructions.{Instruction, timer, instructionOf, hasOperand, decoded, fetchOne, timerAt, fetch}
-use Rattle.bytecode.specs.declared.Fetched.{Fetched}
-use Rattle.bytecode.specs.declared.Fetched.the-variants as F
-use Rattle.bytecode.specs.Results.{Bounded, FetchedWithin}
+use Rattle.bytecode.specs.Results.{Bounded}
 use Rattle.bytecode.proofs.Codes.{unlisted-low, unlisted-high}
 
 -- ---- the bytes of a number
@@ -153,9 +151,3 @@ module _ (bytes : List ℕ) (at : ℕ) where
 
     pub number-fetched : (n next : ℕ) → hasOperand (getD bytes at 0) ≡ true → numberAt bytes (at + 1) ≡ got n next → fetch bytes at ≡ decoded (instructionOf (getD bytes at 0) n) next
     number-fetched n next e f = fetch-other bytes at (ne-eqb _ 23 o) ∙ fetch-number bytes at n next h e f
-
--- what stands behind a place stands behind the one before
-pub behind-within : (length at : ℕ) (r : Fetched) → FetchedWithin length (at + 1) r → FetchedWithin length at r
-behind-within length at (F.Instruction code n next) h = record { operand = h .operand; behind = omega (arith, h .behind); inside = h .inside; instruction = h .instruction; listed = h .listed }
-behind-within length at (F.Timer t w n next) h = record { id = h .id; watched = h .watched; limit = h .limit; behind = omega (arith, h .behind); inside = h .inside }
-behind-within length at F.Malformed h = h

@@ -59,7 +59,7 @@ follows-rule (times u v n) t w h = (eqb→eq v w (and-left (eqb v w) (ltb u t) h
 
 -- ---- the ranges
 
-timer-range : (n : Range) → T (isTimerRange n) → n ≡ bitRange
+pub timer-range : (n : Range) → T (isTimerRange n) → n ≡ bitRange
 unfolding isTimerRange isBinary
 timer-range n h =
     let a = and-left (eqZ (n .low) (pos 0) && eqZ (n .high) (pos 1)) (eqZ (n .start) (pos 0)) h in

@@ -10,6 +10,8 @@ use Rattle.semantics.specs.Program.{Range}
 use Rattle.leb128.specs.Numbers.{Read, got, nothing}
 use Rattle.bytecode.specs.declared.Fetched.{Fetched}
 use Rattle.bytecode.specs.declared.Fetched.the-variants as F
+use Rattle.bytecode.specs.declared.Operands.{Operands}
+use Rattle.bytecode.specs.declared.Operands.the-variants as O
 use Rattle.bytecode.specs.declared.Counted.{Counted}
 use Rattle.bytecode.specs.declared.Counted.the-variants as C
 use Rattle.bytecode.specs.declared.Ranged.{Ranged}
@@ -54,6 +56,16 @@ abbrev pub FetchedWithin : ℕ → ℕ → Fetched → Type 0
 FetchedWithin length at (F.Instruction code n next) = InstructionBounded length at code n next
 FetchedWithin length at (F.Timer t w n next) = TimerBounded length at t w n next
 FetchedWithin length at F.Malformed = Unit {0}
+
+-- ---- the operands of a 23
+
+abbrev pub operandsRead : Operands → Read Instruction
+operandsRead (O.Timer t w n next) = got (timer t w n) next
+operandsRead O.Malformed = nothing
+
+abbrev pub OperandsWithin : ℕ → ℕ → Operands → Type 0
+OperandsWithin length at (O.Timer t w n next) = TimerBounded length at t w n next
+OperandsWithin length at O.Malformed = Unit {0}
 
 -- ---- the header: what breaks it is refusal 11, with its place
 

@@ -23,6 +23,7 @@ pub record SameProgram (p q : Program) : Type 0 where
   pub same-inputs : q .inputs ≡ p .inputs
   pub same-names : normals (namesOf q) ≡ normals (namesOf p)
   pub same-ranges : rangesOf q ≡ rangesOf p
+  pub same-timers : q .timers ≡ p .timers
   pub same-rules : q .rules ≡ p .rules
   pub same-watches : q .watches ≡ p .watches
 

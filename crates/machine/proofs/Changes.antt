@@ -11,6 +11,7 @@ use lib.Signed.{leZ}
 use Rattle.arith.specs.Values.{ok, refusal}
 use Rattle.semantics.specs.Program.{Range, Side, within, noRange, rangeAt}
 use Rattle.semantics.specs.Formula.{State, at}
+use Rattle.semantics.specs.Shape.{Setting}
 use Rattle.semantics.specs.ReferenceScan.{moves, stays, picked}
 use Rattle.bytecode.specs.Instructions.{assign, pick, settle}
 use Rattle.machine.specs.Step.{machine, perform}
@@ -31,11 +32,12 @@ module _ (ns : List Range) (low high : List ℤ) (names : RangesIn ns low high) 
   unfolding within
   range-at i z = rw (← names .lows, ← names .highs, getD-map (λ n. n .low) ns i noRange, getD-map (λ n. n .high) ns i noRange)
 
-  declared-here : (i : ℕ) → i < length low → ltb i (length ns) ≡ true
-  declared-here i h = rw names-length (lt-ltb i (length low) h)
+module _ (ns : Setting) (low high : List ℤ) (names : RangesIn (ns .ranges) low high) where
+  declared-here : (i : ℕ) → i < length low → ltb i (length (ns .ranges)) ≡ true
+  declared-here i h = rw (names-length (ns .ranges) low high names) (lt-ltb i (length low) h)
 
-  undeclared-here : (i : ℕ) → length low ≤ i → ltb i (length ns) ≡ false
-  undeclared-here i h = rw names-length (le-ltb i (length low) h)
+  undeclared-here : (i : ℕ) → length low ≤ i → ltb i (length (ns .ranges)) ≡ false
+  undeclared-here i h = rw (names-length (ns .ranges) low high names) (le-ltb i (length low) h)
 
   -- the value on top of n ≠ 0 held in l
   module _ (s : State) (l : List ℤ) (n : ℕ) (c : Bool) (t : State) (i : ℕ) (some : n ≡ 0 → ⊥) where
@@ -47,11 +49,11 @@ module _ (ns : List Range) (low high : List ℤ) (names : RangesIn ns low high) 
 
     module _ (h : i < length low) where
       pub assign-outside : (leZ (at low i) (at l (n - 1)) && leZ (at l (n - 1)) (at high i)) ≡ false → refusal 17 ≡ perform ns s (assign i) c (heldOf l n) t
-      assign-outside e = rw (pop-top l n _ some, declared-here i h, range-at i (at l (n - 1)), e)
+      assign-outside e = rw (pop-top l n _ some, declared-here i h, range-at (ns .ranges) low high names i (at l (n - 1)), e)
 
       pub assign-inside : (leZ (at low i) (at l (n - 1)) && leZ (at l (n - 1)) (at high i)) ≡ true
           → ok (machine false c (heldOf l (n - 1)) (set t i (at l (n - 1)))) ≡ perform ns s (assign i) c (heldOf l n) t
-      assign-inside e = rw (pop-top l n _ some, declared-here i h, range-at i (at l (n - 1)), e)
+      assign-inside e = rw (pop-top l n _ some, declared-here i h, range-at (ns .ranges) low high names i (at l (n - 1)), e)
 
       pub pick-refused : (side : Side) → moves side (at s i) (at l (n - 1)) ≡ false → refusal (stays side) ≡ perform ns s (pick side i) c (heldOf l n) t
       unfolding picked
@@ -62,7 +64,7 @@ module _ (ns : List Range) (low high : List ℤ) (names : RangesIn ns low high) 
       unfolding picked
       pick-moved side e = rw (held-top l n (not-none n some), declared-here i h, e)
 
-module _ (ns : List Range) (s : State) (l : List ℤ) (n i : ℕ) (t : State) (size : length ns ≡ length s) where
+module _ (ns : Setting) (s : State) (l : List ℤ) (n i : ℕ) (t : State) (size : length (ns .ranges) ≡ length s) where
   pub settle-undeclared : (c : Bool) → length s ≤ i → refusal 11 ≡ perform ns s (settle i) c (heldOf l n) t
   settle-undeclared c h = rw (size, le-ltb i (length s) h)
 

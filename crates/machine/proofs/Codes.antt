@@ -9,8 +9,8 @@ use borrow.Author.Tests.{le-leb, ne-eqb, eqb-true, eqb-false, leb-false}
 use lib.Dec.{eqb, leb}
 use lib.IntN.{ℤ}
 use Rattle.arith.specs.Values.{ok, compares}
-use Rattle.semantics.specs.Program.{Range}
 use Rattle.semantics.specs.Formula.{State}
+use Rattle.semantics.specs.Shape.{Setting}
 use Rattle.bytecode.specs.Instructions.{Instruction, operation, comparison, operationOf, comparisonOf, instructionOf}
 use Rattle.bytecode.proofs.Codes.{operation-of, comparison-of, past, from-four}
 use Rattle.machine.specs.declared.Registers.{Registers}
@@ -38,11 +38,11 @@ related-same f g c (b ∷ a ∷ vs) t h = rw (h a b)
 
 module _ (code : ℕ) (m : Registers) (vals left : List ℤ) (r : Stepped) (go : m .passing ≡ false) where
   pub calculated-is : 4 ≤ code → code ≤ 8 → OnStack (operation (operationOf code)) m vals r left
-      → (ns : List Range) (s t : List ℤ) → stepOutcome r left t ≡ stepped ns s (instructionOf code 0) (machineOf m vals t)
+      → (ns : Setting) (s t : List ℤ) → stepOutcome r left t ≡ stepped ns s (instructionOf code 0) (machineOf m vals t)
   calculated-is l h e ns s t = e ns s t ∙ rw (operation-of code 0 l h, go)
 
   pub related-is : 10 ≤ code → code ≤ 15 → ((t : List ℤ) → stepOutcome r left t ≡ related (truthOf code) (m .picked) (heldOf vals (m .held)) t)
-      → (ns : List Range) (s t : List ℤ) → stepOutcome r left t ≡ stepped ns s (instructionOf code 0) (machineOf m vals t)
+      → (ns : Setting) (s t : List ℤ) → stepOutcome r left t ≡ stepped ns s (instructionOf code 0) (machineOf m vals t)
   related-is l h e ns s t = e t ∙ related-same _ _ _ (heldOf vals (m .held)) t (λ x y. truth-comparison code x y (omega arith)) ∙ rw (comparison-of code 0 l h, go)
 
 -- ---- passing over: every instruction but a pick
@@ -84,15 +84,15 @@ others code n h k p =
     let f : 23 ≤ code = up 22 code (up 21 code (up 20 code (up 19 code f₉ e₁₀) e₁₁) e₁₂) e₁₃ in
     absurd (omega arith)
 
-passed : (ns : List Range) (s : State) (o : Option Instruction) (c : Bool) (vs : List ℤ) (t : State) → Other o → ok (machine true c vs t) ≡ stepped ns s o (machine true c vs t)
+passed : (ns : Setting) (s : State) (o : Option Instruction) (c : Bool) (vs : List ℤ) (t : State) → Other o → ok (machine true c vs t) ≡ stepped ns s o (machine true c vs t)
 passed ns s (some i) c vs t (other j e) = rw e
 
-pub pass-other : (ns : List Range) (s : State) (code n : ℕ) (c : Bool) (vs : List ℤ) (t : State) → 1 ≤ code → code < 23 → (code ≡ 20 → ⊥)
+pub pass-other : (ns : Setting) (s : State) (code n : ℕ) (c : Bool) (vs : List ℤ) (t : State) → 1 ≤ code → code < 23 → (code ≡ 20 → ⊥)
     → ok (machine true c vs t) ≡ stepped ns s (instructionOf code n) (machine true c vs t)
 pass-other ns s code n c vs t h k p = passed ns s (instructionOf code n) c vs t (others code n h k p)
 
 -- not passing over: what the instruction does
-pub act-stepped : (ns : List Range) (s : State) (o : Option Instruction) (p c : Bool) (vs : List ℤ) (t : State) → p ≡ false
+pub act-stepped : (ns : Setting) (s : State) (o : Option Instruction) (p c : Bool) (vs : List ℤ) (t : State) → p ≡ false
     → performed ns s o c vs t ≡ stepped ns s o (machine p c vs t)
 act-stepped ns s none p c vs t e = refl
 act-stepped ns s (some i) p c vs t e = rw e

@@ -1,17 +1,19 @@
 -- Instructions as they are read where they stand: with an operand, alone, and with operands of one byte. Assumes nothing.
 use Prim.Native.Nat.{ℕ, _+_, _≤_, _<_}
 use native.Mathlib.Omega.{arith}
-use mathlib.Core.Path.{_≡_, refl, ap, _∙_}
-use mathlib.Core.Bool.{Bool, true, false}
+use mathlib.Core.Path.{_≡_, refl, sym, ap, _∙_}
+use mathlib.Core.Bool.{Bool, true, false, cond, _&&_, false≢true}
 use mathlib.Core.List.{List}
-use mathlib.Core.Option.{none, some}
+use mathlib.Core.Option.{Option, none, some}
+use lib.Dec.{eqb, leb}
 use lib.ListN.{length, getD}
-use borrow.Author.Tests.{le-leb, lt-leb}
+use borrow.Author.Tests.{le-leb, lt-leb, eq-eqb, ne-eqb}
 use Rattle.leb128.specs.Numbers.{Read, got, nothing, numberAt, unzigzag}
 use Rattle.leb128.proofs.Laws.{one-group}
-use Rattle.bytecode.specs.Instructions.{Instruction, constant, operation, comparison, operationOf, comparisonOf, instructionOf, hasOperand, decoded, fetchOne}
+use Rattle.bytecode.specs.Instructions.{Instruction, constant, operation, comparison, operationOf, comparisonOf, instructionOf, hasOperand, decoded, fetchOne, fetch}
 use Rattle.bytecode.proofs.Codes.{operation-of, comparison-of}
-use Rattle.bytecode.proofs.Fetching.{fetch-alone, fetch-number, fetch-malformed}
+use Rattle.bytecode.proofs.Fetching.{fetch-alone, fetch-number, fetch-malformed, fetch-other, timer-unfetched}
+use Rattle.bytecode.proofs.Timeless.{code-timeless, timeless-one}
 
 -- ---- which codes have an operand
 
@@ -27,12 +29,17 @@ pub high-operand : (code : ℕ) → 20 ≤ code → code ≤ 22 → hasOperand c
 unfolding hasOperand
 high-operand code l h = rw (le-leb 1 code (omega arith), lt-leb code 3 (omega arith), le-leb 20 code l, le-leb code 22 h)
 
+-- 23 has three
+pub operand-other : (code : ℕ) → hasOperand code ≡ true → eqb code 23 ≡ false
+unfolding hasOperand
+operand-other code has = ne-eqb code 23 (λ e. false≢true (rw e at has))
+
 -- ---- the instruction at a place
 
 module _ (code : List ℕ) (at : ℕ) (inside : at < length code) where
   -- a code byte that is not listed
-  pub fetch-unlisted : ((n : ℕ) → instructionOf (getD code at 0) n ≡ none) → fetchOne code at ≡ nothing
-  fetch-unlisted h = by (hasOperand (getD code at 0)) refl
+  pub fetch-unlisted : eqb (getD code at 0) 23 ≡ false → ((n : ℕ) → instructionOf (getD code at 0) n ≡ none) → fetch code at ≡ nothing
+  fetch-unlisted other h = fetch-other code at other ∙ by (hasOperand (getD code at 0)) refl
     where
       read : hasOperand (getD code at 0) ≡ true → (r : Read ℕ) → numberAt code (at + 1) ≡ r → fetchOne code at ≡ nothing
       read t nothing e = fetch-malformed code at inside t e
@@ -43,15 +50,26 @@ module _ (code : List ℕ) (at : ℕ) (inside : at < length code) where
       by false t = fetch-alone code at inside t ∙ ap (λ o. decoded o (at + 1)) (h 0)
 
   module _ (byte : ℕ) (is : getD code at 0 ≡ byte) where
-    pub read-alone : hasOperand byte ≡ false → fetchOne code at ≡ decoded (instructionOf byte 0) (at + 1)
-    read-alone has = fetch-alone code at inside (ap hasOperand is ∙ has) ∙ rw is
+    pub read-alone : eqb byte 23 ≡ false → hasOperand byte ≡ false → fetch code at ≡ decoded (instructionOf byte 0) (at + 1)
+    read-alone other has = fetch-other code at (rw is other) ∙ fetch-alone code at inside (ap hasOperand is ∙ has) ∙ rw is
 
     module _ (has : hasOperand byte ≡ true) where
-      pub read-with : (n next : ℕ) → numberAt code (at + 1) ≡ got n next → fetchOne code at ≡ decoded (instructionOf byte n) next
-      read-with n next e = fetch-number code at n next inside (ap hasOperand is ∙ has) e ∙ rw is
+      pub read-with : (n next : ℕ) → numberAt code (at + 1) ≡ got n next → fetch code at ≡ decoded (instructionOf byte n) next
+      read-with n next e = fetch-other code at (rw is (operand-other byte has)) ∙ fetch-number code at n next inside (ap hasOperand is ∙ has) e ∙ rw is
 
-      pub read-malformed : numberAt code (at + 1) ≡ nothing → fetchOne code at ≡ nothing
-      read-malformed e = fetch-malformed code at inside (ap hasOperand is ∙ has) e
+      pub read-malformed : numberAt code (at + 1) ≡ nothing → fetch code at ≡ nothing
+      read-malformed e = fetch-other code at (rw is (operand-other byte has)) ∙ fetch-malformed code at inside (ap hasOperand is ∙ has) e
+
+-- a 23 is no other instruction
+pub timer-only : (code : List ℕ) (at : ℕ) → getD code at 0 ≡ 23 → (byte n next : ℕ) → decoded (instructionOf byte n) next ≡ fetch code at → fetch code at ≡ nothing
+timer-only code at is byte n next e = by (instructionOf byte n) refl
+  where
+    by : (o : Option Instruction) → instructionOf byte n ≡ o → fetch code at ≡ nothing
+    by none q = sym e ∙ rw q
+    by (some i) q =
+        let f : fetch code at ≡ got i next = sym e ∙ rw q in
+        let g : nothing ≡ got i next = sym (timer-unfetched code at (eq-eqb (getD code at 0) 23 is)) ∙ timeless-one code at i next f (code-timeless byte n i q) in
+        let z : _≡_ {A = ℕ} 0 1 = cc in let b : ⊥ = omega arith in absurd b
 
 -- ---- operands of one byte
 

@@ -1,6 +1,6 @@
--- The run of sound code is refused by 14 to 17 and 22 only: no operand is ever missing, never over 40 values are held, and every id is
+-- An instruction of sound code is refused by 14 to 17 and 22 only: no operand is ever missing, never over 40 values are held, and every id is
 -- declared. Assumes nothing.
-use Prim.Native.Nat.{ℕ, zero, suc, _+_, _≤_, _<_}
+use Prim.Native.Nat.{ℕ, suc, _≤_, _<_}
 use native.Mathlib.Omega.{arith}
 use mathlib.Core.Path.{_≡_, refl, sym, ap, _∙_, subst}
 use mathlib.Core.Bool.{Bool, true, false, not, _&&_, _||_}
@@ -10,23 +10,21 @@ use lib.Dec.{T, ltb, ltb→lt}
 use lib.IntN.{ℤ, pos, negℤ, _+ℤ_, _-ℤ_, _*ℤ_}
 use lib.ListN.{length, getD, set}
 use lib.Signed.{quotZ}
-use borrow.Author.Tests.{lt-ltb, ltb-true}
-use Rattle.limits.specs.Answer.{accepted}
+use borrow.Author.Tests.{lt-ltb, le-leb}
+use Rattle.limits.specs.Limits.{timeLimit}
 use Rattle.arith.specs.Values.{Outcome, ok, refusal, _>>=_, require, eqZ, isInt32, int32, nonZero, remainder, Operation, add, subtract, multiply, divide, modulo, arithmetic, negation, compares}
 use Rattle.semantics.specs.Program.{Range, Side, changing, rising, falling, within, rangeAt}
 use Rattle.semantics.specs.Formula.{State, at}
+use Rattle.semantics.specs.Shape.{Setting, timePlace, timed}
 use Rattle.semantics.specs.ReferenceScan.{ranged, moves, stays, picked}
 use Rattle.arith.proofs.Basics.{T-true, and-left, and-right, ok≢refusal}
 use Rattle.bytecode.specs.Instructions.{Instruction, constant, current, previous, operation, negate, comparison, negated, both, either, gate, pick, assign, settle, timer}
 use Rattle.bytecode.specs.Signature.{Sort, Role, pushes, computes, tests, opens, picks, lets, settles, times, signature}
-use Rattle.bytecode.specs.Check.{Picks, Known, known, one, empty, unset, closed, fresh, opened, admits, advance, checkCode}
-use Rattle.bytecode.proofs.Timeless.{TimelessIn, timeless-one, suits-no-timer}
-use Rattle.bytecode.proofs.RoundTrip.{fetch-next}
-use Rattle.bytecode.proofs.Soundness.{some-inj, none≢some, guard-some, idsOf, known-inside, advance-small, third}
+use Rattle.bytecode.specs.Check.{Picks, Known, known, one, empty, unset, closed, fresh, opened, admits, advance}
+use Rattle.bytecode.proofs.Timeless.{TimelessIn}
+use Rattle.bytecode.proofs.Soundness.{some-inj, none≢some, guard-some, idsOf, known-inside, third}
 use Rattle.bytecode.proofs.Exactly.{taking-shape}
-use Rattle.bytecode.proofs.Walk.{check-stepped}
 use Rattle.machine.specs.Step.{Machine, machine, bit, yes, push, pop, gated, settled, endsPassing, isPick, declared, perform, step}
-use Rattle.machine.specs.Runs.{afterStep, run}
 
 -- a refusal of the rules at work: 14, 15, 16 or 17, or 22 (document 02, A.6)
 pub data ByRules (k : ℕ) : Type 0 where
@@ -166,16 +164,37 @@ settled-kept : (v : ℕ) (z : ℤ) (c : Bool) (ms : List ℤ) (t : State) (d : K
 settled-kept v z true ms t d o ids e h = moved (known [] false o ids) d (machine false false ms t) e (none-held ms h)
 settled-kept v z false ms t d o ids e h = moved (known [] false o ids) d (machine false false ms (set t v z)) e (none-held ms h)
 
-module _ (ns : List Range) (s : State) where
-  declared-kept : (i : ℕ) (o : Outcome Machine) (d : Known) → i < length ns → Kept d o → Kept d (declared ns s i o)
-  declared-kept i o d l h = rw (lt-ltb i (length ns) l) h
+module _ (ns : Setting) (s : State) where
+  declared-kept : (i : ℕ) (o : Outcome Machine) (d : Known) → i < length (ns .ranges) → Kept d o → Kept d (declared ns s i o)
+  declared-kept i o d l h = rw (lt-ltb i (length (ns .ranges)) l) h
 
-  module _ (ids : List Bool) (size : length ids ≡ length ns) where
-    unset-declared : (v : ℕ) → T (unset ids v) → v < length ns
+  -- the numbers that a 23 works on are there, and N keeps its limit
+  abbrev pub StandsIn : Role → Type 0
+  StandsIn (pushes fits) = Unit {0}
+  StandsIn computes = Unit {0}
+  StandsIn tests = Unit {0}
+  StandsIn opens = Unit {0}
+  StandsIn (picks side v) = Unit {0}
+  StandsIn (lets v) = Unit {0}
+  StandsIn (settles v) = Unit {0}
+  StandsIn (times t w n) = (t < length (ns .ranges)) × (w < length (ns .ranges)) × (timePlace (ns .timers) t < length (ns .ranges)) × (n ≤ timeLimit)
+
+  pub timeless-stands : (r : Role) → TimelessIn r → StandsIn r
+  timeless-stands (pushes fits) h = tt
+  timeless-stands computes h = tt
+  timeless-stands tests h = tt
+  timeless-stands opens h = tt
+  timeless-stands (picks side v) h = tt
+  timeless-stands (lets v) h = tt
+  timeless-stands (settles v) h = tt
+  timeless-stands (times t w n) h = absurd h
+
+  module _ (ids : List Bool) (size : length ids ≤ length (ns .ranges)) where
+    unset-declared : (v : ℕ) → T (unset ids v) → v < length (ns .ranges)
     unset-declared v h = omega (arith, ltb→lt v (length ids) (and-left (ltb v (length ids)) (not (getD ids v false)) h))
 
     -- an instruction that is not passed over
-    perform-keeps : (i : Instruction) (vs : List Sort) (g : Bool) (o : Option Picks) (d : Known) (c : Bool) (ms : List ℤ) (t : State) → TimelessIn (signature i .role) → length ms ≡ length vs
+    perform-keeps : (i : Instruction) (vs : List Sort) (g : Bool) (o : Option Picks) (d : Known) (c : Bool) (ms : List ℤ) (t : State) → StandsIn (signature i .role) → length ms ≡ length vs
         → advance i (known vs g o ids) ≡ some d → Kept d (perform ns s i c ms t)
     perform-keeps (constant z) vs g o d c ms t y l e = held-kept z c ms t vs g o ids (λ flags. isInt32 z) d l e
     perform-keeps (current i) vs g o d c ms t y l e =
@@ -213,47 +232,25 @@ module _ (ns : List Range) (s : State) where
         let q = guard-some (g && empty vs₁ && unset ids v && fresh o side v) _ d e₁ in
         let nil : ms₁ ≡ [] = empty-nil vs₁ ms₁ l₁ (second g (empty vs₁) (unset ids v) (fresh o side v) (q .0)) in
         declared-kept v _ d (unset-declared v (third g (empty vs₁) (unset ids v) (fresh o side v) (q .0)))
-        (kept-bind (picked side ns s v x) _ d (λ k h. picked-rules side ns s v x k h) λ z.
+        (kept-bind (picked side (ns .ranges) s v x) _ d (λ k h. picked-rules side (ns .ranges) s v x k h) λ z.
         moved (known [] false (some (record { side = side; id = v })) ids) d (machine false true ms₁ (set t v z)) (q .1) (none-held ms₁ nil))
     perform-keeps (assign v) vs g o d c ms t y l e = popped Sort.number ms vs _ _ d l e λ x ms₁ vs₁ l₁ e₁.
         let q = guard-some (not g && empty vs₁ && unset ids v && closed o) _ d e₁ in
         let nil : ms₁ ≡ [] = empty-nil vs₁ ms₁ l₁ (second (not g) (empty vs₁) (unset ids v) (closed o) (q .0)) in
         declared-kept v _ d (unset-declared v (third (not g) (empty vs₁) (unset ids v) (closed o) (q .0)))
-        (kept-bind (ranged ns v x) _ d (λ k h. ranged-rules ns v x k h) λ z.
+        (kept-bind (ranged (ns .ranges) v x) _ d (λ k h. ranged-rules (ns .ranges) v x k h) λ z.
         moved (known [] false none (set ids v true)) d (machine false c ms₁ (set t v z)) (q .1) (none-held ms₁ nil))
     perform-keeps (settle v) vs g o d c ms t y l e =
         let q = guard-some (not g && empty vs && unset ids v && opened o v) _ d e in
         let nil : ms ≡ [] = empty-nil vs ms l (second (not g) (empty vs) (unset ids v) (opened o v) (q .0)) in
         declared-kept v _ d (unset-declared v (third (not g) (empty vs) (unset ids v) (opened o v) (q .0)))
         (settled-kept v (at s v) c ms t d none (set ids v true) (q .1) nil)
-    perform-keeps (timer u v n) vs g o d c ms t y l e = absurd y
+    perform-keeps (timer u v n) vs g o d c ms t y l e =
+        let q = guard-some (not g && empty vs && unset ids u && closed o) _ d e in
+        let nil : ms ≡ [] = empty-nil vs ms l (second (not g) (empty vs) (unset ids u) (closed o) (q .0)) in
+        declared-kept u _ d (y .0) (declared-kept v _ d (y .1) (declared-kept (timePlace (ns .timers) u) _ d (y .2)
+        (rw (le-leb n 2147483647 (y .3)) (moved (known [] false none (set ids u true)) d (machine false c ms (timed ns s (record { id = u; watched = v; limit = n }) t)) (q .1) (none-held ms nil)))))
 
-  pub step-keeps : (i : Instruction) (c d : Known) (m : Machine) → TimelessIn (signature i .role) → length (idsOf c) ≡ length ns → advance i c ≡ some d → Matches c m → Kept d (step ns s i m)
+  pub step-keeps : (i : Instruction) (c d : Known) (m : Machine) → StandsIn (signature i .role) → length (idsOf c) ≤ length (ns .ranges) → advance i c ≡ some d → Matches c m → Kept d (step ns s i m)
   step-keeps i (known vs g o ids) d (machine false c ms t) y l e h = perform-keeps ids l i vs g o d c ms t y h e
   step-keeps i (known vs g o ids) d (machine true c ms t) y l e h = over-keeps i vs o ids d c ms t (subst (λ b. advance i (known vs b o ids) ≡ some d) (h .0) e) (h .1)
-
-  -- the run of code that the walk finds sound, with any budget
-  pub run-by-rules : (base : ℕ) (code : List ℕ) (budget f at n : ℕ) (last : Option Instruction) (c : Known) (m : Machine) → length (idsOf c) ≡ length ns → length ns ≤ 64 → length code ≤ at + f
-      → checkCode ns base code f at last c ≡ accepted tt → Matches c m → RefusedByRules (run ns s code budget at n m .last)
-  run-by-rules base code zero f at n last c m i few l e h = tt
-  run-by-rules base code (suc budget) f at n last c m i few l e h =
-      inside (ltb at (length code)) refl f l e (λ f₁ next last₁ c₁ m₁ i₁ l₁ e₁ h₁. run-by-rules base code budget f₁ next (n + 1) last₁ c₁ m₁ i₁ few l₁ e₁ h₁)
-    where
-      stepped : (f₁ next : ℕ) (c₁ : Known) (o : Outcome Machine) → Kept c₁ o
-          → ((m₁ : Machine) → Matches c₁ m₁ → RefusedByRules (run ns s code budget next (n + 1) m₁ .last)) → RefusedByRules (afterStep o (n + 1) at (λ m₁. run ns s code budget next (n + 1) m₁) .last)
-      stepped f₁ next c₁ (ok m₁) k ih = ih m₁ k
-      stepped f₁ next c₁ (refusal r) k ih = k
-
-      inside : (b : Bool) → ltb at (length code) ≡ b → (f : ℕ) → length code ≤ at + f → checkCode ns base code f at last c ≡ accepted tt
-          → ((f₁ next : ℕ) (last₁ : Option Instruction) (c₁ : Known) (m₁ : Machine) → length (idsOf c₁) ≡ length ns → length code ≤ next + f₁ → checkCode ns base code f₁ next last₁ c₁ ≡ accepted tt → Matches c₁ m₁ → RefusedByRules (run ns s code budget next (n + 1) m₁ .last))
-          → RefusedByRules (run ns s code (suc budget) at n m .last)
-      inside false b f l e ih = rw b tt
-      inside true b zero l e ih = let x : ⊥ = omega (arith, ltb-true at (length code) b) in absurd x
-      inside true b (suc f₁) l e ih =
-          let x = check-stepped ns base code f₁ at last c (ltb-true at (length code) b) e in
-          let y = suits-no-timer ns last (signature (x .instruction) .role) (x .suited) in
-          let a = advance-small (x .instruction) c (x .after) (omega arith) (x .advanced) in
-          let j : length (idsOf (x .after)) ≡ length (idsOf c) = a .1 in
-          rw (b, timeless-one code at (x .instruction) (x .next) (x .fetched) y)
-          (stepped f₁ (x .next) (x .after) (step ns s (x .instruction) m) (step-keeps (x .instruction) c (x .after) m y i (x .advanced) h)
-          λ m₁ h₁. ih f₁ (x .next) (some (x .instruction)) (x .after) m₁ (j ∙ i) (omega (arith, fetch-next code at (x .instruction) (x .next) (x .fetched) .1)) (x .goes) h₁)

@@ -3,27 +3,27 @@ use Prim.Native.Nat.{ℕ, zero, suc, _+_, _-_, _≤_, _<_}
 use native.Mathlib.Omega.{arith}
 use mathlib.Core.Path.{_≡_, refl, sym, ap, _∙_}
 use mathlib.Core.Logic.{_≢_}
-use mathlib.Core.Bool.{Bool, true, false, false≢true}
+use mathlib.Core.Bool.{Bool, true, false, cond, false≢true}
 use mathlib.Core.List.{List, [], _∷_, _++_}
 use mathlib.Core.Option.{Option, none, some}
-use lib.Dec.{ltb, ltb→lt}
+use lib.Dec.{eqb, ltb, ltb→lt}
 use lib.IntN.{ℤ, pos}
 use lib.ListN.{length, set, getD, drop, length-append, length-set, length-drop}
 use lib.Seq.{getD-set-other}
-use borrow.Author.Tests.{lt-ltb, le-ltb}
+use borrow.Author.Tests.{lt-ltb, le-ltb, le-leb, eqb-true}
+use Rattle.limits.specs.Limits.{timeLimit}
 use Rattle.arith.specs.Values.{Outcome, ok, refusal, _>>=_}
-use Rattle.semantics.specs.Program.{Range, Expression, Condition, Side, Case, Rule, function, change, target, UsableE, UsableC, UsableK, UsableR, OrderedRules}
+use Rattle.semantics.specs.Program.{Expression, Condition, Side, Case, Rule, function, change, target, UsableE, UsableC, UsableK, UsableR, Timer, timersKnown, OrderedRules, EachTimer}
 use Rattle.semantics.specs.Program as P
 use Rattle.semantics.specs.Formula.{State, at, evalE, evalC}
-use Rattle.semantics.specs.ReferenceScan.{tryCase, tryCases, orPrevious, newValue}
+use Rattle.semantics.specs.Shape.{Setting, timeCell, timed}
+use Rattle.semantics.specs.ReferenceScan.{tryCase, tryCases, orPrevious, newValue, runTimers, scanRules}
 use Rattle.arith.proofs.Basics.{bind-assoc, bind-cong}
-use Rattle.semantics.proofs.Cells.{Agree}
+use Rattle.semantics.proofs.Cells.{Agree, not-taken, known-length}
 use Rattle.semantics.proofs.Unique.{evalC-agree}
-use Rattle.semantics.proofs.Untimed.{plainRules}
-use Rattle.bytecode.specs.Instructions.{Instruction, constant, current, previous, operation, negate, comparison, negated, both, either, gate, pick, encode, encodeAll}
-use Rattle.bytecode.specs.Translation.{codeE, codeC, codeCase, codeK, codeR, codeRules, depthE, depthC, ShallowK, ShallowR, Shallow}
+use Rattle.bytecode.specs.Instructions.{Instruction, constant, current, previous, operation, negate, comparison, negated, both, either, gate, pick, timer, encode, encodeAll}
+use Rattle.bytecode.specs.Translation.{codeE, codeC, codeCase, codeK, codeR, codeT, codeRules, depthE, depthC, ShallowK, ShallowR, Shallow}
 use Rattle.leb128.proofs.RoundTrip.{drop-behind}
-use Rattle.bytecode.proofs.Timeless.{Timeless, timeless-one}
 use Rattle.bytecode.proofs.RoundTrip.{AllSmall, fetch-encoded, length-encode, encoded-inside}
 use Rattle.bytecode.proofs.Soundness.{known-inside}
 use Rattle.machine.specs.Step.{Machine, machine, bit, yes, push, gated, settled, step}
@@ -35,7 +35,7 @@ yes-bit true = refl
 yes-bit false = refl
 
 -- the instructions one after the other, without places
-abbrev pub exec : List Range → State → List Instruction → Machine → Outcome Machine
+abbrev pub exec : Setting → State → List Instruction → Machine → Outcome Machine
 exec ns s [] m = ok m
 exec ns s (i ∷ is) m = step ns s i m >>= λ m₁. exec ns s is m₁
 
@@ -48,7 +48,7 @@ abbrev values : State → ℕ → Option ℤ → State
 values t v none = t
 values t v (some z) = set t v z
 
-module _ (ns : List Range) (s : State) where
+module _ (ns : Setting) (s : State) where
   exec-append : (is js : List Instruction) (m : Machine) → exec ns s (is ++ js) m ≡ (exec ns s is m >>= λ m₁. exec ns s js m₁)
   exec-append [] js m = refl
   exec-append (i ∷ is) js m = bind-cong {m = step ns s i m} refl (λ m₁. exec-append is js m₁) ∙ sym (bind-assoc (step ns s i m) _ _)
@@ -56,13 +56,13 @@ module _ (ns : List Range) (s : State) where
   push-ok : (z : ℤ) (c : Bool) (vs : List ℤ) (t : State) → length vs < 40 → push z c vs t ≡ ok (machine false c (z ∷ vs) t)
   push-ok z c vs t h = rw (lt-ltb (length vs) 40 h)
 
-  module _ (ids : List Bool) (size : length ids ≡ length ns) where
+  module _ (ids : List Bool) (size : length ids ≤ length (ns .ranges)) where
     -- an expression pushes its value
     pub exec-E : (e : Expression) (c : Bool) (vs : List ℤ) (t : State) → UsableE ids e → depthE e + length vs ≤ 40
         → exec ns s (codeE e) (machine false c vs t) ≡ (evalE s t e >>= λ z. ok (machine false c (z ∷ vs) t))
     exec-E (P.constant z) c vs t u d = rw (push-ok z c vs t (omega arith))
-    exec-E (P.current i) c vs t u d = rw (lt-ltb i (length ns) (omega (arith, known-inside ids i u)), push-ok (at t i) c vs t (omega arith))
-    exec-E (P.previous i) c vs t u d = rw (lt-ltb i (length ns) (omega (arith, ltb→lt i (length ids) u)), push-ok (at s i) c vs t (omega arith))
+    exec-E (P.current i) c vs t u d = rw (lt-ltb i (length (ns .ranges)) (omega (arith, known-inside ids i u)), push-ok (at t i) c vs t (omega arith))
+    exec-E (P.previous i) c vs t u d = rw (lt-ltb i (length (ns .ranges)) (omega (arith, ltb→lt i (length ids) u)), push-ok (at s i) c vs t (omega arith))
     exec-E (P.operation o a b) c vs t u d =
         let ua : UsableE ids a = u .0 in
         let ub : UsableE ids b = u .1 in
@@ -113,27 +113,27 @@ module _ (ns : List Range) (s : State) where
 
       -- after the gate, expression and pick are one case
       gated-case : (side : Side) (e : Expression) (b : Bool) (f : Option ℤ) (t : State) → UsableE ids e → depthE e ≤ 40
-          → (gated b (held f) [] (values t v f) >>= λ m. exec ns s (codeE e ++ pick side v ∷ []) m) ≡ (tryCase ns s t v f side e b >>= λ q. ok (machine false (held q) [] (values t v q)))
+          → (gated b (held f) [] (values t v f) >>= λ m. exec ns s (codeE e ++ pick side v ∷ []) m) ≡ (tryCase (ns .ranges) s t v f side e b >>= λ q. ok (machine false (held q) [] (values t v q)))
       gated-case side e false f t u d = exec-append (codeE e) (pick side v ∷ []) _ ∙ rw (over-E e (held f) [] (values t v f))
       gated-case side e true (some y) t u d = refl
       gated-case side e true none t u d =
-          let l : ltb v (length ns) ≡ true = lt-ltb v (length ns) (omega arith) in
+          let l : ltb v (length (ns .ranges)) ≡ true = lt-ltb v (length (ns .ranges)) (omega arith) in
           exec-append (codeE e) (pick side v ∷ []) _ ∙ rw (exec-E e false [] t u (omega arith)) (simp (bind-assoc, l))
 
       -- gate, expression and pick are one case, its condition on the stack
       exec-case : (side : Side) (e : Expression) (b : Bool) (f : Option ℤ) (t : State) → UsableE ids e → depthE e ≤ 40
-          → exec ns s (gate ∷ codeE e ++ pick side v ∷ []) (machine false (held f) (bit b ∷ []) (values t v f)) ≡ (tryCase ns s t v f side e b >>= λ q. ok (machine false (held q) [] (values t v q)))
+          → exec ns s (gate ∷ codeE e ++ pick side v ∷ []) (machine false (held f) (bit b ∷ []) (values t v f)) ≡ (tryCase (ns .ranges) s t v f side e b >>= λ q. ok (machine false (held q) [] (values t v q)))
       exec-case side e b f t u d = rw yes-bit (gated-case side e b f t u d)
 
       exec-codeCase : (k : Case) (f : Option ℤ) (t : State) → UsableC ids (k .condition) → UsableE ids (k .value) → depthC (k .condition) ≤ 40 → depthE (k .value) ≤ 40
-          → exec ns s (codeCase v k) (machine false (held f) [] (values t v f)) ≡ (evalC s t (k .condition) >>= λ b. tryCase ns s t v f (k .side) (k .value) b >>= λ q. ok (machine false (held q) [] (values t v q)))
+          → exec ns s (codeCase v k) (machine false (held f) [] (values t v f)) ≡ (evalC s t (k .condition) >>= λ b. tryCase (ns .ranges) s t v f (k .side) (k .value) b >>= λ q. ok (machine false (held q) [] (values t v q)))
       exec-codeCase k f t uc ue dc de =
           exec-append (codeC (k .condition)) _ _
           ∙ rw (exec-C (k .condition) (held f) [] (values t v f) uc (omega arith), evalC-agree ids s (values t v f) t (picked-agrees t f) (k .condition) uc, bind-assoc)
           (bind-cong {m = evalC s t (k .condition)} refl λ b. exec-case (k .side) (k .value) b f t ue de)
 
       exec-K : (ks : List Case) (f : Option ℤ) (t : State) → UsableK ids ks → ShallowK ks
-          → exec ns s (codeK v ks) (machine false (held f) [] (values t v f)) ≡ (tryCases ns s t v f ks >>= λ q. ok (machine false (held q) [] (values t v q)))
+          → exec ns s (codeK v ks) (machine false (held f) [] (values t v f)) ≡ (tryCases (ns .ranges) s t v f ks >>= λ q. ok (machine false (held q) [] (values t v q)))
       exec-K [] f t u d = refl
       exec-K (k ∷ ks) f t u d =
           let u₁ : UsableK ids ks = u .2 in
@@ -145,39 +145,57 @@ module _ (ns : List Range) (s : State) where
       settled-is (some z) t = refl
 
     exec-R : (r : Rule) (t : State) → UsableR ids r → ShallowR r → target r < length ids → getD ids (target r) false ≡ false
-        → exec ns s (codeR r) (machine false false [] t) ≡ (newValue ns s t r >>= λ z. ok (machine false false [] (set t (target r) z)))
+        → exec ns s (codeR r) (machine false false [] t) ≡ (newValue (ns .ranges) s t r >>= λ z. ok (machine false false [] (set t (target r) z)))
     unfolding newValue
     exec-R (function v e) t u d i f =
-        let l : ltb v (length ns) ≡ true = lt-ltb v (length ns) (omega arith) in
+        let l : ltb v (length (ns .ranges)) ≡ true = lt-ltb v (length (ns .ranges)) (omega arith) in
         simp (exec-append, exec-E e false [] t u (omega arith), bind-assoc, l)
     exec-R (change v ks cs) t u d i f =
-        let l : ltb v (length ns) ≡ true = lt-ltb v (length ns) (omega arith) in
+        let l : ltb v (length (ns .ranges)) ≡ true = lt-ltb v (length (ns .ranges)) (omega arith) in
         exec-append (codeK v ks) _ _ ∙ rw (exec-K v i f ks none t u (d .1)) (simp (bind-assoc, l, settled-is v i f))
 
-  pub exec-rules : (rs : List Rule) (ids : List Bool) (t : State) → length ids ≡ length ns → OrderedRules [] ids rs → Shallow rs
-      → exec ns s (codeRules rs) (machine false false [] t) ≡ (plainRules ns s t rs >>= λ u. ok (machine false false [] u))
-  exec-rules [] ids t l o d = refl
-  exec-rules (r ∷ rs) ids t l o d =
-      let l₁ : length (set ids (target r) true) ≡ length ns = length-set ids (target r) true ∙ l in
-      let o₁ : OrderedRules [] (set ids (target r) true) rs = o .3 in
-      let d₁ : Shallow rs = d .1 in
-      exec-append (codeR r) (codeRules rs) _
-      ∙ rw (exec-R ids l r t (o .0) (d .0) (ltb→lt (target r) (length ids) (o .1)) (o .2), bind-assoc)
-      (bind-cong {m = newValue ns s t r} refl λ z. exec-rules rs (set ids (target r) true) (set t (target r) z) l₁ o₁ d₁)
-      ∙ sym (bind-assoc (newValue ns s t r) (λ z. plainRules ns s (set t (target r) z) rs) _)
+  -- room for a timer's cells, and its limit
+  abbrev pub Room : Timer → Type 0
+  Room x = (x .id < length (ns .ranges)) × (timeCell ns x < length (ns .ranges)) × (x .limit ≤ timeLimit)
+
+  -- the timers of v
+  exec-T : (v : ℕ) → v < length (ns .ranges) → (ts : List Timer) → EachTimer Room ts → (t : State) → exec ns s (codeT v ts) (machine false false [] t) ≡ ok (machine false false [] (runTimers ns s v ts t))
+  exec-T v h [] r t = refl
+  exec-T v h (x ∷ xs) r t = go (eqb (x .watched) v) (eqb-true (x .watched) v) (λ t₁. exec-T v h xs (r .1) t₁)
+    where
+      go : (b : Bool) → (b ≡ true → x .watched ≡ v) → ((t₁ : State) → exec ns s (codeT v xs) (machine false false [] t₁) ≡ ok (machine false false [] (runTimers ns s v xs t₁)))
+          → exec ns s (cond b (timer (x .id) v (x .limit) ∷ codeT v xs) (codeT v xs)) (machine false false [] t) ≡ ok (machine false false [] (runTimers ns s v xs (cond b (timed ns s x t) t)))
+      go false f ih = ih t
+      go true f ih =
+          let q : timed ns s (record { id = x .id; watched = v; limit = x .limit }) t ≡ timed ns s x t = ap {A = ℕ} {B = State} (λ w. timed ns s (record { id = x .id; watched = w; limit = x .limit }) t) (sym (f refl)) in
+          rw (lt-ltb (x .id) (length (ns .ranges)) (r .0 .0), lt-ltb v (length (ns .ranges)) h, lt-ltb (timeCell ns x) (length (ns .ranges)) (r .0 .1), le-leb (x .limit) timeLimit (r .0 .2), q) (ih (timed ns s x t))
+
+  pub exec-rules : (ts : List Timer) → EachTimer Room ts → (rs : List Rule) (ids : List Bool) (t : State) → length ids ≤ length (ns .ranges) → OrderedRules ts ids rs → Shallow rs
+      → exec ns s (codeRules ts rs) (machine false false [] t) ≡ (scanRules ns ts s t rs >>= λ u. ok (machine false false [] u))
+  exec-rules ts room [] ids t l o d = refl
+  exec-rules ts room (r ∷ rs) ids t l o d =
+      let v = target r in
+      let inside : v < length ids = ltb→lt v (length ids) (o .1) in
+      let m : length (timersKnown v ts (set ids v true)) ≡ length ids = known-length v ts (set ids v true) ∙ length-set ids v true in
+      let l₁ : length (timersKnown v ts (set ids v true)) ≤ length (ns .ranges) = omega arith in
+      exec-append (codeR r) (codeT v ts ++ codeRules ts rs) _
+      ∙ rw (exec-R ids l r t (o .0) (d .0) inside (not-taken ts ids v (o .2) .1), bind-assoc)
+      (bind-cong {m = newValue (ns .ranges) s t r} refl λ z.
+      exec-append (codeT v ts) (codeRules ts rs) _ ∙ rw (exec-T v (omega arith) ts room (set t v z)) (exec-rules ts room rs (timersKnown v ts (set ids v true)) (runTimers ns s v ts (set t v z)) l₁ (o .3) (d .1)))
+      ∙ sym (bind-assoc (newValue (ns .ranges) s t r) (λ z. scanRules ns ts s (runTimers ns s v ts (set t v z)) rs) _)
 
   -- the bytes of instructions run as the instructions
-  pub run-exec : (code : List ℕ) (is : List Instruction) (budget at n : ℕ) (m : Machine) → drop at code ≡ encodeAll is → AllSmall is → Timeless is → length (encodeAll is) ≤ budget
+  pub run-exec : (code : List ℕ) (is : List Instruction) (budget at n : ℕ) (m : Machine) → drop at code ≡ encodeAll is → AllSmall is → length (encodeAll is) ≤ budget
       → run ns s code budget at n m .last ≡ exec ns s is m
-  run-exec code [] zero at n m h a u l = refl
-  run-exec code [] (suc budget) at n m h a u l =
+  run-exec code [] zero at n m h a l = refl
+  run-exec code [] (suc budget) at n m h a l =
       let k : length (drop at code) ≡ 0 = ap length h in
       let j : length code - at ≡ 0 = rw length-drop at k in
       rw (le-ltb at (length code) (omega arith))
-  run-exec code (i ∷ is) zero at n m h a u l = let b : ⊥ = omega (arith, length-encode i, simp length-append at l) in absurd b
-  run-exec code (i ∷ is) (suc budget) at n m h a u l =
-      rw (lt-ltb at (length code) (encoded-inside code at i (encodeAll is) h), timeless-one code at i (at + length (encode i)) (fetch-encoded code at i (encodeAll is) (a .0) h) (u .0))
-      (go (step ns s i m) λ m₁. run-exec code is budget (at + length (encode i)) (n + 1) m₁ (drop-behind code at (encode i) (encodeAll is) h) (a .1) (u .1) (omega (arith, length-encode i, simp length-append at l)))
+  run-exec code (i ∷ is) zero at n m h a l = let b : ⊥ = omega (arith, length-encode i, simp length-append at l) in absurd b
+  run-exec code (i ∷ is) (suc budget) at n m h a l =
+      rw (lt-ltb at (length code) (encoded-inside code at i (encodeAll is) h), fetch-encoded code at i (encodeAll is) (a .0) h)
+      (go (step ns s i m) λ m₁. run-exec code is budget (at + length (encode i)) (n + 1) m₁ (drop-behind code at (encode i) (encodeAll is) h) (a .1) (omega (arith, length-encode i, simp length-append at l)))
     where
       go : (o : Outcome Machine) → ((m₁ : Machine) → run ns s code budget (at + length (encode i)) (n + 1) m₁ .last ≡ exec ns s is m₁)
           → afterStep o (n + 1) at (λ m₁. run ns s code budget (at + length (encode i)) (n + 1) m₁) .last ≡ (o >>= λ m₁. exec ns s is m₁)

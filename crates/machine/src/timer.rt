@@ -33,10 +33,10 @@ fn place(timing: Timing, t: usize) -> usize
 fn elapsed(millis: u64, n: u64, before: i32, now: i32, since: i32) -> u64
     ensures { λ r. ⌜ (r ≡ elapsedOf millis n before now since) × (r ≤ n) ⌝ }
 {
-    if now == 0 {
+    if arith::is_equal(now, 0) {
         return 0;
     }
-    if before == 0 {
+    if arith::is_equal(before, 0) {
         return 0;
     }
     let past = arith::count(since);
@@ -53,7 +53,7 @@ fn elapsed(millis: u64, n: u64, before: i32, now: i32, since: i32) -> u64
 fn due(n: u64, now: i32, e: u64) -> i32
     ensures { λ r. ⌜ r ≡ dueOf n now (pos e) ⌝ }
 {
-    if now == 1 {
+    if arith::is_equal(now, 1) {
         if e == n {
             return 1;
         }
@@ -107,13 +107,17 @@ pub fn run(
     ensures { λ r. ⌜ ((low high vals : List ℤ) → length low ≡ length (now (prev .entry))
         → DispatchedBy (now (code .entry)) (SettingIn low high timing) (now (prev .entry)) at (registers held picked false) vals (now (cur .entry)) vals (now (cur .exit)) 1 r) ⌝ }
 {
-    let bytecode::Operands::Timer(t, w, n, next) = bytecode::timer_at(code, at + 1) else {
-        return Dispatched::Refused(limits::BROKEN_IMAGE);
-    };
-    if work(prev, cur, timing, t, w, n) {
-        return Dispatched::On(held, picked, false, next, 1);
+    let f = bytecode::fetch(code, at);
+    match f {
+        bytecode::Fetched::Timer(t, w, n, next) => {
+            if work(prev, cur, timing, t, w, n) {
+                return Dispatched::On(held, picked, false, next, 1);
+            }
+            Dispatched::Refused(limits::BROKEN_IMAGE)
+        }
+        bytecode::Fetched::Instruction(_, _, _) => Dispatched::Refused(limits::BROKEN_IMAGE),
+        bytecode::Fetched::Malformed => Dispatched::Refused(limits::BROKEN_IMAGE),
     }
-    Dispatched::Refused(limits::BROKEN_IMAGE)
 }
 
 // The 23 at a place, passed over: its operands are read.
@@ -121,8 +125,10 @@ pub fn pass(code: &[u8], at: usize, held: usize, picked: bool) -> Dispatched
     requires { ⌜ (at < length (now code)) × (getD (now code) at 0 ≡ 23) × (held ≤ stackLimit) ⌝ }
     ensures { λ r. ⌜ PassedBy (now (code .entry)) at held picked r ⌝ }
 {
-    let bytecode::Operands::Timer(_, _, _, next) = bytecode::timer_at(code, at + 1) else {
-        return Dispatched::Refused(limits::BROKEN_IMAGE);
-    };
-    Dispatched::On(held, picked, true, next, 1)
+    let f = bytecode::fetch(code, at);
+    match f {
+        bytecode::Fetched::Timer(_, _, _, next) => Dispatched::On(held, picked, true, next, 1),
+        bytecode::Fetched::Instruction(_, _, _) => Dispatched::Refused(limits::BROKEN_IMAGE),
+        bytecode::Fetched::Malformed => Dispatched::Refused(limits::BROKEN_IMAGE),
+    }
 }

@@ -7,6 +7,7 @@ use native.Mathlib.Omega.{arith}
 use lib.Dec.{ltb}
 use lib.IntN.{ℤ, pos}
 use lib.ListN.{length, getD, take, drop, replicate, length-map, length-append, length-replicate}
+use lib.Pow.{pow-pos}
 use lib.Seq.{sets}
 use borrow.Author.Tests.{lt-ltb, le-ltb}
 use Rattle.limits.specs.Limits.{timeLimit}
@@ -80,6 +81,7 @@ module _ (image : List ℕ) {low₀ high₀ start₀ low high start : List ℤ} 
         size-is = s;
         size-most = omega (arith, n .few);
         timers-are = sym (timers-untimed image none ∙ ap (λ (k : ℕ). flagsOf k 0) (n .names-are));
+        timers-low = pow-pos names;
         timed = none ∙ sym (le-ltb names names (omega arith));
         place-is = header-place image x;
         inside = x .extends .inside;
@@ -127,6 +129,7 @@ module _ (image : List ℕ) {low₀ high₀ start₀ low high start : List ℤ} 
         size-is = s;
         size-most = omega (arith, state-most image sound);
         timers-are = rw l at (y .timers-are);
+        timers-low = rw l at (y .timers-low);
         timed = timed-is (limitsOf image) names ∙ rw (y .size-is, l);
         place-is = header-place image x;
         inside = x .extends .inside;

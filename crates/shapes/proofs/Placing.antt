@@ -104,6 +104,7 @@ module _ {ls : List ℕ} {low₀ high₀ : List ℤ} {i : ℕ} {low high : List 
       record {
         size-is = let c : size + 0 ≡ length ls + length (timeRanges ls) = rw d at (x .counted) in omega arith;
         timers-are = rw d at (x .flags);
+        timers-low = rw e at (x .bits-low);
         lower = rw d at (x .lower);
         upper = rw d at (x .upper);
       }

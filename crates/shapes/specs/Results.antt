@@ -1,5 +1,5 @@
 -- What the answer of `shape` stands for. Document 01, "Who can cause which refusal"; document 02, A.7. Assumes nothing.
-use Prim.Native.Nat.{ℕ, _≤_}
+use Prim.Native.Nat.{ℕ, _^_, _≤_, _<_}
 use mathlib.Core.Path.{_≡_}
 use mathlib.Core.List.{List}
 use lib.Dec.{ltb}
@@ -28,6 +28,7 @@ pub record Measures (image : List ℕ) (low₀ high₀ low high : List ℤ) (m :
   -- 64 names, of which one is no timer, and the elapsed times of the others
   pub size-most : m .size ≤ 127
   pub timers-are : flagsOf (m .names) (m .timers) ≡ timersOf (shapeIn image)
+  pub timers-low : m .timers < 2 ^ m .names
   -- there is any timer exactly if a state has more numbers than names
   pub timed : hasTimer (limitsOf image) ≡ ltb (m .names) (m .size)
   pub place-is : m .place ≡ headerOf image .place

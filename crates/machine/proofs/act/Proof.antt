@@ -26,7 +26,7 @@ returns-2 c =
     let start = c .before .before .before .before .before in
     let a = start .args in
     let current = start .pre .1 .0 .current in
-    (λ ns r. c .before .load .ensures .0 (a .cur .now) ∙ rw (c .before .before .before .before .match .keys2, names-length ns (a .low .now) (a .high .now) r, current), c .before .load .ensures .1)
+    (λ ns r. c .before .load .ensures .0 (a .cur .now) ∙ rw (c .before .before .before .before .match .keys2, names-length (ns .ranges) (a .low .now) (a .high .now) r, current), c .before .load .ensures .1)
 
 returns-3 : tie.Need-returns-3
 unfolding instructionOf
@@ -34,7 +34,7 @@ returns-3 c =
     let start = c .before .before .before .before in
     let a = start .args in
     let previous = start .pre .1 .0 .previous in
-    (λ ns r. c .before .load2 .ensures .0 (a .cur .now) ∙ rw (c .before .before .before .match .keys3, names-length ns (a .low .now) (a .high .now) r, previous), c .before .load2 .ensures .1)
+    (λ ns r. c .before .load2 .ensures .0 (a .cur .now) ∙ rw (c .before .before .before .match .keys3, names-length (ns .ranges) (a .low .now) (a .high .now) r, previous), c .before .load2 .ensures .1)
 
 returns-4 : tie.Need-returns-4
 unfolding instructionOf
@@ -80,7 +80,7 @@ returns-11 c =
     let start = c .before .before .before .before in
     let a = start .args in
     let size = sym (start .pre .1 .0 .previous) in
-    (λ ns r. c .before .settle .ensures .0 ns (a .vals .now) (names-length ns (a .low .now) (a .high .now) r ∙ size) ∙ rw (c .before .before .before .match .keys11), c .before .settle .ensures .1)
+    (λ ns r. c .before .settle .ensures .0 ns (a .vals .now) (names-length (ns .ranges) (a .low .now) (a .high .now) r ∙ size) ∙ rw (c .before .before .before .match .keys11), c .before .settle .ensures .1)
 
 returns-12 : tie.Need-returns-12
 unfolding instructionOf

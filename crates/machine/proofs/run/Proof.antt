@@ -4,17 +4,18 @@ use mathlib.Core.Path.{_≡_, refl}
 use Prim.Native.Nat.{_-_}
 use native.Mathlib.Omega.{arith}
 use borrow.Author.Needs.{needs}
+use Rattle.machine.specs.Inner.Memory.{SettingIn}
 use Rattle.machine.specs.Inner.Dispatch.{registers}
 use Rattle.machine.proofs.Loop.{Going, ended, spent, went, halted, stopped, again}
 use Rattle.machine.proofs.run.Statement.{statement}
 use Rattle.machine.proofs.run.Tie as tie
 
 abbrev Inv-loop : tie.InvT-loop
-Inv-loop code low high prev cur₀ vals₀ from budget held₀ picked₀ passing₀ at₀ done₀ cur vals held picked passing at done =
-    Going code low high prev cur₀ vals₀ from budget (registers held₀ picked₀ passing₀) cur vals (registers held picked passing) at done
+Inv-loop code low high prev cur₀ vals₀ timing from budget held₀ picked₀ passing₀ at₀ done₀ cur vals held picked passing at done =
+    Going code (SettingIn low high timing) low high prev cur₀ vals₀ from budget (registers held₀ picked₀ passing₀) cur vals (registers held picked passing) at done
 
 abbrev μ-loop : tie.MeasureT-loop
-μ-loop code low high prev cur₀ vals₀ from budget held₀ picked₀ passing₀ at₀ done₀ cur vals held picked passing at done = budget - done
+μ-loop code low high prev cur₀ vals₀ timing from budget held₀ picked₀ passing₀ at₀ done₀ cur vals held picked passing at done = budget - done
 
 loop-holds : tie.Need-loop-holds Inv-loop μ-loop
 loop-holds c =
@@ -23,7 +24,7 @@ loop-holds c =
     record { stack = record { few = c .before .pre .0 .few; room = c .before .pre .0 .room }; named = c .before .pre .1; wide = refl; deep = refl; within = omega arith; goes = λ ns r. rw e }
 
 returns : tie.Need-returns Inv-loop μ-loop
-returns c = (ended (c .before .before .loop .inv) (c .if1 .taken), c .before .before .loop .inv .within)
+returns c = (λ ns q t. ended (c .before .before .loop .inv) (c .if1 .taken) ns (record { ranged = q; timed = t }), c .before .before .loop .inv .within)
 
 dispatch-requires : tie.Need-dispatch-requires Inv-loop μ-loop
 dispatch-requires c κs = ((omega (arith, c .before .before .if1 .left), c .before .before .before .before .loop .inv .stack .few, c .before .before .before .before .loop .inv .stack .room, omega (arith, c .before .before .before .loop-test .taken)), c .before .before .before .before .loop .inv .named)
@@ -46,10 +47,10 @@ loop-again c =
 returns-2 : tie.Need-returns-2 Inv-loop μ-loop
 returns-2 c =
     let d = halted (c .before .before .before .before .before .before .before .before .before .before .loop .inv) _ _ (c .before .before .before .before .before .dispatch .result) (c .before .before .before .before .before .dispatch .ensures) _ (c .before .d2 .given .1) in
-    (stopped (c .before .before .before .before .before .before .before .before .before .before .loop .inv) (c .before .before .before .before .before .before .before .before .before .loop-test .taken) _ d, omega (arith, c .before .before .before .before .before .before .before .before .before .loop-test .taken))
+    (λ ns q t. stopped (c .before .before .before .before .before .before .before .before .before .before .loop .inv) (c .before .before .before .before .before .before .before .before .before .loop-test .taken) _ d ns (record { ranged = q; timed = t }), omega (arith, c .before .before .before .before .before .before .before .before .before .loop-test .taken))
 
 returns-3 : tie.Need-returns-3 Inv-loop μ-loop
-returns-3 c = (spent (c .before .loop .inv) (c .loop-test .left), c .before .loop .inv .within)
+returns-3 c = (λ ns q t. spent (c .before .loop .inv) (c .loop-test .left) ns (record { ranged = q; timed = t }), c .before .loop .inv .within)
 
 pub run-spec : {M : Type 1} → statement M
 run-spec =

@@ -1,5 +1,5 @@
 -- The elapsed times of a state, by the table of limits: for inner contracts and proofs. Document 02, A.7. Assumes nothing.
-use Prim.Native.Nat.{ℕ, _+_, _^_}
+use Prim.Native.Nat.{ℕ, _+_, _^_, _<_}
 use mathlib.Core.Path.{_≡_}
 use mathlib.Core.List.{List, map}
 use lib.Bits.{bitOr}
@@ -20,5 +20,6 @@ pub record PlacedOne (n id : ℕ) (t : Times) (low₀ high₀ low high : List �
 pub record TimesStand (ls : List ℕ) (low₀ high₀ low high : List ℤ) (t : Times) : Type 0 where
   pub size-is : t .size ≡ length ls + length (timeRanges ls)
   pub timers-are : flagsOf (length ls) (t .timers) ≡ map isLimit ls
+  pub timers-low : t .timers < 2 ^ length ls
   pub lower : low ≡ sets low₀ (length ls) (lows (timeRanges ls))
   pub upper : high ≡ sets high₀ (length ls) (highs (timeRanges ls))

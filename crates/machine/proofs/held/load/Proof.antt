@@ -18,7 +18,7 @@ returns-2 : tie.Need-returns-2
 returns-2 c =
     let a = c .before .before .before .before .before .args in
     let f : SFits w32 (getD (a .from .now) (a .id) (pos 0)) = search needs in
-    (λ t. c .before .push .ensures .0 [] [] t ∙ rw (toZ-ofZ f, lt-ltb _ _ (c .before .before .before .before .if1 .left)), c .before .push .ensures .1)
+    (λ t. c .before .push .ensures .0 (record { ranges = []; timers = []; millis = 0 }) [] t ∙ rw (toZ-ofZ f, lt-ltb _ _ (c .before .before .before .before .if1 .left)), c .before .push .ensures .1)
 
 pub load-spec : {M : Type 1} → statement M
 load-spec =
