@@ -53,7 +53,7 @@ pub known-kept : {image : List ℕ} {m : Measured} {low high work₀ state₀ : 
 known-kept x work state a b =
     let k = x .image-known in
     record {
-      image-known = record { sound = k .sound; code = k .code; inside = k .inside; known = k .known; numbers = b ∙ k .numbers };
+      image-known = record { sound = k .sound; code = k .code; inside = k .inside; shape = k .shape; numbers = b ∙ k .numbers };
       copies = a ∙ x .copies ∙ sym b;
     }
 
@@ -68,7 +68,7 @@ known-by image s work {m = m} x h l u w =
             sound = x .sound;
             code = h .place-is;
             inside = h .inside;
-            known =
+            shape =
                 record {
                   inputs-are = h .inputs-are;
                   names-are = h .names-are;

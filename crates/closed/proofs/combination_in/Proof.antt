@@ -8,7 +8,7 @@ use lib.Seq.{length-take-le}
 use Rattle.bytecode.specs.Parts.{headerOf}
 use Rattle.bytecode.proofs.Limits.{cells-untimed}
 use Rattle.shapes.specs.Results.{ShapedAs, Measures}
-use Rattle.scan.proofs.Images.{ranges-stored}
+use Rattle.before.proofs.Stored.{ranges-stored}
 use Rattle.closed.proofs.Numbering.{combination-refused, combination-timed, combination-from}
 use borrow.Author.Needs.{needs}
 use Rattle.closed.proofs.combination_in.Statement.{statement}
