@@ -3,28 +3,30 @@ use mathlib.Core.Path.{_≡_, refl}
 use mathlib.Core.Bool.{Bool, true, false, _&&_}
 use mathlib.Core.List.{List}
 use mathlib.Core.Logic.{_⊎_, inl, inr}
-use Prim.Native.Nat.{ℕ, _≤_}
+use Prim.Native.Nat.{ℕ, _+_, _≤_}
 use native.Mathlib.Omega.{arith}
 use lib.Dec.{T, eqb, eqb→eq}
 use lib.IntN.{ℤ}
-use lib.ListN.{length, length-append, length-drop}
+use lib.ListN.{length, take, length-append, length-drop}
+use lib.Seq.{take-all, length-take-le}
+use lib.Signed.{nonNeg}
 use Rattle.limits.specs.Answer.{Answer, accepted, refused}
 use Rattle.arith.specs.Values.{Outcome, ok, refusal}
-use Rattle.arith.proofs.Basics.{and-right}
+use Rattle.arith.proofs.Basics.{and-left, and-right}
 use Rattle.semantics.specs.Program.{Range}
-use Rattle.semantics.specs.Formula.{State}
+use Rattle.semantics.specs.Formula.{State, at}
 use Rattle.semantics.specs.ReferenceScan.{withInputs}
 use Rattle.semantics.proofs.Unique.{allWithin-inputs}
 use Rattle.bytecode.specs.Check.{checkOf}
-use Rattle.bytecode.specs.Parts.{headerOf, codeOf, shapeIn}
-use Rattle.bytecode.proofs.Limits.{no-timer}
+use Rattle.bytecode.specs.Parts.{codeOf, shapeIn}
 use Rattle.bytecode.proofs.Walk.{check-sound}
 use Rattle.machine.specs.Step.{Machine, machine}
-use Rattle.semantics.specs.Shape.{stateLength, rowLength, stateInRange, rowInRange}
+use Rattle.semantics.specs.Shape.{Shape, nameCount, hasTimer, cells, stateLength, allWithin, rowLength, stateInRange, rowInRange}
 use Rattle.machine.proofs.Refusals.{at-work, turned, RefusedByRules}
 use Rattle.machine.proofs.Ranges.{Within, AllWithin}
 use Rattle.bytecode.proofs.SoundHeader.{header-is}
 use Rattle.machine.proofs.SoundRuns.{sound-by-rules, sound-within}
+use Rattle.before.proofs.Cells.{names-within, names-first}
 use Rattle.scan.specs.Services.{AfterScan, finished, runOf, scanCode, testedScan, scanOf}
 
 -- ---- refusals
@@ -45,7 +47,7 @@ finished-caller s n (refusal k) (turned e) = (inr e, refl)
 
 code-caller : (image : List ℕ) → checkOf image ≡ accepted tt → (found : State) (row : List ℤ) → OfCaller (scanCode image found row .answer)
 unfolding scanCode
-code-caller image e found row = finished-caller found _ (runOf image found row .last) (sound-by-rules image e found (withInputs found row) (length (codeOf image)))
+code-caller image e found row = finished-caller found _ (runOf image found row .last) (sound-by-rules image e row found (withInputs found (take (shapeIn image .inputs) row)) (length (codeOf image)))
 
 -- a scan of a sound image is refused by 12 to 18 and 22 only
 pub sound-scan : (image : List ℕ) → checkOf image ≡ accepted tt → (found : State) (row : List ℤ) → OfCaller (scanOf image found row .answer)
@@ -67,25 +69,38 @@ finished-within : (ns : List Range) (s : State) (n : ℕ) (o : Outcome Machine) 
 finished-within ns s n (ok (machine b c vs t)) w h = h
 finished-within ns s n (refusal k) w h = w
 
-code-within : (image : List ℕ) (found : State) (row : List ℤ) → Within (headerOf image .ranges) found → Within (headerOf image .ranges) (withInputs found row)
-    → Within (headerOf image .ranges) (scanCode image found row .state)
-unfolding scanCode
-code-within image found row w v =
-    finished-within (headerOf image .ranges) found _ (runOf image found row .last) w (sound-within image found (withInputs found row) (length (codeOf image)) w v)
+-- the inputs of a row that passes the tests
+module _ (k : Shape) (among : k .inputs ≤ nameCount k) (row : List ℤ) (n : length row ≡ rowLength k) (t : T (rowInRange k row)) where
+  inputs-within : (length (take (k .inputs) row) ≡ k .inputs) × T (allWithin (cells k) (take (k .inputs) row))
+  inputs-within = go (hasTimer (k .limits)) refl
+    where
+      go : (b : Bool) → hasTimer (k .limits) ≡ b → (length (take (k .inputs) row) ≡ k .inputs) × T (allWithin (cells k) (take (k .inputs) row))
+      go true h =
+          let l : length row ≡ k .inputs + 1 = rw h at n in
+          let m : length (take (k .inputs) row) ≡ k .inputs = length-take-le (k .inputs) row (omega arith) in
+          (m, rw (names-within k (take (k .inputs) row) (omega arith)) (and-left (allWithin (k .ranges) (take (k .inputs) row)) (nonNeg (at row (k .inputs))) (rw h at t)))
+      go false h =
+          let l : length row ≡ k .inputs = rw h at n in
+          rw (take-all (k .inputs) row (omega arith), names-within k row (omega arith)) (l, rw h at t)
 
--- a scan of a sound image keeps every value in its range
-pub scan-within : (image : List ℕ) → checkOf image ≡ accepted tt → (found : State) (row : List ℤ) → Within (headerOf image .ranges) found
-    → Within (headerOf image .ranges) (scanOf image found row .state)
+code-within : (image : List ℕ) → checkOf image ≡ accepted tt → (found : State) (row : List ℤ) → Within (cells (shapeIn image)) found → Within (cells (shapeIn image)) (withInputs found (take (shapeIn image .inputs) row))
+    → Within (cells (shapeIn image)) (scanCode image found row .state)
+unfolding scanCode
+code-within image e found row w v =
+    finished-within (cells (shapeIn image)) found _ (runOf image found row .last) w (sound-within image e row found (withInputs found (take (shapeIn image .inputs) row)) (length (codeOf image)) w v)
+
+-- a scan of a sound image keeps every number of the state in its range: values, and elapsed times in 0..N
+pub scan-within : (image : List ℕ) → checkOf image ≡ accepted tt → (found : State) (row : List ℤ) → Within (cells (shapeIn image)) found
+    → Within (cells (shapeIn image)) (scanOf image found row .state)
 unfolding scanOf
 scan-within image e found row w =
     let k = shapeIn image in
     let y = check-sound image e in
-    let fit : headerOf image .inputs ≤ length (headerOf image .ranges) = rw (header-is image y) (omega (arith, y .fits .size)) in
-    let size : length found ≡ length (headerOf image .ranges) = w .size in
+    let fit : k .inputs ≤ nameCount k = rw (header-is image y) (omega (arith, y .fits .size)) in
     rw e
-    (tested-within (k .ranges) (eqb (length found) (stateLength k) && eqb (length row) (rowLength k)) 12 found _ w λ a.
-    tested-within (k .ranges) (stateInRange k found) 18 found _ w λ b.
-    tested-within (k .ranges) (rowInRange k row) 13 found _ w λ c.
-    let l : length row ≡ headerOf image .inputs = rw (no-timer image e) at (eqb→eq (length row) (rowLength k) (and-right (eqb (length found) (stateLength k)) _ a)) in
-    let n : length (withInputs found row) ≡ length (headerOf image .ranges) = simp (length-append, length-drop) (omega arith) in
-    code-within image found row w (record { size = n; ranges = allWithin-inputs (k .ranges) row found (rw (no-timer image e) at c) (w .ranges) }))
+    (tested-within (cells k) (eqb (length found) (stateLength k) && eqb (length row) (rowLength k)) 12 found _ w λ a.
+    tested-within (cells k) (stateInRange k found) 18 found _ w λ b.
+    tested-within (cells k) (rowInRange k row) 13 found _ w λ c.
+    let i = inputs-within k fit row (eqb→eq (length row) (rowLength k) (and-right (eqb (length found) (stateLength k)) _ a)) c in
+    let n : length (withInputs found (take (k .inputs) row)) ≡ length (cells k) = simp (length-append, length-drop) (omega (arith, i .0, w .size, names-first k)) in
+    code-within image e found row w (record { size = n; ranges = allWithin-inputs (cells k) (take (k .inputs) row) found (i .1) (w .ranges) }))

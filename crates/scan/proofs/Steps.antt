@@ -6,16 +6,16 @@ use mathlib.Core.Bool.{Bool, true, false, _&&_}
 use mathlib.Core.List.{List, []}
 use lib.Dec.{eqb}
 use lib.IntN.{ℤ}
-use lib.ListN.{length}
+use lib.ListN.{length, take}
 use Rattle.limits.specs.Answer.{Answer, accepted, refused}
 use Rattle.arith.specs.Values.{Outcome, ok, refusal}
 use Rattle.semantics.specs.Formula.{State}
 use Rattle.semantics.specs.ReferenceScan.{withInputs}
 use Rattle.bytecode.specs.Check.{checkOf}
-use Rattle.bytecode.specs.Parts.{headerOf, codeOf, instructionsIn, shapeIn}
+use Rattle.bytecode.specs.Parts.{codeOf, instructionsIn, shapeIn}
 use Rattle.bytecode.proofs.Walk.{refused≢accepted}
 use Rattle.machine.specs.Step.{Machine, machine}
-use Rattle.semantics.specs.Shape.{stateLength, rowLength, stateInRange, rowInRange}
+use Rattle.semantics.specs.Shape.{stateLength, rowLength, stateInRange, rowInRange, settingOf}
 use Rattle.machine.proofs.Laws.{run-steps}
 use Rattle.scan.specs.Services.{AfterScan, finished, runOf, scanCode, testedScan, scanned, scanOf}
 
@@ -33,7 +33,7 @@ steps-finished n s k (refusal j) h e = refused≢accepted tt j 0 e
 code-steps : (image : List ℕ) (s : State) (row : List ℤ) → StepsIf (instructionsIn image) (scanCode image s row)
 unfolding instructionsIn scanCode
 code-steps image s row = steps-finished _ s _ (runOf image s row .last) λ m e.
-    run-steps (headerOf image .ranges) s (codeOf image) (length (codeOf image)) 0 0 (machine false false [] (withInputs s row)) m e
+    run-steps (settingOf (shapeIn image) row) s (codeOf image) (length (codeOf image)) 0 0 (machine false false [] (withInputs s (take (shapeIn image .inputs) row))) m e
     ∙ omega arith
 
 pub scan-steps : (image : List ℕ) (s : State) (row : List ℤ) → scanOf image s row .answer ≡ accepted tt → scanOf image s row .steps ≡ instructionsIn image

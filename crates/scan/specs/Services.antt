@@ -1,19 +1,19 @@
 -- Start and scan on bytes: what they answer and leave in the memory lent to them, for every input. Document 01, "Who can cause
--- which refusal". Assumes nothing.
+-- which refusal"; document 02, A.7. Assumes nothing.
 use mathlib.Core.Bool.{Bool, true, false, _&&_, cond}
 use mathlib.Core.List.{List, [], _∷_}
 use Prim.Native.Nat.{ℕ}
 use lib.Dec.{eqb}
 use lib.IntN.{ℤ}
-use lib.ListN.{length}
+use lib.ListN.{length, take}
 use Rattle.limits.specs.Limits.{wrongLength, stateOutOfRange, inputOutOfRange}
 use Rattle.limits.specs.Answer.{Answer, accepted, refused}
 use Rattle.arith.specs.Values.{Outcome, ok, refusal}
 use Rattle.semantics.specs.Formula.{State}
-use Rattle.semantics.specs.Shape.{Shape, stateLength, rowLength, startingState, stateInRange, rowInRange}
+use Rattle.semantics.specs.Shape.{Shape, stateLength, rowLength, startingState, stateInRange, rowInRange, settingOf}
 use Rattle.semantics.specs.ReferenceScan.{withInputs}
 use Rattle.bytecode.specs.Check.{checkOf}
-use Rattle.bytecode.specs.Parts.{headerOf, shapeIn, codeOf}
+use Rattle.bytecode.specs.Parts.{shapeIn, codeOf}
 use Rattle.machine.specs.Step.{Machine, machine}
 use Rattle.machine.specs.Runs.{Ran, run}
 
@@ -55,7 +55,8 @@ finished found n (refusal k) = refusedScan k 0 n found
 -- the run of the code: nothing held; previous values are those of the state found, inputs included
 abbrev pub runOf : List ℕ → State → List ℤ → Ran
 runOf image found row =
-    run (headerOf image .ranges) found (codeOf image) (length (codeOf image)) 0 0 (machine false false [] (withInputs found row))
+    run (settingOf (shapeIn image) row) found (codeOf image) (length (codeOf image)) 0 0
+    (machine false false [] (withInputs found (take (shapeIn image .inputs) row)))
 
 unfoldable pub scanCode : List ℕ → State → List ℤ → AfterScan
 scanCode image found row = finished found (runOf image found row .steps) (runOf image found row .last)

@@ -1,23 +1,31 @@
 // Starting and scanning an image: the services start and scan.
-use bytecode::Counted;
+use before::Before;
 use bytecode::Headed;
-use checker::Checked;
+use checker::Surveyed;
 use fused::Ended;
 use machine::Registers;
 use machine::Stepped;
+use machine::Timing;
 use machine::lists;
+use shapes::Measured;
+use shapes::Shaped;
 ghost use mathlib.Core.Path.{_≡_};
-ghost use mathlib.Core.List.{List};
-ghost use Prim.Native.Nat.{_+_, _≤_};
-ghost use lib.ListN.{length, drop};
-ghost use Rattle.limits.specs.Limits.{imageLimit, nameLimit, stackLimit};
+ghost use mathlib.Core.Bool.{true, false};
+ghost use mathlib.Core.List.{List, _++_};
+ghost use Prim.Native.Nat.{_-_, _≤_};
+ghost use lib.IntN.{pos};
+ghost use lib.ListN.{length, take, replicate};
+ghost use Rattle.limits.specs.Limits.{imageLimit, nameLimit, stateLimit, stackLimit};
+ghost use Rattle.limits.specs.Answer.{accepted};
 ghost use Rattle.semantics.specs.Program.{Range};
-ghost use Rattle.semantics.specs.Formula.{State};
+ghost use Rattle.semantics.specs.Shape.{hasTimer, allWithin, Setting};
 ghost use Rattle.bytecode.specs.Check.{checkOf};
-ghost use Rattle.machine.specs.Inner.Memory.{RangesIn};
+ghost use Rattle.bytecode.specs.Parts.{headerOf, limitsOf};
+ghost use Rattle.machine.specs.Inner.Memory.{RangesIn, TimingIn};
+ghost use Rattle.before.specs.Inner.Memory.{FittingMemory, Scratch};
 ghost use Rattle.scan.specs.Services.{startOf, refusedScan, scanOf};
 ghost use Rattle.scan.specs.Results.{afterStart, StartedWithin, afterScan, ScannedWithin};
-ghost use Rattle.scan.specs.Inner.Parts.{FittingMemory, scannedCode, scannedIn, scannedBy, scannedAt, KnownHeader, KnownImage, Scratch};
+ghost use Rattle.scan.specs.Inner.Parts.{scannedOver, scannedCode, KnownHeader, KnownImage};
 
 // Done, or the number of a refusal and its place.
 pub enum Started {
@@ -31,29 +39,28 @@ pub enum Scanned {
     Refused(u8, usize, usize),
 }
 
-// The run of an image known to be sound, on a copy of the state in lent memory; the state is written once, at success.
-fn scan_sound_in(
+// The run of a code over a copy of the state that holds the row's inputs; the state is written once, at success.
+fn run_over(
     code: &[u8],
     state: &mut [i32],
-    row: &[i32],
     low: &[i32],
     high: &[i32],
     work: &mut [i32],
     vals: &mut [i32],
+    timing: Timing,
 ) -> Scanned
-    requires { ⌜ FittingMemory (now state) (now row) (now low) (now high) (now work) ⌝ }
+    requires { ⌜ FittingMemory 0 (now state) (now low) (now high) (now work) ⌝ }
     requires { ⌜ stackLimit ≤ length (now vals) ⌝ }
-    ensures { λ r. ⌜ ((ns : List Range) → RangesIn ns (now (low .entry)) (now (high .entry))
-        → afterScan r (now (state .exit)) ≡ scannedCode ns (now (code .entry)) (now (state .entry)) (now (row .entry))) ⌝ }
+    ensures { λ r. ⌜ ((ns : Setting) → RangesIn (ns .ranges) (now (low .entry)) (now (high .entry)) → TimingIn ns timing
+        → afterScan r (now (state .exit)) ≡ scannedOver ns (now (code .entry)) (now (state .entry)) (now (work .entry))) ⌝ }
     ensures { λ r. ⌜ ScannedWithin (length (now (code .entry))) r ⌝ }
 {
-    lists::take_row(work, state, row);
     let m = Registers {
         held: 0,
         picked: false,
         passing: false,
     };
-    let ran = machine::run(code, low, high, state, work, vals, 0, m, code.len());
+    let ran = machine::run(code, low, high, state, work, vals, timing, 0, m, code.len());
     let last = ran.last;
     match last {
         Stepped::Next(_) => {
@@ -65,6 +72,24 @@ fn scan_sound_in(
 }
 
 // The same, with a stack of its own for the values held.
+fn run_copy(
+    code: &[u8],
+    state: &mut [i32],
+    low: &[i32],
+    high: &[i32],
+    work: &mut [i32],
+    timing: Timing,
+) -> Scanned
+    requires { ⌜ FittingMemory 0 (now state) (now low) (now high) (now work) ⌝ }
+    ensures { λ r. ⌜ ((ns : Setting) → RangesIn (ns .ranges) (now (low .entry)) (now (high .entry)) → TimingIn ns timing
+        → afterScan r (now (state .exit)) ≡ scannedOver ns (now (code .entry)) (now (state .entry)) (now (work .entry))) ⌝ }
+    ensures { λ r. ⌜ ScannedWithin (length (now (code .entry))) r ⌝ }
+{
+    let mut vals = [0i32; limits::STACK_LIMIT];
+    run_over(code, state, low, high, work, &mut vals, timing)
+}
+
+// The scan of an image known to be sound and without timers, for a state and a row in range.
 pub fn scan_sound(
     code: &[u8],
     state: &mut [i32],
@@ -73,79 +98,124 @@ pub fn scan_sound(
     high: &[i32],
     work: &mut [i32],
 ) -> Scanned
-    requires { ⌜ FittingMemory (now state) (now row) (now low) (now high) (now work) ⌝ }
+    requires { ⌜ FittingMemory (length (now row)) (now state) (now low) (now high) (now work) ⌝ }
     ensures { λ r. ⌜ ((ns : List Range) → RangesIn ns (now (low .entry)) (now (high .entry))
         → afterScan r (now (state .exit)) ≡ scannedCode ns (now (code .entry)) (now (state .entry)) (now (row .entry))) ⌝ }
     ensures { λ r. ⌜ ScannedWithin (length (now (code .entry))) r ⌝ }
 {
-    let mut vals = [0i32; limits::STACK_LIMIT];
-    scan_sound_in(code, state, row, low, high, work, &mut vals)
+    lists::take_row(work, state, row);
+    let timing = Timing {
+        names: low.len(),
+        timers: 0,
+        millis: 0,
+    };
+    run_copy(code, state, low, high, work, timing)
 }
 
-// The scan of an image known to be sound, whose header was read: 12, 18, 13, then the code, which begins at `place`.
+// The scan of an image known to be sound, whose shape was read, on a state of its length: 12 of the row, 18, 13, then the code.
 pub fn scan_known(
     image: &[u8],
-    place: usize,
-    inputs: usize,
+    m: Measured,
     state: &mut [i32],
     row: &[i32],
     low: &[i32],
     high: &[i32],
     work: &mut [i32],
 ) -> Scanned
-    requires { ⌜ KnownImage (now image) place inputs (length (now state)) (now low) (now high) ⌝ }
+    requires { ⌜ KnownImage (now image) m (now state) (now low) (now high) ⌝ }
     requires { ⌜ length (now work) ≡ length (now state) ⌝ }
     ensures { λ r. ⌜ afterScan r (now (state .exit)) ≡ scanOf (now (image .entry)) (now (state .entry)) (now (row .entry)) ⌝ }
     ensures { λ r. ⌜ ScannedWithin imageLimit r ⌝ }
 {
-    if row.len() != inputs {
-        return Scanned::Refused(limits::WRONG_LENGTH, 0, 0);
+    let place = m.place;
+    let tested = before::before_known(m, low, high, state, row, work);
+    match tested {
+        Before::Refused(number, _) => Scanned::Refused(number, 0, 0),
+        Before::Code(_, timing) => run_copy(&image[place..], state, low, high, work, timing),
     }
-    if !lists::all_in_range(low, high, state) {
-        return Scanned::Refused(limits::STATE_OUT_OF_RANGE, 0, 0);
-    }
-    if !lists::all_in_range(low, high, row) {
-        return Scanned::Refused(limits::INPUT_OUT_OF_RANGE, 0, 0);
-    }
-    scan_sound(&image[place..], state, row, low, high, work)
 }
 
-// What the check of the image answers; where it is sound, this refusal.
-fn after_check(image: &[u8], number: u8) -> Scanned
-    ensures { λ r. ⌜ ((found : State) → afterScan r found ≡ scannedBy (checkOf (now (image .entry))) found (refusedScan number 0 0 found)) ⌝ }
+// Any scan, the slow way: the tests before the code, then the code.
+fn scan_begun(
+    image: &[u8],
+    state: &mut [i32],
+    row: &[i32],
+    low: &mut [i32],
+    high: &mut [i32],
+    work: &mut [i32],
+) -> Scanned
+    requires { ⌜ Scratch stateLimit (now state) (now low) (now high) (now work) ⌝ }
+    ensures { λ r. ⌜ afterScan r (now (state .exit)) ≡ scanOf (now (image .entry)) (now (state .entry)) (now (row .entry)) ⌝ }
     ensures { λ r. ⌜ ScannedWithin imageLimit r ⌝ }
 {
-    match checker::check(image) {
-        Checked::Refused(broken, place) => Scanned::Refused(broken, place, 0),
-        Checked::Sound => Scanned::Refused(number, 0, 0),
+    let begun = before::before_code(image, state, row, low, high, work);
+    match begun {
+        Before::Refused(number, place) => Scanned::Refused(number, place, 0),
+        Before::Code(place, timing) => {
+            let n = state.len();
+            run_copy(
+                &image[place..],
+                state,
+                &low[..n],
+                &high[..n],
+                &mut work[..n],
+                timing,
+            )
+        }
     }
 }
 
-// The code, which begins at `base` of the image, checked and run in one pass on a copy of the state, which is written once, at success.
+// The same, with memory of its own.
+fn scan_other(image: &[u8], state: &mut [i32], row: &[i32]) -> Scanned
+    ensures { λ r. ⌜ afterScan r (now (state .exit)) ≡ scanOf (now (image .entry)) (now (state .entry)) (now (row .entry)) ⌝ }
+    ensures { λ r. ⌜ ScannedWithin imageLimit r ⌝ }
+{
+    let mut low = [0i32; limits::STATE_LIMIT];
+    let mut high = [0i32; limits::STATE_LIMIT];
+    let mut work = [0i32; limits::STATE_LIMIT];
+    scan_begun(image, state, row, &mut low, &mut high, &mut work)
+}
+
+// What the check of the image answers; where it is sound and has no timers, this refusal.
+fn after_check(image: &[u8], state: &mut [i32], row: &[i32], number: u8) -> Scanned
+    ensures { λ r. ⌜ ((checkOf (now (image .entry)) ≡ accepted tt → hasTimer (limitsOf (now (image .entry))) ≡ false
+        → refusedScan number 0 0 (now (state .entry)) ≡ scanOf (now (image .entry)) (now (state .entry)) (now (row .entry)))
+        → afterScan r (now (state .exit)) ≡ scanOf (now (image .entry)) (now (state .entry)) (now (row .entry))) ⌝ }
+    ensures { λ r. ⌜ ScannedWithin imageLimit r ⌝ }
+{
+    match checker::survey(image) {
+        Surveyed::Refused(broken, place) => Scanned::Refused(broken, place, 0),
+        Surveyed::Plain => Scanned::Refused(number, 0, 0),
+        Surveyed::Timed => scan_other(image, state, row),
+    }
+}
+
+// The code, which begins at `place`, checked and run in one pass on a copy of the state, which is written once, at success. Timers go the slow way.
 fn scan_code(
-    code: &[u8],
-    base: usize,
+    image: &[u8],
+    place: usize,
     state: &mut [i32],
     row: &[i32],
     low: &[i32],
     high: &[i32],
     copy: &mut [i32],
 ) -> Scanned
-    requires { ⌜ FittingMemory (now state) (now row) (now low) (now high) (now copy) ⌝ }
-    requires { ⌜ (length (now low) ≤ nameLimit) × (base + length (now code) ≤ imageLimit) ⌝ }
-    ensures { λ r. ⌜ ((ns : List Range) → RangesIn ns (now (low .entry)) (now (high .entry))
-        → afterScan r (now (state .exit)) ≡ scannedAt base ns (now (code .entry)) (now (state .entry)) (now (row .entry))) ⌝ }
+    requires { ⌜ FittingMemory (length (now row)) (now state) (now low) (now high) (now copy) ⌝ }
+    requires { ⌜ KnownHeader (now image) place (length (now row)) (length (now state)) (now low) (now high) ⌝ }
+    requires { ⌜ (allWithin (headerOf (now image) .ranges) (now state) ≡ true) × (allWithin (headerOf (now image) .ranges) (now row) ≡ true) ⌝ }
+    ensures { λ r. ⌜ afterScan r (now (state .exit)) ≡ scanOf (now (image .entry)) (now (state .entry)) (now (row .entry)) ⌝ }
     ensures { λ r. ⌜ ScannedWithin imageLimit r ⌝ }
 {
     lists::take_row(copy, state, row);
-    let ran = fused::run(code, low, high, state, copy, row.len());
+    let ran = fused::run(&image[place..], low, high, state, copy, row.len());
     match ran {
         Ended::Done(n) => {
             lists::fill(state, copy);
             Scanned::Done(n)
         }
         Ended::Refused(number, n) => Scanned::Refused(number, 0, n),
-        Ended::Broken(at) => Scanned::Refused(limits::BROKEN_IMAGE, base + at, 0),
+        Ended::Broken(at) => Scanned::Refused(limits::BROKEN_IMAGE, place + at, 0),
+        Ended::Timed => scan_other(image, state, row),
     }
 }
 
@@ -159,20 +229,18 @@ fn scan_values(
     high: &[i32],
     copy: &mut [i32],
 ) -> Scanned
-    requires { ⌜ FittingMemory (now state) (now row) (now low) (now high) (now copy) ⌝ }
-    requires { ⌜ KnownHeader (now image) place (length (now row)) (length (now state)) ⌝ }
-    ensures { λ r. ⌜ ((ns : List Range) → RangesIn ns (now (low .entry)) (now (high .entry))
-        → afterScan r (now (state .exit))
-        ≡ scannedBy (checkOf (now (image .entry))) (now (state .entry)) (scannedIn ns (drop place (now (image .entry))) (now (state .entry)) (now (row .entry)))) ⌝ }
+    requires { ⌜ FittingMemory (length (now row)) (now state) (now low) (now high) (now copy) ⌝ }
+    requires { ⌜ KnownHeader (now image) place (length (now row)) (length (now state)) (now low) (now high) ⌝ }
+    ensures { λ r. ⌜ afterScan r (now (state .exit)) ≡ scanOf (now (image .entry)) (now (state .entry)) (now (row .entry)) ⌝ }
     ensures { λ r. ⌜ ScannedWithin imageLimit r ⌝ }
 {
     if !lists::all_in_range(low, high, state) {
-        return after_check(image, limits::STATE_OUT_OF_RANGE);
+        return after_check(image, state, row, limits::STATE_OUT_OF_RANGE);
     }
     if !lists::all_in_range(low, high, row) {
-        return after_check(image, limits::INPUT_OUT_OF_RANGE);
+        return after_check(image, state, row, limits::INPUT_OUT_OF_RANGE);
     }
-    scan_code(&image[place..], place, state, row, low, high, copy)
+    scan_code(image, place, state, row, low, high, copy)
 }
 
 // 9, then the header and the lengths: a wrong length is told after the check of the image. The starts that `work` takes are not kept.
@@ -184,7 +252,7 @@ fn scan_in(
     high: &mut [i32],
     work: &mut [i32],
 ) -> Scanned
-    requires { ⌜ Scratch (now state) (now low) (now high) (now work) ⌝ }
+    requires { ⌜ Scratch nameLimit (now state) (now low) (now high) (now work) ⌝ }
     ensures { λ r. ⌜ afterScan r (now (state .exit)) ≡ scanOf (now (image .entry)) (now (state .entry)) (now (row .entry)) ⌝ }
     ensures { λ r. ⌜ ScannedWithin imageLimit r ⌝ }
 {
@@ -195,10 +263,10 @@ fn scan_in(
         Headed::Broken(place) => Scanned::Refused(limits::BROKEN_IMAGE, place, 0),
         Headed::Header(inputs, names, place) => {
             if state.len() != names {
-                return after_check(image, limits::WRONG_LENGTH);
+                return after_check(image, state, row, limits::WRONG_LENGTH);
             }
             if row.len() != inputs {
-                return after_check(image, limits::WRONG_LENGTH);
+                return after_check(image, state, row, limits::WRONG_LENGTH);
             }
             scan_values(
                 image,
@@ -246,25 +314,34 @@ pub fn scan(image: &[u8], state: &mut [i32], row: &[i32]) -> Scanned
     scan_any(image, state, row)
 }
 
-// Lows and highs are stored as far as there is room for them; a start needs neither.
+// Zeros from a place on.
+fn clear(state: &mut [i32], from: usize)
+    requires { ⌜ from ≤ length (now state) ⌝ }
+    ensures { λ _. ⌜ now (state .exit) ≡ take from (now (state .entry)) ++ replicate (length (now (state .entry)) - from) (pos 0) ⌝ }
+{
+    let mut i = from;
+    while i < state.len() {
+        state[i] = 0;
+        i += 1;
+    }
+}
+
+// Lows and highs are stored as far as there is room for them; a start needs neither. Elapsed times start at 0.
 fn start_in(image: &[u8], state: &mut [i32], low: &mut [i32], high: &mut [i32]) -> Started
     ensures { λ r. ⌜ afterStart r (now (state .exit)) ≡ startOf (now (image .entry)) (now (state .entry)) ⌝ }
     ensures { λ r. ⌜ StartedWithin imageLimit r ⌝ }
 {
-    let checked = checker::check(image);
-    match checked {
-        Checked::Refused(number, place) => Started::Refused(number, place),
-        Checked::Sound => {
-            let counted = bytecode::counts(image);
-            let Counted::Counts(_, count, _) = counted else {
-                return Started::Refused(limits::BROKEN_IMAGE, 0);
-            };
-            if state.len() != count {
+    let shaped = shapes::shape(image, low, high);
+    match shaped {
+        Shaped::Refused(number, place) => Started::Refused(number, place),
+        Shaped::Shape(m) => {
+            if state.len() != m.size {
                 return Started::Refused(limits::WRONG_LENGTH, 0);
             }
             let Headed::Header(_, _, _) = bytecode::header(image, low, high, state) else {
                 return Started::Refused(limits::BROKEN_IMAGE, 0);
             };
+            clear(state, m.names);
             Started::Done
         }
     }

@@ -1,49 +1,55 @@
--- `scan::scan_known` meets its contract. The ways are the laws of Images. Assumes nothing.
-use mathlib.Core.Path.{_≡_, sym, _∙_}
+-- `scan::scan_known` meets its contract: the tests before the code, then the code. Assumes nothing.
+use mathlib.Core.Path.{_≡_, sym, ap, subst, _∙_}
 use native.Mathlib.Omega.{arith}
-use borrow.Author.Tests.{not-true, not-false}
-use lib.ListN.{length-drop}
-use Rattle.machine.specs.Inner.Memory.{RangesIn}
+use lib.ListN.{length}
+use Rattle.limits.specs.Answer.{accepted}
+use Rattle.semantics.specs.Shape.{settingOf}
+use Rattle.bytecode.specs.Parts.{shapeIn}
 use Rattle.checker.proofs.Checking.{rest-of}
-use Rattle.scan.proofs.Images.{known-ranges, known-lows, known-highs, known-row, known-state, known-input, known-code, within-image}
+use Rattle.before.specs.Before.{beforeCode}
+use Rattle.before.specs.Inner.Known.{beforeAnswer, PreparedBy}
+use Rattle.before.proofs.Begins.{before-rest}
+use Rattle.scan.proofs.Scans.{tests-refuse, tests-pass, known-fits, within-image}
 use borrow.Author.Needs.{needs}
 use Rattle.scan.proofs.scan_known.Statement.{statement}
 use Rattle.scan.proofs.scan_known.Tie as tie
 
-returns : tie.Need-returns
-returns c = (known-row (c .before .before .args .state .now) (c .before .before .pre .0) (c .before .before .args .row .now) (c .if1 .taken), (omega arith, omega arith))
+before-known-requires : tie.Need-before-known-requires
+before-known-requires c κs = known-fits (c .before .before .before .pre .0) (c .before .before .before .pre .1)
 
-all-in-range-requires : tie.Need-all-in-range-requires
-all-in-range-requires c κs = let k = c .before .before .before .pre .0 in (omega (arith, known-lows k), known-highs k ∙ sym (known-lows k))
+run-copy-requires : tie.Need-run-copy-requires
+run-copy-requires c κs =
+    let m = known-fits {work = c .before .before .before .before .before .before .before .before .before .before .before .args .work .now} (c .before .before .before .before .before .before .before .before .before .before .before .pre .0) (c .before .before .before .before .before .before .before .before .before .before .before .pre .1) in
+    record { among = omega arith; lows = m .lows; highs = m .highs; copies = c .before .before .before .before .before .before .before .before-known .kept .1 .1 .1 .1 .1 .0 ∙ c .before .before .before .before .before .before .before .before .before .before .before .pre .1 }
+
+returns : tie.Need-returns
+returns c =
+    let told = c .before .tested .given in
+    let k = c .before .before .before .before .before .before .before .before .pre .0 in
+    let image = c .before .before .before .before .before .before .before .before .args .image .now in
+    let state = c .before .before .before .before .before .before .before .before .args .state .now in
+    let row = c .before .before .before .before .before .before .before .before .args .row .now in
+    let p : told .0 .1 .0 ≡ 0 = subst (PreparedBy (shapeIn image) (c .before .before .before .before .before .before .before .before .args .m) state row (c .before .before .before .before .before-known .last .1 .1 .1 .1 .1 .0)) (told .1) (c .before .before .before .before .before-known .ensures .1 (shapeIn image) (k .shape)) in (
+      tests-refuse image state row (told .0 .0) 0 (rw p at (sym (ap beforeAnswer (told .1)) ∙ c .before .before .before .before .before-known .ensures .0 (shapeIn image) (k .shape) ∙ before-rest image state row (k .sound) (k .numbers))),
+      (omega arith, omega arith),
+    )
 
 returns-2 : tie.Need-returns-2
 returns-2 c =
-    let k = c .before .before .before .before .before .pre .0 in
-    (known-state (c .before .before .before .before .before .args .state .now) k (c .before .before .before .before .before .args .row .now) (c .before .before .before .if1 .left) (sym (c .before .all-in-range .ensures (k .ranges) (known-ranges k)) ∙ not-true _ (c .if2 .taken)), (omega arith, omega arith))
-
-all-in-range-requires-2 : tie.Need-all-in-range-requires-2
-all-in-range-requires-2 c κs = let k = c .before .before .before .before .before .pre .0 in (omega (arith, known-lows k, k .among, c .before .before .before .if1 .left), known-highs k ∙ sym (known-lows k))
-
-returns-3 : tie.Need-returns-3
-returns-3 c =
-    let k = c .before .before .before .before .before .before .before .pre .0 in
-    (known-input (c .before .before .before .before .before .before .before .args .state .now) k (c .before .before .before .before .before .before .before .args .row .now) (c .before .before .before .before .before .if1 .left) (sym (c .before .before .before .all-in-range .ensures (k .ranges) (known-ranges k)) ∙ not-false _ (c .before .before .if2 .left)) (sym (c .before .all-in-range2 .ensures (k .ranges) (known-ranges k)) ∙ not-true _ (c .if3 .taken)), (omega arith, omega arith))
-
-scan-sound-requires : tie.Need-scan-sound-requires
-scan-sound-requires c κs = let k = c .before .before .before .before .before .before .before .before .before .before .pre .0 in record { rows = omega (arith, k .among, c .before .before .before .before .before .before .before .before .if1 .left); lows = known-lows k; highs = known-highs k; copies = c .before .before .before .before .before .before .before .before .before .before .pre .1 }
-
-returns-4 : tie.Need-returns-4
-returns-4 c =
-    let k = c .before .before .before .before .before .before .before .before .before .before .before .before .before .pre .0 in
-    let image = c .before .before .before .before .before .before .before .before .before .before .before .before .before .args .image .now in
-    let place = c .before .before .before .before .before .before .before .before .before .before .before .before .before .args .place in (
-      (rw (rest-of image place) at (c .before .before .scan-sound .ensures .0 (k .ranges) (known-ranges k)))
-          ∙ known-code (c .before .before .before .before .before .before .before .before .before .before .before .before .before .args .state .now) k (c .before .before .before .before .before .before .before .before .before .before .before .before .before .args .row .now) (c .before .before .before .before .before .before .before .before .before .before .before .if1 .left) (sym (c .before .before .before .before .before .before .before .before .before .all-in-range .ensures (k .ranges) (known-ranges k)) ∙ not-false _ (c .before .before .before .before .before .before .before .before .if2 .left)) (sym (c .before .before .before .before .before .before .before .all-in-range2 .ensures (k .ranges) (known-ranges k)) ∙ not-false _ (c .before .before .before .before .before .before .if3 .left)),
-      within-image image place (k .sound) (c .before .before .scan-sound .result) (rw (rest-of image place) at (c .before .before .scan-sound .ensures .1)),
+    let told = c .before .before .before .before .before .before .before .tested2 .given in
+    let k = c .before .before .before .before .before .before .before .before .before .before .before .before .before .before .pre .0 in
+    let image = c .before .before .before .before .before .before .before .before .before .before .before .before .before .before .args .image .now in
+    let place = c .before .before .before .before .before .before .before .before .before .before .before .before .before .before .args .m .place in
+    let state = c .before .before .before .before .before .before .before .before .before .before .before .before .before .before .args .state .now in
+    let row = c .before .before .before .before .before .before .before .before .before .before .before .before .before .before .args .row .now in
+    let x = subst (PreparedBy (shapeIn image) (c .before .before .before .before .before .before .before .before .before .before .before .before .before .before .args .m) state row (c .before .before .before .before .before .before .before .before .before .before .before-known .last .1 .1 .1 .1 .1 .0)) (told .1) (c .before .before .before .before .before .before .before .before .before .before .before-known .ensures .1 (shapeIn image) (k .shape)) .1 in
+    let passes : accepted tt ≡ beforeCode image state row = sym (ap beforeAnswer (told .1)) ∙ c .before .before .before .before .before .before .before .before .before .before .before-known .ensures .0 (shapeIn image) (k .shape) ∙ before-rest image state row (k .sound) (k .numbers) in (
+      (rw (rest-of image place) at (c .before .before .run-copy .ensures .0 (settingOf (shapeIn image) row) (k .shape .ranges) (x .timed))) ∙ tests-pass image state row passes place _ (k .code) (x .copied),
+      within-image image place (k .sound) (c .before .before .run-copy .result) (rw (rest-of image place) at (c .before .before .run-copy .ensures .1)),
     )
 
 pub scan-known-spec : {M : Type 1} → statement M
 scan-known-spec =
     tie.close
-    (tie.spec returns all-in-range-requires (λ c. search needs) returns-2 all-in-range-requires-2 (λ c. search needs) returns-3 (λ c. search needs)
-    (λ c. search needs) (λ c. search needs) scan-sound-requires (λ c. search needs) (λ c. search needs) returns-4)
+    (tie.spec before-known-requires (λ c. search needs) (λ c. search needs) (λ c. search needs) (λ c. search needs) (λ c. search needs) run-copy-requires (λ c. search needs) (λ c. search needs) returns
+    (λ c. search needs) (λ c. search needs) returns-2)
