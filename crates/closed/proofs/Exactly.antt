@@ -1,39 +1,39 @@
 -- The closed profile accepts exactly the closed images; a closed image never refuses a row; 27 names the first refused scan. Assumes nothing.
 use mathlib.Core.Path.{_≡_, refl, sym, ap, subst, _∙_}
-use mathlib.Core.Bool.{Bool, true, false, _&&_}
+use mathlib.Core.Bool.{Bool, true, false, not, _&&_}
 use mathlib.Core.Logic.{_↔_}
 use mathlib.Core.List.{List, [], _∷_, map}
 use mathlib.Core.Option.{some}
 use Prim.Native.Nat.{ℕ, zero, suc, _+_, _*_}
 use native.Mathlib.Omega.{arith}
-use borrow.Author.Tests.{eq-eqb, leb-true, le-leb}
-use lib.Dec.{T}
+use borrow.Author.Tests.{eq-eqb, leb-true, le-leb, not-true}
+use lib.Dec.{T, leb}
 use lib.IntN.{ℤ}
-use lib.ListN.{length, getElem?, length-map}
+use lib.ListN.{length, take, getElem?, length-map}
 use lib.Signed.{leZ}
 use Rattle.limits.specs.Answer.{Answer, accepted, refused}
 use Rattle.arith.specs.Values.{Outcome, ok, refusal, isInt32}
-use Rattle.arith.proofs.Basics.{and-left, and-right, and-T}
+use Rattle.arith.proofs.Basics.{and-left, and-right, and-T, and-both}
 use Rattle.semantics.specs.Program.{Range, within}
 use Rattle.semantics.specs.Formula.{State}
 use Rattle.semantics.specs.ReferenceScan.{withInputs}
 use Rattle.bytecode.specs.Check.{checkOf}
 use Rattle.bytecode.specs.Parts.{headerOf, codeOf, limitsOf, shapeIn}
 use Rattle.bytecode.specs.Translation.{RangesFit}
-use Rattle.bytecode.proofs.Limits.{no-times, no-timer}
+use Rattle.bytecode.proofs.Limits.{no-times}
 use Rattle.bytecode.proofs.CheckNumbers.{CheckRefusal, too-long, broken, check-numbers}
-use Rattle.semantics.specs.Shape.{allWithin, stateLength}
+use Rattle.semantics.specs.Shape.{hasTimer, allWithin, stateLength}
 use Rattle.machine.specs.Step.{Machine, machine}
 use Rattle.machine.proofs.Refusals.{ByRules, RefusedByRules}
 use Rattle.machine.proofs.Ranges.{Within}
 use Rattle.machine.proofs.SoundRuns.{sound-by-rules}
-use Rattle.scan.specs.Services.{finished, runOf, startOf, scanOf, scansOf}
+use Rattle.scan.specs.Services.{AfterScan, finished, runOf, scanCode, startOf, scanOf, scansOf}
 use Rattle.scan.proofs.SoundScans.{scan-within}
 use Rattle.closed.specs.Closed.{productOfSizes, inputRanges, isSmall, Combination, combinations, combinationsOf, Walked, everyAccepted, refusedAt, goOn, walked, scanning, closedBy, closedAs, closedIn, closedOf}
 use Rattle.closed.specs.Claims.{InRangeState, InRangeRow, Closed, InRangeRows, AllAccepted, FirstRefused}
 use Rattle.closed.proofs.Combining.{All, all-weaker, _∈_, all-in, combinations-complete, in-paired}
 use Rattle.closed.proofs.Order.{Rising, valuesIn, combinations-rise, paired-rise, earlier-accepted}
-use Rattle.closed.proofs.Scans.{header-fits, inputs-among, combinations-in, row-within, row-in-range, scanning-is}
+use Rattle.closed.proofs.Scans.{header-fits, inputs-among, combinations-in, row-within, row-in-range, scanning-code}
 
 -- ---- what the end of a walk says
 
@@ -99,19 +99,20 @@ closed-stopped (accepted u) true image state row n h e = (refl, refl, refused-by
 
 -- ---- exactly
 
-state-within : (image : List ℕ) → checkOf image ≡ accepted tt → (s : State) → InRangeState (shapeIn image) s → Within (headerOf image .ranges) s
-state-within image sound s h = record { size = rw (no-times image sound) at (h .size); ranges = rw (no-times image sound) at (h .ranges) }
+module _ (image : List ℕ) (untimed : hasTimer (limitsOf image) ≡ false) (s : State) where
+  state-within : InRangeState (shapeIn image) s → Within (headerOf image .ranges) s
+  state-within h = record { size = rw (no-times image untimed) at (h .size); ranges = rw (no-times image untimed) at (h .ranges) }
 
-state-in-range : (image : List ℕ) → checkOf image ≡ accepted tt → (s : State) → Within (headerOf image .ranges) s → InRangeState (shapeIn image) s
-state-in-range image sound s h = record { size = rw (no-times image sound) (h .size); ranges = rw (no-times image sound) (h .ranges) }
+  state-in-range : Within (headerOf image .ranges) s → InRangeState (shapeIn image) s
+  state-in-range h = record { size = rw (no-times image untimed) (h .size); ranges = rw (no-times image untimed) (h .ranges) }
 
 -- every in-range state with every in-range row is a combination
-combination-of : (image : List ℕ) → checkOf image ≡ accepted tt → (s : State) (row : List ℤ) → InRangeState (shapeIn image) s → InRangeRow (shapeIn image) row
+combination-of : (image : List ℕ) → checkOf image ≡ accepted tt → hasTimer (limitsOf image) ≡ false → (s : State) (row : List ℤ) → InRangeState (shapeIn image) s → InRangeRow (shapeIn image) row
     → record { state = s; row = row } ∈ combinationsOf (shapeIn image)
 unfolding combinationsOf
-combination-of image sound s row w v =
-    in-paired s row (combinations (headerOf image .ranges)) (combinations (inputRanges (shapeIn image))) (combinations-complete (headerOf image .ranges) s (state-within image sound s w))
-    (combinations-complete (inputRanges (shapeIn image)) row (row-within (headerOf image .inputs) (headerOf image .ranges) (limitsOf image) (no-timer image sound) (inputs-among image sound) row v))
+combination-of image sound untimed s row w v =
+    in-paired s row (combinations (headerOf image .ranges)) (combinations (inputRanges (shapeIn image))) (combinations-complete (headerOf image .ranges) s (state-within image untimed s w))
+    (combinations-complete (inputRanges (shapeIn image)) row (row-within (headerOf image .inputs) (headerOf image .ranges) (limitsOf image) untimed (inputs-among image sound) row v))
 
 pub closed-exactly : (image : List ℕ) → (closedOf image .answer ≡ accepted tt) ↔ Closed image
 unfolding closedOf closedIn isSmall
@@ -121,10 +122,13 @@ closed-exactly image = (forth, back)
     forth e =
         let p = closed-accepted (checkOf image) (isSmall (shapeIn image)) image _ _ e in
         let all = walked-through (scanning image) (combinationsOf (shapeIn image)) 0 (p .2) in
+        let b = and-both (not (hasTimer (limitsOf image))) (leb (productOfSizes (headerOf image .ranges) * productOfSizes (inputRanges (shapeIn image))) 65536) (p .1) in
+        let untimed = not-true (hasTimer (limitsOf image)) (b .0) in
         record {
           sound = p .0;
-          small = leb-true _ 65536 (p .1);
-          accepts = λ s row w v. all-in (λ c. scanning image c ≡ accepted tt) (record { state = s; row = row }) (combinationsOf (shapeIn image)) all (combination-of image (p .0) s row w v);
+          untimed = untimed;
+          small = leb-true _ 65536 (b .1);
+          accepts = λ s row w v. all-in (λ c. scanning image c ≡ accepted tt) (record { state = s; row = row }) (combinationsOf (shapeIn image)) all (combination-of image (p .0) untimed s row w v);
         }
 
     back : Closed image → closedOf image .answer ≡ accepted tt
@@ -132,8 +136,8 @@ closed-exactly image = (forth, back)
         let small = le-leb (productOfSizes (headerOf image .ranges) * productOfSizes (inputRanges (shapeIn image))) 65536 (k .small) in
         let all =
         all-weaker (λ c. Within (headerOf image .ranges) (c .state) × Within (inputRanges (shapeIn image)) (c .row)) (λ c. scanning image c ≡ accepted tt) (combinationsOf (shapeIn image))
-        (λ c w. k .accepts (c .state) (c .row) (state-in-range image (k .sound) (c .state) (w .0)) (row-in-range (headerOf image .inputs) (headerOf image .ranges) (limitsOf image) (no-timer image (k .sound)) (inputs-among image (k .sound)) (c .row) (w .1))) (combinations-in image (k .sound)) in
-        rw (k .sound, small, walked-all (scanning image) (combinationsOf (shapeIn image)) 0 all)
+        (λ c w. k .accepts (c .state) (c .row) (state-in-range image (k .untimed) (c .state) (w .0)) (row-in-range (headerOf image .inputs) (headerOf image .ranges) (limitsOf image) (k .untimed) (inputs-among image (k .sound)) (c .row) (w .1))) (combinations-in image (k .sound)) in
+        rw (k .sound, k .untimed, small, walked-all (scanning image) (combinationsOf (shapeIn image)) 0 all)
 
 -- ---- runs
 
@@ -146,9 +150,11 @@ starts-within (n ∷ ns) f =
     let b = and-right (isInt32 (n .start) && leZ (n .low) (n .start)) (leZ (n .start) (n .high)) t in
     and-T (within n (n .start)) (allWithin ns (map (λ m. m .start) ns)) (and-T (leZ (n .low) (n .start)) (leZ (n .start) (n .high)) (and-right (isInt32 (n .start)) (leZ (n .low) (n .start)) a) b) (starts-within ns (f .1))
 
-scans-accepted : (image : List ℕ) → Closed image → (rows : List (List ℤ)) (s : State) → Within (headerOf image .ranges) s → InRangeRows (shapeIn image) rows → AllAccepted (scansOf image s rows)
+scans-accepted : (image : List ℕ) → Closed image → (rows : List (List ℤ)) (s : State) → InRangeState (shapeIn image) s → InRangeRows (shapeIn image) rows → AllAccepted (scansOf image s rows)
 scans-accepted image k [] s w h = tt
-scans-accepted image k (r ∷ rs) s w h = (k .accepts s r (state-in-range image (k .sound) s w) (h .0), scans-accepted image k rs (scanOf image s r .state) (scan-within image (k .sound) s r w) (h .1))
+scans-accepted image k (r ∷ rs) s w h =
+    let v = scan-within image (k .sound) s r (record { size = w .size; ranges = w .ranges }) in
+    (k .accepts s r w (h .0), scans-accepted image k rs (scanOf image s r .state) (record { size = v .size; ranges = v .ranges }) (h .1))
 
 -- No list of in-range rows from the fresh start ever meets a refusal.
 pub closed-runs : (image : List ℕ) → Closed image → (lent : State) → length lent ≡ stateLength (shapeIn image) → (rows : List (List ℤ)) → InRangeRows (shapeIn image) rows
@@ -157,7 +163,7 @@ unfolding startOf
 closed-runs image k lent e rows h =
     let ns = headerOf image .ranges in
     let w : Within ns (map (λ n. n .start) ns) = record { size = length-map ns (λ n. n .start); ranges = starts-within ns (header-fits image (k .sound)) } in
-    rw (k .sound, no-times image (k .sound), eq-eqb (length lent) (length ns) (rw (no-times image (k .sound)) at e)) (scans-accepted image k rows (map (λ n. n .start) ns) w h)
+    rw (k .sound, no-times image (k .untimed), eq-eqb (length lent) (length ns) (rw (no-times image (k .untimed)) at e)) (scans-accepted image k rows (map (λ n. n .start) ns) (state-in-range image (k .untimed) (map (λ n. n .start) ns) w) h)
 
 -- ---- the first refused scan
 
@@ -173,7 +179,7 @@ all-at P [] n a h e = let z : _≡_ {A = ℕ} 0 1 = cc in let b : ⊥ = omega ar
 all-at P (x ∷ l) zero a h e = let q : x ≡ a = cc in subst P q (h .0)
 all-at P (x ∷ l) (suc n) a h e = all-at P l n a (h .1) e
 
-module _ (image : List ℕ) (sound : checkOf image ≡ accepted tt) where
+module _ (image : List ℕ) (sound : checkOf image ≡ accepted tt) (untimed : hasTimer (limitsOf image) ≡ false) where
   abbrev all : List Combination
   all = combinationsOf (shapeIn image)
 
@@ -182,10 +188,12 @@ module _ (image : List ℕ) (sound : checkOf image ≡ accepted tt) where
 
   -- a combination that is refused is refused by a rule at work
   combination-rules : (n : ℕ) (c : Combination) (number place : ℕ) → getElem? all n ≡ some c → scanning image c ≡ refused number place → ByRules number × (place ≡ 0)
+  unfolding scanCode
   combination-rules n c number place e q =
       let w = within-at n c e in
-      finished-rules (c .state) _ (runOf image (c .state) (c .row) .last) number place (sound-by-rules image sound (c .state) (withInputs (c .state) (c .row)) (length (codeOf image)))
-      (sym (scanning-is image sound (c .state) (c .row) (w .0) (w .1)) ∙ q)
+      finished-rules (c .state) _ (runOf image (c .state) (c .row) .last) number place
+      (sound-by-rules image sound (c .row) (c .state) (withInputs (c .state) (take (headerOf image .inputs) (c .row))) (length (codeOf image)))
+      (ap (λ (a : AfterScan). a .answer) (sym (scanning-code image sound untimed (c .state) (c .row) (w .0) (w .1))) ∙ q)
 
   all-rise : Rising valuesIn all
   unfolding combinationsOf
@@ -200,11 +208,11 @@ module _ (image : List ℕ) (sound : checkOf image ≡ accepted tt) where
       let w = within-at (s .at) c (s .stands) in
       record {
         combination = c;
-        state-in = state-in-range image sound (c .state) (w .0);
-        row-in = row-in-range (headerOf image .inputs) (headerOf image .ranges) (limitsOf image) (no-timer image sound) (inputs-among image sound) (c .row) (w .1);
+        state-in = state-in-range image untimed (c .state) (w .0);
+        row-in = row-in-range (headerOf image .inputs) (headerOf image .ranges) (limitsOf image) untimed (inputs-among image sound) (c .row) (w .1);
         number = s .number;
         refuses = s .refuses ∙ ap (refused (s .number)) (r .1);
-        before = λ t row u v l. earlier-accepted (scanning image) all 0 n c (record { state = t; row = row }) all-rise e (combination-of image sound t row u v) l;
+        before = λ t row u v l. earlier-accepted (scanning image) all 0 n c (record { state = t; row = row }) all-rise e (combination-of image sound untimed t row u v) l;
         stands = subst (λ (k : ℕ). getElem? all k ≡ some c) at (s .stands);
         left = rw (sound, small, e);
       }
@@ -214,10 +222,15 @@ module _ (image : List ℕ) (n : ℕ) (e : closedOf image .answer ≡ refused 27
   unfolding closedOf closedIn
   parts = closed-stopped (checkOf image) (isSmall (shapeIn image)) image _ _ n (check-numbers image) e
 
+  -- there is no timer, or 26 would come first
+  untimed-by : hasTimer (limitsOf image) ≡ false
+  unfolding isSmall
+  untimed-by = not-true (hasTimer (limitsOf image)) (and-both (not (hasTimer (limitsOf image))) _ (parts .1) .0)
+
   -- 27 names the first scan that is refused, by its place, its state and its row;
   pub closed-first : FirstRefused image n
-  closed-first = first-from image (parts .0) n (parts .2 .0) (parts .1) (parts .2 .1)
+  closed-first = first-from image (parts .0) untimed-by n (parts .2 .0) (parts .1) (parts .2 .1)
 
   -- a rule at work refuses it.
   pub first-by-rules : (f : FirstRefused image n) → ByRules (f .number)
-  first-by-rules f = combination-rules image (parts .0) n (f .combination) (f .number) 0 (f .stands) (f .refuses) .0
+  first-by-rules f = combination-rules image (parts .0) untimed-by n (f .combination) (f .number) 0 (f .stands) (f .refuses) .0

@@ -6,12 +6,12 @@ use lib.IntN.{ℤ, pos, negsuc}
 use lib.ListN.{length, replicate}
 use Rattle.limits.specs.Answer.{Answer, accepted, refused}
 use Rattle.arith.specs.Values.{arithmetic, compares}
-use Rattle.semantics.specs.Program.{within}
+use Rattle.semantics.specs.Program.{isBinary, within}
 use Rattle.semantics.specs.ReferenceScan.{moves, picked}
 use Rattle.machine.specs.Step.{bit, yes}
 use Rattle.leb128.specs.Numbers.{unzigzag, numberAt, signedAt, groups, grouped, numberIn, below32}
 use Rattle.bytecode.specs.Instructions.{instructionOf, hasOperand, fetchOne, timerAt, fetch}
-use Rattle.bytecode.specs.Check.{checkCounts, checkRange, checkHeader, checkBody, checkOf}
+use Rattle.bytecode.specs.Check.{checkCounts, checkRange, checkHeader, isTimerRange, checkBody, checkOf}
 use Rattle.bytecode.specs.Parts.{headerOf, codeOf, limitsOf}
 use Rattle.scan.specs.Services.{scanCode, scanOf}
 use Rattle.closed.specs.Closed.{sizeBetween, isSmall, combinationsOf, AfterClosed, leaves, closedIn, closedOf, combinationOf}
@@ -35,6 +35,9 @@ says image answer state row = record { image = image; answer = answer; state = s
 pub adds : List ℕ
 adds = 1 ∷ 1 ∷ 0 ∷ 2 ∷ 0 ∷ 0 ∷ 6 ∷ 0 ∷ 3 ∷ 1 ∷ 2 ∷ 0 ∷ 4 ∷ 21 ∷ 1 ∷ []
 
+pub timed : List ℕ
+timed = 1 ∷ 2 ∷ 0 ∷ 2 ∷ 0 ∷ 0 ∷ 2 ∷ 0 ∷ 0 ∷ 2 ∷ 0 ∷ 2 ∷ 0 ∷ 21 ∷ 1 ∷ 23 ∷ 2 ∷ 1 ∷ 136 ∷ 39 ∷ []
+
 abbrev two : List ℤ
 two = pos 7 ∷ pos 7 ∷ []
 
@@ -56,18 +59,21 @@ examples =
     -- 26: `input i 0..255; var v 0..1`; and `var v 0..65536; v = 1 / 0`, whose first scan would be refused
     ∷ says (1 ∷ 1 ∷ 0 ∷ 254 ∷ 3 ∷ 0 ∷ 0 ∷ 2 ∷ 0 ∷ 1 ∷ 0 ∷ 21 ∷ 1 ∷ []) (refused 26 0) [] []
     ∷ says (0 ∷ 1 ∷ 0 ∷ 128 ∷ 128 ∷ 8 ∷ 0 ∷ 1 ∷ 2 ∷ 1 ∷ 0 ∷ 7 ∷ 21 ∷ 0 ∷ []) (refused 26 0) [] []
+    -- 26: `input i 0..1; var w 0..1; timer t of w limit 5000; w = i`
+    ∷ says timed (refused 26 0) [] []
     ∷ []
 
 -- the definition gives what the table says
 pub profiles-hold : map (λ (e : Example). closedOf (e .image)) examples ≡ map expected examples
-unfolding examples adds unzigzag groups grouped numberIn below32 numberAt signedAt instructionOf hasOperand fetchOne timerAt fetch checkCounts checkRange checkHeader checkBody checkOf headerOf codeOf limitsOf scanCode scanOf sizeBetween isSmall combinationsOf closedIn closedOf bit yes within moves picked arithmetic compares
+unfolding examples adds timed unzigzag groups grouped numberIn below32 numberAt signedAt instructionOf hasOperand fetchOne timerAt fetch checkCounts checkRange checkHeader isBinary isTimerRange checkBody checkOf headerOf codeOf limitsOf scanCode scanOf sizeBetween isSmall combinationsOf closedIn closedOf bit yes within moves picked arithmetic compares
 profiles-hold = refl
 
--- combinations of `adds` by their numbers: the one that 27 names, the last, one past it; a row too long; 11
+-- combinations of `adds` by their numbers: the one that 27 names, the last, one past it; a row too long; 11; a timer
 pub combinations-hold : (combinationOf adds 7 two one ≡ leaves (accepted tt) (pos 0 ∷ pos 3 ∷ []) (pos 1 ∷ []))
     × (combinationOf adds 15 two one ≡ leaves (accepted tt) (pos 1 ∷ pos 3 ∷ []) (pos 1 ∷ []))
     × (combinationOf adds 16 two one ≡ leaves (refused 12 0) two one)
     × (combinationOf adds 7 two two ≡ leaves (refused 12 0) two two)
     × (combinationOf (0 ∷ []) 16 two two ≡ leaves (refused 11 1) two two)
-unfolding adds unzigzag groups grouped numberIn below32 numberAt signedAt instructionOf hasOperand fetchOne timerAt fetch checkCounts checkRange checkHeader checkBody checkOf headerOf codeOf limitsOf sizeBetween isSmall combinationsOf combinationOf
-combinations-hold = (refl, refl, refl, refl, refl)
+    × (combinationOf timed 0 two one ≡ leaves (refused 26 0) two one)
+unfolding adds timed unzigzag groups grouped numberIn below32 numberAt signedAt instructionOf hasOperand fetchOne timerAt fetch checkCounts checkRange checkHeader isBinary isTimerRange checkBody checkOf headerOf codeOf limitsOf sizeBetween isSmall combinationsOf combinationOf
+combinations-hold = (refl, refl, refl, refl, refl, refl)

@@ -14,9 +14,9 @@ use Rattle.limits.specs.Answer.{accepted, refused}
 use Rattle.semantics.specs.Program.{Range}
 use Rattle.semantics.specs.Formula.{State}
 use Rattle.bytecode.specs.Check.{checkOf}
-use Rattle.bytecode.specs.Parts.{headerOf, shapeIn}
-use Rattle.bytecode.proofs.Limits.{no-times, no-timer}
-use Rattle.bytecode.proofs.SoundHeader.{SoundCounts}
+use Rattle.semantics.specs.Shape.{hasTimer}
+use Rattle.bytecode.specs.Parts.{headerOf, limitsOf, shapeIn}
+use Rattle.bytecode.proofs.Limits.{no-times}
 use Rattle.closed.specs.Closed.{productOfSizes, inputRanges, isSmall, combinations, Combination, withRows, paired, combinationsOf, leaves, combined, combinedAs, combinationOf}
 use Rattle.closed.specs.Results.{afterClosing}
 use Rattle.closed.specs.Inner.Parts.{IsNth, combinedRanges}
@@ -86,17 +86,22 @@ module _ (ns : List Range) (inputs index : ℕ) (state row : List ℤ) (small : 
         let k : getElem? (paired (combinations ns) (combinations (take inputs ns))) index ≡ some (record { state = s; row = r }) = rw n at (pair-at s r (combinations ns) (combinations (take inputs ns)) (index / rows) (index % rows) a b) in
         rw (small, eq-eqb (length state) (length ns) e, eq-eqb (length row) inputs f, k)
 
-pub combination-refused : (image : List ℕ) (index : ℕ) (state row : List ℤ) (number place : ℕ) → refused number place ≡ checkOf image
+pub combination-refused : (image : List ℕ) (index : ℕ) (state row : List ℤ) (number place : ℕ) → checkOf image ≡ refused number place
     → afterClosing (C.Refused number place) state row ≡ combinationOf image index state row
 unfolding combinationOf
-combination-refused image index state row number place e = rw (← e)
+combination-refused image index state row number place e = rw e
 
-pub combination-from : (image : List ℕ) → checkOf image ≡ accepted tt → {inputs names : ℕ} → SoundCounts image inputs names → (index : ℕ) (state row : List ℤ)
-    → combinedRanges (headerOf image .ranges) inputs index state row ≡ combinationOf image index state row
-unfolding combinationOf isSmall combinationsOf
-combination-from image sound k index state row = rw (sound, ← (k .inputs-are)) (by (leb (productOfSizes (headerOf image .ranges) * productOfSizes (inputRanges (shapeIn image))) 65536))
-  where
-    by : (b : Bool) → cond b (cond (eqb (length state) (length (headerOf image .ranges)) && eqb (length row) (headerOf image .inputs)) (combined (getElem? (paired (combinations (headerOf image .ranges)) (combinations (inputRanges (shapeIn image)))) index) state row) (leaves (refused 12 0) state row)) (leaves (refused 26 0) state row)
-        ≡ combinedAs (accepted tt) b (shapeIn image) index state row
-    by true = rw (no-times image sound, no-timer image sound)
-    by false = refl
+module _ (image : List ℕ) (sound : checkOf image ≡ accepted tt) (index : ℕ) (state row : List ℤ) where
+  -- 26 a timer
+  pub combination-timed : hasTimer (limitsOf image) ≡ true → afterClosing (C.Refused 26 0) state row ≡ combinationOf image index state row
+  unfolding combinationOf isSmall
+  combination-timed e = rw (sound, e)
+
+  pub combination-from : (inputs : ℕ) → headerOf image .inputs ≡ inputs → hasTimer (limitsOf image) ≡ false → combinedRanges (headerOf image .ranges) inputs index state row ≡ combinationOf image index state row
+  unfolding combinationOf isSmall combinationsOf
+  combination-from inputs e untimed = rw (sound, untimed, ← e) (by (leb (productOfSizes (headerOf image .ranges) * productOfSizes (inputRanges (shapeIn image))) 65536))
+    where
+      by : (b : Bool) → cond b (cond (eqb (length state) (length (headerOf image .ranges)) && eqb (length row) (headerOf image .inputs)) (combined (getElem? (paired (combinations (headerOf image .ranges)) (combinations (inputRanges (shapeIn image)))) index) state row) (leaves (refused 12 0) state row)) (leaves (refused 26 0) state row)
+          ≡ combinedAs (accepted tt) b (shapeIn image) index state row
+      by true = rw (no-times image untimed, untimed)
+      by false = refl

@@ -1,33 +1,35 @@
--- The scans of a sound image within its ranges are the runs of its code. Assumes nothing.
+-- The scans of a sound image without timers within its ranges are the runs of its code. Assumes nothing.
 use mathlib.Core.Path.{_≡_, refl, sym, ap, _∙_}
 use mathlib.Core.Bool.{Bool, true, false, cond}
 use mathlib.Core.List.{List, [], _∷_}
 use Prim.Native.Nat.{ℕ, zero, suc, _+_, _*_, _≤_}
 use native.Mathlib.Omega.{arith}
-use borrow.Author.Tests.{eq-eqb}
 use lib.Dec.{T, leb}
 use lib.IntN.{ℤ}
 use lib.ListN.{length, take}
-use lib.Seq.{length-take-le}
+use lib.Seq.{length-take-le, take-all}
 use lib.Signed.{leZ}
 use Rattle.limits.specs.Answer.{Answer, accepted, refused}
 use Rattle.arith.specs.Values.{isInt32}
 use Rattle.arith.proofs.Basics.{T-true, and-left, and-right, and-T}
 use Rattle.semantics.specs.Program.{Range, within}
 use Rattle.semantics.specs.Formula.{State}
-use Rattle.semantics.specs.Shape.{Shape, hasTimer, allWithin}
+use Rattle.semantics.specs.Shape.{Shape, hasTimer, allWithin, Setting}
+use Rattle.semantics.specs.ReferenceScan.{withInputs}
 use Rattle.bytecode.specs.Check.{checkOf}
 use Rattle.bytecode.specs.Parts.{headerOf, codeOf, limitsOf, shapeIn}
 use Rattle.bytecode.specs.Translation.{RangesFit}
-use Rattle.bytecode.proofs.Limits.{no-times, no-timer}
 use Rattle.bytecode.proofs.Walk.{check-sound}
 use Rattle.bytecode.proofs.SoundHeader.{header-is}
 use Rattle.machine.proofs.Ranges.{Within}
+use Rattle.before.specs.Before.{beforeCode}
 use Rattle.scan.specs.Services.{AfterScan, scanCode, scanOf}
 use Rattle.scan.specs.Results.{scanAnswer, afterScan}
 use Rattle.scan.specs.declared.Scanned.{Scanned}
 use Rattle.scan.specs.declared.Scanned.the-variants as R
-use Rattle.scan.specs.Inner.Parts.{scannedCode}
+use Rattle.scan.specs.Inner.Parts.{scannedOver, scannedCode, scannedBy}
+use Rattle.scan.proofs.Scans.{scan-is}
+use Rattle.scan.proofs.Images.{plain-passes, setting-untimed}
 use Rattle.closed.specs.Closed.{productOfSizes, inputRanges, isSmall, combinations, Combination, combinationsOf, walked, scanning, leaves, closedBy, closedAs, closedIn, AfterClosed}
 use Rattle.closed.specs.Results.{afterClosing}
 use Rattle.closed.specs.Claims.{InRangeRow}
@@ -88,17 +90,31 @@ module _ (image : List ℕ) (sound : checkOf image ≡ accepted tt) where
       paired-all (Within ns) (Within (inputRanges (shapeIn image))) (combinations ns) (combinations (inputRanges (shapeIn image))) (combinations-within ns u)
       (combinations-within (inputRanges (shapeIn image)) (upright-take (headerOf image .inputs) ns u))
 
-  -- neither 12 nor 18 nor 13 comes before the code
-  pub scanning-is : (s : State) (row : List ℤ) → Within (headerOf image .ranges) s → Within (inputRanges (shapeIn image)) row
-      → scanOf image s row .answer ≡ scannedCode (headerOf image .ranges) (codeOf image) s row .answer
-  unfolding scanOf scanCode
-  scanning-is s row w v =
-      let r = row-in-range (headerOf image .inputs) (headerOf image .ranges) (limitsOf image) (no-timer image sound) inputs-among row v in
-      let a = eq-eqb (length s) (length (headerOf image .ranges)) (w .size) in
-      let b = eq-eqb (length row) (headerOf image .inputs) (rw (no-timer image sound) at (r .size)) in
-      let d = T-true (allWithin (headerOf image .ranges) s) (w .ranges) in
-      let e = T-true (allWithin (headerOf image .ranges) row) (rw (no-timer image sound) at (r .ranges)) in
-      rw (sound, no-times image sound, no-timer image sound, a, b, d, e)
+-- without a timer
+module _ (image : List ℕ) (sound : checkOf image ≡ accepted tt) (untimed : hasTimer (limitsOf image) ≡ false) where
+  module _ (s : State) (row : List ℤ) (w : Within (headerOf image .ranges) s) (v : Within (inputRanges (shapeIn image)) row) where
+    row-is : InRangeRow (shapeIn image) row
+    row-is = row-in-range (headerOf image .inputs) (headerOf image .ranges) (limitsOf image) untimed (inputs-among image sound) row v
+
+    inputs-are : length row ≡ headerOf image .inputs
+    inputs-are = rw untimed at (row-is .size)
+
+    -- neither 12 nor 18 nor 13 comes before the code
+    passes : accepted tt ≡ beforeCode image s row
+    passes =
+        plain-passes image s row sound untimed (w .size) inputs-are (T-true (allWithin (headerOf image .ranges) s) (w .ranges))
+        (T-true (allWithin (headerOf image .ranges) row) (rw untimed at (row-is .ranges)))
+
+    pub scanning-code : scanOf image s row ≡ scanCode image s row
+    scanning-code = scan-is image s row ∙ ap (λ (a : Answer (Unit {0})). scannedBy a s (scanCode image s row)) (sym passes)
+
+    pub scanning-is : scanOf image s row .answer ≡ scannedCode (headerOf image .ranges) (codeOf image) s row .answer
+    unfolding scanCode
+    scanning-is =
+        let t = withInputs s (take (headerOf image .inputs) row) in
+        ap (λ (a : AfterScan). a .answer) scanning-code
+        ∙ ap (λ (k : Setting). scannedOver k (codeOf image) s t .answer) (setting-untimed image row untimed inputs-are)
+        ∙ ap (λ (l : List ℤ). scannedCode (headerOf image .ranges) (codeOf image) s l .answer) (take-all (headerOf image .inputs) row (omega (arith, inputs-are)))
 
 -- ---- one scan, on a copy of the state
 
@@ -123,19 +139,25 @@ chosen : (b : Bool) (image : List ℕ) (state row : List ℤ) (x : AfterClosed) 
 chosen true image state row x e = e
 chosen false image state row x e = refl
 
-pub closed-refused : (image : List ℕ) (state row : List ℤ) (number place : ℕ) → refused number place ≡ checkOf image → afterClosing (C.Refused number place) state row ≡ closedIn image state row
+pub closed-refused : (image : List ℕ) (state row : List ℤ) (number place : ℕ) → checkOf image ≡ refused number place → afterClosing (C.Refused number place) state row ≡ closedIn image state row
 unfolding closedIn
-closed-refused image state row number place e = rw (← e)
+closed-refused image state row number place e = rw e
 
 module _ (image : List ℕ) (sound : checkOf image ≡ accepted tt) where
-  walk-is : walked (scanning image) (combinationsOf (shapeIn image)) 0 ≡ walked (working (headerOf image .ranges) (codeOf image)) (combinationsOf (shapeIn image)) 0
-  walk-is =
-      walked-same (scanning image) (working (headerOf image .ranges) (codeOf image)) (combinationsOf (shapeIn image)) 0
-      (all-weaker (λ c. Within (headerOf image .ranges) (c .state) × Within (inputRanges (shapeIn image)) (c .row)) (λ c. scanning image c ≡ working (headerOf image .ranges) (codeOf image) c)
-      (combinationsOf (shapeIn image)) (λ c w. scanning-is image sound (c .state) (c .row) (w .0) (w .1)) (combinations-in image sound))
+  -- 26 a timer
+  pub closed-timed : (state row : List ℤ) → hasTimer (limitsOf image) ≡ true → afterClosing (C.Refused 26 0) state row ≡ closedIn image state row
+  unfolding closedIn isSmall
+  closed-timed state row e = rw (sound, e)
 
-  pub closed-from : (inputs : ℕ) (state row : List ℤ) → headerOf image .inputs ≡ inputs → closedWorking (headerOf image .ranges) inputs (codeOf image) state row ≡ closedIn image state row
-  unfolding closedIn isSmall combinationsOf
-  closed-from inputs state row e =
-      rw (sound, ← e)
-      (chosen (leb (productOfSizes (headerOf image .ranges) * productOfSizes (inputRanges (shapeIn image))) 65536) image state row _ (ap (λ w. closedBy w state row) (sym walk-is)))
+  module _ (untimed : hasTimer (limitsOf image) ≡ false) where
+    walk-is : walked (scanning image) (combinationsOf (shapeIn image)) 0 ≡ walked (working (headerOf image .ranges) (codeOf image)) (combinationsOf (shapeIn image)) 0
+    walk-is =
+        walked-same (scanning image) (working (headerOf image .ranges) (codeOf image)) (combinationsOf (shapeIn image)) 0
+        (all-weaker (λ c. Within (headerOf image .ranges) (c .state) × Within (inputRanges (shapeIn image)) (c .row)) (λ c. scanning image c ≡ working (headerOf image .ranges) (codeOf image) c)
+        (combinationsOf (shapeIn image)) (λ c w. scanning-is image sound untimed (c .state) (c .row) (w .0) (w .1)) (combinations-in image sound))
+
+    pub closed-from : (inputs : ℕ) (state row : List ℤ) → headerOf image .inputs ≡ inputs → closedWorking (headerOf image .ranges) inputs (codeOf image) state row ≡ closedIn image state row
+    unfolding closedIn isSmall combinationsOf
+    closed-from inputs state row e =
+        rw (sound, untimed, ← e)
+        (chosen (leb (productOfSizes (headerOf image .ranges) * productOfSizes (inputRanges (shapeIn image))) 65536) image state row _ (ap (λ w. closedBy w state row) (sym walk-is)))

@@ -1,6 +1,7 @@
 -- What a closed image is, and what a refusal 27 says, over the scans themselves. Document 02, A.10. Assumes nothing.
 use Prim.Native.Nat.{ℕ, _*_, _≤_}
 use mathlib.Core.Path.{_≡_}
+use mathlib.Core.Bool.{false}
 use mathlib.Core.Logic.{_⊎_}
 use mathlib.Core.List.{List, [], _∷_, _++_}
 use mathlib.Core.Option.{some}
@@ -13,7 +14,7 @@ use Rattle.limits.specs.Answer.{accepted, refused}
 use Rattle.semantics.specs.Formula.{State}
 use Rattle.bytecode.specs.Check.{checkOf}
 use Rattle.bytecode.specs.Parts.{shapeIn}
-use Rattle.semantics.specs.Shape.{Shape, stateLength, rowLength, stateInRange, rowInRange}
+use Rattle.semantics.specs.Shape.{Shape, hasTimer, stateLength, rowLength, stateInRange, rowInRange}
 use Rattle.scan.specs.Services.{AfterScan, scanOf}
 use Rattle.closed.specs.Closed.{productOfSizes, inputRanges, Combination, combinationsOf, refusedAt, scanning, closedBy, closedOf}
 
@@ -30,6 +31,7 @@ pub record InRangeRow (h : Shape) (row : List ℤ) : Type 0 where
 -- A set is accepted exactly if no such scan is refused (law `closed-exactly`).
 pub record Closed (image : List ℕ) : Type 0 where
   pub sound : checkOf image ≡ accepted tt
+  pub untimed : hasTimer (shapeIn image .limits) ≡ false
   pub small : productOfSizes (shapeIn image .ranges) * productOfSizes (inputRanges (shapeIn image)) ≤ combinationLimit
   pub accepts : (s : State) (row : List ℤ) → InRangeState (shapeIn image) s → InRangeRow (shapeIn image) row → scanOf image s row .answer ≡ accepted tt
 

@@ -1,6 +1,6 @@
 -- The closed profile: the walk over every in-range state with every in-range row, for every input. Document 02, A.10. Assumes nothing.
 use Prim.Native.Nat.{ℕ, zero, suc, _+_, _*_}
-use mathlib.Core.Bool.{Bool, true, false, _&&_, cond}
+use mathlib.Core.Bool.{Bool, true, false, not, _&&_, cond}
 use mathlib.Core.List.{List, [], _∷_, _++_, map}
 use mathlib.Core.Option.{Option, none, some}
 use lib.Dec.{eqb, leb}
@@ -13,7 +13,7 @@ use Rattle.semantics.specs.Formula.{State}
 use Rattle.semantics.specs.ReferenceScan.{withInputs}
 use Rattle.bytecode.specs.Check.{checkOf}
 use Rattle.bytecode.specs.Parts.{shapeIn}
-use Rattle.semantics.specs.Shape.{Shape, stateLength, rowLength}
+use Rattle.semantics.specs.Shape.{Shape, hasTimer, stateLength, rowLength}
 use Rattle.scan.specs.Services.{scanOf}
 
 -- ---- sizes
@@ -36,9 +36,9 @@ productOfSizes (n ∷ ns) = sizeOf n * productOfSizes ns
 abbrev pub inputRanges : Shape → List Range
 inputRanges h = take (h .inputs) (h .ranges)
 
--- The product of all range sizes times the product of the input range sizes must be at most 65,536.
+-- The product of all range sizes times the product of the input range sizes must be at most 65,536. Else 26, and so with a timer.
 unfoldable pub isSmall : Shape → Bool
-isSmall h = leb (productOfSizes (h .ranges) * productOfSizes (inputRanges h)) combinationLimit
+isSmall h = not (hasTimer (h .limits)) && leb (productOfSizes (h .ranges) * productOfSizes (inputRanges h)) combinationLimit
 
 -- ---- combinations
 
@@ -109,7 +109,7 @@ abbrev pub closedBy : Walked → List ℤ → List ℤ → AfterClosed
 closedBy everyAccepted state row = leaves (accepted tt) state row
 closedBy (refusedAt n c) state row = leaves (refused notClosed n) (withInputs state (c .state)) (withInputs row (c .row))
 
--- Errors: 9, 11, then 26, then 27. Every answer but 27 leaves state and row as found.
+-- Errors: 9, 11, then 26 a timer or too large a product, then 27. Every answer but 27 leaves state and row as found.
 abbrev pub closedAs : Answer (Unit {0}) → Bool → List ℕ → List ℤ → List ℤ → AfterClosed
 closedAs (refused number place) small image state row = leaves (refused number place) state row
 closedAs (accepted u) false image state row = leaves (refused notSmall 0) state row

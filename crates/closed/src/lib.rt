@@ -1,8 +1,7 @@
 // The closed profile: every in-range state scanned with every in-range row.
-use bytecode::Headed;
-use checker::Checked;
 use machine::lists;
 use scan::Scanned;
+use shapes::Shaped;
 ghost use mathlib.Core.Path.{_≡_};
 ghost use mathlib.Core.List.{List};
 ghost use Prim.Native.Nat.{_+_, _*_, _^_, _≤_, _<_, min};
@@ -10,7 +9,8 @@ ghost use lib.ListN.{length, take};
 ghost use Rattle.limits.specs.Limits.{nameLimit, combinationLimit};
 ghost use Rattle.semantics.specs.Program.{Range};
 ghost use Rattle.machine.specs.Inner.Memory.{RangesIn};
-ghost use Rattle.scan.specs.Inner.Parts.{FittingMemory, scannedCode};
+ghost use Rattle.before.specs.Inner.Memory.{FittingMemory};
+ghost use Rattle.scan.specs.Inner.Parts.{scannedCode};
 ghost use Rattle.closed.specs.Closed.{sizeBetween, productOfSizes, combinations, paired, walked, closedIn, closedOf, combinationOf};
 ghost use Rattle.closed.specs.Results.{afterClosing, ClosingWithin, profileOf};
 ghost use Rattle.closed.specs.Inner.Parts.{nextOf, isRefused, working, Walking, visitedAs, VisitedWithin, closedWorking, ClosedRoom, combinedRanges, IsNth};
@@ -69,7 +69,7 @@ fn is_refused(
     copy: &mut [i32],
     work: &mut [i32],
 ) -> bool
-    requires { ⌜ FittingMemory (now state) (now row) (now low) (now high) (now work) ⌝ }
+    requires { ⌜ FittingMemory (length (now row)) (now state) (now low) (now high) (now work) ⌝ }
     requires { ⌜ length (now copy) ≡ length (now state) ⌝ }
     ensures { λ r. ⌜ ((ns : List Range) → RangesIn ns (now (low .entry)) (now (high .entry))
         → r ≡ isRefused (scannedCode ns (now (code .entry)) (now (state .entry)) (now (row .entry)) .answer)) ⌝ }
@@ -183,7 +183,7 @@ fn closed_ranges(
     Closing::Refused(limits::NOT_CLOSED, done)
 }
 
-// 9, 11, 26, 27, in lent memory. A sound image always has its header; the starts that `work` takes are not kept.
+// 9, 11, 26, 27, in lent memory. More numbers in a state than names: there is a timer.
 fn closed_in(
     image: &[u8],
     low: &mut [i32],
@@ -200,14 +200,16 @@ fn closed_in(
     ensures { λ r. ⌜ afterClosing r (now (state .exit)) (now (row .exit)) ≡ closedIn (now (image .entry)) (now (state .entry)) (now (row .entry)) ⌝ }
     ensures { λ r. ⌜ ClosingWithin r ⌝ }
 {
-    let checked = checker::check(image);
-    match checked {
-        Checked::Refused(number, place) => Closing::Refused(number, place),
-        Checked::Sound => {
-            let headed = bytecode::header(image, low, high, work);
-            let Headed::Header(inputs, names, place) = headed else {
-                return Closing::Refused(limits::BROKEN_IMAGE, 0);
-            };
+    let shaped = shapes::shape(image, low, high);
+    match shaped {
+        Shaped::Refused(number, place) => Closing::Refused(number, place),
+        Shaped::Shape(m) => {
+            if m.names < m.size {
+                return Closing::Refused(limits::NOT_SMALL, 0);
+            }
+            let inputs = m.inputs;
+            let names = m.names;
+            let place = m.place;
             closed_ranges(
                 &image[place..],
                 inputs,
@@ -315,21 +317,20 @@ fn combination_in(
     row: &mut [i32],
     low: &mut [i32],
     high: &mut [i32],
-    start: &mut [i32],
 ) -> Closing
     requires { ⌜ (nameLimit ≤ length (now low)) × (nameLimit ≤ length (now high)) ⌝ }
     ensures { λ r. ⌜ afterClosing r (now (state .exit)) (now (row .exit)) ≡ combinationOf (now (image .entry)) index (now (state .entry)) (now (row .entry)) ⌝ }
     ensures { λ r. ⌜ ClosingWithin r ⌝ }
 {
-    let checked = checker::check(image);
-    match checked {
-        Checked::Refused(number, place) => Closing::Refused(number, place),
-        Checked::Sound => {
-            let headed = bytecode::header(image, low, high, start);
-            let Headed::Header(inputs, names, _) = headed else {
-                return Closing::Refused(limits::BROKEN_IMAGE, 0);
-            };
-            combination_ranges(inputs, &low[..names], &high[..names], index, state, row)
+    let shaped = shapes::shape(image, low, high);
+    match shaped {
+        Shaped::Refused(number, place) => Closing::Refused(number, place),
+        Shaped::Shape(m) => {
+            if m.names < m.size {
+                return Closing::Refused(limits::NOT_SMALL, 0);
+            }
+            let names = m.names;
+            combination_ranges(m.inputs, &low[..names], &high[..names], index, state, row)
         }
     }
 }
@@ -341,6 +342,5 @@ pub fn combination(image: &[u8], index: usize, state: &mut [i32], row: &mut [i32
 {
     let mut low = [0i32; limits::NAME_LIMIT];
     let mut high = [0i32; limits::NAME_LIMIT];
-    let mut start = [0i32; 1];
-    combination_in(image, index, state, row, &mut low, &mut high, &mut start)
+    combination_in(image, index, state, row, &mut low, &mut high)
 }

@@ -7,20 +7,19 @@ use mathlib.Core.List.{List, [], _∷_, map}
 use mathlib.Core.Option.{Option, none, some}
 use lib.Dec.{T, ltb}
 use lib.IntN.{ℤ}
-use lib.ListN.{length, getD, set, take, replicate, length-append, length-map, List·getD-append}
+use lib.ListN.{length, getD, set, take, replicate, length-map, List·getD-append}
 use borrow.Author.Tests.{ltb-true, le-ltb}
 use Rattle.limits.specs.Answer.{accepted}
 use Rattle.arith.specs.Values.{Outcome, ok, refusal}
 use Rattle.semantics.specs.Program.{Range, noRange, rangeAt, bitRange}
 use Rattle.semantics.specs.Formula.{State}
-use Rattle.semantics.specs.Shape.{Shape, isLimit, timersOf, timeRange, timeRanges, countTrue, cells, stateLength, settingOf, timePlace}
+use Rattle.semantics.specs.Shape.{Shape, isLimit, timersOf, timeRange, timeRanges, countTrue, cells, settingOf}
 use Rattle.semantics.proofs.Counted.{state-length, cell-time}
 use Rattle.semantics.proofs.Reference.{length-known}
 use Rattle.semantics.proofs.Timers.{times-append}
-use Rattle.leb128.specs.Numbers.{got}
 use Rattle.bytecode.specs.Instructions.{Instruction, constant, current, previous, operation, negate, comparison, negated, both, either, gate, pick, assign, settle, timer}
 use Rattle.bytecode.specs.Signature.{Role, pushes, computes, tests, opens, picks, lets, settles, times, signature}
-use Rattle.bytecode.specs.Check.{Header, Known, advance, suitsIn, suits, checkCode, atStart, checkBody, checkOf}
+use Rattle.bytecode.specs.Check.{Known, advance, suits, checkCode, atStart, checkBody, checkOf}
 use Rattle.bytecode.specs.Parts.{headerOf, codeOf, limitIn, limitsFrom, limitsOf, shapeIn}
 use Rattle.bytecode.proofs.Soundness.{idsOf}
 use Rattle.bytecode.proofs.RoundTrip.{fetch-next}
@@ -28,10 +27,10 @@ use Rattle.bytecode.proofs.Walk.{Stepped, check-stepped, check-sound}
 use Rattle.bytecode.proofs.SoundHeader.{header-is}
 use Rattle.bytecode.proofs.TimerPlaces.{timer-range}
 use Rattle.bytecode.proofs.Limits.{limits-length}
-use Rattle.bytecode.proofs.SoundLimits.{suits-own, Limited, limited-begins, limited-next, ids-kept, TimerNamed, timer-named, timer-limit}
+use Rattle.bytecode.proofs.SoundLimits.{suits-own, Limited, limited-begins, limited-next, ids-kept, timer-named, timer-limit}
 use Rattle.machine.specs.Step.{Machine, machine, step}
 use Rattle.machine.specs.Runs.{Ran, afterStep, run}
-use Rattle.machine.proofs.Refusals.{RefusedByRules, Matches, Kept, StandsIn, step-keeps}
+use Rattle.machine.proofs.Refusals.{RefusedByRules, Kept, StandsIn, step-keeps}
 use Rattle.machine.proofs.Ranges.{Within, AllWithin, FitIn, step-within}
 
 -- ---- where a timer of sound code works

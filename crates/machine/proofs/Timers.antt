@@ -1,14 +1,13 @@
 -- Timers at work: the place of an elapsed time, the time itself, and what a 23 does. Assumes nothing.
-use Prim.Native.Nat.{ℕ, zero, suc, _+_, _-_, _≤_, _<_, min}
+use Prim.Native.Nat.{ℕ, _+_, _≤_, _<_, min}
 use native.Mathlib.Omega.{arith}
-use mathlib.Core.Path.{_≡_, refl, sym, ap, _∙_}
-use mathlib.Core.Bool.{Bool, true, false, _&&_, _||_, cond}
+use mathlib.Core.Path.{_≡_, refl, _∙_}
+use mathlib.Core.Bool.{Bool, true, false}
 use mathlib.Core.List.{List}
-use lib.Dec.{eqb, leb, ltb}
 use lib.IntN.{ℤ, pos, negsuc}
 use lib.ListN.{length, set}
 use borrow.Author.Tests.{lt-ltb, le-ltb, le-leb, lt-leb}
-use Rattle.arith.specs.Values.{Outcome, ok, refusal, eqZ, count}
+use Rattle.arith.specs.Values.{ok, refusal, eqZ, count}
 use Rattle.arith.specs.Inner.Flags.{flagsOf, onesBelow}
 use Rattle.arith.proofs.Flags.{length-flags}
 use Rattle.semantics.specs.Formula.{State, at}
@@ -16,7 +15,7 @@ use Rattle.semantics.specs.Shape.{Setting, millisOf, timePlace, elapsed, due, t
 use Rattle.semantics.proofs.Flags.{flags-counted, flags-taken, flags-all-taken}
 use Rattle.bytecode.specs.Instructions.{timer}
 use Rattle.machine.specs.declared.Timing.{Timing}
-use Rattle.machine.specs.Step.{Machine, machine, perform}
+use Rattle.machine.specs.Step.{machine, perform}
 use Rattle.machine.specs.Inner.Memory.{TimingIn}
 
 -- ---- the place

@@ -7,7 +7,7 @@ ghost use mathlib.Core.List.{List};
 ghost use Prim.Native.Nat.{_+_, _≤_, _<_, _^_};
 ghost use lib.IntN.{ℤ, pos};
 ghost use lib.ListN.{length, getD};
-ghost use Rattle.limits.specs.Limits.{stackLimit, timeLimit};
+ghost use Rattle.limits.specs.Limits.{stackLimit};
 ghost use Rattle.arith.specs.Inner.Flags.{flagsOf};
 ghost use Rattle.semantics.specs.Shape.{Setting, timePlace, elapsed as elapsedOf, due as dueOf};
 ghost use Rattle.bytecode.specs.Instructions.{timer as timing-of};

@@ -1,6 +1,6 @@
--- What a start that was accepted says of its image, and what the header of that image has at hand for its rows. Assumes nothing.
+-- What a start that was accepted says of its image, and what the shape of that image has at hand for its rows. Assumes nothing.
 use Prim.Native.Nat.{ℕ, _≤_}
-use mathlib.Core.Path.{_≡_, refl, sym, ap, subst, _∙_}
+use mathlib.Core.Path.{_≡_, refl, sym, ap, _∙_}
 use mathlib.Core.Bool.{Bool, true, false, cond}
 use mathlib.Core.List.{List}
 use native.Mathlib.Omega.{arith}
@@ -10,18 +10,16 @@ use lib.ListN.{length, take}
 use borrow.Author.Tests.{eqb-true}
 use Rattle.limits.specs.Answer.{Answer, accepted, refused}
 use Rattle.semantics.specs.Formula.{State}
-use Rattle.bytecode.specs.Check.{checkHeader, checkOf}
-use Rattle.bytecode.specs.Parts.{headerOf, shapeIn}
-use Rattle.bytecode.specs.Results.{HeaderStands}
+use Rattle.bytecode.specs.Check.{checkOf}
+use Rattle.bytecode.specs.Parts.{shapeIn}
 use Rattle.bytecode.proofs.Walk.{check-sound}
-use Rattle.bytecode.proofs.Limits.{no-times}
-use Rattle.semantics.specs.Program.{Range}
-use Rattle.semantics.specs.Shape.{withTimes, stateLength, startingState}
+use Rattle.shapes.specs.declared.Measured.{Measured}
+use Rattle.shapes.specs.Results.{Measures}
+use Rattle.semantics.specs.Shape.{cells, stateLength, startingState}
 use Rattle.scan.specs.Services.{AfterStart, started, startOf}
 use Rattle.scan.specs.Results.{afterStart}
-use Rattle.scan.specs.Inner.Parts.{KnownImage}
 use Rattle.scan.specs.declared.Started.the-variants as S
-use Rattle.scan.proofs.Images.{ranges-stored}
+use Rattle.before.proofs.Stored.{ranges-stored}
 use Rattle.replay.specs.Inner.Records.{KnownBy, StartedImage}
 
 -- a start is accepted for a sound image and a state of one length only
@@ -48,34 +46,37 @@ started-image image s s₁ e l =
 pub started-short : (image : List ℕ) (s s₁ : State) → afterStart S.Done s₁ ≡ startOf image s → length image ≤ 65536
 started-short image s s₁ e = check-sound image (start-sized image s (sym (ap {A = AfterStart} (λ r. r .answer) e)) .0) .short
 
--- a sound image has no timers: the state has a value for each name and no more
-pub started-named : {image : List ℕ} {s : State} → StartedImage image s → length s ≡ length (headerOf image .ranges)
-started-named {image = image} x = x .sized ∙ ap (λ (l : List Range). length (withTimes (headerOf image .ranges) l)) (no-times image (x .sound))
-
 -- ---- what the rows need
 
-pub known-kept : {image : List ℕ} {base inputs : ℕ} {low high work₀ state₀ : List ℤ} → KnownBy image base inputs low high work₀ state₀ → (work state : List ℤ) → length work ≡ length work₀ → length state ≡ length state₀
-    → KnownBy image base inputs low high work state
-known-kept {image = image} {base = base} {inputs = inputs} {low = low} {high = high} x work state a b =
-    record { image-known = subst (λ (n : ℕ). KnownImage image base inputs n low high) (sym b) (x .image-known); copies = a ∙ x .copies ∙ sym b }
+pub known-kept : {image : List ℕ} {m : Measured} {low high work₀ state₀ : List ℤ} → KnownBy image m low high work₀ state₀ → (work state : List ℤ) → length work ≡ length work₀ → length state ≡ length state₀
+    → KnownBy image m low high work state
+known-kept x work state a b =
+    let k = x .image-known in
+    record {
+      image-known = record { sound = k .sound; code = k .code; inside = k .inside; shape = k .shape; numbers = b ∙ k .numbers };
+      copies = a ∙ x .copies ∙ sym b;
+    }
 
-pub known-by : (image : List ℕ) (s work : List ℤ) {n : ℕ} {low₀ high₀ start₀ low high start : List ℤ} {inputs names place : ℕ} → StartedImage image s
-    → HeaderStands (checkHeader image) n low₀ high₀ start₀ low high start inputs names place → n ≡ length image → names ≡ length s → names ≤ length low₀ → names ≤ length high₀ → length work ≡ names
-    → KnownBy image place inputs (take names low) (take names high) work s
-known-by image s work {names = names} x h e m l u w =
-    let r = ranges-stored (h .ranges) names _ _ _ _ (h .many) l u (h .lower) (h .upper) in
+-- the shape that was read, at the front of lent memory
+pub known-by : (image : List ℕ) (s work : List ℤ) {low₀ high₀ low high : List ℤ} {m : Measured} → StartedImage image s → Measures image low₀ high₀ low high m
+    → m .size ≤ length low₀ → m .size ≤ length high₀ → length work ≡ m .size → KnownBy image m (take (m .size) low) (take (m .size) high) work s
+known-by image s work {m = m} x h l u w =
+    let n : length (cells (shapeIn image)) ≡ m .size = sym (h .size-is) in
     record {
       image-known =
           record {
             sound = x .sound;
-            ranges = h .ranges;
-            read = h .read;
-            many = h .many ∙ m;
-            among = omega (arith, h .extends .inputs-named);
-            few = omega (arith, h .extends .few);
-            inside = omega (arith, h .extends .inside);
-            lowest = sym (r .lows);
-            highest = sym (r .highs);
+            code = h .place-is;
+            inside = h .inside;
+            shape =
+                record {
+                  inputs-are = h .inputs-are;
+                  names-are = h .names-are;
+                  among = h .among;
+                  flags = sym (h .timers-are);
+                  ranges = ranges-stored (cells (shapeIn image)) (m .size) _ _ _ _ n l u (h .lower) (h .upper);
+                };
+            numbers = x .sized;
           };
-      copies = w ∙ m;
+      copies = w ∙ h .size-is ∙ sym (x .sized);
     }

@@ -1,15 +1,17 @@
 // Translation, start and a list of rows in one call, with records of each scan.
-use bytecode::Headed;
 use machine::lists;
 use scan::Scanned;
 use scan::Started;
+use shapes::Measured;
+use shapes::Shaped;
 use translate::Translated;
 ghost use mathlib.Core.Path.{_≡_};
 ghost use mathlib.Core.List.{List};
 ghost use Prim.Native.Nat.{ℕ, _≤_};
 ghost use lib.ListN.{length, set};
+ghost use Rattle.limits.specs.Limits.{stateLimit};
 ghost use Rattle.scan.specs.Services.{startOf};
-ghost use Rattle.scan.specs.Inner.Parts.{Scratch};
+ghost use Rattle.before.specs.Inner.Memory.{Scratch};
 ghost use Rattle.replay.specs.Replay.{rowsOf, replayRows, replayOf};
 ghost use Rattle.replay.specs.Results.{lent, afterReplay, ShownBy, ReplayedWithin};
 ghost use Rattle.replay.specs.Inner.Records.{records, scanRows, KnownBy, StartedImage, RecordWithin, RowScanned};
@@ -45,12 +47,11 @@ fn store_steps(steps: &mut [usize], i: usize, n: usize)
     }
 }
 
-// The scan of the next row of an image known to be sound, whose code begins at `base`, with its records: number and steps at the row's place,
-// the state of an accepted one behind the trace.
+// The scan of the next row of an image known to be sound, whose shape was read, with its records: number and steps at the row's place, the state of an
+// accepted one behind the trace.
 fn scan_row(
     image: &[u8],
-    base: usize,
-    inputs: usize,
+    m: Measured,
     low: &[i32],
     high: &[i32],
     work: &mut [i32],
@@ -63,7 +64,7 @@ fn scan_row(
     trace: &mut [i32],
 ) -> Cursor
     requires { ⌜ RecordWithin cursor (now cells) (now lengths) (now trace) ⌝ }
-    requires { ⌜ KnownBy (now image) base inputs (now low) (now high) (now work) (now state) ⌝ }
+    requires { ⌜ KnownBy (now image) m (now low) (now high) (now work) (now state) ⌝ }
     ensures { λ r. ⌜ RowScanned (now (image .entry)) (now (cells .entry)) (now (lengths .entry)) cursor r
         (records (now (state .entry)) (now (numbers .entry)) (now (steps .entry)) (now (trace .entry)) (cursor .place))
         (records (now (state .exit)) (now (numbers .exit)) (now (steps .exit)) (now (trace .exit)) (r .place)) ⌝ }
@@ -73,16 +74,7 @@ fn scan_row(
     let place = cursor.place;
     let end = lists::behind(cell, lengths[row], cells.len());
     let next = row + 1;
-    let scanned = scan::scan_known(
-        image,
-        base,
-        inputs,
-        state,
-        &cells[cell..end],
-        low,
-        high,
-        work,
-    );
+    let scanned = scan::scan_known(image, m, state, &cells[cell..end], low, high, work);
     match scanned {
         Scanned::Done(n) => {
             store_number(numbers, row, 0);
@@ -109,8 +101,7 @@ fn scan_row(
 // The rows that cells and lengths spell, each scanned on the state that the scan before left. The place behind the trace.
 fn scan_rows(
     image: &[u8],
-    base: usize,
-    inputs: usize,
+    m: Measured,
     low: &[i32],
     high: &[i32],
     work: &mut [i32],
@@ -123,7 +114,7 @@ fn scan_rows(
     trace: &mut [i32],
 ) -> usize
     requires { ⌜ at ≤ length (now trace) ⌝ }
-    requires { ⌜ KnownBy (now image) base inputs (now low) (now high) (now work) (now state) ⌝ }
+    requires { ⌜ KnownBy (now image) m (now low) (now high) (now work) (now state) ⌝ }
     ensures { λ r. ⌜ records (now (state .exit)) (now (numbers .exit)) (now (steps .exit)) (now (trace .exit)) r
         ≡ scanRows (now (image .entry)) 0 (rowsOf (now (cells .entry)) (now (lengths .entry)))
         (records (now (state .entry)) (now (numbers .entry)) (now (steps .entry)) (now (trace .entry)) at) ⌝ }
@@ -136,8 +127,7 @@ fn scan_rows(
     while cursor.row < lengths.len() {
         cursor = scan_row(
             image,
-            base,
-            inputs,
+            m,
             low,
             high,
             work,
@@ -153,7 +143,7 @@ fn scan_rows(
     cursor.place
 }
 
-// The header of an image that was started, read once for all rows; then the rows.
+// The shape of an image that was started, read once for all rows; then the rows.
 fn scan_started(
     image: &[u8],
     state: &mut [i32],
@@ -169,21 +159,21 @@ fn scan_started(
 ) -> usize
     requires { ⌜ at ≤ length (now trace) ⌝ }
     requires { ⌜ StartedImage (now image) (now state) ⌝ }
-    requires { ⌜ Scratch (now state) (now low) (now high) (now work) ⌝ }
+    requires { ⌜ Scratch stateLimit (now state) (now low) (now high) (now work) ⌝ }
     ensures { λ r. ⌜ records (now (state .exit)) (now (numbers .exit)) (now (steps .exit)) (now (trace .exit)) r
         ≡ scanRows (now (image .entry)) 0 (rowsOf (now (cells .entry)) (now (lengths .entry)))
         (records (now (state .entry)) (now (numbers .entry)) (now (steps .entry)) (now (trace .entry)) at) ⌝ }
 {
-    let Headed::Header(inputs, names, base) = bytecode::header(image, low, high, work) else {
+    let Shaped::Shape(m) = shapes::shape(image, low, high) else {
         return at;
     };
+    let size = m.size;
     scan_rows(
         image,
-        base,
-        inputs,
-        &low[..names],
-        &high[..names],
-        &mut work[..names],
+        m,
+        &low[..size],
+        &high[..size],
+        &mut work[..size],
         state,
         cells,
         lengths,
@@ -211,9 +201,9 @@ fn scan_all(
         ≡ scanRows (now (image .entry)) 0 (rowsOf (now (cells .entry)) (now (lengths .entry)))
         (records (now (state .entry)) (now (numbers .entry)) (now (steps .entry)) (now (trace .entry)) at) ⌝ }
 {
-    let mut low = [0i32; limits::NAME_LIMIT];
-    let mut high = [0i32; limits::NAME_LIMIT];
-    let mut work = [0i32; limits::NAME_LIMIT];
+    let mut low = [0i32; limits::STATE_LIMIT];
+    let mut high = [0i32; limits::STATE_LIMIT];
+    let mut work = [0i32; limits::STATE_LIMIT];
     scan_started(
         image,
         state,

@@ -12,16 +12,15 @@ use borrow.Author.Tests.{eqb-true}
 use Rattle.limits.specs.Answer.{Answer, accepted, refused}
 use Rattle.arith.specs.Values.{Outcome, ok, refusal}
 use Rattle.arith.proofs.Basics.{true-T, and-both, ok≢refusal}
-use Rattle.semantics.specs.Program.{Program, Range, rangesOf}
+use Rattle.semantics.specs.Program.{Program}
 use Rattle.semantics.specs.Formula.{State}
-use Rattle.semantics.specs.Shape.{shapeOf, cells, stateLength, allWithin}
-use Rattle.semantics.proofs.Untimed.{plain-cells, plain-states}
+use Rattle.semantics.specs.Shape.{shapeOf, stateLength, rowLength, stateInRange}
 use Rattle.semantics.specs.ReferenceScan.{referenceScan}
 use Rattle.semantics.specs.Rows.{Reply, reply, referenceReplies, startsOf, acceptedStates, acceptedRows, InRanges}
 use Rattle.semantics.proofs.Reference.{starts-in-range}
 use Rattle.bytecode.specs.Translation.{imageOf, Translatable}
-use Rattle.bytecode.proofs.Limits.{no-times, no-timer}
 use Rattle.bytecode.proofs.Soundness.{header-of, check-translated}
+use Rattle.bytecode.proofs.Shapes.{limits-of}
 use Rattle.grammar.specs.Parse.{programOf}
 use Rattle.grammar.specs.Spelled.{namesOf}
 use Rattle.grammar.proofs.Accepted.{program-translatable}
@@ -36,7 +35,7 @@ use Rattle.st_program.specs.Written.{programInSt, stBytes, hasSt}
 use Rattle.st_program.proofs.Cycle.{InSt}
 use Rattle.st_program.proofs.Trace.{fresh-ready, fresh-values, leaves-same, cycles-same}
 use Rattle.st_program.proofs.Printable.{AllStarts, printed-read}
-use Rattle.st_program.proofs.Literals.{accepted-in-st, accepted-starts}
+use Rattle.st_program.proofs.Literals.{accepted-in-st, accepted-starts, st-untimed}
 use Rattle.structured_text.specs.Services.{structuredTextOf}
 use Rattle.structured_text.proofs.Ways.{StStored, st-stored, stored-st}
 use Rattle.st_correct.specs.StructuredText.{SameAsScan, StCorrect}
@@ -55,18 +54,19 @@ accepted-reply s a (refusal k) e f =
     ok≢refusal tt k (sym (ap verdictOf f) ∙ v)
 
 module _ (p : Program) (t : Translatable p) where
-  scan-tests : (s : State) (row : List ℤ) → scanOf (imageOf p) s row ≡ scanned (accepted tt) (record { inputs = p .inputs; ranges = rangesOf p; limits = [] }) (imageOf p) s row
+  scan-tests : (s : State) (row : List ℤ) → scanOf (imageOf p) s row ≡ scanned (accepted tt) (shapeOf p) (imageOf p) s row
   unfolding scanOf
-  scan-tests s row = rw (check-translated p t, no-times (imageOf p) (check-translated p t), no-timer (imageOf p) (check-translated p t), header-of p t)
+  scan-tests s row = rw (check-translated p t, header-of p t, limits-of p t)
 
   -- its state is in range: 12 and 18 are tested
   scanned-in-range : (s : State) (row : List ℤ) → scanOf (imageOf p) s row .answer ≡ accepted tt → InRanges p s
   scanned-in-range s row e =
-      let x = tested-passed (eqb (length s) (length (rangesOf p)) && eqb (length row) (p .inputs)) 12 s _ (sym (ap {A = AfterScan} (λ a. a .answer) (scan-tests s row)) ∙ e) in
-      let y = tested-passed (allWithin (rangesOf p) s) 18 s _ (x .1) in
+      let k = shapeOf p in
+      let x = tested-passed (eqb (length s) (stateLength k) && eqb (length row) (rowLength k)) 12 s _ (sym (ap {A = AfterScan} (λ a. a .answer) (scan-tests s row)) ∙ e) in
+      let y = tested-passed (stateInRange k s) 18 s _ (x .1) in
       record {
-        size = eqb-true (length s) (length (rangesOf p)) (and-both (eqb (length s) (length (rangesOf p))) (eqb (length row) (p .inputs)) (x .0) .0) ∙ sym (plain-states p (t .untimed));
-        ranges = true-T (allWithin (cells (shapeOf p)) s) (ap (λ (ns : List Range). allWithin ns s) (plain-cells p (t .untimed)) ∙ y .0);
+        size = eqb-true (length s) (stateLength k) (and-both (eqb (length s) (stateLength k)) (eqb (length row) (rowLength k)) (x .0) .0);
+        ranges = true-T (stateInRange k s) (y .0);
       }
 
   module _ (w : InSt p) (starts : AllStarts (p .names)) (h : hasSt p ≡ true) where
@@ -104,5 +104,5 @@ structured-text-correct text buffer room n m e f =
       program = x .program;
       parsed = x .parsed;
       same = rw (i, stored-st text buffer n x)
-          (same-as-scan (x .program) (program-translatable text (x .program) (x .parsed)) (accepted-in-st text (x .program) (x .parsed)) (accepted-starts text (x .program) (x .parsed)) (x .has));
+          (same-as-scan (x .program) (program-translatable text (x .program) (x .parsed)) (accepted-in-st text (x .program) (x .parsed) (st-untimed (x .program) (x .has))) (accepted-starts text (x .program) (x .parsed)) (x .has));
     }

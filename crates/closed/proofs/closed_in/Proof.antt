@@ -2,59 +2,53 @@
 use mathlib.Core.Path.{_≡_, sym, ap, subst, _∙_}
 use Prim.Native.Nat.{ℕ, _≤_, _-_}
 use native.Mathlib.Omega.{arith}
+use borrow.Author.Tests.{lt-ltb, le-ltb}
 use lib.ListN.{length, take, drop}
 use lib.Seq.{length-take-le}
-use Rattle.limits.specs.Answer.{accepted}
-use Rattle.bytecode.specs.Check.{checkOf}
 use Rattle.bytecode.specs.Parts.{headerOf, codeOf}
-use Rattle.bytecode.proofs.SoundHeader.{headed-stands, headed-broken, header-not-broken, SoundCounts, header-counts, header-place, lows-stored, highs-stored}
-use Rattle.checker.specs.Results.{CheckedWithin, checkedAnswer}
+use Rattle.bytecode.proofs.Limits.{cells-untimed}
 use Rattle.checker.proofs.Checking.{rest-of}
-use Rattle.scan.proofs.Images.{ranges-stored}
-use Rattle.closed.proofs.Scans.{closed-refused, closed-from}
+use Rattle.shapes.specs.Results.{ShapedAs, Measures}
+use Rattle.before.proofs.Stored.{ranges-stored}
+use Rattle.closed.proofs.Scans.{closed-refused, closed-timed, closed-from}
 use Rattle.closed.proofs.Profiles.{parts-walking}
 use borrow.Author.Needs.{needs}
 use Rattle.closed.proofs.closed_in.Statement.{statement}
 use Rattle.closed.proofs.closed_in.Tie as tie
 
--- the image is sound
-sound : (c : tie.After-enum-told) → checkOf (c .before .before .before .before .args .image .now) ≡ accepted tt
-sound c = sym (c .before .before .check .ensures .0) ∙ ap checkedAnswer (c .enum-told .given .1)
-
--- its header was read
-counted : (c : tie.After-known-told2) → SoundCounts (c .before .before .before .before .before .before .before .before .before .before .before .before .before .before .args .image .now) (c .before .headed .given .0 .0) (c .before .headed .given .0 .1 .0)
-counted c = header-counts (c .before .before .before .before .before .before .before .before .before .before .before .before .before .before .args .image .now) (headed-stands (c .before .before .before .before .before .before .header .ensures) (c .before .headed .given .1))
-
-inside : (c : tie.After-known-told2) → c .before .headed .given .0 .1 .1 .0 ≤ length (c .before .before .before .before .before .before .before .before .before .before .before .before .before .before .args .image .now)
-inside c = headed-stands (c .before .before .before .before .before .before .header .ensures) (c .before .headed .given .1) .extends .inside
+-- its shape was read
+shaped : (c : tie.After-known-told2) → Measures (c .before .before .before .before .before .before .before .before .before .args .image .now) (c .before .before .before .before .before .before .before .before .before .args .low .now) (c .before .before .before .before .before .before .before .before .before .args .high .now) (c .before .before .before .before .before .shape .last .1 .0) (c .before .before .before .before .before .shape .last .1 .1 .0) (c .before .shaped2 .given .0 .0)
+shaped c = subst (ShapedAs _ _ _ _ _) (c .before .shaped2 .given .1) (c .before .before .before .before .before .shape .ensures .so)
 
 -- there is room for the names and the inputs
-low-room : (c : tie.After-known-told2) → c .before .headed .given .0 .1 .0 ≤ length (c .before .before .before .before .before .before .header .last .1 .0)
-low-room c = omega (arith, counted c .few, c .before .before .before .before .before .before .before .before .before .before .before .before .before .before .pre .1 .lows, c .before .before .before .before .before .before .header .kept .1 .0)
+low-room : (c : tie.Else1) → c .before .before .before .shaped2 .given .0 .0 .names ≤ length (c .before .before .before .before .before .before .before .shape .last .1 .0)
+low-room c = omega (arith, shaped (c .before .before) .few, c .before .before .before .before .before .before .before .before .before .before .before .pre .1 .lows, c .before .before .before .before .before .before .before .shape .kept .1 .0)
 
-high-room : (c : tie.After-known-told2) → c .before .headed .given .0 .1 .0 ≤ length (c .before .before .before .before .before .before .header .last .1 .1 .0)
-high-room c = omega (arith, counted c .few, c .before .before .before .before .before .before .before .before .before .before .before .before .before .before .pre .1 .highs, c .before .before .before .before .before .before .header .kept .1 .1 .0)
+high-room : (c : tie.Else1) → c .before .before .before .shaped2 .given .0 .0 .names ≤ length (c .before .before .before .before .before .before .before .shape .last .1 .1 .0)
+high-room c = omega (arith, shaped (c .before .before) .few, c .before .before .before .before .before .before .before .before .before .before .before .pre .1 .highs, c .before .before .before .before .before .before .before .shape .kept .1 .1 .0)
 
-work-room : (c : tie.After-known-told2) → c .before .headed .given .0 .1 .0 ≤ length (c .before .before .before .before .before .before .header .last .1 .1 .1 .0)
-work-room c = omega (arith, counted c .few, c .before .before .before .before .before .before .before .before .before .before .before .before .before .before .pre .1 .works, c .before .before .before .before .before .before .header .kept .1 .1 .1 .0)
+work-room : (c : tie.Else1) → c .before .before .before .shaped2 .given .0 .0 .names ≤ length (c .before .before .before .before .before .before .before .before .before .before .before .args .work .now)
+work-room c = omega (arith, shaped (c .before .before) .few, c .before .before .before .before .before .before .before .before .before .before .before .pre .1 .works)
 
-copy-room : (c : tie.After-known-told2) → c .before .headed .given .0 .1 .0 ≤ length (c .before .before .before .before .before .before .before .before .before .before .before .before .before .before .args .copy .now)
-copy-room c = omega (arith, counted c .few, c .before .before .before .before .before .before .before .before .before .before .before .before .before .before .pre .1 .copies)
+copy-room : (c : tie.Else1) → c .before .before .before .shaped2 .given .0 .0 .names ≤ length (c .before .before .before .before .before .before .before .before .before .before .before .args .copy .now)
+copy-room c = omega (arith, shaped (c .before .before) .few, c .before .before .before .before .before .before .before .before .before .before .before .pre .1 .copies)
 
-state-room : (c : tie.After-known-told2) → c .before .headed .given .0 .1 .0 ≤ length (c .before .before .before .before .before .before .before .before .before .before .before .before .before .before .args .at-state .now)
-state-room c = omega (arith, counted c .few, c .before .before .before .before .before .before .before .before .before .before .before .before .before .before .pre .0 .0)
+state-room : (c : tie.Else1) → c .before .before .before .shaped2 .given .0 .0 .names ≤ length (c .before .before .before .before .before .before .before .before .before .before .before .args .at-state .now)
+state-room c = omega (arith, shaped (c .before .before) .few, c .before .before .before .before .before .before .before .before .before .before .before .pre .0 .0)
 
-row-room : (c : tie.After-known-told2) → c .before .headed .given .0 .0 ≤ length (c .before .before .before .before .before .before .before .before .before .before .before .before .before .before .args .at-row .now)
-row-room c = omega (arith, counted c .few, counted c .among, c .before .before .before .before .before .before .before .before .before .before .before .before .before .before .pre .0 .1)
+row-room : (c : tie.Else1) → c .before .before .before .shaped2 .given .0 .0 .inputs ≤ length (c .before .before .before .before .before .before .before .before .before .before .before .args .at-row .now)
+row-room c = omega (arith, shaped (c .before .before) .few, shaped (c .before .before) .among, c .before .before .before .before .before .before .before .before .before .before .before .pre .0 .1)
 
 returns : tie.Need-returns
-returns c = header-not-broken _ (sound (c .before .before .before .before .before .before .before .before .before)) _ (headed-broken (c .before .before .before .before .before .header .ensures) (c .enum-told2 .given .1) .0)
+returns c =
+    let s = shaped (c .before .before) in
+    (closed-timed (c .before .before .before .before .before .before .before .before .before .before .before .args .image .now) (s .sound) (c .before .before .before .before .before .before .before .before .before .before .before .args .state .now) (c .before .before .before .before .before .before .before .before .before .before .before .args .row .now) (s .timed ∙ lt-ltb (c .before .before .before .shaped2 .given .0 .0 .names) (c .before .before .before .shaped2 .given .0 .0 .size) (c .if1 .taken)), omega arith)
 
 sub-closed-ranges : tie.Need-sub-closed-ranges
-sub-closed-ranges c = omega (arith, inside c)
+sub-closed-ranges c = omega (arith, shaped (c .before .before) .inside)
 
 part-closed-ranges-start : tie.Need-part-closed-ranges-start
-part-closed-ranges-start c = omega (arith, inside c)
+part-closed-ranges-start c = omega (arith, shaped (c .before .before) .inside)
 
 slice-reshare-prefix-closed-ranges : tie.Need-slice-reshare-prefix-closed-ranges
 slice-reshare-prefix-closed-ranges c = low-room (c .before)
@@ -94,40 +88,40 @@ slice-aggregate-closed-ranges-6 c = sym (length-take-le _ _ (work-room (c .befor
 
 closed-ranges-requires : tie.Need-closed-ranges-requires
 closed-ranges-requires c κs =
-    let k = counted (c .before .before .before .before .before .before .before .before .before) in
-    let l = length-take-le (c .before .before .before .before .before .before .before .before .before .before .headed .given .0 .1 .0) (c .before .before .before .before .before .before .before .before .before .before .before .before .before .before .before .header .last .1 .0) (low-room (c .before .before .before .before .before .before .before .before .before)) in (
-      omega (arith, l, k .among),
+    let e = (c .before .before .before .before .before .before .before .before .before) in
+    let s = shaped (e .before .before) in
+    let l = length-take-le (c .before .before .before .before .before .before .before .before .before .before .before .before .shaped2 .given .0 .0 .names) (c .before .before .before .before .before .before .before .before .before .before .before .before .before .before .before .before .shape .last .1 .0) (low-room e) in (
+      omega (arith, l, s .among),
       (
-        parts-walking (c .before .before .before .before .before .before .before .before .before .before .before .before .before .before .before .header .last .1 .0) (c .before .before .before .before .before .before .before .before .before .before .before .before .before .before .before .header .last .1 .1 .0) (c .before .before .before .before .before .before .before .before .before .before .before .before .before .before .before .before .before .before .before .before .before .before .before .args .at-state .now) (c .before .before .before .before .before .before .before .before .before .before .before .before .before .before .before .before .before .before .before .before .before .before .before .args .at-row .now) (c .before .before .before .before .before .before .before .before .before .before .before .before .before .before .before .before .before .before .before .before .before .before .before .args .copy .now) (c .before .before .before .before .before .before .before .before .before .before .before .before .before .before .before .header .last .1 .1 .1 .0) (c .before .before .before .before .before .before .before .before .before .before .headed .given .0 .1 .0) (c .before .before .before .before .before .before .before .before .before .before .headed .given .0 .0) (low-room (c .before .before .before .before .before .before .before .before .before)) (high-room (c .before .before .before .before .before .before .before .before .before)) (state-room (c .before .before .before .before .before .before .before .before .before)) (copy-room (c .before .before .before .before .before .before .before .before .before)) (work-room (c .before .before .before .before .before .before .before .before .before)) (k .among) (row-room (c .before .before .before .before .before .before .before .before .before)),
-        (omega (arith, l, k .few, c .before .before .before .before .before .before .before .before .before .before .before .before .before .before .before .before .before .before .before .before .before .before .before .pre .1 .state-room), omega (arith, k .few, k .among, c .before .before .before .before .before .before .before .before .before .before .before .before .before .before .before .before .before .before .before .before .before .before .before .pre .1 .row-room)),
+        parts-walking (c .before .before .before .before .before .before .before .before .before .before .before .before .before .before .before .before .shape .last .1 .0) (c .before .before .before .before .before .before .before .before .before .before .before .before .before .before .before .before .shape .last .1 .1 .0) (c .before .before .before .before .before .before .before .before .before .before .before .before .before .before .before .before .before .before .before .before .args .at-state .now) (c .before .before .before .before .before .before .before .before .before .before .before .before .before .before .before .before .before .before .before .before .args .at-row .now) (c .before .before .before .before .before .before .before .before .before .before .before .before .before .before .before .before .before .before .before .before .args .copy .now) (c .before .before .before .before .before .before .before .before .before .before .before .before .before .before .before .before .before .before .before .before .args .work .now) (c .before .before .before .before .before .before .before .before .before .before .before .before .shaped2 .given .0 .0 .names) (c .before .before .before .before .before .before .before .before .before .before .before .before .shaped2 .given .0 .0 .inputs) (low-room e) (high-room e) (state-room e) (copy-room e) (work-room e) (s .among) (row-room e),
+        (omega (arith, l, s .few, c .before .before .before .before .before .before .before .before .before .before .before .before .before .before .before .before .before .before .before .before .pre .1 .state-room), omega (arith, s .few, s .among, c .before .before .before .before .before .before .before .before .before .before .before .before .before .before .before .before .before .before .before .before .pre .1 .row-room)),
       ),
     )
 
 returns-2 : tie.Need-returns-2
 returns-2 c =
-    let k = c .before .checked .given in
-    (closed-refused (c .before .before .before .before .before .args .image .now) (c .before .before .before .before .before .args .state .now) (c .before .before .before .before .before .args .row .now) (k .0 .0) (k .0 .1 .0) (sym (ap checkedAnswer (k .1)) ∙ c .before .before .before .check .ensures .0), subst CheckedWithin (k .1) (c .before .before .before .check .ensures .1))
+    let r = subst (ShapedAs _ _ _ _ _) (c .before .shaped .given .1) (c .before .before .before .before .before .shape .ensures .so) in
+    (closed-refused (c .before .before .before .before .before .before .before .before .before .args .image .now) (c .before .before .before .before .before .before .before .before .before .args .state .now) (c .before .before .before .before .before .before .before .before .before .args .row .now) _ _ (r .0), r .1)
 
 returns-3 : tie.Need-returns-3
 unfolding codeOf
 returns-3 c =
-    let image = c .before .before .before .before .before .before .before .before .before .before .before .before .before .before .before .before .before .before .before .before .before .before .before .before .before .before .before .before .before .before .args .image .now in
-    let h = headed-stands (c .before .before .before .before .before .before .before .before .before .before .before .before .before .before .before .before .before .before .before .before .before .before .header .ensures) (c .before .before .before .before .before .before .before .before .before .before .before .before .before .before .before .before .before .headed .given .1) in
-    let k = counted (c .before .before .before .before .before .before .before .before .before .before .before .before .before .before .before .before) in
-    let place = c .before .before .before .before .before .before .before .before .before .before .before .before .before .before .before .before .before .headed .given .0 .1 .1 .0 in
-    let stored = ranges-stored (headerOf image .ranges) (c .before .before .before .before .before .before .before .before .before .before .before .before .before .before .before .before .before .headed .given .0 .1 .0) (c .before .before .before .before .before .before .before .before .before .before .before .before .before .before .before .before .before .before .before .before .before .before .before .before .before .before .before .before .before .before .args .low .now) (c .before .before .before .before .before .before .before .before .before .before .before .before .before .before .before .before .before .before .before .before .before .before .header .last .1 .0) (c .before .before .before .before .before .before .before .before .before .before .before .before .before .before .before .before .before .before .before .before .before .before .before .before .before .before .before .before .before .before .args .high .now) (c .before .before .before .before .before .before .before .before .before .before .before .before .before .before .before .before .before .before .before .before .before .before .header .last .1 .1 .0) (k .names-are) (omega (arith, k .few, c .before .before .before .before .before .before .before .before .before .before .before .before .before .before .before .before .before .before .before .before .before .before .before .before .before .before .before .before .before .before .pre .1 .lows)) (omega (arith, k .few, c .before .before .before .before .before .before .before .before .before .before .before .before .before .before .before .before .before .before .before .before .before .before .before .before .before .before .before .before .before .before .pre .1 .highs)) (lows-stored image h) (highs-stored image h) in
-    let rest : take (length image - place) (drop place image) ≡ drop (headerOf image .place) image = rest-of image place ∙ ap (λ (n : ℕ). drop n image) (header-place image h) in
-    ((rw rest at (c .before .before .before .before .before .before .closed-ranges .ensures .0 (headerOf image .ranges) stored)) ∙ closed-from image (sound (c .before .before .before .before .before .before .before .before .before .before .before .before .before .before .before .before .before .before .before .before .before .before .before .before .before .before)) (c .before .before .before .before .before .before .before .before .before .before .before .before .before .before .before .before .before .headed .given .0 .0) (c .before .before .before .before .before .before .before .before .before .before .before .before .before .before .before .before .before .before .before .before .before .before .before .before .before .before .before .before .before .before .args .state .now) (c .before .before .before .before .before .before .before .before .before .before .before .before .before .before .before .before .before .before .before .before .before .before .before .before .before .before .before .before .before .before .args .row .now) (k .inputs-are), c .before .before .before .before .before .before .closed-ranges .ensures .1)
+    let s = shaped ((c .before .before .before .before .before .before .before .before .before .before .before .before .before .before .before .before) .before .before) in
+    let image = c .before .before .before .before .before .before .before .before .before .before .before .before .before .before .before .before .before .before .before .before .before .before .before .before .before .before .before .args .image .now in
+    let place = c .before .before .before .before .before .before .before .before .before .before .before .before .before .before .before .before .before .before .before .shaped2 .given .0 .0 .place in
+    let untimed = s .timed ∙ le-ltb (c .before .before .before .before .before .before .before .before .before .before .before .before .before .before .before .before .before .before .before .shaped2 .given .0 .0 .names) (c .before .before .before .before .before .before .before .before .before .before .before .before .before .before .before .before .before .before .before .shaped2 .given .0 .0 .size) (c .before .before .before .before .before .before .before .before .before .before .before .before .before .before .before .before .if1 .left) in
+    let cut = cells-untimed image untimed in
+    let stored =
+    ranges-stored (headerOf image .ranges) (c .before .before .before .before .before .before .before .before .before .before .before .before .before .before .before .before .before .before .before .shaped2 .given .0 .0 .names) (c .before .before .before .before .before .before .before .before .before .before .before .before .before .before .before .before .before .before .before .before .before .before .before .before .before .before .before .args .low .now) (c .before .before .before .before .before .before .before .before .before .before .before .before .before .before .before .before .before .before .before .before .before .before .before .shape .last .1 .0) (c .before .before .before .before .before .before .before .before .before .before .before .before .before .before .before .before .before .before .before .before .before .before .before .before .before .before .before .args .high .now) (c .before .before .before .before .before .before .before .before .before .before .before .before .before .before .before .before .before .before .before .before .before .before .before .shape .last .1 .1 .0) (s .names-are)
+    (omega (arith, s .few, c .before .before .before .before .before .before .before .before .before .before .before .before .before .before .before .before .before .before .before .before .before .before .before .before .before .before .before .pre .1 .lows)) (omega (arith, s .few, c .before .before .before .before .before .before .before .before .before .before .before .before .before .before .before .before .before .before .before .before .before .before .before .before .before .before .before .pre .1 .highs)) (rw (← cut) (s .lower)) (rw (← cut) (s .upper)) in
+    let rest : take (length image - place) (drop place image) ≡ drop (headerOf image .place) image = rest-of image place ∙ ap (λ (n : ℕ). drop n image) (s .place-is) in
+    ((rw rest at (c .before .before .before .before .before .before .closed-ranges .ensures .0 (headerOf image .ranges) stored)) ∙ closed-from image (s .sound) untimed (c .before .before .before .before .before .before .before .before .before .before .before .before .before .before .before .before .before .before .before .shaped2 .given .0 .0 .inputs) (c .before .before .before .before .before .before .before .before .before .before .before .before .before .before .before .before .before .before .before .before .before .before .before .before .before .before .before .args .state .now) (c .before .before .before .before .before .before .before .before .before .before .before .before .before .before .before .before .before .before .before .before .before .before .before .before .before .before .before .args .row .now) (s .inputs-are), c .before .before .before .before .before .before .closed-ranges .ensures .1)
 
 pub closed-in-spec : {M : Type 1} → statement M
 closed-in-spec =
     tie.close
     (tie.spec
     (λ c κs. search needs)
-    (λ c. search needs)
-    (λ c. search needs)
-    (λ c κs. search needs)
-    (λ c. search needs)
     (λ c. search needs)
     (λ c. search needs)
     (λ c. search needs)
@@ -149,6 +143,8 @@ closed-in-spec =
     slice-relend-prefix-closed-ranges-4
     slice-aggregate-closed-ranges-6
     closed-ranges-requires
+    (λ c. search needs)
+    (λ c. search needs)
     returns-2
     (λ c. search needs)
     (λ c. search needs)

@@ -1,37 +1,34 @@
 -- `closed::combination_in` meets its contract. Assumes nothing.
-use mathlib.Core.Path.{_≡_, sym, ap, subst, _∙_}
+use mathlib.Core.Path.{_≡_, sym, subst, _∙_}
 use Prim.Native.Nat.{_≤_}
 use native.Mathlib.Omega.{arith}
+use borrow.Author.Tests.{lt-ltb, le-ltb}
 use lib.ListN.{length}
 use lib.Seq.{length-take-le}
-use Rattle.limits.specs.Answer.{accepted}
-use Rattle.bytecode.specs.Check.{checkOf}
 use Rattle.bytecode.specs.Parts.{headerOf}
-use Rattle.bytecode.proofs.SoundHeader.{headed-stands, headed-broken, header-not-broken, SoundCounts, header-counts, lows-stored, highs-stored}
-use Rattle.checker.specs.Results.{CheckedWithin, checkedAnswer}
-use Rattle.scan.proofs.Images.{ranges-stored}
-use Rattle.closed.proofs.Numbering.{combination-refused, combination-from}
+use Rattle.bytecode.proofs.Limits.{cells-untimed}
+use Rattle.shapes.specs.Results.{ShapedAs, Measures}
+use Rattle.before.proofs.Stored.{ranges-stored}
+use Rattle.closed.proofs.Numbering.{combination-refused, combination-timed, combination-from}
 use borrow.Author.Needs.{needs}
 use Rattle.closed.proofs.combination_in.Statement.{statement}
 use Rattle.closed.proofs.combination_in.Tie as tie
 
--- the image is sound
-sound : (c : tie.After-enum-told) → checkOf (c .before .before .before .before .args .image .now) ≡ accepted tt
-sound c = sym (c .before .before .check .ensures .0) ∙ ap checkedAnswer (c .enum-told .given .1)
-
--- its header was read
-counted : (c : tie.After-known-told2) → SoundCounts (c .before .before .before .before .before .before .before .before .before .before .before .before .before .before .args .image .now) (c .before .headed .given .0 .0) (c .before .headed .given .0 .1 .0)
-counted c = header-counts (c .before .before .before .before .before .before .before .before .before .before .before .before .before .before .args .image .now) (headed-stands (c .before .before .before .before .before .before .header .ensures) (c .before .headed .given .1))
+-- its shape was read
+shaped : (c : tie.After-known-told2) → Measures (c .before .before .before .before .before .before .before .before .before .args .image .now) (c .before .before .before .before .before .before .before .before .before .args .low .now) (c .before .before .before .before .before .before .before .before .before .args .high .now) (c .before .before .before .before .before .shape .last .1 .0) (c .before .before .before .before .before .shape .last .1 .1 .0) (c .before .shaped2 .given .0 .0)
+shaped c = subst (ShapedAs _ _ _ _ _) (c .before .shaped2 .given .1) (c .before .before .before .before .before .shape .ensures .so)
 
 -- there is room for the names
-low-room : (c : tie.After-known-told2) → c .before .headed .given .0 .1 .0 ≤ length (c .before .before .before .before .before .before .header .last .1 .0)
-low-room c = omega (arith, counted c .few, c .before .before .before .before .before .before .before .before .before .before .before .before .before .before .pre .0, c .before .before .before .before .before .before .header .kept .1 .0)
+low-room : (c : tie.Else1) → c .before .before .before .shaped2 .given .0 .0 .names ≤ length (c .before .before .before .before .before .before .before .shape .last .1 .0)
+low-room c = omega (arith, shaped (c .before .before) .few, c .before .before .before .before .before .before .before .before .before .before .before .pre .0, c .before .before .before .before .before .before .before .shape .kept .1 .0)
 
-high-room : (c : tie.After-known-told2) → c .before .headed .given .0 .1 .0 ≤ length (c .before .before .before .before .before .before .header .last .1 .1 .0)
-high-room c = omega (arith, counted c .few, c .before .before .before .before .before .before .before .before .before .before .before .before .before .before .pre .1, c .before .before .before .before .before .before .header .kept .1 .1 .0)
+high-room : (c : tie.Else1) → c .before .before .before .shaped2 .given .0 .0 .names ≤ length (c .before .before .before .before .before .before .before .shape .last .1 .1 .0)
+high-room c = omega (arith, shaped (c .before .before) .few, c .before .before .before .before .before .before .before .before .before .before .before .pre .1, c .before .before .before .before .before .before .before .shape .kept .1 .1 .0)
 
 returns : tie.Need-returns
-returns c = header-not-broken _ (sound (c .before .before .before .before .before .before .before .before .before)) _ (headed-broken (c .before .before .before .before .before .header .ensures) (c .enum-told2 .given .1) .0)
+returns c =
+    let s = shaped (c .before .before) in
+    (combination-timed (c .before .before .before .before .before .before .before .before .before .before .before .args .image .now) (s .sound) (c .before .before .before .before .before .before .before .before .before .before .before .args .index) (c .before .before .before .before .before .before .before .before .before .before .before .args .state .now) (c .before .before .before .before .before .before .before .before .before .before .before .args .row .now) (s .timed ∙ lt-ltb (c .before .before .before .shaped2 .given .0 .0 .names) (c .before .before .before .shaped2 .given .0 .0 .size) (c .if1 .taken)), omega arith)
 
 slice-reshare-prefix-combination-ranges : tie.Need-slice-reshare-prefix-combination-ranges
 slice-reshare-prefix-combination-ranges c = low-room c
@@ -47,31 +44,31 @@ slice-aggregate-combination-ranges-2 c = sym (length-take-le _ _ (high-room (c .
 
 combination-ranges-requires : tie.Need-combination-ranges-requires
 combination-ranges-requires c κs =
-    let k = length-take-le (c .before .before .before .before .before .headed .given .0 .1 .0) (c .before .before .before .before .before .before .before .before .before .before .header .last .1 .0) (low-room (c .before .before .before .before)) in
-    (omega (arith, k, counted (c .before .before .before .before) .among), length-take-le _ _ (high-room (c .before .before .before .before)) ∙ sym k)
+    let e = (c .before .before .before .before) in
+    let k = length-take-le (c .before .before .before .before .before .before .before .shaped2 .given .0 .0 .names) (c .before .before .before .before .before .before .before .before .before .before .before .shape .last .1 .0) (low-room e) in
+    (omega (arith, k, shaped (e .before .before) .among), length-take-le _ _ (high-room e) ∙ sym k)
 
 returns-2 : tie.Need-returns-2
 returns-2 c =
-    let k = c .before .checked .given in
-    (combination-refused (c .before .before .before .before .before .args .image .now) (c .before .before .before .before .before .args .index) (c .before .before .before .before .before .args .state .now) (c .before .before .before .before .before .args .row .now) (k .0 .0) (k .0 .1 .0) (sym (ap checkedAnswer (k .1)) ∙ c .before .before .before .check .ensures .0), subst CheckedWithin (k .1) (c .before .before .before .check .ensures .1))
+    let r = subst (ShapedAs _ _ _ _ _) (c .before .shaped .given .1) (c .before .before .before .before .before .shape .ensures .so) in
+    (combination-refused (c .before .before .before .before .before .before .before .before .before .args .image .now) (c .before .before .before .before .before .before .before .before .before .args .index) (c .before .before .before .before .before .before .before .before .before .args .state .now) (c .before .before .before .before .before .before .before .before .before .args .row .now) _ _ (r .0), r .1)
 
 returns-3 : tie.Need-returns-3
 returns-3 c =
-    let image = c .before .before .before .before .before .before .before .before .before .before .before .before .before .before .before .before .before .before .before .before .before .args .image .now in
-    let h = headed-stands (c .before .before .before .before .before .before .before .before .before .before .before .before .before .header .ensures) (c .before .before .before .before .before .before .before .before .headed .given .1) in
-    let k = counted (c .before .before .before .before .before .before .before) in
-    let stored = ranges-stored (headerOf image .ranges) (c .before .before .before .before .before .before .before .before .headed .given .0 .1 .0) (c .before .before .before .before .before .before .before .before .before .before .before .before .before .before .before .before .before .before .before .before .before .args .low .now) (c .before .before .before .before .before .before .before .before .before .before .before .before .before .header .last .1 .0) (c .before .before .before .before .before .before .before .before .before .before .before .before .before .before .before .before .before .before .before .before .before .args .high .now) (c .before .before .before .before .before .before .before .before .before .before .before .before .before .header .last .1 .1 .0) (k .names-are) (omega (arith, k .few, c .before .before .before .before .before .before .before .before .before .before .before .before .before .before .before .before .before .before .before .before .before .pre .0)) (omega (arith, k .few, c .before .before .before .before .before .before .before .before .before .before .before .before .before .before .before .before .before .before .before .before .before .pre .1)) (lows-stored image h) (highs-stored image h) in
-    (c .before .before .combination-ranges .ensures .0 (headerOf image .ranges) stored ∙ combination-from image (sound (c .before .before .before .before .before .before .before .before .before .before .before .before .before .before .before .before .before)) k (c .before .before .before .before .before .before .before .before .before .before .before .before .before .before .before .before .before .before .before .before .before .args .index) (c .before .before .before .before .before .before .before .before .before .before .before .before .before .before .before .before .before .before .before .before .before .args .state .now) (c .before .before .before .before .before .before .before .before .before .before .before .before .before .before .before .before .before .before .before .before .before .args .row .now), c .before .before .combination-ranges .ensures .1)
+    let s = shaped ((c .before .before .before .before .before .before .before) .before .before) in
+    let image = c .before .before .before .before .before .before .before .before .before .before .before .before .before .before .before .before .before .before .args .image .now in
+    let untimed = s .timed ∙ le-ltb (c .before .before .before .before .before .before .before .before .before .before .shaped2 .given .0 .0 .names) (c .before .before .before .before .before .before .before .before .before .before .shaped2 .given .0 .0 .size) (c .before .before .before .before .before .before .before .if1 .left) in
+    let cut = cells-untimed image untimed in
+    let stored =
+    ranges-stored (headerOf image .ranges) (c .before .before .before .before .before .before .before .before .before .before .shaped2 .given .0 .0 .names) (c .before .before .before .before .before .before .before .before .before .before .before .before .before .before .before .before .before .before .args .low .now) (c .before .before .before .before .before .before .before .before .before .before .before .before .before .before .shape .last .1 .0) (c .before .before .before .before .before .before .before .before .before .before .before .before .before .before .before .before .before .before .args .high .now) (c .before .before .before .before .before .before .before .before .before .before .before .before .before .before .shape .last .1 .1 .0) (s .names-are)
+    (omega (arith, s .few, c .before .before .before .before .before .before .before .before .before .before .before .before .before .before .before .before .before .before .pre .0)) (omega (arith, s .few, c .before .before .before .before .before .before .before .before .before .before .before .before .before .before .before .before .before .before .pre .1)) (rw (← cut) (s .lower)) (rw (← cut) (s .upper)) in
+    (c .before .before .combination-ranges .ensures .0 (headerOf image .ranges) stored ∙ combination-from image (s .sound) (c .before .before .before .before .before .before .before .before .before .before .before .before .before .before .before .before .before .before .args .index) (c .before .before .before .before .before .before .before .before .before .before .before .before .before .before .before .before .before .before .args .state .now) (c .before .before .before .before .before .before .before .before .before .before .before .before .before .before .before .before .before .before .args .row .now) (c .before .before .before .before .before .before .before .before .before .before .shaped2 .given .0 .0 .inputs) (s .inputs-are) untimed, c .before .before .combination-ranges .ensures .1)
 
 pub combination-in-spec : {M : Type 1} → statement M
 combination-in-spec =
     tie.close
     (tie.spec
     (λ c κs. search needs)
-    (λ c. search needs)
-    (λ c. search needs)
-    (λ c κs. search needs)
-    (λ c. search needs)
     (λ c. search needs)
     (λ c. search needs)
     (λ c. search needs)
@@ -82,8 +79,9 @@ combination-in-spec =
     slice-reshare-prefix-combination-ranges-2
     slice-aggregate-combination-ranges-2
     combination-ranges-requires
-    returns-2
     (λ c. search needs)
+    (λ c. search needs)
+    returns-2
     (λ c. search needs)
     (λ c. search needs)
     (λ c. search needs)

@@ -16,7 +16,7 @@ scan-sound-requires c κs =
     let k = c .before .before .before .fill .kept .0 in
     let e = c .before .before .before .before .before .before .pre .1 in
     let f = c .before .before .before .before .before .before .pre .0 in
-    record { rows = omega (arith, f .rows); lows = f .lows ∙ sym e ∙ sym k; highs = f .highs ∙ sym e ∙ sym k; copies = f .copies ∙ sym e ∙ sym k }
+    record { among = omega (arith, f .among); lows = f .lows ∙ sym e ∙ sym k; highs = f .highs ∙ sym e ∙ sym k; copies = f .copies ∙ sym e ∙ sym k }
 
 returns : tie.Need-returns
 returns c ns r = scan-passes ns (c .before .before .before .before .before .before .before .before .before .before .before .args .code .now) (c .before .before .before .before .before .before .before .before .before .before .before .args .state .now) (c .before .before .before .before .before .before .before .before .fill .last .0) (c .before .before .before .before .before .before .before .before .before .before .before .args .row .now) _ (c .before .before .before .before .scan-sound .result) (copied (c .before .before .before .before .before .before .before .before)) (c .before .before .before .before .scan-sound .ensures .0 ns r) (c .enum-told .given .0 .0) (c .enum-told .given .1)

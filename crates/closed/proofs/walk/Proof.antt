@@ -57,7 +57,7 @@ is-refused-requires : tie.Need-is-refused-requires Inv-loop μ-loop Inv-states �
 is-refused-requires c κs =
     let at-loop = c .before .before .before .before .before in
     let m = at-loop .loop .inv .memory in
-    (record { rows = omega (arith, m .rows, m .states, m .among); lows = sym (m .states); highs = m .highs ∙ sym (m .states); copies = m .works ∙ sym (m .states) }, m .copies ∙ sym (m .states))
+    (record { among = omega (arith, m .rows, m .states, m .among); lows = sym (m .states); highs = m .highs ∙ sym (m .states); copies = m .works ∙ sym (m .states) }, m .copies ∙ sym (m .states))
 
 next-requires : tie.Need-next-requires Inv-loop μ-loop Inv-states μ-states
 next-requires c κs =

@@ -1,4 +1,4 @@
--- `replay::scan_all` meets its contract: its three arrays have room for 64 names. Assumes nothing.
+-- `replay::scan_all` meets its contract: its three arrays have room for every number of a state. Assumes nothing.
 use borrow.Author.Needs.{needs}
 use Rattle.replay.proofs.scan_all.Statement.{statement}
 use Rattle.replay.proofs.scan_all.Tie as tie

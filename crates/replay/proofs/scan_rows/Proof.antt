@@ -11,12 +11,12 @@ use Rattle.replay.proofs.scan_rows.Statement.{statement}
 use Rattle.replay.proofs.scan_rows.Tie as tie
 
 abbrev Inv-loop : tie.InvT-loop
-Inv-loop image base inputs low high work₀ state₀ cells lengths at numbers₀ steps₀ trace₀ c₀ work state numbers steps trace cursor =
+Inv-loop image m low high work₀ state₀ cells lengths at numbers₀ steps₀ trace₀ c₀ work state numbers steps trace cursor =
     Scanning image cells lengths (records state₀ numbers₀ steps₀ trace₀ at) cursor (records state numbers steps trace (cursor .place))
     × (length state ≡ length state₀) × (length numbers ≡ length numbers₀) × (length steps ≡ length steps₀) × (length trace ≡ length trace₀) × (length work ≡ length work₀)
 
 abbrev μ-loop : tie.MeasureT-loop
-μ-loop image base inputs low high work₀ state₀ cells lengths at numbers₀ steps₀ trace₀ c₀ work state numbers steps trace cursor =
+μ-loop image m low high work₀ state₀ cells lengths at numbers₀ steps₀ trace₀ c₀ work state numbers steps trace cursor =
     length lengths - cursor .row
 
 loop-holds : tie.Need-loop-holds Inv-loop μ-loop
@@ -34,7 +34,7 @@ loop-again : tie.Need-loop-again Inv-loop μ-loop
 loop-again c =
     let v = c .before .before .before .before .before .before .before .before .before .before .before .before .before .before .before .loop .inv in
     let r = c .before .before .before .before .before .before .before .scan-row in
-    (scanning-goes (v .0) (r .result) _ (c .before .before .before .before .before .before .before .before .before .before .before .before .before .if1 .taken) (r .ensures), r .kept .1 .1 .1 .1 .1 .1 .0 ∙ v .1, r .kept .1 .1 .1 .1 .1 .1 .1 .1 .1 .1 .0 ∙ v .2, r .kept .1 .1 .1 .1 .1 .1 .1 .1 .1 .1 .1 .0 ∙ v .3, r .kept .1 .1 .1 .1 .1 .1 .1 .1 .1 .1 .1 .1 .0 ∙ v .4, r .kept .1 .1 .1 .1 .1 .0 ∙ v .5)
+    (scanning-goes (v .0) (r .result) _ (c .before .before .before .before .before .before .before .before .before .before .before .before .before .if1 .taken) (r .ensures), r .kept .1 .1 .1 .1 .1 .0 ∙ v .1, r .kept .1 .1 .1 .1 .1 .1 .1 .1 .1 .0 ∙ v .2, r .kept .1 .1 .1 .1 .1 .1 .1 .1 .1 .1 .0 ∙ v .3, r .kept .1 .1 .1 .1 .1 .1 .1 .1 .1 .1 .1 .0 ∙ v .4, r .kept .1 .1 .1 .1 .0 ∙ v .5)
 
 returns : tie.Need-returns Inv-loop μ-loop
 returns c = scanning-ends (c .before .before .loop .inv .0) (c .if1 .left)

@@ -11,6 +11,7 @@ use Rattle.semantics.specs.Shape.{stateLength}
 use Rattle.scan.specs.Services.{AfterScan, scanOf}
 use Rattle.bytecode.specs.Check.{checkOf}
 use Rattle.bytecode.specs.Parts.{shapeIn}
+use Rattle.shapes.specs.declared.Measured.{Measured}
 use Rattle.scan.specs.Inner.Parts.{KnownImage}
 use Rattle.replay.specs.declared.Cursor.{Cursor}
 use Rattle.replay.specs.Replay.{answerNumber}
@@ -61,12 +62,12 @@ pub record RowScanned (image : List ℕ) (cells : List ℤ) (lengths : List ℕ)
 
 -- ---- an image that was started
 
--- it is sound, and what was read of it is at hand; as many current values as the state has
-pub record KnownBy (image : List ℕ) (base inputs : ℕ) (low high work state : List ℤ) : Type 0 where
-  pub image-known : KnownImage image base inputs (length state) low high
+-- it is sound, and what was read of it is at hand; as many current values as the state has numbers
+pub record KnownBy (image : List ℕ) (m : Measured) (low high work state : List ℤ) : Type 0 where
+  pub image-known : KnownImage image m state low high
   pub copies : length work ≡ length state
 
--- it is sound, and the state has a value for each name
+-- it is sound, and the state is of its length
 pub record StartedImage (image : List ℕ) (state : List ℤ) : Type 0 where
   pub sound : checkOf image ≡ accepted tt
   pub sized : length state ≡ stateLength (shapeIn image)

@@ -238,4 +238,19 @@ returns-26 c =
 pub dispatch-one-spec : {M : Type 1} → statement M
 dispatch-one-spec =
     tie.close
-    (tie.spec (λ c. search needs) (λ c. search needs) (λ c κs. search needs) (λ c. search needs) (λ c. search needs) returns act-requires (λ c κs. search needs) (λ c κs. search needs) (λ c. search needs) (λ c. search needs) returns-2 act-requires-2 (λ c κs. search needs) (λ c κs. search needs) (λ c. search needs) (λ c. search needs) returns-3 act-requires-3 (λ c κs. search needs) (λ c κs. search needs) (λ c κs. search needs) (λ c κs. search needs) (λ c κs. search needs) (λ c κs. search needs) (λ c κs. search needs) (λ c κs. search needs) (λ c κs. search needs) (λ c κs. search needs) (λ c κs. search needs) (λ c κs. search needs) (λ c. search needs) (λ c. search needs) returns-4 act-requires-9 (λ c κs. search needs) (λ c κs. search needs) (λ c. search needs) (λ c. search needs) returns-5 act-requires-10 (λ c κs. search needs) (λ c κs. search needs) (λ c. search needs) (λ c. search needs) returns-6 act-requires-11 (λ c κs. search needs) run-requires (λ c κs. search needs) (λ c. search needs) (λ c. search needs) returns-7 act-requires-12 (λ c κs. search needs) (λ c κs. search needs) (λ c. search needs) (λ c. search needs) returns-8 act-requires-13 (λ c κs. search needs) (λ c κs. search needs) (λ c κs. search needs) (λ c κs. search needs) (λ c κs. search needs) (λ c. search needs) (λ c. search needs) returns-9 (λ c. search needs) (λ c. search needs) returns-10 (λ c. search needs) (λ c. search needs) returns-11 (λ c. search needs) (λ c. search needs) returns-12 (λ c. search needs) (λ c. search needs) returns-13 (λ c. search needs) (λ c. search needs) returns-14 (λ c. search needs) (λ c. search needs) returns-15 (λ c. search needs) (λ c. search needs) returns-16 (λ c. search needs) (λ c. search needs) returns-17 (λ c. search needs) (λ c. search needs) returns-18 (λ c. search needs) (λ c. search needs) returns-19 (λ c. search needs) returns-20 (λ c. search needs) (λ c. search needs) returns-21 (λ c. search needs) (λ c. search needs) returns-22 (λ c. search needs) returns-23 (λ c. search needs) returns-24 returns-25 returns-26)
+    (tie.spec (λ c. search needs) (λ c. search needs) (λ c κs. search needs) (λ c. search needs) (λ c. search needs) returns act-requires
+    (λ c κs. search needs) (λ c κs. search needs) (λ c. search needs) (λ c. search needs) returns-2 act-requires-2 (λ c κs. search needs)
+    (λ c κs. search needs) (λ c. search needs) (λ c. search needs) returns-3 act-requires-3 (λ c κs. search needs) (λ c κs. search needs)
+    (λ c κs. search needs) (λ c κs. search needs) (λ c κs. search needs) (λ c κs. search needs) (λ c κs. search needs) (λ c κs. search needs)
+    (λ c κs. search needs) (λ c κs. search needs) (λ c κs. search needs) (λ c κs. search needs) (λ c. search needs) (λ c. search needs) returns-4
+    act-requires-9 (λ c κs. search needs) (λ c κs. search needs) (λ c. search needs) (λ c. search needs) returns-5 act-requires-10
+    (λ c κs. search needs) (λ c κs. search needs) (λ c. search needs) (λ c. search needs) returns-6 act-requires-11 (λ c κs. search needs)
+    run-requires (λ c κs. search needs) (λ c. search needs) (λ c. search needs) returns-7 act-requires-12 (λ c κs. search needs)
+    (λ c κs. search needs) (λ c. search needs) (λ c. search needs) returns-8 act-requires-13 (λ c κs. search needs) (λ c κs. search needs)
+    (λ c κs. search needs) (λ c κs. search needs) (λ c κs. search needs) (λ c. search needs) (λ c. search needs) returns-9 (λ c. search needs)
+    (λ c. search needs) returns-10 (λ c. search needs) (λ c. search needs) returns-11 (λ c. search needs) (λ c. search needs) returns-12
+    (λ c. search needs) (λ c. search needs) returns-13 (λ c. search needs) (λ c. search needs) returns-14 (λ c. search needs) (λ c. search needs)
+    returns-15 (λ c. search needs) (λ c. search needs) returns-16 (λ c. search needs) (λ c. search needs) returns-17 (λ c. search needs)
+    (λ c. search needs) returns-18 (λ c. search needs) (λ c. search needs) returns-19 (λ c. search needs) returns-20 (λ c. search needs)
+    (λ c. search needs) returns-21 (λ c. search needs) (λ c. search needs) returns-22 (λ c. search needs) returns-23 (λ c. search needs) returns-24
+    returns-25 returns-26)

@@ -1,5 +1,4 @@
 -- `machine::timer::elapsed` meets its contract. Assumes nothing.
-use Prim.Native.Nat.{_+_, _≤_, _<_}
 use mathlib.Core.Path.{_≡_, sym, _∙_}
 use mathlib.Core.Bool.{true, false}
 use native.Mathlib.Omega.{arith}
@@ -59,4 +58,5 @@ returns-5 c =
 pub elapsed-spec : {M : Type 1} → statement M
 elapsed-spec =
     tie.close
-    (tie.spec (λ c κs. search needs) returns (λ c κs. search needs) returns-2 (λ c κs. search needs) returns-3 (λ c. search needs) returns-4 add-result returns-5)
+    (tie.spec (λ c κs. search needs) returns (λ c κs. search needs) returns-2 (λ c κs. search needs) returns-3 (λ c. search needs) returns-4
+    add-result returns-5)

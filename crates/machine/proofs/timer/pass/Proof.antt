@@ -1,5 +1,5 @@
 -- `machine::timer::pass` meets its contract. Assumes nothing.
-use mathlib.Core.Path.{refl, sym, ap, _∙_}
+use mathlib.Core.Path.{sym, ap, _∙_}
 use mathlib.Core.Bool.{true}
 use Rattle.bytecode.specs.Results.{fetchedRead}
 use Rattle.machine.specs.Inner.Memory.{SettingIn}

@@ -1,5 +1,5 @@
 -- `machine::timer::place` meets its contract. Assumes nothing.
-use mathlib.Core.Path.{sym, _∙_}
+use mathlib.Core.Path.{sym}
 use native.Mathlib.Omega.{arith}
 use Rattle.machine.proofs.Timers.{place-below, place-over}
 use borrow.Author.Needs.{needs}

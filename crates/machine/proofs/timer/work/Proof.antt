@@ -1,9 +1,7 @@
 -- `machine::timer::work` meets its contract. Assumes nothing.
 use Prim.Native.Nat.{_≤_, _<_}
-use mathlib.Core.Path.{_≡_, sym, _∙_}
 use native.Mathlib.Omega.{arith}
-use lib.IntN.{pos}
-use lib.ListN.{length, set, length-set}
+use lib.ListN.{length, length-set}
 use mir.Val.{SFits, toZ}
 use mir.Syntax.{w32}
 use mir.Facts.{toZ-ofZ, toZ-pos}
@@ -61,4 +59,6 @@ returns-6 c =
 pub work-spec : {M : Type 1} → statement M
 work-spec =
     tie.close
-    (tie.spec returns returns-2 returns-3 place-requires returns-4 returns-5 (λ c. search needs) (λ c. search needs) (λ c. search needs) (λ c. search needs) (λ c. search needs) (λ c. search needs) (λ c κs. search needs) (λ c. search needs) (λ c. search needs) (λ c. search needs) (λ c κs. search needs) (λ c. search needs) slice-set-from-cur-2 (λ c. search needs) returns-6)
+    (tie.spec returns returns-2 returns-3 place-requires returns-4 returns-5 (λ c. search needs) (λ c. search needs) (λ c. search needs)
+    (λ c. search needs) (λ c. search needs) (λ c. search needs) (λ c κs. search needs) (λ c. search needs) (λ c. search needs) (λ c. search needs)
+    (λ c κs. search needs) (λ c. search needs) slice-set-from-cur-2 (λ c. search needs) returns-6)
