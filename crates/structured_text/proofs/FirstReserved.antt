@@ -14,7 +14,7 @@ use Rattle.lexer.specs.Lexer.{isDigit, tokenAt}
 use Rattle.lexer.specs.Spelling.{Spelling, IsDigits, TokenFrom}
 use Rattle.lexer.proofs.Same.{same-kind}
 use Rattle.lexer.proofs.Spellings.{isFixed}
-use Rattle.semantics.specs.Program.{Name, Program}
+use Rattle.semantics.specs.Program.{Name, Program, Timer}
 use Rattle.grammar.specs.Derivation.{asWritten, Stands, Spells, IsName}
 use Rattle.grammar.specs.Spelled as S
 use Rattle.grammar.specs.Spelled.{SpellsZ, SpellsStart, Declares, DeclareAll, namesOf, Spelled}
@@ -23,7 +23,7 @@ use Rattle.grammar.proofs.Growth.{bytesOf, bytes-append, spells-bytes}
 use Rattle.grammar.proofs.Standing.{written, is-read, split, stands-in, spells-in}
 use Rattle.grammar.proofs.Phrases.{fixed-at, name-at}
 use Rattle.grammar.proofs.ConverseText.{accepted-exactly}
-use Rattle.st_program.specs.Written.{isStWord, noneStWord, hasSt}
+use Rattle.st_program.specs.Written.{isStWord, noneStWord, noTimer, hasSt}
 use Rattle.st_program.proofs.FirstStore.{spelled}
 use Rattle.structured_text.specs.Services.{declaresName, reservedFrom, reservedPlace}
 use Rattle.structured_text.specs.Place.{FirstReserved}
@@ -231,4 +231,4 @@ first-reserved text p e lacks =
       by s c (inr z) (inl r) =
           subst (λ (ns : List Name). FirstReserved text (spelled ns) (reservedFrom (suc (length text)) text false 0)) (sym (s .names))
           (both-walked text (s .inputs) (s .variables) (reservedFrom (suc (length text)) text false 0) (z .0) (subst (FirstReserved text (spelled (s .variables))) (sym (z .1)) r))
-      by s c (inr z) (inr y) = absurd (false≢true (sym lacks ∙ ap (λ (ns : List Name). noneStWord (spelled ns)) (s .names) ∙ none-both text (s .inputs) (s .variables) (z .0) (y .0)))
+      by s c (inr z) (inr y) = absurd (false≢true (sym (sym (ap (λ (ts : List Timer). noTimer ts && noneStWord (namesOf p)) (s .untimed)) ∙ lacks) ∙ ap (λ (ns : List Name). noneStWord (spelled ns)) (s .names) ∙ none-both text (s .inputs) (s .variables) (z .0) (y .0)))

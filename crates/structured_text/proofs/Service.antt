@@ -19,7 +19,7 @@ use Rattle.lexer.specs.declared.Place.{Place}
 use Rattle.lexer.specs.declared.Step.{Step}
 use Rattle.lexer.specs.declared.Step.the-variants.{Done, Refused}
 use Rattle.lexer.proofs.Laws.{cond-prop, Moved, token-moved}
-use Rattle.semantics.specs.Program.{Name, Program, rangesOf}
+use Rattle.semantics.specs.Program.{Name, Program, rangesOf, Timer}
 use Rattle.bytecode.specs.Instructions.{Instruction, encodeAll}
 use Rattle.bytecode.specs.Translation.{imageOf, Translatable, codeRules}
 use Rattle.bytecode.specs.Check.{Header, checkHeader}
@@ -32,6 +32,7 @@ use Rattle.grammar.specs.Parsed.{Parsed, accepted, refused}
 use Rattle.grammar.specs.Parse.{program, parse, programOf}
 use Rattle.grammar.specs.Spelled.{namesOf}
 use Rattle.grammar.proofs.Image.{image-emitted}
+use Rattle.st_program.proofs.Literals.{st-untimed}
 use Rattle.grammar.proofs.Accepted.{parse-few, parse-short, program-parsed, program-translatable, parse-spelled}
 use Rattle.grammar.proofs.PlacesText.{Placed, parse-limited}
 use Rattle.grammar.proofs.ConverseText.{short-parse}
@@ -142,6 +143,9 @@ pub code-rest : (image : List ℕ) (place : ℕ) → take (length image - place)
 code-rest image place = take-all (length image - place) (drop place image) (omega (arith, length-drop place image))
 
 module _ {text starts ends image : List ℕ} (c : Compiled text starts ends image) where
+  plain : c .program .timers ≡ []
+  plain = let r = program-parsed text (c .program) (c .parsed) in parse-spelled text (c .program) (r .0) (r .1) .untimed
+
   translatable : Translatable (c .program)
   translatable = program-translatable text (c .program) (c .parsed)
 
@@ -165,7 +169,7 @@ module _ {text starts ends image : List ℕ} (c : Compiled text starts ends imag
 
     pub none-reserved : {t : Bool} → t ≡ noneStWord (tableNames text starts ends count) → hasSt (c .program) ≡ t
     unfolding hasSt
-    none-reserved e = sym (e ∙ ap noneStWord names-held)
+    none-reserved e = rw plain (sym (e ∙ ap noneStWord names-held))
 
     values-are : nameLimit ≤ length start₀ → start ≡ map (λ n. n .range .start) (c .program .names) ++ drop (length (map (λ n. n .range .start) (c .program .names))) start₀
     values-are long =
@@ -187,14 +191,14 @@ module _ {text starts ends image : List ℕ} (c : Compiled text starts ends imag
           table = count-held;
           among = h .extends .inputs-named;
           long = omega (arith, ap {A = List ℤ} length (h .starting), length-sets start₀ 0 (Parts.starts (h .ranges)), h .extends .few);
-          coded = ap (λ (k : ℕ). drop k image) (header-place image h) ∙ ap codeOf (c .made) ∙ code-of (c .program) translatable;
+          coded = ap (λ (k : ℕ). drop k image) (header-place image h) ∙ ap codeOf (c .made) ∙ code-of (c .program) translatable ∙ ap (λ (ts : List Timer). encodeAll (codeRules ts (c .program .rules))) plain;
         }
 
 -- ---- its print
 
 module _ {text starts ends : List ℕ} {values : List ℤ} {inputs count : ℕ} {code : List ℕ} where
   pub mirror-prepared : (q : Prepared encodeAll text starts ends values inputs count code) (mirror : List ℕ)
-      → ((p : Program) → Translatable p → code ≡ encodeAll (codeRules (p .rules)) → take (length code) mirror ≡ mirrored (codeRules (p .rules)) [])
+      → ((p : Program) → Translatable p → p .timers ≡ [] → code ≡ encodeAll (codeRules [] (p .rules)) → take (length code) mirror ≡ mirrored (codeRules [] (p .rules)) [])
       → Prepared (λ is. mirrored is []) text starts ends values inputs count (take (length code) mirror)
   mirror-prepared q mirror m =
       record {
@@ -208,12 +212,15 @@ module _ {text starts ends : List ℕ} {values : List ℤ} {inputs count : ℕ} 
         table = q .table;
         among = q .among;
         long = q .long;
-        coded = m (q .program) (program-translatable text (q .program) (q .parsed)) (q .coded);
+        coded = m (q .program) (program-translatable text (q .program) (q .parsed)) (st-untimed (q .program) (q .has)) (q .coded);
       }
 
   module _ (q : Prepared (λ is. mirrored is []) text starts ends values inputs count code) where
     pub st-translatable : Translatable (q .program)
     st-translatable = program-translatable text (q .program) (q .parsed)
+
+    pub st-plain : q .program .timers ≡ []
+    st-plain = st-untimed (q .program) (q .has)
 
     abbrev front : List ℕ → List ℕ
     front = wholePrinted inputs (tableNames text starts ends count) values (q .program .rules)

@@ -130,7 +130,7 @@ module _ {text starts ends : List ℕ} {size : ℕ} (s : State) (a : AcceptedTex
   pub start-is : (image : List ℕ) → image ≡ imageOf p → (r : Started) {t : State} → afterStart r t ≡ startOf image s → t ≡ startsOf p
   start-is image i r e =
       let t = parse-translatable text p (a .place) (a .parsed) in
-      let l : length s ≡ stateLength (shapeOf p) = a .counted ∙ sym (plain-states p (t .untimed) ∙ length-map (p .names) (λ n. n .range)) in
+      let l : length s ≡ stateLength (shapeOf p) = a .counted ∙ sym (plain-states p (parse-spelled text p (a .place) (a .parsed) .untimed) ∙ length-map (p .names) (λ n. n .range)) in
       ap {A = AfterStart} (λ x. x .state) (e ∙ ap (λ (x : List ℕ). startOf x s) i ∙ start-translated p t s l)
 
   head-short : length (headLine (spellings (p .names))) ≤ 1100
@@ -144,7 +144,7 @@ module _ {text starts ends : List ℕ} {size : ℕ} (s : State) (a : AcceptedTex
       → (take put second ≡ opening (A.accepted p)) × (put ≤ length second)
   opening-put {out} {first} {second} {at} {put} {t} i r h g l =
       let few = parse-few text p (a .place) (a .parsed) in
-      let n : length t ≡ length (p .names) = ap length i ∙ length-map (cells (shapeOf p)) (λ x. x .start) ∙ plain-states p (parse-translatable text p (a .place) (a .parsed) .untimed) ∙ length-map (p .names) (λ x. x .range) in
+      let n : length t ≡ length (p .names) = ap length i ∙ length-map (cells (shapeOf p)) (λ x. x .start) ∙ plain-states p (parse-spelled text p (a .place) (a .parsed) .untimed) ∙ length-map (p .names) (λ x. x .range) in
       let k = head-short in
       let f : Put out 0 (headLine (spellings (p .names))) first at = rw (a .spelled) at h in
       let z : at ≡ length (headLine (spellings (p .names))) = put-whole f (omega arith) .place ∙ omega arith in

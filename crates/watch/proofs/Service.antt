@@ -18,7 +18,7 @@ use Rattle.semantics.specs.Shape.{shapeOf, stateLength, isTrace, tracedStates}
 use Rattle.semantics.proofs.Untimed.{plain-states}
 use Rattle.grammar.specs.Parsed.{Parsed, accepted, refused}
 use Rattle.grammar.specs.Parse.{parse, answerOf, programOf}
-use Rattle.grammar.proofs.Accepted.{parse-translatable}
+use Rattle.grammar.proofs.Accepted.{parse-spelled}
 use Rattle.grammar.proofs.PlacesText.{Placed, parse-limited}
 use Rattle.watching.specs.Watching.{placesOf, firstFailure}
 use Rattle.leb128.proofs.Stores.{sets-front}
@@ -74,7 +74,7 @@ module _ (text : List ℕ) (cells report : List ℤ) where
   module _ {starts ends : List ℕ} {names at count : ℕ} (x : SurveyRead text starts ends names at count) where
     -- document 01's texts have no timers: a number for each name
     sized : stateLength (shapeOf (x .program)) ≡ names
-    sized = plain-states (x .program) (parse-translatable text (x .program) (x .end) (x .parsed) .untimed) ∙ (length-map (x .program .names) (λ n. n .range) ∙ sym (x .named))
+    sized = plain-states (x .program) (parse-spelled text (x .program) (x .end) (x .parsed) .untimed) ∙ (length-map (x .program .names) (λ n. n .range) ∙ sym (x .named))
 
     watch-tested : watchOf text cells report ≡ cond (isTrace names cells && eqb (length report) reportLength) (watchedStates (x .program .watches) (tracedStates names cells) report) (record { answer = A.refused 12 0; report = report })
     unfolding watchOf programOf
