@@ -1,4 +1,5 @@
--- Worked calls: L2 of document 01 in instalments of 3 and 9, with a finish after each, from a memory of zeros. Assumes nothing.
+-- Worked calls from a memory of zeros: L2 of document 01 in instalments of 3 and 9, with a finish after each; and a timer of document 02, A.7, with rows posted
+-- between its instalments. Assumes nothing.
 use Prim.Native.Nat.{ℕ}
 use mathlib.Core.Path.{_≡_, refl, _∙_}
 use mathlib.Core.List.{List, [], _∷_}
@@ -7,11 +8,12 @@ use lib.IntN.{ℤ, pos}
 use lib.ListN.{replicate}
 use Rattle.limits.specs.Limits.{pausedLength}
 use Rattle.arith.specs.Values.{arithmetic, negation, compares}
-use Rattle.semantics.specs.Program.{within}
+use Rattle.semantics.specs.Program.{isBinary, within}
+use Rattle.semantics.specs.Shape.{elapsed, due, timed}
 use Rattle.semantics.specs.ReferenceScan.{moves, picked}
 use Rattle.leb128.specs.Numbers.{unzigzag, numberAt, signedAt, groups, grouped, numberIn, below32}
 use Rattle.bytecode.specs.Instructions.{instructionOf, hasOperand, fetchOne, timerAt, fetch}
-use Rattle.bytecode.specs.Check.{checkCounts, checkRange, checkHeader, checkBody, checkOf}
+use Rattle.bytecode.specs.Check.{isTimerRange, checkCounts, checkRange, checkHeader, checkBody, checkOf}
 use Rattle.bytecode.specs.Parts.{headerOf, codeOf, limitsOf}
 use Rattle.machine.specs.Step.{bit, yes}
 use Rattle.scan.specs.Services.{scanCode, scanOf}
@@ -48,3 +50,29 @@ no-scan = refl
 
 pub latch-divided : play calls [] zeros ≡ answers
 latch-divided = as-undivided calls zeros refl no-scan ∙ latch-expected
+
+-- ---- `input In 0..1; var W 0..1; timer Q of W limit 50; W: GX(W = (In));`
+
+abbrev delay : List ℕ
+delay = 1 ∷ 2 ∷ 0 ∷ 2 ∷ 0 ∷ 0 ∷ 2 ∷ 0 ∷ 0 ∷ 2 ∷ 0 ∷ 2 ∷ 0 ∷ 21 ∷ 1 ∷ 23 ∷ 2 ∷ 1 ∷ 50 ∷ []
+
+abbrev numbers : ℕ → ℕ → ℕ → ℕ → List ℤ
+numbers a b c d = pos a ∷ pos b ∷ pos c ∷ pos d ∷ []
+
+-- a row is its input and its milliseconds; the one that is posted last is the next scan's
+abbrev delayCalls : List Call
+delayCalls =
+    post delay (pos 1 ∷ pos 30 ∷ []) ∷ begin delay (numbers 1 1 0 30) ∷ post delay (pos 0 ∷ pos 7 ∷ []) ∷ advanceScan 2 ∷ post delay (pos 1 ∷ pos 1 ∷ []) ∷ advanceScan 1
+    ∷ finish (numbers 1 1 0 30) ∷ begin delay (numbers 1 1 1 50) ∷ advanceScan 9 ∷ finish (numbers 1 1 1 50) ∷ []
+
+abbrev delayAnswers : List Said
+delayAnswers =
+    says (R.Done 0) ∷ says (R.Done 0) ∷ says (R.Done 0) ∷ says (R.Done 2) ∷ says (R.Done 0) ∷ says (R.Done 1) ∷ saysLeaving (R.Done 3) (numbers 1 1 1 50) ∷ says (R.Done 0) ∷ says (R.Done 3)
+    ∷ saysLeaving (R.Done 3) (numbers 1 1 1 50) ∷ []
+
+delay-expected : expectedSaid delayCalls (waitingOf zeros) none ≡ delayAnswers
+unfolding unzigzag grouped groups numberIn below32 numberAt signedAt instructionOf hasOperand fetchOne timerAt fetch isTimerRange isBinary checkCounts checkRange checkHeader checkBody checkOf headerOf codeOf limitsOf bit yes within moves picked arithmetic negation compares elapsed due timed scanCode scanOf clipped waitingLength waitingOf
+delay-expected = refl
+
+pub delay-divided : play delayCalls [] zeros ≡ delayAnswers
+delay-divided = as-undivided delayCalls zeros refl no-scan ∙ delay-expected

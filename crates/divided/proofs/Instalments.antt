@@ -11,8 +11,9 @@ use lib.ListN.{length, drop, length-drop}
 use borrow.Author.Tests.{le-leb, lt-leb, leb-true, leb-false, eqb-true, eqb-false}
 use Rattle.limits.specs.Limits.{imageLimit, pausedLength}
 use Rattle.arith.specs.Values.{Outcome, ok, refusal}
-use Rattle.semantics.specs.ReferenceScan.{withInputs}
-use Rattle.bytecode.specs.Parts.{headerOf, codeOf, lows, highs}
+use Rattle.arith.specs.Inner.Flags.{flagsOf}
+use Rattle.semantics.specs.Shape.{nameCount, timersOf}
+use Rattle.bytecode.specs.Parts.{headerOf, codeOf, shapeIn}
 use Rattle.machine.specs.Step.{Machine, machine}
 use Rattle.machine.specs.Runs.{Ran, ran, run}
 use Rattle.runs.proofs.Divided.{later, run-shift, run-exact}
@@ -20,14 +21,16 @@ use Rattle.runs.proofs.Bounds.{Alike, run-ranges}
 use Rattle.runs.proofs.Sizes.{SizedIn}
 use Rattle.paused.specs.declared.Checkpoint.{Checkpoint}
 use Rattle.paused.specs.declared.Response.the-variants as R
-use Rattle.paused.specs.Memory.{startPlace, lowPlace, highPlace, slice, checkpointOf, layoutOf}
-use Rattle.resumable.specs.Instalment.{afterCall, rangesIn, ranFrom, leftByRun, instalment, advanceOf}
+use Rattle.paused.specs.Memory.{startPlace, lowPlace, highPlace, slice, checkpointOf, layoutOf, bitsOf}
+use Rattle.resumable.specs.Instalment.{afterCall, settingIn, ranFrom, leftByRun, instalment, advanceOf}
 use Rattle.lifecycle.specs.Calls.{layoutFor}
 use Rattle.resumable.proofs.Running.{length-slice, ranges-between}
 use Rattle.resumable.proofs.Advancing.{advance-idle, advance-over, advance-zero, advance-goes}
 use Rattle.divided.specs.Expected.{Scan, whole, says, played, advanceScan, plays, stepsNow, furtherBy, expect, expects}
-use Rattle.divided.proofs.Left.{Stands, Numbered, kept-left, stands-left}
-use Rattle.divided.proofs.Agrees.{goes, codeLength, Standing, Agrees, Matches, few-names, code-short, goes-sized, goes-place, goes-numbered, goes-min, goes-within, whole-steps, on-from, done-within, over-refused, over-ended, not-over}
+use Rattle.paused.proofs.Bits.{flags-bits}
+use Rattle.divided.proofs.Stored.{length-timers}
+use Rattle.divided.proofs.Left.{Stands, kept-left, stands-left}
+use Rattle.divided.proofs.Agrees.{settingFor, begunWith, goes, codeLength, Standing, Agrees, Matches, few-numbers, code-short, goes-sized, goes-place, goes-min, goes-within, whole-steps, on-from, done-within, over-refused, over-ended, not-over}
 
 module _ {image : List ℕ} {cells : List ℤ} {w : Option (List ℤ)} (o : Scan) (x : Agrees image cells w (some o)) (n : ℕ) where
   -- 0 steps: nothing moves
@@ -39,28 +42,29 @@ module _ {image : List ℕ} {cells : List ℤ} {w : Option (List ℤ)} (o : Scan
   module _ (b c : Bool) (vs t : List ℤ) (e : x .scan .reached .last ≡ ok (machine b c vs t))
       (s : Stands cells (length (o .start)) (codeLength o) (o .done) (x .scan .reached .place) (ok (machine b c vs t))) where
     -- the run of this instalment
-    pub now-ran : (k : ℕ) → ranFrom (codeOf (o .image)) k (checkpointOf cells) (length (o .start)) cells
-        ≡ run (headerOf (o .image) .ranges) (o .start) (codeOf (o .image)) k (x .scan .reached .place) 0 (machine b c vs t)
+    pub now-ran : (k : ℕ) → ranFrom (codeOf (o .image)) k (checkpointOf cells) (layoutFor (o .image) (o .start) (o .row)) cells
+        ≡ run (settingFor o) (o .start) (codeOf (o .image)) k (x .scan .reached .place) 0 (machine b c vs t)
     unfolding ranFrom
     now-ran k =
         let l : length (slice lowPlace (length (o .start)) cells) ≡ length (slice highPlace (length (o .start)) cells) =
-        length-slice lowPlace (length (o .start)) cells (omega (arith, x .long, few-names o (x .scan .may))) ∙ sym (length-slice highPlace (length (o .start)) cells (omega (arith, x .long, few-names o (x .scan .may)))) in
+        length-slice lowPlace (length (o .start)) cells (omega (arith, x .long, few-numbers o (x .scan .may))) ∙ sym (length-slice highPlace (length (o .start)) cells (omega (arith, x .long, few-numbers o (x .scan .may)))) in
         let r = ranges-between (slice lowPlace (length (o .start)) cells) (slice highPlace (length (o .start)) cells) l in
+        let q : flagsOf (nameCount (shapeIn (o .image))) (bitsOf (timersOf (shapeIn (o .image)))) ≡ timersOf (shapeIn (o .image)) = rw (length-timers (o .image)) at (flags-bits (timersOf (shapeIn (o .image)))) in
         rw (s .progress, s .held, s .current, x .scan .start)
-        (run-ranges (rangesIn (length (o .start)) cells) (headerOf (o .image) .ranges) (record { low = r .lows ∙ x .scan .low; high = r .highs ∙ x .scan .high }) (o .start)
+        (run-ranges (settingIn (layoutFor (o .image) (o .start) (o .row)) cells) (settingFor o) (record { low = r .lows ∙ x .scan .low; high = r .highs ∙ x .scan .high; flags = q; time = refl }) (o .start)
         (codeOf (o .image)) k (x .scan .reached .place) 0 (machine b c vs t))
 
-    now-is : (k : ℕ) → instalment (drop (layoutOf cells .base) image) k cells (checkpointOf cells) (layoutOf cells .size)
-        ≡ afterCall (R.Done (run (headerOf (o .image) .ranges) (o .start) (codeOf (o .image)) k (x .scan .reached .place) 0 (machine b c vs t) .steps))
-        (leftByRun (o .done) (codeLength o) (run (headerOf (o .image) .ranges) (o .start) (codeOf (o .image)) k (x .scan .reached .place) 0 (machine b c vs t)) cells)
+    now-is : (k : ℕ) → instalment (drop (layoutOf cells .base) image) k cells (checkpointOf cells) (layoutOf cells)
+        ≡ afterCall (R.Done (run (settingFor o) (o .start) (codeOf (o .image)) k (x .scan .reached .place) 0 (machine b c vs t) .steps))
+        (leftByRun (o .done) (codeLength o) (run (settingFor o) (o .start) (codeOf (o .image)) k (x .scan .reached .place) 0 (machine b c vs t)) cells)
     unfolding codeOf
     now-is k = rw (x .scan .layout, x .scan .same, now-ran k, ap (λ (p : Checkpoint). p .steps) (s .progress))
 
     -- the runs before and now are one
-    joined : (k : ℕ) → goes o (o .done + k) ≡ later (x .scan .reached .steps) (run (headerOf (o .image) .ranges) (o .start) (codeOf (o .image)) k (x .scan .reached .place) 0 (machine b c vs t))
-    joined k = on-from o (x .scan) k ∙ rw e (run-shift (headerOf (o .image) .ranges) (o .start) (codeOf (o .image)) k (x .scan .reached .place) (x .scan .reached .steps) (machine b c vs t))
+    joined : (k : ℕ) → goes o (o .done + k) ≡ later (x .scan .reached .steps) (run (settingFor o) (o .start) (codeOf (o .image)) k (x .scan .reached .place) 0 (machine b c vs t))
+    joined k = on-from o (x .scan) k ∙ rw e (run-shift (settingFor o) (o .start) (codeOf (o .image)) k (x .scan .reached .place) (x .scan .reached .steps) (machine b c vs t))
 
-    module _ (d : Ran) (is : d ≡ run (headerOf (o .image) .ranges) (o .start) (codeOf (o .image)) (min n imageLimit) (x .scan .reached .place) 0 (machine b c vs t)) where
+    module _ (d : Ran) (is : d ≡ run (settingFor o) (o .start) (codeOf (o .image)) (min n imageLimit) (x .scan .reached .place) 0 (machine b c vs t)) where
       joined-is : goes o (o .done + min n imageLimit) ≡ later (x .scan .reached .steps) d
       joined-is = rw is (joined (min n imageLimit))
 
@@ -81,9 +85,8 @@ module _ {image : List ℕ} {cells : List ℤ} {w : Option (List ℤ)} (o : Scan
       further =
           let y = x .scan .may in
           let z = subst (λ (r : Ran). SizedIn (length (o .start)) (r .last)) joined-is (goes-sized o y (o .done + min n imageLimit)) in
-          let v = subst (λ (r : Ran). Numbered (r .last)) joined-is (goes-numbered o y (o .done + min n imageLimit)) in
           let u = subst (λ (r : Ran). r .place ≤ imageLimit) joined-is (goes-place o y (o .done + min n imageLimit)) in
-          let few = few-names o y in
+          let few = few-numbers o y in
           let k = kept-left (o .done) (codeLength o) (d .steps) (d .place) (length (o .start)) cells (x .long) few (d .last) z in
           let total : o .done + d .steps ≤ imageLimit = omega (arith, steps-are, done-within o (x .scan), whole-steps o y, goes-within o y, code-short o y) in
           let same-steps : goes o (o .done + min n imageLimit) .steps ≡ 0 + (o .done + d .steps) = ap (λ (r : Ran). r .steps) joined-is ∙ omega (arith, x .scan .counted) in
@@ -100,11 +103,11 @@ module _ {image : List ℕ} {cells : List ℤ} {w : Option (List ℤ)} (o : Scan
                   high = k .high (length (o .start)) ∙ x .scan .high;
                   reached = later (x .scan .reached .steps) d;
                   went =
-                      run-exact (headerOf (o .image) .ranges) (o .start) (codeOf (o .image)) (o .done + min n imageLimit) 0 0 (o .done + d .steps)
-                      (machine false false [] (withInputs (o .start) (o .row))) same-steps
+                      run-exact (settingFor o) (o .start) (codeOf (o .image)) (o .done + min n imageLimit) 0 0 (o .done + d .steps)
+                      (machine false false [] (begunWith o)) same-steps
                       ∙ joined-is;
                   counted = omega (arith, x .scan .counted);
-                  stands = stands-left (o .done) (codeLength o) (d .steps) (d .place) (length (o .start)) cells (x .long) few u total (d .last) z v;
+                  stands = stands-left (o .done) (codeLength o) (d .steps) (d .place) (length (o .start)) cells (x .long) few u total (d .last) z;
                 };
           }
 

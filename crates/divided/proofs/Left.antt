@@ -10,7 +10,7 @@ use lib.IntN.{ℤ, pos}
 use lib.ListN.{length, getD, take, drop, length-append, List·getD-append}
 use lib.Seq.{sets, length-sets, take-take, getD-take, getD-append-seam}
 use Rattle.machine.specs.Held.{heldOf}
-use Rattle.limits.specs.Limits.{imageLimit, nameLimit, stackLimit, pausedLength}
+use Rattle.limits.specs.Limits.{imageLimit, stackLimit, stateLimit, pausedLength}
 use Rattle.arith.specs.Values.{Outcome, ok, refusal}
 use Rattle.machine.specs.Step.{Machine, machine}
 use Rattle.runs.proofs.Sizes.{SizedIn}
@@ -49,7 +49,7 @@ pub record Kept (cells left : List ℤ) : Type 0 where
   pub long : length left ≡ length cells
   pub layout : layoutOf left ≡ layoutOf cells
   pub waits : waitingOf left ≡ waitingOf cells
-  pub start : (n : ℕ) → n ≤ nameLimit → slice startPlace n left ≡ slice startPlace n cells
+  pub start : (n : ℕ) → n ≤ stateLimit → slice startPlace n left ≡ slice startPlace n cells
   pub low : (n : ℕ) → slice lowPlace n left ≡ slice lowPlace n cells
   pub high : (n : ℕ) → slice highPlace n left ≡ slice highPlace n cells
 
@@ -57,7 +57,7 @@ kept-progress : (p : Checkpoint) (cells : List ℤ) → Kept cells (sets cells 0
 kept-progress p cells =
     record {
       long = length-sets cells 0 (checkpointCells p);
-      layout = layout-alike _ _ λ j a b. getD-sets-behind (checkpointCells p) cells 0 j (omega arith);
+      layout = layout-alike _ _ (λ j a b. getD-sets-behind (checkpointCells p) cells 0 j (omega arith)) (λ j a b. getD-sets-behind (checkpointCells p) cells 0 j (omega arith));
       waits =
           waiting-alike _ _ (getD-sets-behind (checkpointCells p) cells 0 waitingPlace (omega arith))
           (λ n h. slice-sets-behind (checkpointCells p) cells 0 rowPlace n (omega arith));
@@ -70,18 +70,18 @@ kept-held : (vs cells : List ℤ) → length vs ≤ stackLimit → Kept cells (s
 kept-held vs cells h =
     record {
       long = length-sets cells heldPlace vs;
-      layout = layout-alike _ _ λ j a b. getD-sets-before vs cells heldPlace j (omega arith);
+      layout = layout-alike _ _ (λ j a b. getD-sets-before vs cells heldPlace j (omega arith)) (λ j a b. getD-sets-behind vs cells heldPlace j (omega arith));
       waits = waiting-alike _ _ (getD-sets-before vs cells heldPlace waitingPlace (omega arith)) (λ n k. slice-sets-before vs cells heldPlace rowPlace n (omega arith));
       start = λ n k. slice-sets-behind vs cells heldPlace startPlace n (omega arith);
       low = λ n. slice-sets-behind vs cells heldPlace lowPlace n (omega arith);
       high = λ n. slice-sets-behind vs cells heldPlace highPlace n (omega arith);
     }
 
-kept-current : (t cells : List ℤ) → length t ≤ nameLimit → Kept cells (sets cells currentPlace t)
+kept-current : (t cells : List ℤ) → length t ≤ stateLimit → Kept cells (sets cells currentPlace t)
 kept-current t cells h =
     record {
       long = length-sets cells currentPlace t;
-      layout = layout-alike _ _ λ j a b. getD-sets-before t cells currentPlace j (omega arith);
+      layout = layout-alike _ _ (λ j a b. getD-sets-before t cells currentPlace j (omega arith)) (λ j a b. getD-sets-before t cells currentPlace j (omega arith));
       waits = waiting-alike _ _ (getD-sets-before t cells currentPlace waitingPlace (omega arith)) (λ n k. slice-sets-before t cells currentPlace rowPlace n (omega arith));
       start = λ n k. slice-sets-before t cells currentPlace startPlace n (omega arith);
       low = λ n. slice-sets-behind t cells currentPlace lowPlace n (omega arith);
@@ -111,24 +111,20 @@ abbrev pub Stands : List ℤ → ℕ → ℕ → ℕ → ℕ → Outcome Machine
 Stands cells w len total place (ok (machine b c vs t)) = Going cells w len total place b c vs t
 Stands cells w len total place (refusal k) = checkpointOf cells ≡ record { phase = 3; number = k; place = place; steps = total; held = 0; picked = false; passing = false }
 
-abbrev pub Numbered : Outcome Machine → Type 0
-Numbered (ok m) = Unit {0}
-Numbered (refusal k) = k ≤ 30
-
 two-phases : (b : Bool) → cond b 2 1 ≤ 3
 two-phases true = omega arith
 two-phases false = omega arith
 
-module _ (before len n place w : ℕ) (cells : List ℤ) (l : length cells ≡ pausedLength) (few : w ≤ nameLimit) where
+module _ (before len n place w : ℕ) (cells : List ℤ) (l : length cells ≡ pausedLength) (few : w ≤ stateLimit) where
   pub kept-left : (o : Outcome Machine) → SizedIn w o → Kept cells (leftAfter before len n place o cells)
   kept-left (ok (machine b c vs t)) z =
       kept-both (kept-both (kept-current t cells (omega (arith, z .1))) (kept-held (stacked vs) _ (omega (arith, z .0, length-stacked vs)))) (kept-progress (wentTo before len n place (machine b c vs t)) (sets (sets cells currentPlace t) heldPlace (stacked vs)))
   kept-left (refusal k) z = kept-progress (stoppedAt before n place k) cells
 
-  pub stands-left : place ≤ imageLimit → before + n ≤ imageLimit → (o : Outcome Machine) → SizedIn w o → Numbered o → Stands (leftAfter before len n place o cells) w len (before + n) place o
-  stands-left h k (refusal j) z q =
-      checkpoint-stored cells (stoppedAt before n place j) (omega (arith, l)) (record { phases = omega arith; numbers = q; places = h; counts = k; stack = omega arith })
-  stands-left h k (ok (machine b c vs t)) z q =
+  pub stands-left : place ≤ imageLimit → before + n ≤ imageLimit → (o : Outcome Machine) → SizedIn w o → Stands (leftAfter before len n place o cells) w len (before + n) place o
+  stands-left h k (refusal j) z =
+      checkpoint-stored cells (stoppedAt before n place j) (omega (arith, l)) (record { phases = omega arith; numbers = z; places = h; counts = k; stack = omega arith })
+  stands-left h k (ok (machine b c vs t)) z =
       let p = wentTo before len n place (machine b c vs t) in
       let x = sets cells currentPlace t in
       let y = sets x heldPlace (stacked vs) in

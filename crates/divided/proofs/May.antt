@@ -19,11 +19,10 @@ use Rattle.bytecode.specs.Sound.{RangesAt}
 use Rattle.bytecode.proofs.Walk.{refused≢accepted, check-sound}
 use Rattle.bytecode.proofs.Heading.{signed-within}
 use Rattle.bytecode.proofs.Fetching.{number-within}
-use Rattle.bytecode.proofs.Limits.{no-times, no-timer}
 use Rattle.bytecode.proofs.SoundHeader.{header-is}
 use Rattle.semantics.specs.Shape.{Shape, stateLength, rowLength, stateInRange, rowInRange}
 use Rattle.scan.specs.Services.{refusedScan, scanCode, scanOf}
-use Rattle.before.proofs.Scans.{scan-is}
+use Rattle.scan.proofs.Scans.{scan-is}
 
 ranges-inside : (bytes : List ℕ) (ns : List Range) (at end : ℕ) → RangesAt bytes at ns end → at ≤ length bytes → end ≤ length bytes
 ranges-inside bytes [] at end r h = omega arith
@@ -50,8 +49,8 @@ placed image e =
 
 pub record May (image : List ℕ) (s : State) (row : List ℤ) : Type 0 where
   pub sound : checkOf image ≡ accepted tt
-  pub names : length s ≡ length (headerOf image .ranges)
-  pub rows : length row ≡ headerOf image .inputs
+  pub numbers : length s ≡ stateLength (shapeIn image)
+  pub rows : length row ≡ rowLength (shapeIn image)
   pub whole : scanOf image s row ≡ scanCode image s row
 
 module _ (image : List ℕ) (s : State) (row : List ℤ) where
@@ -76,8 +75,8 @@ module _ (image : List ℕ) (s : State) (row : List ℤ) where
           let l = lengths (eqb (length s) (stateLength h)) (eqb (length row) (rowLength h)) t in
           record {
             sound = k;
-            names = rw (no-times image k) at (eqb-true (length s) (stateLength h) (l .0));
-            rows = rw (no-timer image k) at (eqb-true (length row) (rowLength h) (l .1));
+            numbers = eqb-true (length s) (stateLength h) (l .0);
+            rows = eqb-true (length row) (rowLength h) (l .1);
             whole = whole-scan e;
           }
       ranged k t true false x y q = refused≢accepted tt 13 0 q

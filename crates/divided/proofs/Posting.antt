@@ -15,7 +15,6 @@ use Rattle.limits.specs.Answer.{Answer, accepted, refused}
 use Rattle.arith.specs.Values.{Outcome, ok, refusal}
 use Rattle.bytecode.specs.Check.{checkOf}
 use Rattle.bytecode.specs.Parts.{shapeIn}
-use Rattle.bytecode.proofs.Limits.{no-timer}
 use Rattle.bytecode.proofs.Walk.{refused≢accepted}
 use Rattle.machine.specs.Step.{Machine, machine}
 use Rattle.semantics.specs.Shape.{rowLength}
@@ -24,7 +23,7 @@ use Rattle.paused.specs.Memory.{heldPlace, startPlace, currentPlace, lowPlace, 
 use Rattle.resumable.specs.Instalment.{afterCall}
 use Rattle.lifecycle.specs.Calls.{mayPost, orRefused, withRow, postOf}
 use Rattle.divided.specs.Expected.{Scan, says, played, post, plays, expectPost, expects}
-use Rattle.divided.proofs.May.{placed}
+use Rattle.lifecycle.proofs.Rows.{row-most}
 use Rattle.divided.proofs.Left.{Stands}
 use Rattle.divided.proofs.Stored.{Apart, apart-row, waits-row}
 use Rattle.divided.proofs.Agrees.{Standing, ScanIn, Agrees, Matches}
@@ -63,7 +62,7 @@ row-short : (image : List ℕ) (row : List ℤ) → mayPost (checkOf image) (sha
 row-short image row e = checked (checkOf image) refl e
   where
     long : checkOf image ≡ accepted tt → (t : Bool) → eqb (length row) (rowLength (shapeIn image)) ≡ t → testedBefore t 12 (accepted tt) ≡ accepted tt → length row ≤ nameLimit
-    long k true t q = omega (arith, placed image k .few, placed image k .inputs, rw (no-timer image k) at (eqb-true (length row) (rowLength (shapeIn image)) t))
+    long k true t q = omega (arith, row-most image k, eqb-true (length row) (rowLength (shapeIn image)) t)
     long k false t q = refused≢accepted tt 12 0 q
 
     checked : (a : Answer (Unit {0})) → checkOf image ≡ a → mayPost a (shapeIn image) row ≡ accepted tt → length row ≤ nameLimit

@@ -14,8 +14,7 @@ use Rattle.limits.specs.Limits.{pausedLength}
 use Rattle.limits.specs.Answer.{Answer, accepted, refused}
 use Rattle.arith.specs.Values.{Outcome, ok, refusal}
 use Rattle.semantics.specs.Formula.{State}
-use Rattle.semantics.specs.ReferenceScan.{withInputs}
-use Rattle.bytecode.specs.Parts.{headerOf, codeOf}
+use Rattle.bytecode.specs.Parts.{codeOf}
 use Rattle.machine.specs.Step.{Machine, machine}
 use Rattle.machine.specs.Runs.{ran}
 use Rattle.runs.proofs.Divided.{refused-late}
@@ -28,7 +27,7 @@ use Rattle.divided.specs.Expected.{Scan, Expected, expect, says, begunSc
 use Rattle.divided.proofs.May.{placed, May, may, may-not}
 use Rattle.divided.proofs.Left.{Stands, kept-left, stands-left}
 use Rattle.divided.proofs.Stored.{apart-taken, waits-none, Formed, forms}
-use Rattle.divided.proofs.Agrees.{goes, codeLength, Standing, Agrees, Matches, few-names, first-sized, code-short, whole-finished}
+use Rattle.divided.proofs.Agrees.{settingFor, begunWith, goes, codeLength, Standing, Agrees, Matches, few-numbers, first-sized, code-short, whole-finished}
 
 -- a scan that is not over has a phase
 pub some-phase : (cells : List ℤ) (w len total place : ℕ) (r : Outcome Machine) → Stands cells w len total place r → checkpointOf cells .phase ≡ 0 → ⊥
@@ -45,7 +44,7 @@ pub expect-begun : (i : List ℕ) (s : State) (row : List ℤ) → May i s row
 expect-begun i s row y =
     rw (whole-finished (begunScan i s row) y)
     (by (goes (begunScan i s row) (codeLength (begunScan i s row)) .steps) (goes (begunScan i s row) (codeLength (begunScan i s row)) .last)
-    (refused-late (headerOf i .ranges) s (codeOf i) (codeLength (begunScan i s row)) 0 0 (machine false false [] (withInputs s row))))
+    (refused-late (settingFor (begunScan i s row)) s (codeOf i) (codeLength (begunScan i s row)) 0 0 (machine false false [] (begunWith (begunScan i s row)))))
   where
     late : (k n : ℕ) → 0 < n → expectBegin i s row (refused k 0) n ≡ expect (says (R.Done 0)) none (some (begunScan i s row))
     late k zero h = absurd (omega arith)
@@ -61,10 +60,10 @@ module _ (image : List ℕ) (cells : List ℤ) (i : List ℕ) (s : State) where
   started row l y =
       let o = begunScan i s row in
       let a = apart-taken cells in
-      let f = forms i s (rowTaken cells) (a .long ∙ l) (placed i (y .sound)) (y .names) in
+      let f = forms i s row (rowTaken cells) (a .long ∙ l) (placed i (y .sound)) (y .numbers) (few-numbers o y) in
       let z = first-sized o y in
-      let first = machine false false [] (withInputs s row) in
-      let k = kept-left 0 (codeLength o) 0 0 (length s) (formed i s (rowTaken cells)) (f .long) (few-names o y) (ok first) z in
+      let first = machine false false [] (begunWith o) in
+      let k = kept-left 0 (codeLength o) 0 0 (length s) (formed i s row (rowTaken cells)) (f .long) (few-numbers o y) (ok first) z in
       record {
         long = k .long ∙ f .long;
         waits = k .waits ∙ f .waits ∙ waits-none cells l;
@@ -73,13 +72,13 @@ module _ (image : List ℕ) (cells : List ℤ) (i : List ℕ) (s : State) where
               same = refl;
               may = y;
               layout = k .layout ∙ f .layout;
-              start = k .start (length s) (few-names o y) ∙ f .start;
+              start = k .start (length s) (few-numbers o y) ∙ f .start;
               low = k .low (length s) ∙ f .low;
               high = k .high (length s) ∙ f .high;
               reached = ran 0 0 (ok first);
               went = refl;
               counted = refl;
-              stands = stands-left 0 (codeLength o) 0 0 (length s) (formed i s (rowTaken cells)) (f .long) (few-names o y) (omega arith) (omega arith) (ok first) z tt;
+              stands = stands-left 0 (codeLength o) 0 0 (length s) (formed i s row (rowTaken cells)) (f .long) (few-numbers o y) (omega arith) (omega arith) (ok first) z;
             };
       }
 

@@ -19,30 +19,31 @@ use Rattle.bytecode.specs.Parts.{countFrom, shapeIn}
 use Rattle.bytecode.specs.Check.{checkOf}
 use Rattle.bytecode.proofs.Walk.{refused≢accepted}
 use Rattle.machine.specs.Step.{Machine, machine}
-use Rattle.semantics.specs.Program.{Range}
+use Rattle.semantics.specs.Shape.{Setting}
 use Rattle.machine.specs.Runs.{Ran, run, resume}
 use Rattle.machine.proofs.Laws.{run-steps, run-divided}
 use Rattle.runs.proofs.Divided.{run-counts, run-exact, refused-late}
 use Rattle.scan.specs.Services.{AfterScan, finished, runOf, scanCode, scanOf}
 use Rattle.scan.specs.Inner.Parts.{scannedBy}
 use Rattle.before.specs.Before.{beforeCode}
-use Rattle.before.proofs.Scans.{scan-is}
+use Rattle.scan.proofs.Scans.{scan-is}
 use Rattle.paused.specs.declared.Checkpoint.{Checkpoint}
+use Rattle.paused.specs.declared.Layout.{Layout}
 use Rattle.paused.specs.declared.Response.the-variants as R
 use Rattle.paused.specs.Memory.{startPlace, slice, checkpointOf}
 use Rattle.paused.specs.Responses.{stepsIn}
-use Rattle.resumable.specs.Instalment.{AfterCall, afterCall, rangesIn, standing, ranFrom, advanceOf}
+use Rattle.resumable.specs.Instalment.{AfterCall, afterCall, settingIn, standing, ranFrom, advanceOf}
 use Rattle.lifecycle.specs.Calls.{sameValues, mayPost}
 use Rattle.divided.specs.Expected.{Call, post, begin, advanceScan, finish, Said, saysLeaving, Scan, whole, Expected, expect, expectPost, furtherBy, expectEnd, expects, expectedSaid, NotOver, givenIn, doneIn, saidOf}
 
 -- ---- the steps of an instalment
 
 -- where it is not refused: the instructions of the code from where the scan stopped, at most as many as are given
-pub counted : (code : List ℕ) (n : ℕ) (p : Checkpoint) (size : ℕ) (cells : List ℤ) (m : Machine) → ranFrom code n p size cells .last ≡ ok m → ranFrom code n p size cells .steps ≡ countFrom code n (p .place)
+pub counted : (code : List ℕ) (n : ℕ) (p : Checkpoint) (f : Layout) (cells : List ℤ) (m : Machine) → ranFrom code n p f cells .last ≡ ok m → ranFrom code n p f cells .steps ≡ countFrom code n (p .place)
 unfolding ranFrom
-counted code n p size cells m e = run-steps (rangesIn size cells) (slice startPlace size cells) code n (p .place) 0 (standing p size cells) m e ∙ omega arith
+counted code n p f cells m e = run-steps (settingIn f cells) (slice startPlace (f .size) cells) code n (p .place) 0 (standing p (f .size) cells) m e ∙ omega arith
 
-before-refusal : (ns : List Range) (s : State) (code : List ℕ) (b at j : ℕ) (m : Machine) (k : ℕ) → run ns s code b at 0 m .last ≡ refusal k → run ns s code b at 0 m .steps ≡ suc j → countFrom code j at ≡ j
+before-refusal : (ns : Setting) (s : State) (code : List ℕ) (b at j : ℕ) (m : Machine) (k : ℕ) → run ns s code b at 0 m .last ≡ refusal k → run ns s code b at 0 m .steps ≡ suc j → countFrom code j at ≡ j
 before-refusal ns s code b at j m k e q =
     let z : j + 1 ≡ suc j = omega arith in
     let x = run-exact ns s code b at 0 (suc j) m (omega (arith, q)) in
@@ -56,13 +57,13 @@ before-refusal ns s code b at j m k e q =
     by (refusal i) h w = absurd (omega (arith, w, run-counts ns s code j at 0 m .1))
 
 -- where it is refused: the instructions before the refusing one, and that one
-pub counted-refused : (code : List ℕ) (n : ℕ) (p : Checkpoint) (size : ℕ) (cells : List ℤ) (k : ℕ) → ranFrom code n p size cells .last ≡ refusal k
-    → ranFrom code n p size cells .steps ≡ countFrom code (ranFrom code n p size cells .steps - 1) (p .place) + 1
+pub counted-refused : (code : List ℕ) (n : ℕ) (p : Checkpoint) (f : Layout) (cells : List ℤ) (k : ℕ) → ranFrom code n p f cells .last ≡ refusal k
+    → ranFrom code n p f cells .steps ≡ countFrom code (ranFrom code n p f cells .steps - 1) (p .place) + 1
 unfolding ranFrom
-counted-refused code n p size cells k e =
-    let ns = rangesIn size cells in
-    let s = slice startPlace size cells in
-    let m = standing p size cells in
+counted-refused code n p f cells k e =
+    let ns = settingIn f cells in
+    let s = slice startPlace (f .size) cells in
+    let m = standing p (f .size) cells in
     let late = refused-late ns s code n (p .place) 0 m k e in
     let c = before-refusal ns s code n (p .place) (run ns s code n (p .place) 0 m .steps - 1) m k e (omega (arith, late)) in
     omega (arith, late, c)

@@ -8,35 +8,47 @@ use lib.IntN.{ℤ}
 use lib.ListN.{length, take, drop, length-drop}
 use borrow.Author.Tests.{eq-eqb, ne-eqb}
 use Rattle.before.specs.Before.{beforeCode, mayScan}
-use Rattle.limits.specs.Limits.{imageLimit, pausedLength}
+use Rattle.limits.specs.Limits.{imageLimit, nameLimit, pausedLength}
 use Rattle.limits.specs.Answer.{Answer, accepted, refused}
 use Rattle.semantics.specs.Formula.{State}
+use Rattle.semantics.specs.Shape.{nameCount, timersOf}
 use Rattle.semantics.specs.ReferenceScan.{withInputs}
 use Rattle.bytecode.specs.Check.{checkOf}
 use Rattle.bytecode.specs.Parts.{headerOf, codeOf, shapeIn}
 use Rattle.bytecode.proofs.Walk.{check-sound}
+use Rattle.bytecode.proofs.SoundHeader.{header-is}
+use Rattle.machine.specs.declared.Timing.{Timing}
 use Rattle.paused.specs.declared.Checkpoint.{Checkpoint}
 use Rattle.paused.specs.declared.Response.the-variants as R
-use Rattle.paused.specs.Memory.{rowPlace, slice, checkpointOf, waitingLength, waitingOf}
+use Rattle.paused.specs.Memory.{rowPlace, slice, checkpointOf, bitsOf, waitingLength, waitingOf}
 use Rattle.resumable.specs.Instalment.{afterCall}
 use Rattle.lifecycle.specs.Calls.{startedIn, rowTaken, beginOf}
 use Rattle.before.specs.Inner.Known.{Begun}
 use Rattle.paused.proofs.Clipped.{clipped-most}
-use Rattle.lifecycle.specs.Inner.Parts.{keptStart}
+use Rattle.paused.proofs.Bits.{bits-flags}
+use Rattle.lifecycle.specs.Inner.Parts.{keptStart, layoutWith}
 
 -- the row that waits is short
 pub waiting-most : (cells : List ℤ) → waitingLength cells ≤ 65
 unfolding waitingLength
 waiting-most cells = clipped-most cells 13 65
 
--- an image that passes the tests is no longer than allowed
-pub image-short : (image : List ℕ) (s : State) (row : List ℤ) → accepted tt ≡ beforeCode image s row → length image ≤ imageLimit
+-- an image that passes the tests is sound, no longer than allowed, and has no more names
+image-sound : (image : List ℕ) (s : State) (row : List ℤ) → accepted tt ≡ beforeCode image s row → checkOf image ≡ accepted tt
 unfolding beforeCode
-image-short image s row e = check-sound image (checked (checkOf image) refl (sym e)) .short
+image-sound image s row e = checked (checkOf image) refl (sym e)
   where
     checked : (a : Answer (Unit {0})) → checkOf image ≡ a → mayScan a (shapeIn image) s row ≡ accepted tt → checkOf image ≡ accepted tt
     checked (accepted tt) k q = k
     checked (refused n p) k q = absurd (let z : _≡_ {A = ℕ} 0 1 = cc in omega arith)
+
+pub image-short : (image : List ℕ) (s : State) (row : List ℤ) → accepted tt ≡ beforeCode image s row → length image ≤ imageLimit
+image-short image s row e = check-sound image (image-sound image s row e) .short
+
+pub image-few : (image : List ℕ) (s : State) (row : List ℤ) → accepted tt ≡ beforeCode image s row → nameCount (shapeIn image) ≤ nameLimit
+image-few image s row e =
+    let y = check-sound image (image-sound image s row e) in
+    rw (header-is image y) (y .fits .few)
 
 pub some-row : (w : ℕ) → (w ≡ 0 → ⊥) → w ≡ suc (15 + w - 16)
 some-row w h = by w h
@@ -65,12 +77,13 @@ module _ (image : List ℕ) (s : State) (cells : List ℤ) where
         unfolding beginOf waitingOf
         begin-refused k q f = rw (eq-eqb (length cells) pausedLength l, ← e, eq-eqb (p .phase) 0 z, ← n, some-row w h, ← f)
 
-        pub begin-done : (low high work left : List ℤ) (place : ℕ) → accepted tt ≡ beforeCode image s (slice rowPlace (15 + w - 16) cells)
-            → Begun image s (slice rowPlace (15 + w - 16) cells) low high work place
-            → left ≡ keptStart (record { image = length image; base = place; size = length s }) s (take (length s) low) (take (length s) high) (take (length s) work) (rowTaken cells)
+        pub begin-done : (low high work left : List ℤ) (place : ℕ) (timing : Timing) → accepted tt ≡ beforeCode image s (slice rowPlace (15 + w - 16) cells)
+            → Begun image s (slice rowPlace (15 + w - 16) cells) low high work place timing
+            → left ≡ keptStart (layoutWith (length image) place (length s) timing) s (take (length s) low) (take (length s) high) (take (length s) work) (rowTaken cells)
             → afterCall (R.Done 0) left ≡ beginOf image s cells
         unfolding beginOf waitingOf codeOf
-        begin-done low high work left place f b g =
+        begin-done low high work left place timing f b g =
+            let bits : timing .timers ≡ bitsOf (timersOf (shapeIn image)) = sym (bits-flags (timing .names) (timing .timers) (b .low-timers)) ∙ ap bitsOf (sym (b .timed .flags)) in
             rw (
               eq-eqb (length cells) pausedLength l,
               ← e,
@@ -83,5 +96,8 @@ module _ (image : List ℕ) (s : State) (cells : List ℤ) where
               b .highest,
               b .copied,
               b .code,
+              b .names,
+              bits,
+              ← b .timed .time,
               length-drop (headerOf image .place) image,
             )

@@ -7,7 +7,7 @@ use mathlib.Core.List.{List}
 use lib.IntN.{ℤ}
 use lib.ListN.{length}
 use borrow.Author.Tests.{eq-eqb, ne-eqb}
-use Rattle.limits.specs.Limits.{nameLimit, pausedLength}
+use Rattle.limits.specs.Limits.{stateLimit, pausedLength}
 use Rattle.semantics.specs.Formula.{State}
 use Rattle.semantics.specs.ReferenceScan.{withInputs}
 use Rattle.machine.proofs.Copies.{over-all}
@@ -48,7 +48,7 @@ module _ (s : State) (cells : List ℤ) where
         finish-refused z = rw (eq-eqb (length cells) pausedLength l, ← e, ne-eqb (p .phase) 0 n, ne-eqb (p .phase) 1 m, ne-eqb (p .phase) 2 z)
 
 -- the state lent is the one at the start, so it has as many values
-module _ (s : State) (cells : List ℤ) (size : ℕ) (l : length cells ≡ pausedLength) (few : size ≤ nameLimit) (e : sameValues s (slice startPlace size cells) ≡ true) where
+module _ (s : State) (cells : List ℤ) (size : ℕ) (l : length cells ≡ pausedLength) (few : size ≤ stateLimit) (e : sameValues s (slice startPlace size cells) ≡ true) where
   state-sized : length s ≡ size
   state-sized = same-long s (slice startPlace size cells) e ∙ length-slice startPlace size cells (omega arith)
 

@@ -5,7 +5,7 @@ use mathlib.Core.List.{List, [], _∷_}
 use mathlib.Core.Option.{Option, none, some}
 use lib.Dec.{eqb}
 use lib.IntN.{ℤ, pos}
-use lib.ListN.{length, set}
+use lib.ListN.{length, take, set}
 use lib.Seq.{sets}
 use Rattle.limits.specs.Limits.{wrongLength, pausedLength, stateDiffers}
 use Rattle.limits.specs.Answer.{Answer, accepted, refused}
@@ -15,13 +15,13 @@ use Rattle.semantics.specs.ReferenceScan.{withInputs}
 use Rattle.bytecode.specs.Check.{checkOf}
 use Rattle.bytecode.specs.Parts.{headerOf, codeOf, shapeIn, lows, highs}
 use Rattle.machine.specs.Step.{machine}
-use Rattle.semantics.specs.Shape.{Shape, rowLength}
+use Rattle.semantics.specs.Shape.{Shape, nameCount, rowLength, settingOf}
 use Rattle.before.specs.Before.{testedBefore, beforeCode}
 use Rattle.paused.specs.declared.Checkpoint.{Checkpoint}
 use Rattle.paused.specs.declared.Layout.{Layout}
 use Rattle.paused.specs.declared.Response.{Response}
 use Rattle.paused.specs.declared.Response.the-variants as R
-use Rattle.paused.specs.Memory.{layoutPlace, waitingPlace, rowPlace, startPlace, currentPlace, lowPlace, highPlace, slice, checkpointOf, layoutOf, layoutCells, waitingOf}
+use Rattle.paused.specs.Memory.{waitingPlace, rowPlace, startPlace, currentPlace, lowPlace, highPlace, slice, checkpointOf, layoutOf, bitsOf, withLayout, waitingOf}
 use Rattle.resumable.specs.Instalment.{AfterCall, afterCall, sized, leftAfter}
 
 -- ---- finish
@@ -63,17 +63,27 @@ finishOf s cells = cond (eqb (length cells) pausedLength) (finishWith (checkpoin
 
 -- ---- start
 
--- what instalments ask of an image and a state
-abbrev pub layoutFor : List ℕ → State → Layout
-layoutFor image s = record { image = length image; base = headerOf image .place; size = length s }
+-- what instalments ask of an image, a state and a row
+abbrev pub layoutFor : List ℕ → State → List ℤ → Layout
+layoutFor image s row =
+    record {
+      image = length image;
+      base = headerOf image .place;
+      size = length s;
+      names = nameCount (shapeIn image);
+      millis = settingOf (shapeIn image) row .millis;
+      timers = bitsOf (settingOf (shapeIn image) row .timers);
+    }
 
-abbrev pub formed : List ℕ → State → List ℤ → List ℤ
-formed image s cells =
-    sets (sets (sets (sets cells lowPlace (lows (headerOf image .ranges))) highPlace (highs (headerOf image .ranges))) startPlace s) layoutPlace (layoutCells (layoutFor image s))
+abbrev pub formed : List ℕ → State → List ℤ → List ℤ → List ℤ
+formed image s row cells =
+    let ns = settingOf (shapeIn image) row .ranges in
+    withLayout (layoutFor image s row) (sets (sets (sets cells lowPlace (lows ns)) highPlace (highs ns)) startPlace s)
 
 -- before the first instruction; an empty code is at its end
 abbrev pub startedIn : List ℕ → State → List ℤ → List ℤ → List ℤ
-startedIn image s row cells = leftAfter 0 (length (codeOf image)) 0 0 (ok (machine false false [] (withInputs s row))) (formed image s cells)
+startedIn image s row cells =
+    leftAfter 0 (length (codeOf image)) 0 0 (ok (machine false false [] (withInputs s (take (shapeIn image .inputs) row)))) (formed image s row cells)
 
 -- A start takes the waiting row
 abbrev pub rowTaken : List ℤ → List ℤ

@@ -1,26 +1,24 @@
 // A scan in instalments finished and started, and a row posted for the next one, on the lent memory of `paused`.
 use before::Before;
-use bytecode::Counted;
-use checker::Checked;
+use machine::Timing;
 use machine::lists;
 use paused::Checkpoint;
 use paused::Layout;
 use paused::Response;
+use shapes::Shaped;
 ghost use mathlib.Core.Path.{_≡_};
-ghost use Prim.Native.Nat.{_≤_, _<_, _^_};
-ghost use lib.Dec.{eqb};
+ghost use mathlib.Core.Bool.{cond};
+ghost use Prim.Native.Nat.{_+_, _≤_, _<_, _^_};
+ghost use lib.Dec.{eqb, ltb};
 ghost use lib.IntN.{pos};
 ghost use lib.ListN.{length, take, set};
 ghost use Rattle.paused.specs.Responses.{ResponseWithin};
 ghost use Rattle.before.specs.Before.{testedBefore};
-ghost use Rattle.limits.specs.Limits.{imageLimit, nameLimit, wrongLength, pausedLength};
+ghost use Rattle.limits.specs.Limits.{imageLimit, nameLimit, stateLimit, wrongLength, pausedLength};
 ghost use Rattle.limits.specs.Answer.{accepted};
-ghost use Rattle.bytecode.specs.Check.{checkOf};
-ghost use Rattle.bytecode.specs.Parts.{shapeIn};
-ghost use Rattle.semantics.specs.Shape.{rowLength};
 ghost use Rattle.resumable.specs.Instalment.{afterCall};
 ghost use Rattle.lifecycle.specs.Calls.{sameValues, afterFinish, finishOf, orRefused, beginOf, withRow, postOf};
-ghost use Rattle.lifecycle.specs.Inner.Parts.{finishEnded, keptStart, StartKeepable, Beginning, FullScratch};
+ghost use Rattle.lifecycle.specs.Inner.Parts.{finishEnded, keptStart, layoutWith, StartKeepable, Beginning, FullScratch};
 
 // One more than its length is kept of a row that waits.
 const BEFORE_ROW: usize = paused::ROW - 1;
@@ -52,7 +50,7 @@ fn same(a: &[i32], b: &[i32]) -> bool
 
 // A scan at the end of its code: 24, or the state is written and the scan is over.
 fn finish_ended(memory: &mut [i32], state: &mut [i32], size: usize, steps: usize) -> Response
-    requires { ⌜ (length (now memory) ≡ pausedLength) × (size ≤ nameLimit) ⌝ }
+    requires { ⌜ (length (now memory) ≡ pausedLength) × (size ≤ stateLimit) ⌝ }
     requires { ⌜ steps ≤ imageLimit ⌝ }
     ensures { λ r. ⌜ afterFinish r (now (memory .exit)) (now (state .exit)) ≡ finishEnded steps size (now (state .entry)) (now (memory .entry)) ⌝ }
     ensures { λ r. ⌜ ResponseWithin imageLimit r ⌝ }
@@ -126,13 +124,14 @@ fn begin_code(
     memory: &mut [i32],
     len: usize,
     place: usize,
+    timing: Timing,
     state: &[i32],
     low: &[i32],
     high: &[i32],
     work: &[i32],
 ) -> Response
-    requires { ⌜ Beginning (now memory) len place (now state) (now low) (now high) (now work) ⌝ }
-    ensures { λ r. ⌜ (r ≡ Response.Done 0) × (now (memory .exit) ≡ keptStart (record { image = len; base = place; size = length (now (state .entry)) }) (now (state .entry))
+    requires { ⌜ Beginning (now memory) len place timing (now state) (now low) (now high) (now work) ⌝ }
+    ensures { λ r. ⌜ (r ≡ Response.Done 0) × (now (memory .exit) ≡ keptStart (layoutWith len place (length (now (state .entry))) timing) (now (state .entry))
         (take (length (now (state .entry))) (now (low .entry))) (take (length (now (state .entry))) (now (high .entry))) (take (length (now (state .entry))) (now (work .entry))) (now (memory .entry))) ⌝ }
 {
     let size = state.len();
@@ -140,6 +139,9 @@ fn begin_code(
         image: len,
         base: place,
         size,
+        names: timing.names,
+        millis: timing.millis,
+        timers: timing.timers,
     };
     keep_start(
         memory,
@@ -182,7 +184,9 @@ fn begin_in(
     put(paused, paused::WAITING, 0);
     match tried {
         Before::Refused(number, place) => Response::Refused(number, place, 0),
-        Before::Code(place) => begin_code(paused, image.len(), place, state, low, high, work),
+        Before::Code(place, timing) => {
+            begin_code(paused, image.len(), place, timing, state, low, high, work)
+        }
     }
 }
 
@@ -191,25 +195,32 @@ pub fn begin(paused: &mut [i32], image: &[u8], state: &[i32]) -> Response
     ensures { λ r. ⌜ afterCall r (now (paused .exit)) ≡ beginOf (now (image .entry)) (now (state .entry)) (now (paused .entry)) ⌝ }
     ensures { λ r. ⌜ ResponseWithin imageLimit r ⌝ }
 {
-    let mut low = [0i32; limits::NAME_LIMIT];
-    let mut high = [0i32; limits::NAME_LIMIT];
-    let mut work = [0i32; limits::NAME_LIMIT];
+    let mut low = [0i32; limits::STATE_LIMIT];
+    let mut high = [0i32; limits::STATE_LIMIT];
+    let mut work = [0i32; limits::STATE_LIMIT];
     begin_in(paused, image, state, &mut low, &mut high, &mut work)
 }
 
-// The row of a sound image, or 12.
-fn post_sound(memory: &mut [i32], image: &[u8], row: &[i32]) -> Response
-    requires { ⌜ (length (now memory) ≡ pausedLength) × (checkOf (now image) ≡ accepted tt) ⌝ }
+// The numbers of a row: the milliseconds too, where states have elapsed times.
+fn row_length(inputs: usize, names: usize, size: usize) -> usize
+    requires { ⌜ inputs ≤ nameLimit ⌝ }
+    ensures { λ r. ⌜ r ≡ cond (ltb names size) (inputs + 1) inputs ⌝ }
+{
+    if names < size {
+        return inputs + 1;
+    }
+    inputs
+}
+
+// A row of so many numbers, or 12.
+fn post_row(memory: &mut [i32], row: &[i32], len: usize) -> Response
+    requires { ⌜ (length (now memory) ≡ pausedLength) × (len ≤ nameLimit) ⌝ }
     ensures { λ r. ⌜ afterCall r (now (memory .exit))
-        ≡ orRefused (testedBefore (eqb (length (now (row .entry))) (rowLength (shapeIn (now (image .entry))))) wrongLength (accepted tt)) (now (memory .entry))
+        ≡ orRefused (testedBefore (eqb (length (now (row .entry))) len) wrongLength (accepted tt)) (now (memory .entry))
         (afterCall (Response.Done 0) (withRow (now (row .entry)) (now (memory .entry)))) ⌝ }
     ensures { λ r. ⌜ ResponseWithin imageLimit r ⌝ }
 {
-    let counted = bytecode::counts(image);
-    let Counted::Counts(inputs, _, _) = counted else {
-        return Response::Refused(limits::BROKEN_IMAGE, 0, 0);
-    };
-    if row.len() != inputs {
+    if row.len() != len {
         return Response::Refused(limits::WRONG_LENGTH, 0, 0);
     }
     lists::store(memory, paused::ROW, row);
@@ -217,7 +228,7 @@ fn post_sound(memory: &mut [i32], image: &[u8], row: &[i32]) -> Response
     Response::Done(0)
 }
 
-// The row waits for the next scan. 9, 11, then 12; a refused one replaces nothing.
+// The row waits for the next scan. 9, 11, then 12; a refused one replaces nothing. No ranges are asked for.
 pub fn post(paused: &mut [i32], image: &[u8], row: &[i32]) -> Response
     ensures { λ r. ⌜ afterCall r (now (paused .exit)) ≡ postOf (now (image .entry)) (now (row .entry)) (now (paused .entry)) ⌝ }
     ensures { λ r. ⌜ ResponseWithin imageLimit r ⌝ }
@@ -225,9 +236,11 @@ pub fn post(paused: &mut [i32], image: &[u8], row: &[i32]) -> Response
     if paused.len() != limits::PAUSED_LENGTH {
         return Response::Idle;
     }
-    let checked = checker::check(image);
-    match checked {
-        Checked::Refused(number, place) => Response::Refused(number, place, 0),
-        Checked::Sound => post_sound(paused, image, row),
+    let mut low = [0i32; 1];
+    let mut high = [0i32; 1];
+    let shaped = shapes::shape(image, &mut low, &mut high);
+    match shaped {
+        Shaped::Refused(number, place) => Response::Refused(number, place, 0),
+        Shaped::Shape(m) => post_row(paused, row, row_length(m.inputs, m.names, m.size)),
     }
 }

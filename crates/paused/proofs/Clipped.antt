@@ -3,7 +3,7 @@ use Prim.Native.Nat.{ℕ, _≤_, _<_}
 use native.Mathlib.Omega.{arith}
 use mathlib.Core.List.{List}
 use lib.IntN.{ℤ}
-use Rattle.limits.specs.Limits.{imageLimit, nameLimit, stackLimit}
+use Rattle.limits.specs.Limits.{imageLimit, nameLimit, stackLimit, stateLimit}
 use Rattle.paused.specs.declared.Checkpoint.{Checkpoint}
 use Rattle.paused.specs.declared.Layout.{Layout}
 use Rattle.paused.specs.Memory.{clipped, checkpointOf, layoutOf}
@@ -26,8 +26,15 @@ checkpoint-within cells =
 pub record LayoutWithin (f : Layout) : Type 0 where
   pub images : f .image ≤ imageLimit
   pub bases : f .base ≤ f .image
-  pub sizes : f .size ≤ nameLimit
+  pub sizes : f .size ≤ stateLimit
+  pub few : f .names ≤ nameLimit
 
 pub layout-within : (cells : List ℤ) → LayoutWithin (layoutOf cells)
 unfolding layoutOf
-layout-within cells = record { images = clipped-most cells 8 imageLimit; bases = clipped-most cells 9 (clipped cells 8 imageLimit); sizes = clipped-most cells 10 nameLimit }
+layout-within cells =
+    record {
+      images = clipped-most cells 8 imageLimit;
+      bases = clipped-most cells 9 (clipped cells 8 imageLimit);
+      sizes = clipped-most cells 10 stateLimit;
+      few = clipped-most cells 11 nameLimit;
+    }

@@ -1,3 +1,4 @@
 pub mod Numbers
 pub mod Clipped
 pub mod ReadBack
+pub mod Bits

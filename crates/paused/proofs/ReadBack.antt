@@ -1,21 +1,22 @@
 -- What is read back from the memory after a store, over any place and length. Assumes nothing.
-use Prim.Native.Nat.{ℕ, zero, suc, _+_, _-_, _≤_, _<_, min}
+use Prim.Native.Nat.{ℕ, zero, suc, _+_, _-_, _*_, _/_, _%_, _^_, _≤_, _<_, min}
 use native.Mathlib.Omega.{arith}
 use mathlib.Core.Path.{_≡_, refl, sym, ap, _∙_}
-use mathlib.Core.Bool.{Bool, true, false}
+use mathlib.Core.Bool.{Bool, true, false, cond}
 use mathlib.Core.List.{List, [], _∷_, _++_, append-assoc}
 use mathlib.Core.Option.{Option, none, some}
 use lib.Dec.{eqb}
+use borrow.Author.Tests.{eqb-true}
 use lib.IntN.{ℤ, pos}
 use lib.ListN.{length, getD, take, drop, set, length-append, length-set, List·getD-append}
 use lib.Seq.{sets, sets-eq, length-sets, getD-set-other, drop-set-lt, drop-set-add, take-set-le, take-at, drop-at, getD-append-add, length-take-le}
 use Rattle.arith.specs.Values.{count}
-use Rattle.limits.specs.Limits.{imageLimit, nameLimit, stackLimit}
+use Rattle.limits.specs.Limits.{imageLimit, nameLimit, stackLimit, stateLimit}
 use Rattle.leb128.proofs.Stores.{sets-front}
 use Rattle.paused.specs.declared.Checkpoint.{Checkpoint}
 use Rattle.paused.specs.declared.Layout.{Layout}
 use Rattle.paused.proofs.Clipped.{clipped-most}
-use Rattle.paused.specs.Memory.{largestNumber, clipped, slice, checkpointOf, layoutOf, waitingLength, waitingIn, waitingOf, flagOf, checkpointCells, layoutCells, rowPlace, waitingPlace}
+use Rattle.paused.specs.Memory.{largestNumber, partLimit, clipped, slice, checkpointOf, partsAt, timersAt, layoutOf, waitingLength, waitingIn, waitingOf, flagOf, checkpointCells, layoutCells, timerCells, withLayout, rowPlace, waitingPlace, timersPlace}
 
 -- ---- one number
 
@@ -90,22 +91,73 @@ checkpoint-stored l p h r =
       flag-is (checkpointCells p ++ drop 7 l) 6 (p .passing) refl,
     )
 
-pub layout-alike : (l m : List ℤ) → ((j : ℕ) → 8 ≤ j → j < 11 → getD l j (pos 0) ≡ getD m j (pos 0)) → layoutOf l ≡ layoutOf m
+parts-alike : (l m : List ℤ) → ((j : ℕ) → 120 ≤ j → j < 124 → getD l j (pos 0) ≡ getD m j (pos 0)) → partsAt l ≡ partsAt m
+unfolding partsAt
+parts-alike l m e =
+    rw (
+      clipped-alike l m 120 partLimit (e 120 (omega arith) (omega arith)),
+      clipped-alike l m 121 partLimit (e 121 (omega arith) (omega arith)),
+      clipped-alike l m 122 partLimit (e 122 (omega arith) (omega arith)),
+      clipped-alike l m 123 partLimit (e 123 (omega arith) (omega arith)),
+    )
+
+pub layout-alike : (l m : List ℤ) → ((j : ℕ) → 8 ≤ j → j < 13 → getD l j (pos 0) ≡ getD m j (pos 0)) → ((j : ℕ) → 120 ≤ j → j < 124 → getD l j (pos 0) ≡ getD m j (pos 0)) → layoutOf l ≡ layoutOf m
 unfolding layoutOf
-layout-alike l m e =
+layout-alike l m e t =
     rw (
       clipped-alike l m 8 imageLimit (e 8 (omega arith) (omega arith)),
       clipped-alike l m 9 (clipped m 8 imageLimit) (e 9 (omega arith) (omega arith)),
-      clipped-alike l m 10 nameLimit (e 10 (omega arith) (omega arith)),
+      clipped-alike l m 10 stateLimit (e 10 (omega arith) (omega arith)),
+      clipped-alike l m 11 nameLimit (e 11 (omega arith) (omega arith)),
+      e 12 (omega arith) (omega arith),
+      parts-alike l m t,
     )
 
-pub layout-stored : (l : List ℤ) (f : Layout) → 11 ≤ length l → f .image ≤ imageLimit → f .base ≤ f .image → f .size ≤ nameLimit → layoutOf (sets l 8 (layoutCells f)) ≡ f
-unfolding layoutOf
-layout-stored l f h a b s =
+-- a layout that is read back as it is
+pub record LayoutReadable (f : Layout) : Type 0 where
+  pub images : f .image ≤ imageLimit
+  pub bases : f .base ≤ f .image
+  pub sizes : f .size ≤ stateLimit
+  pub few : f .names ≤ nameLimit
+  pub bits : f .timers < 2 ^ 64
+  pub untimed : f .size ≡ f .names → f .timers ≡ 0
+
+-- four numbers of 16 bits together
+parts-joined : (n : ℕ) → n < 2 ^ 64 → n % 65536 + 65536 * (n / 65536 % 65536 + 65536 * (n / 65536 / 65536 % 65536 + 65536 * (n / 65536 / 65536 / 65536 % 65536))) ≡ n
+parts-joined n h = omega arith
+
+parts-stored : (l : List ℤ) (n : ℕ) → 124 ≤ length l → n < 2 ^ 64 → partsAt (sets l timersPlace (timerCells n)) ≡ n
+unfolding partsAt
+parts-stored l n h b =
     rw (
-      clipped-is (sets l 8 (layoutCells f)) 8 (f .image) imageLimit (getD-sets-same (layoutCells f) l 8 0 h (omega arith)) a,
-      clipped-is (sets l 8 (layoutCells f)) 9 (f .base) (f .image) (getD-sets-same (layoutCells f) l 8 1 h (omega arith)) b,
-      clipped-is (sets l 8 (layoutCells f)) 10 (f .size) nameLimit (getD-sets-same (layoutCells f) l 8 2 h (omega arith)) s,
+      clipped-is (sets l 120 (timerCells n)) 120 (n % 65536) partLimit (getD-sets-same (timerCells n) l 120 0 h (omega arith)) (omega arith),
+      clipped-is (sets l 120 (timerCells n)) 121 (n / 65536 % 65536) partLimit (getD-sets-same (timerCells n) l 120 1 h (omega arith)) (omega arith),
+      clipped-is (sets l 120 (timerCells n)) 122 (n / 65536 / 65536 % 65536) partLimit (getD-sets-same (timerCells n) l 120 2 h (omega arith)) (omega arith),
+      clipped-is (sets l 120 (timerCells n)) 123 (n / 65536 / 65536 / 65536 % 65536) partLimit (getD-sets-same (timerCells n) l 120 3 h (omega arith)) (omega arith),
+    )
+    (parts-joined n b)
+
+timers-stored : (l : List ℤ) (size names n : ℕ) → 124 ≤ length l → n < 2 ^ 64 → (size ≡ names → n ≡ 0) → timersAt size names (sets l timersPlace (timerCells n)) ≡ n
+timers-stored l size names n h b z = by (eqb size names) (eqb-true size names)
+  where
+    by : (t : Bool) → (t ≡ true → size ≡ names) → cond t 0 (partsAt (sets l timersPlace (timerCells n))) ≡ n
+    by true y = sym (z (y refl))
+    by false y = parts-stored l n h b
+
+pub layout-stored : (l : List ℤ) (f : Layout) → 124 ≤ length l → LayoutReadable f → layoutOf (withLayout f l) ≡ f
+unfolding layoutOf
+layout-stored l f h r =
+    let a = sets l 8 (layoutCells f) in
+    let la : length a ≡ length l = length-sets l 8 (layoutCells f) in
+    let at : (j : ℕ) → j < 5 → getD (withLayout f l) (8 + j) (pos 0) ≡ getD (layoutCells f) j (pos 0) = λ j k.
+    getD-sets-before (timerCells (f .timers)) a 120 (8 + j) (omega arith) ∙ getD-sets-same (layoutCells f) l 8 j (omega arith) k in
+    rw (
+      clipped-is (withLayout f l) 8 (f .image) imageLimit (at 0 (omega arith)) (r .images),
+      clipped-is (withLayout f l) 9 (f .base) (f .image) (at 1 (omega arith)) (r .bases),
+      clipped-is (withLayout f l) 10 (f .size) stateLimit (at 2 (omega arith)) (r .sizes),
+      clipped-is (withLayout f l) 11 (f .names) nameLimit (at 3 (omega arith)) (r .few),
+      at 4 (omega arith),
+      timers-stored a (f .size) (f .names) (f .timers) (omega (arith, la)) (r .bits) (r .untimed),
     )
 
 pub waiting-alike : (l m : List ℤ) → getD l waitingPlace (pos 0) ≡ getD m waitingPlace (pos 0) → ((n : ℕ) → n ≤ nameLimit → slice rowPlace n l ≡ slice rowPlace n m) → waitingOf l ≡ waitingOf m

@@ -1,13 +1,14 @@
--- The memory of a paused scan and of the row that waits. Document 02, A.8. Any content has a meaning: each number is clipped.
+-- The memory of a paused scan and of the row that waits. Document 02, A.7 and A.8. Any content has a meaning: each number is clipped.
 -- Assumes nothing.
-use Prim.Native.Nat.{ℕ, zero, suc, _+_, min}
-use mathlib.Core.Bool.{Bool, true, false}
+use Prim.Native.Nat.{ℕ, zero, suc, _+_, _*_, _/_, _%_, min}
+use mathlib.Core.Bool.{Bool, true, false, cond}
 use mathlib.Core.List.{List, [], _∷_, _++_}
 use mathlib.Core.Option.{Option, none, some}
 use lib.Dec.{eqb}
 use lib.IntN.{ℤ, pos}
 use lib.ListN.{length, getD, take, drop}
-use Rattle.limits.specs.Limits.{imageLimit, nameLimit, stackLimit}
+use lib.Seq.{sets}
+use Rattle.limits.specs.Limits.{imageLimit, nameLimit, stackLimit, stateLimit}
 use Rattle.arith.specs.Values.{count}
 use Rattle.paused.specs.declared.Checkpoint.{Checkpoint}
 use Rattle.paused.specs.declared.Layout.{Layout}
@@ -30,6 +31,10 @@ rowPlace = 16
 -- the values held, the first at the front
 abbrev pub heldPlace : ℕ
 heldPlace = 80
+
+-- which names are timers: four numbers of 16 bits
+abbrev pub timersPlace : ℕ
+timersPlace = 120
 
 -- the state at the start, the current values, lows and highs: room for 127 each
 abbrev pub startPlace : ℕ
@@ -69,9 +74,29 @@ checkpointOf cells =
       passing = eqb (clipped cells 6 1) 1;
     }
 
--- the length of the image, the place of its code, the values of a state
+-- the largest number of 16 bits
+abbrev pub partLimit : ℕ
+partLimit = 65535
+
+-- four numbers of 16 bits as one, the lowest first
+unfoldable pub partsAt : List ℤ → ℕ
+partsAt cells = clipped cells 120 partLimit + 65536 * (clipped cells 121 partLimit + 65536 * (clipped cells 122 partLimit + 65536 * clipped cells 123 partLimit))
+
+-- which names are timers, as the bits of a number: none where a state has no more numbers than names
+abbrev pub timersAt : ℕ → ℕ → List ℤ → ℕ
+timersAt size names cells = cond (eqb size names) 0 (partsAt cells)
+
+-- the length of the image, the place of its code, the numbers of a state, the names, the milliseconds, the timers
 unfoldable pub layoutOf : List ℤ → Layout
-layoutOf cells = record { image = clipped cells 8 imageLimit; base = clipped cells 9 (clipped cells 8 imageLimit); size = clipped cells 10 nameLimit }
+layoutOf cells =
+    record {
+      image = clipped cells 8 imageLimit;
+      base = clipped cells 9 (clipped cells 8 imageLimit);
+      size = clipped cells 10 stateLimit;
+      names = clipped cells 11 nameLimit;
+      millis = count (getD cells 12 (pos 0));
+      timers = timersAt (clipped cells 10 stateLimit) (clipped cells 11 nameLimit) cells;
+    }
 
 unfoldable pub waitingLength : List ℤ → ℕ
 waitingLength cells = clipped cells waitingPlace (nameLimit + 1)
@@ -95,7 +120,23 @@ checkpointCells p =
     pos (p .phase) ∷ pos (p .number) ∷ pos (p .place) ∷ pos (p .steps) ∷ pos (p .held) ∷ pos (flagOf (p .picked)) ∷ pos (flagOf (p .passing)) ∷ []
 
 abbrev pub layoutCells : Layout → List ℤ
-layoutCells s = pos (s .image) ∷ pos (s .base) ∷ pos (s .size) ∷ []
+layoutCells s = pos (s .image) ∷ pos (s .base) ∷ pos (s .size) ∷ pos (s .names) ∷ pos (s .millis) ∷ []
+
+-- flags as the bits of a number, the first the lowest
+abbrev pub bitsOf : List Bool → ℕ
+bitsOf [] = 0
+bitsOf (b ∷ bs) = flagOf b + 2 * bitsOf bs
+
+-- the lowest k · 16 bits of a number
+abbrev pub partsOf : ℕ → ℕ → List ℤ
+partsOf zero n = []
+partsOf (suc k) n = pos (n % 65536) ∷ partsOf k (n / 65536)
+
+abbrev pub timerCells : ℕ → List ℤ
+timerCells n = partsOf 4 n
+
+abbrev pub withLayout : Layout → List ℤ → List ℤ
+withLayout f cells = sets (sets cells layoutPlace (layoutCells f)) timersPlace (timerCells (f .timers))
 
 -- the values held, the first at the front
 abbrev pub stacked : List ℤ → List ℤ

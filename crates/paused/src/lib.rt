@@ -1,12 +1,12 @@
 // The memory of a paused scan and of the row that waits: 640 numbers, lent as one slice. Whatever it holds, each number read from it is clipped.
 use machine::lists;
 ghost use mathlib.Core.Path.{_≡_};
-ghost use Prim.Native.Nat.{_<_, _^_, min};
+ghost use Prim.Native.Nat.{_≤_, _<_, _^_, min};
 ghost use lib.IntN.{pos};
 ghost use lib.ListN.{length};
 ghost use lib.Seq.{sets};
 ghost use Rattle.limits.specs.Limits.{imageLimit, pausedLength};
-ghost use Rattle.paused.specs.Memory.{clipped, waitingLength, checkpointOf, layoutOf, checkpointCells, layoutCells, flagOf};
+ghost use Rattle.paused.specs.Memory.{partLimit, clipped, timersAt, waitingLength, checkpointOf, layoutOf, checkpointCells, timerCells, withLayout, flagOf};
 ghost use Rattle.paused.specs.Responses.{packed, packedResponse, ResponseWithin};
 ghost use Rattle.paused.specs.Inner.Small.{SmallCheckpoint, SmallLayout};
 
@@ -20,6 +20,8 @@ pub const WAITING: usize = 13;
 pub const ROW: usize = 16;
 
 pub const HELD: usize = 80;
+
+const TIMERS: usize = 120;
 
 pub const START: usize = 128;
 
@@ -53,6 +55,15 @@ const BASE: usize = SHAPE + 1;
 
 const SIZE: usize = SHAPE + 2;
 
+const NAMES: usize = SHAPE + 3;
+
+const MILLIS: usize = SHAPE + 4;
+
+// The timers, one bit a name, are kept as numbers of 16 bits.
+const PART: u64 = 65536;
+
+const PART_LIMIT: usize = 65535;
+
 // Phases: no scan, under way, at the end of the code, refused with a number.
 pub const NO_SCAN: usize = 0;
 
@@ -81,11 +92,14 @@ pub struct Checkpoint {
     pub passing: bool,
 }
 
-// The length of the image, the place of its code, the values of a state.
+// The length of the image, the place of its code, the numbers of a state, the names, the milliseconds, and which names are timers, one bit a name.
 pub struct Layout {
     pub image: usize,
     pub base: usize,
     pub size: usize,
+    pub names: usize,
+    pub millis: u64,
+    pub timers: u64,
 }
 
 // The answer of a call: steps; a refusal's number, place and steps; a scan that is not finished; neither scan nor row.
@@ -149,15 +163,43 @@ pub fn checkpoint_in(memory: &[i32]) -> Checkpoint
     }
 }
 
+// A number of 16 bits.
+fn part(memory: &[i32], i: usize) -> u64
+    requires { ⌜ i < length (now memory) ⌝ }
+    ensures { λ r. ⌜ (r ≡ clipped (now (memory .entry)) i partLimit) × (r ≤ partLimit) ⌝ }
+{
+    cell(memory, i, PART_LIMIT) as u64
+}
+
+// The timers, one bit a name; none where a state has no more numbers than names.
+fn timers_in(memory: &[i32], size: usize, names: usize) -> u64
+    requires { ⌜ length (now memory) ≡ pausedLength ⌝ }
+    ensures { λ r. ⌜ r ≡ timersAt size names (now (memory .entry)) ⌝ }
+{
+    if size == names {
+        return 0;
+    }
+    let a = part(memory, TIMERS);
+    let b = part(memory, TIMERS + 1);
+    let c = part(memory, TIMERS + 2);
+    let d = part(memory, TIMERS + 3);
+    a + PART * (b + PART * (c + PART * d))
+}
+
 pub fn layout_in(memory: &[i32]) -> Layout
     requires { ⌜ length (now memory) ≡ pausedLength ⌝ }
     ensures { λ r. ⌜ r ≡ layoutOf (now (memory .entry)) ⌝ }
 {
     let image = cell(memory, IMAGE, limits::IMAGE_LIMIT);
+    let size = cell(memory, SIZE, limits::STATE_LIMIT);
+    let names = cell(memory, NAMES, limits::NAME_LIMIT);
     Layout {
         image,
         base: cell(memory, BASE, image),
-        size: cell(memory, SIZE, limits::NAME_LIMIT),
+        size,
+        names,
+        millis: arith::count(memory[MILLIS]),
+        timers: timers_in(memory, size, names),
     }
 }
 
@@ -200,11 +242,34 @@ pub fn store_checkpoint(memory: &mut [i32], p: Checkpoint)
     lists::store(memory, CHECKPOINT, &cells);
 }
 
+// The timers, in four numbers of 16 bits.
+fn store_timers(memory: &mut [i32], timers: u64)
+    requires { ⌜ length (now memory) ≡ pausedLength ⌝ }
+    ensures { λ _. ⌜ now (memory .exit) ≡ sets (now (memory .entry)) 120 (timerCells timers) ⌝ }
+{
+    let second = timers / PART;
+    let third = second / PART;
+    let cells = [
+        (timers % PART) as i32,
+        (second % PART) as i32,
+        (third % PART) as i32,
+        (third / PART % PART) as i32,
+    ];
+    lists::store(memory, TIMERS, &cells);
+}
+
 pub fn store_layout(memory: &mut [i32], s: Layout)
     requires { ⌜ length (now memory) ≡ pausedLength ⌝ }
     requires { ⌜ SmallLayout s ⌝ }
-    ensures { λ _. ⌜ now (memory .exit) ≡ sets (now (memory .entry)) 8 (layoutCells s) ⌝ }
+    ensures { λ _. ⌜ now (memory .exit) ≡ withLayout s (now (memory .entry)) ⌝ }
 {
-    let cells = [number(s.image), number(s.base), number(s.size)];
+    let cells = [
+        number(s.image),
+        number(s.base),
+        number(s.size),
+        number(s.names),
+        number(s.millis as usize),
+    ];
     lists::store(memory, SHAPE, &cells);
+    store_timers(memory, s.timers);
 }

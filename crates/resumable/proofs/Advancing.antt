@@ -59,7 +59,7 @@ module _ (image : List ℕ) (n : ℕ) (cells : List ℤ) where
                 le-ltb (p .place) (length image - f .base) q,
               )
 
-          pub advance-goes : p .place < length image - f .base → instalment (drop (f .base) image) (min n imageLimit) cells p (f .size) ≡ advanceOf image n cells
+          pub advance-goes : p .place < length image - f .base → instalment (drop (f .base) image) (min n imageLimit) cells p f ≡ advanceOf image n cells
           unfolding advanceOf
           advance-goes q =
               rw (

@@ -7,9 +7,11 @@ use lib.IntN.{ℤ, pos}
 use lib.ListN.{length, drop}
 use lib.Seq.{sets}
 use Rattle.machine.specs.Held.{heldOf}
-use Rattle.limits.specs.Limits.{imageLimit, nameLimit, stackLimit, pausedLength}
+use Rattle.limits.specs.Limits.{imageLimit, stackLimit, pausedLength}
 use Rattle.arith.specs.Values.{Outcome, ok, refusal}
+use Rattle.arith.specs.Inner.Flags.{flagsOf}
 use Rattle.semantics.specs.Program.{Range}
+use Rattle.semantics.specs.Shape.{Setting}
 use Rattle.machine.specs.Step.{Machine, machine}
 use Rattle.machine.specs.Runs.{Ran, run}
 use Rattle.paused.specs.declared.Checkpoint.{Checkpoint}
@@ -43,14 +45,18 @@ rangesBetween (l ∷ ls) (h ∷ hs) = record { low = l; high = h; start = pos 0 
 abbrev pub rangesIn : ℕ → List ℤ → List Range
 rangesIn size cells = rangesBetween (slice lowPlace size cells) (slice highPlace size cells)
 
+-- what the scan works with: the ranges of its state's numbers, the names that are timers, the milliseconds of its row
+abbrev pub settingIn : Layout → List ℤ → Setting
+settingIn f cells = record { ranges = rangesIn (f .size) cells; timers = flagsOf (f .names) (f .timers); millis = f .millis }
+
 -- the machine that stands in the memory
 abbrev pub standing : Checkpoint → ℕ → List ℤ → Machine
 standing p size cells = machine (p .passing) (p .picked) (heldOf (slice heldPlace stackLimit cells) (p .held)) (slice currentPlace size cells)
 
 -- at most n instructions from where the scan stopped
-unfoldable pub ranFrom : List ℕ → ℕ → Checkpoint → ℕ → List ℤ → Ran
-ranFrom code n p size cells =
-    run (rangesIn size cells) (slice startPlace size cells) code n (p .place) 0 (standing p size cells)
+unfoldable pub ranFrom : List ℕ → ℕ → Checkpoint → Layout → List ℤ → Ran
+ranFrom code n p f cells =
+    run (settingIn f cells) (slice startPlace (f .size) cells) code n (p .place) 0 (standing p (f .size) cells)
 
 -- where the scan now stands: the steps before, the length of the code, the steps of this run and the place that it reached
 abbrev pub wentTo : ℕ → ℕ → ℕ → ℕ → Machine → Checkpoint
@@ -69,15 +75,15 @@ leftAfter before len n place (refusal k) cells = sets cells 0 (checkpointCells (
 abbrev pub leftByRun : ℕ → ℕ → Ran → List ℤ → List ℤ
 leftByRun before len d cells = leftAfter before len (d .steps) (d .place) (d .last) cells
 
-abbrev pub instalment : List ℕ → ℕ → List ℤ → Checkpoint → ℕ → AfterCall
-instalment code n cells p size = afterCall (R.Done (ranFrom code n p size cells .steps)) (leftByRun (p .steps) (length code) (ranFrom code n p size cells) cells)
+abbrev pub instalment : List ℕ → ℕ → List ℤ → Checkpoint → Layout → AfterCall
+instalment code n cells p f = afterCall (R.Done (ranFrom code n p f cells .steps)) (leftByRun (p .steps) (length code) (ranFrom code n p f cells) cells)
 
 -- A caller gives a number of steps; the scan does that many, or fewer if it finishes or is refused, and reports how many.
 abbrev pub advanced : List ℕ → ℕ → List ℤ → Checkpoint → Layout → AfterCall
 advanced image n cells p f =
     cond (eqb (p .phase) 0) (afterCall R.Idle cells)
     (cond (eqb (p .phase) 1 && (ltb 0 n && (eqb (length image) (f .image) && ltb (p .place) (length image - f .base))))
-    (instalment (drop (f .base) image) (min n imageLimit) cells p (f .size))
+    (instalment (drop (f .base) image) (min n imageLimit) cells p f)
     (afterCall (R.Done 0) cells))
 
 -- An instalment without a scan answers idle; then nothing moves. At the end of the code, after a refusal, with 0 steps, or lent an image of

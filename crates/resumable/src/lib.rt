@@ -2,8 +2,10 @@
 use machine::Executed;
 use machine::Registers;
 use machine::Stepped;
+use machine::Timing;
 use machine::lists;
 use paused::Checkpoint;
+use paused::Layout;
 use paused::Response;
 ghost use mathlib.Core.Path.{_≡_};
 ghost use mathlib.Core.Bool.{cond};
@@ -12,7 +14,7 @@ ghost use lib.Dec.{leb};
 ghost use lib.ListN.{length};
 ghost use Rattle.paused.specs.Responses.{ResponseWithin};
 ghost use Rattle.resumable.specs.Inner.Room.{RoomToRun, Short, Keepable};
-ghost use Rattle.limits.specs.Limits.{imageLimit, nameLimit, stackLimit};
+ghost use Rattle.limits.specs.Limits.{imageLimit, stackLimit, stateLimit};
 ghost use Rattle.arith.specs.Values.{ok};
 ghost use Rattle.machine.specs.Inner.Memory.{machineOf, stepOutcome, ranOf, Few};
 ghost use Rattle.resumable.specs.Instalment.{afterCall, ranFrom, leftAfter, instalment, advanceOf};
@@ -22,21 +24,27 @@ fn run_from(
     memory: &[i32],
     code: &[u8],
     p: Checkpoint,
-    size: usize,
+    layout: Layout,
     n: usize,
     cur: &mut [i32],
     vals: &mut [i32],
 ) -> Executed
-    requires { ⌜ RoomToRun (now memory) (now cur) (now vals) p size ⌝ }
-    ensures { λ r. ⌜ ranOf r (now (vals .exit)) (now (cur .exit)) ≡ ranFrom (now (code .entry)) n p size (now (memory .entry)) ⌝ }
+    requires { ⌜ RoomToRun (now memory) (now cur) (now vals) p (layout .size) ⌝ }
+    ensures { λ r. ⌜ ranOf r (now (vals .exit)) (now (cur .exit)) ≡ ranFrom (now (code .entry)) n p layout (now (memory .entry)) ⌝ }
     ensures { λ r. ⌜ r .steps ≤ n ⌝ }
 {
+    let size = layout.size;
     lists::fill(cur, &memory[paused::CURRENT..paused::CURRENT + size]);
     lists::fill(vals, &memory[paused::HELD..paused::HELD_END]);
     let m = Registers {
         held: p.held,
         picked: p.picked,
         passing: p.passing,
+    };
+    let timing = Timing {
+        names: layout.names,
+        timers: layout.timers,
+        millis: layout.millis,
     };
     machine::run(
         code,
@@ -45,6 +53,7 @@ fn run_from(
         &memory[paused::START..paused::START + size],
         cur,
         vals,
+        timing,
         p.place,
         m,
         n,
@@ -128,17 +137,17 @@ fn advance_by(
     memory: &mut [i32],
     code: &[u8],
     p: Checkpoint,
-    size: usize,
+    layout: Layout,
     n: usize,
     cur: &mut [i32],
     vals: &mut [i32],
 ) -> usize
-    requires { ⌜ RoomToRun (now memory) (now cur) (now vals) p size ⌝ }
+    requires { ⌜ RoomToRun (now memory) (now cur) (now vals) p (layout .size) ⌝ }
     requires { ⌜ Short (now code) n p ⌝ }
-    ensures { λ r. ⌜ afterCall (Response.Done r) (now (memory .exit)) ≡ instalment (now (code .entry)) n (now (memory .entry)) p size ⌝ }
+    ensures { λ r. ⌜ afterCall (Response.Done r) (now (memory .exit)) ≡ instalment (now (code .entry)) n (now (memory .entry)) p layout ⌝ }
     ensures { λ r. ⌜ r ≤ n ⌝ }
 {
-    let ran = run_from(memory, code, p, size, n, cur, vals);
+    let ran = run_from(memory, code, p, layout, n, cur, vals);
     let done = ran.steps;
     let last = ran.last;
     keep(
@@ -162,7 +171,7 @@ fn advance_in(
     cur: &mut [i32],
     vals: &mut [i32],
 ) -> Response
-    requires { ⌜ (length (now cur) ≡ nameLimit) × (length (now vals) ≡ stackLimit) ⌝ }
+    requires { ⌜ (length (now cur) ≡ stateLimit) × (length (now vals) ≡ stackLimit) ⌝ }
     ensures { λ r. ⌜ afterCall r (now (paused .exit)) ≡ advanceOf (now (image .entry)) steps (now (paused .entry)) ⌝ }
     ensures { λ r. ⌜ ResponseWithin imageLimit r ⌝ }
 {
@@ -191,7 +200,7 @@ fn advance_in(
         return Response::Done(0);
     }
     let n = paused::least(steps, limits::IMAGE_LIMIT);
-    let done = advance_by(paused, &image[base..], p, size, n, &mut cur[..size], vals);
+    let done = advance_by(paused, &image[base..], p, layout, n, &mut cur[..size], vals);
     Response::Done(done)
 }
 
@@ -199,7 +208,7 @@ pub fn advance(paused: &mut [i32], image: &[u8], steps: usize) -> Response
     ensures { λ r. ⌜ afterCall r (now (paused .exit)) ≡ advanceOf (now (image .entry)) steps (now (paused .entry)) ⌝ }
     ensures { λ r. ⌜ ResponseWithin imageLimit r ⌝ }
 {
-    let mut cur = [0i32; limits::NAME_LIMIT];
+    let mut cur = [0i32; limits::STATE_LIMIT];
     let mut vals = [0i32; limits::STACK_LIMIT];
     advance_in(paused, image, steps, &mut cur, &mut vals)
 }

@@ -8,8 +8,8 @@ use lib.Dec.{ltb, leb}
 use lib.ListN.{length}
 use borrow.Author.Tests.{ltb-true, ltb-false, leb-true, leb-false}
 use Rattle.arith.specs.Values.{Outcome, ok, refusal}
-use Rattle.semantics.specs.Program.{Range}
 use Rattle.semantics.specs.Formula.{State}
+use Rattle.semantics.specs.Shape.{Setting}
 use Rattle.machine.specs.Step.{Machine}
 use Rattle.machine.specs.Runs.{Ran, ran, run, resume}
 use Rattle.machine.proofs.Laws.{run-end, run-divided}
@@ -19,7 +19,7 @@ use Rattle.runs.proofs.Unrolled.{Unrolled, over, stops, goes, unrolled}
 abbrev pub later : ℕ → Ran → Ran
 later k r = ran (k + r .steps) (r .place) (r .last)
 
-module _ (ns : List Range) (s : State) (code : List ℕ) where
+module _ (ns : Setting) (s : State) (code : List ℕ) where
   -- the steps done before are only added
   pub run-later : (b at k n : ℕ) (m : Machine) → run ns s code b at (k + n) m ≡ later k (run ns s code b at n m)
   run-later zero at k n m = refl

@@ -8,13 +8,16 @@ use mathlib.Core.List.{List, [], _∷_, _++_}
 use mathlib.Core.Option.{Option, none, some}
 use lib.Arith.{digits-div}
 use lib.IntN.{ℤ}
-use lib.ListN.{length, replicate}
+use lib.ListN.{length, take, replicate}
+use lib.Seq.{take-all}
 use Rattle.before.specs.Before.{beforeCode}
 use Rattle.limits.specs.Limits.{pausedLength, shareLimit}
 use Rattle.limits.specs.Answer.{accepted, refused}
 use Rattle.semantics.specs.Formula.{State}
 use Rattle.semantics.specs.ReferenceScan.{withInputs}
-use Rattle.bytecode.specs.Parts.{codeOf, instructionsIn}
+use Rattle.semantics.specs.Shape.{hasTimer}
+use Rattle.bytecode.specs.Parts.{headerOf, codeOf, limitsOf, instructionsIn}
+use Rattle.bytecode.proofs.Limits.{no-timers-end, none-has-timer, row-length-untimed}
 use Rattle.scan.specs.Services.{AfterScan, scanCode, scanOf}
 use Rattle.paused.specs.declared.Response.{Response}
 use Rattle.paused.specs.declared.Response.the-variants as R
@@ -144,7 +147,10 @@ module _ (image : List ℕ) (s : State) (row : List ℤ) (share : ℕ) (a : 0 < 
       → (visitOf image share cells s .reply ≡ R.Done 0) × ((visitOf image share cells s .state ≡ withInputs s row) × (checkpointOf (visitOf image share cells s .cells) .phase ≡ 0))
   unfolding scanCode
   empty-code e c =
-      let w : scanOf image s row ≡ record { answer = accepted tt; steps = 0; state = withInputs s row } = may image s row e .whole ∙ rw c in
+      let m = may image s row e in
+      let u : hasTimer (limitsOf image) ≡ false = none-has-timer image (no-timers-end (codeOf image) 0 (rw c (omega arith))) in
+      let r : take (headerOf image .inputs) row ≡ row = take-all (headerOf image .inputs) row (omega (arith, m .rows, row-length-untimed image u)) in
+      let w : scanOf image s row ≡ record { answer = accepted tt; steps = 0; state = withInputs s row } = m .whole ∙ rw (c, r) in
       let k : scanOf image s row .answer ≡ accepted tt = ap (λ (r : AfterScan). r .answer) w in
       let n : scanOf image s row .steps ≡ 0 = ap (λ (r : AfterScan). r .steps) w in
       let y = ready-first image s row share (in-limit share a b) cells (agrees image row cells x) k in

@@ -7,7 +7,7 @@ use mathlib.Core.List.{List, []}
 use mathlib.Core.Option.{Option, none, some}
 use lib.Dec.{eqb, ltb}
 use lib.IntN.{ℤ, pos}
-use lib.ListN.{length, drop, length-set}
+use lib.ListN.{length, take, drop, length-set}
 use lib.Seq.{length-sets}
 use borrow.Author.Tests.{eqb-true}
 use Rattle.limits.specs.Limits.{imageLimit, pausedLength}
@@ -15,7 +15,7 @@ use Rattle.limits.specs.Answer.{Answer, accepted, refused}
 use Rattle.arith.specs.Values.{Outcome, ok, refusal}
 use Rattle.semantics.specs.Formula.{State}
 use Rattle.semantics.specs.ReferenceScan.{withInputs}
-use Rattle.bytecode.specs.Parts.{codeOf}
+use Rattle.bytecode.specs.Parts.{codeOf, shapeIn}
 use Rattle.machine.specs.Step.{Machine, machine}
 use Rattle.before.specs.Before.{beforeCode}
 use Rattle.paused.specs.declared.Checkpoint.{Checkpoint}
@@ -43,11 +43,11 @@ left-long before len n place (refusal k) cells = simp length-sets
 advanced-long : (image : List ℕ) (n : ℕ) (cells : List ℤ) (p : Checkpoint) (f : Layout) → length (advanced image n cells p f .cells) ≡ length cells
 advanced-long image n cells p f =
     let code = drop (f .base) image in
-    let d = ranFrom code (min n imageLimit) p (f .size) cells in
+    let d = ranFrom code (min n imageLimit) p f cells in
     let test = eqb (p .phase) 1 && (ltb 0 n && (eqb (length image) (f .image) && ltb (p .place) (length image - f .base))) in
-    let inner = cond test (instalment code (min n imageLimit) cells p (f .size)) (afterCall (R.Done 0) cells) in
+    let inner = cond test (instalment code (min n imageLimit) cells p f) (afterCall (R.Done 0) cells) in
     cond-long (eqb (p .phase) 0) (afterCall R.Idle cells) inner (length cells) refl
-    (cond-long test (instalment code (min n imageLimit) cells p (f .size)) (afterCall (R.Done 0) cells) (length cells) (left-long (p .steps) (length code) (d .steps) (d .place) (d .last) cells) refl)
+    (cond-long test (instalment code (min n imageLimit) cells p f) (afterCall (R.Done 0) cells) (length cells) (left-long (p .steps) (length code) (d .steps) (d .place) (d .last) cells) refl)
 
 advance-long : (image : List ℕ) (n : ℕ) (cells : List ℤ) → length (advanceOf image n cells .cells) ≡ length cells
 unfolding advanceOf
@@ -64,7 +64,7 @@ begin-long image s cells =
   where
     tried : (row : List ℤ) (a : Answer (Unit {0})) → length (orRefused a (rowTaken cells) (record { reply = R.Done 0; cells = startedIn image s row (rowTaken cells) }) .cells) ≡ length cells
     tried row (refused number place) = length-set cells 13 (pos 0)
-    tried row (accepted u) = left-long 0 (length (codeOf image)) 0 0 (ok (machine false false [] (withInputs s row))) (formed image s (rowTaken cells)) ∙ simp (length-sets, length-set)
+    tried row (accepted u) = left-long 0 (length (codeOf image)) 0 0 (ok (machine false false [] (withInputs s (take (shapeIn image .inputs) row)))) (formed image s row (rowTaken cells)) ∙ simp (length-sets, length-set)
 
     with : (w : Option (List ℤ)) → length (startWith image s w cells .cells) ≡ length cells
     with none = refl

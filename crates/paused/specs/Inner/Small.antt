@@ -14,3 +14,5 @@ pub record SmallLayout (s : Layout) : Type 0 where
   pub image : s .image < 2 ^ 31
   pub base : s .base < 2 ^ 31
   pub size : s .size < 2 ^ 31
+  pub names : s .names < 2 ^ 31
+  pub millis : s .millis < 2 ^ 31

@@ -10,7 +10,7 @@ keep-requires : tie.Need-keep-requires
 keep-requires c κs =
     let y = c .before .before .before .before .before .before .before .before .before .before .pre in
     let r = c .before .before .before .before .before .run-from in
-    let place = place-left (y .0) (y .1) (r .result) (r .last .1 .1 .1 .1 .1 .1 .0) (r .last .1 .1 .1 .1 .1 .0) (r .ensures .0) in (
+    let place = place-left (c .before .before .before .before .before .before .before .before .before .before .args .layout) (y .0) (y .1) (r .result) (r .last .1 .1 .1 .1 .1 .1 .0) (r .last .1 .1 .1 .1 .1 .0) (r .ensures .0) in (
       record {
         cells = y .0 .cells;
         current = search needs;
@@ -19,13 +19,13 @@ keep-requires c κs =
         earlier = y .1 .steps;
         steps = omega (arith, r .ensures .1, y .1 .budget);
       },
-      few-left (y .0) (y .1) (r .result) (r .last .1 .1 .1 .1 .1 .1 .0) (r .last .1 .1 .1 .1 .1 .0) (r .ensures .0),
+      few-left (c .before .before .before .before .before .before .before .before .before .before .args .layout) (y .0) (y .1) (r .result) (r .last .1 .1 .1 .1 .1 .1 .0) (r .last .1 .1 .1 .1 .1 .0) (r .ensures .0),
     )
 
 returns : tie.Need-returns
 returns c =
     let r = c .before .before .before .before .before .before .before .run-from in (
-      instalment-is (c .before .before .before .before .before .before .before .before .before .before .before .before .pre .0) (c .before .before .before .before .before .before .before .before .before .before .before .before .pre .1) (r .result) (r .last .1 .1 .1 .1 .1 .1 .0) (r .last .1 .1 .1 .1 .1 .0) (r .ensures .0) (c .before .keep .ensures),
+      instalment-is (c .before .before .before .before .before .before .before .before .before .before .before .before .args .layout) (c .before .before .before .before .before .before .before .before .before .before .before .before .pre .0) (c .before .before .before .before .before .before .before .before .before .before .before .before .pre .1) (r .result) (r .last .1 .1 .1 .1 .1 .1 .0) (r .last .1 .1 .1 .1 .1 .0) (r .ensures .0) (c .before .keep .ensures),
       r .ensures .1,
     )
 

@@ -3,7 +3,7 @@ use mathlib.Core.Path.{sym, subst, _∙_}
 use native.Mathlib.Omega.{arith}
 use borrow.Author.Needs.{needs}
 use lib.Seq.{length-take-le}
-use Rattle.limits.specs.Limits.{imageLimit, nameLimit}
+use Rattle.limits.specs.Limits.{imageLimit}
 use Rattle.paused.proofs.Clipped.{CheckpointWithin, checkpoint-within, LayoutWithin, layout-within}
 use Rattle.resumable.proofs.Advancing.{advance-elsewhere, advance-idle, advance-over, advance-zero, advance-other, advance-past, advance-goes, rest-is, rest-short}
 use Rattle.resumable.proofs.advance_in.Statement.{statement}

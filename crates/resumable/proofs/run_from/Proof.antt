@@ -13,8 +13,8 @@ back a n = omega arith
 returns : tie.Need-returns
 returns c =
     let a = c .before .before .before .before .before .before .before .before .before .before .before .before .before .before .before .before .before .args in
-    let n = a .size in (
-      ran-from (c .before .before .before .before .before .before .before .before .before .before .before .before .before .before .before .before .before .pre) (a .code .now) (a .n) _ (c .before .before .before .before .before .before .before .before .before .before .before .before .before .fill .last .0) (c .before .before .before .before .before .before .before .before .before .fill2 .last .0) (rw (back 256 n) at (c .before .before .before .before .before .before .before .before .before .before .before .before .before .fill .ensures)) (c .before .before .before .before .before .before .before .before .before .fill2 .ensures) (384 + n - 384)
+    let n = a .layout .size in (
+      ran-from (a .layout) (c .before .before .before .before .before .before .before .before .before .before .before .before .before .before .before .before .before .pre) (a .code .now) (a .n) _ (c .before .before .before .before .before .before .before .before .before .before .before .before .before .fill .last .0) (c .before .before .before .before .before .before .before .before .before .fill2 .last .0) (rw (back 256 n) at (c .before .before .before .before .before .before .before .before .before .before .before .before .before .fill .ensures)) (c .before .before .before .before .before .before .before .before .before .fill2 .ensures) (384 + n - 384)
           (512 + n - 512) (128 + n - 128) (back 384 n) (back 512 n) (back 128 n) (c .before .before .run .ensures .0),
       c .before .before .run .ensures .1,
     )

@@ -4,13 +4,13 @@ use mathlib.Core.Path.{_≡_}
 use mathlib.Core.List.{List}
 use lib.IntN.{ℤ}
 use lib.ListN.{length}
-use Rattle.limits.specs.Limits.{imageLimit, nameLimit, stackLimit, pausedLength}
+use Rattle.limits.specs.Limits.{imageLimit, stateLimit, stackLimit, pausedLength}
 use Rattle.paused.specs.declared.Checkpoint.{Checkpoint}
 
 -- room for the current values and the values held; where the scan stopped
 pub record RoomToRun (memory cur vals : List ℤ) (p : Checkpoint) (size : ℕ) : Type 0 where
   pub cells : length memory ≡ pausedLength
-  pub few : size ≤ nameLimit
+  pub few : size ≤ stateLimit
   pub current : length cur ≡ size
   pub room : length vals ≡ stackLimit
   pub held : p .held ≤ stackLimit
@@ -25,7 +25,7 @@ pub record Short (code : List ℕ) (n : ℕ) (p : Checkpoint) : Type 0 where
 -- what a run left can be kept
 pub record Keepable (memory cur vals : List ℤ) (before n place : ℕ) : Type 0 where
   pub cells : length memory ≡ pausedLength
-  pub current : length cur ≤ nameLimit
+  pub current : length cur ≤ stateLimit
   pub room : length vals ≡ stackLimit
   pub reached : place ≤ imageLimit
   pub earlier : before ≤ imageLimit
