@@ -3,8 +3,9 @@
 
 use crate::compare::{fence, hex, Options, Table};
 use crate::shrink::{shrink, smaller_bytes};
+use rolvenko_model::features::in_force;
 use rolvenko_model::generate::{
-    damaged_image, limit_product, one_refused, profile_image, random_bytes, random_image, unsound_images, Rng,
+    damaged_image, limit_product, one_refused, profile_image, random_bytes, random_image, timer_image, unsound_images, Rng,
 };
 use rolvenko_model::{check_detail, read_text, write_image, IMAGE_LIMIT};
 
@@ -97,7 +98,7 @@ fn compare(call: &Call, table: &mut Table) -> Result<(u8, usize), String> {
 
 /// The lengths that the image wants, or any.
 fn lengths(image: &[u8]) -> (usize, usize) {
-    check_detail(image).map_or((2, 1), |header| (header.names, header.inputs))
+    check_detail(image).map_or((2, 1), |header| (header.state_length(), header.row_length()))
 }
 
 /// The profile of an image with the combination at its refused scan; then wrong lengths, and numbers at and past the last.
@@ -211,6 +212,10 @@ pub fn run(options: &Options, table: &mut Table) -> Result<(), String> {
         profile(&mut rng, &image, table)?;
         let image = random_image(&mut rng);
         profile(&mut rng, &image, table)?;
+        if in_force().timer_codes() {
+            let image = timer_image(&mut rng);
+            profile(&mut rng, &image, table)?;
+        }
         let bytes = random_bytes(&mut rng, 40);
         profile(&mut rng, &bytes, table)?;
     }
