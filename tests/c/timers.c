@@ -118,9 +118,9 @@ static void elsewhere(void) {
     expect("a cut trace", rolvenko_watch((const uint8_t *)watched, sizeof watched - 1, trace, 4, report, ROLVENKO_WATCHES), 12, 0, 0);
 }
 
-/* Rows in one call: an accepted one, one without milliseconds, one that ends the time, a negative one. */
+/* Rows in one call: one that rises, whose milliseconds do not count, one without milliseconds, one that ends the time, a negative one. */
 static void replayed(void) {
-    static const int32_t cells[7] = {1, 0, 1, 1, 5000, 1, -1}, states[12] = {0, 0, 0, 0, 1, 1, 0, 0, 1, 1, 1, 5000};
+    static const int32_t cells[7] = {1, 9000, 1, 1, 5000, 1, -1}, states[12] = {0, 0, 0, 0, 1, 1, 0, 0, 1, 1, 1, 5000};
     static const size_t lengths[4] = {2, 1, 2, 2}, counts[4] = {3, 0, 3, 0};
     static const uint8_t wanted[4] = {0, 12, 0, 13};
     uint8_t numbers[4];
