@@ -177,6 +177,11 @@ fn fixed(rng: &mut Rng, table: &mut Table) -> Result<(), String> {
     for unsound in unsound_images() {
         profile(rng, &unsound.image, table)?;
     }
+    // "26 a timer", whatever the product
+    for _ in 0..if in_force().timer_codes() { 50 } else { 0 } {
+        let image = timer_image(rng);
+        profile(rng, &image, table)?;
+    }
     Ok(())
 }
 
@@ -212,10 +217,6 @@ pub fn run(options: &Options, table: &mut Table) -> Result<(), String> {
         profile(&mut rng, &image, table)?;
         let image = random_image(&mut rng);
         profile(&mut rng, &image, table)?;
-        if in_force().timer_codes() {
-            let image = timer_image(&mut rng);
-            profile(&mut rng, &image, table)?;
-        }
         let bytes = random_bytes(&mut rng, 40);
         profile(&mut rng, &bytes, table)?;
     }

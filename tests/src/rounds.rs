@@ -318,7 +318,10 @@ pub fn run(options: &Options, table: &mut Table) -> Result<(), String> {
     }
     let mut rng = Rng::new(options.seed);
     let since = table.started();
-    while !options.spent(since, table.calls) {
+    // some at least, however long the closures took
+    let mut controllers = 0;
+    while controllers < 50 || !options.spent(since, table.calls) {
+        controllers += 1;
         controller(&mut rng, table)?;
         let image = rng.choose(&small_images()).image;
         for _ in 0..4 {
