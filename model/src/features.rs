@@ -28,7 +28,7 @@ impl Features {
         names_without_case: true,
         pair_images: true,
         pairs: true,
-        timer_images: false,
+        timer_images: true,
         timers: false,
         watches: true,
     };
