@@ -103,8 +103,8 @@ static struct parts scan_twice(size_t length, int32_t *state, size_t cells, cons
 static void profiled(size_t length) {
     int32_t state[CELLS_MOST] = {3}, row[CELLS_MOST] = {4};
     struct parts c = check(image, length);
-    uint32_t scans = c.number == 0 ? scans_in(image) : 0;
-    size_t cells = c.number == 0 ? (size_t)image[0] + image[1] : 3, inputs = c.number == 0 ? image[0] : 1;
+    uint32_t scans = c.number == 0 ? scans_in(image, length) : 0;
+    size_t cells = c.number == 0 ? state_len(image, length) : 3, inputs = c.number == 0 ? row_len(image, length) : 1;
     uint32_t numbers[] = {scans, scans - 1, (uint32_t)length * 2654435761u % (scans + 1)};
     if (scans <= ROLVENKO_COMBINATIONS && (uint64_t)scans * length > 1 << 18)
         return;
@@ -118,13 +118,13 @@ static void profiled(size_t length) {
 /* Rows from the starting state of a sound image: never 18, and every accepted scan has the same steps. */
 static void scan_rows(size_t length, const uint8_t *at, const uint8_t *end) {
     int32_t state[CELLS_MOST] = {7, -7}, row[CELLS_MOST] = {0};
-    size_t cells = (size_t)image[0] + image[1], inputs;
+    size_t cells = state_len(image, length), wanted = row_len(image, length), inputs;
     uint32_t steps = UINT32_MAX;
     promise(start(image, length, state, cells).number == 0);
     promise(start(image, length, state, cells + 1).number == 12);
     for (int rows = 0; rows < 20 && at < end; rows++) {
         inputs = next_row(&at, end, row);
-        struct parts p = scan_twice(length, state, cells, row, rows % 4 ? image[0] : inputs);
+        struct parts p = scan_twice(length, state, cells, row, rows % 4 ? wanted : inputs);
         promise(p.number != 18);
         if (p.number == 0) {
             promise(steps == UINT32_MAX || steps == p.count);
@@ -160,8 +160,8 @@ static void changed_image(size_t length, const uint8_t *at, const uint8_t *end) 
     if (c.number == 0) {
         static const uint8_t rows[] = "1 0\n\n0 1 2\n3\n";
         scan_rows(length, rows, rows + sizeof rows - 1);
-        start(image, length, state, (size_t)image[0] + image[1]);
-        scan_twice(length, state, (size_t)image[0] + image[1], row, image[0]);
+        start(image, length, state, state_len(image, length));
+        scan_twice(length, state, state_len(image, length), row, row_len(image, length));
     } else {
         start(image, length, state, 3);
         scan_twice(length, state, 3, row, 1);
@@ -181,8 +181,8 @@ static void any_image(const uint8_t *data, size_t size) {
     memcpy(image, data + 1 + k, length);
     profiled(length);
     struct parts c = check(image, length);
-    size_t cells = c.number == 0 ? (size_t)image[0] + image[1] : k;
-    size_t inputs = c.number == 0 ? image[0] : k / 2;
+    size_t cells = c.number == 0 ? state_len(image, length) : k;
+    size_t inputs = c.number == 0 ? row_len(image, length) : k / 2;
     scan_twice(length, state, cells, row, inputs);
     if (start(image, length, state, cells).number == 0)
         for (int rows = 0; rows < 4; rows++)
@@ -197,8 +197,9 @@ static void filled_rows(const uint8_t *text, size_t length, const uint8_t *at, c
     next_line(&at, end, utc);
     size_t cells = next_row(&at, end, row);
     local_hour(text, length, table, numbers, utc[0], row, cells);
-    if (translated(text, length) > 0)
-        local_hour(text, length, table, numbers, utc[0], row, image[0]);
+    size_t image_len = translated(text, length);
+    if (image_len > 0)
+        local_hour(text, length, table, numbers, utc[0], row, row_len(image, image_len));
     memcpy(before, row, sizeof row);
     local_hour(text, length, table, numbers, utc[0], row, cells);
     promise(memcmp(before, row, sizeof row) == 0);
@@ -217,10 +218,10 @@ static void charged(const uint8_t *text, size_t length, const uint8_t *at, const
     bill.trace_len = next_row(&at, end, trace);
     uint64_t answer = charge(image, image_len, bill);
     promise(charge(image, image_len, bill) == answer);
-    size_t names = (size_t)image[0] + image[1], states = names > 0 ? bill.trace_len / names : 0;
+    size_t size = state_len(image, image_len), states = size > 0 ? bill.trace_len / size : 0;
     if (states == 0)
         return;
-    bill.trace_len = states * names;
+    bill.trace_len = states * size;
     bill.minutes_len = states - 1;
     charge(image, image_len, bill);
 }
@@ -234,7 +235,7 @@ static void replayed(const uint8_t *text, size_t length, const uint8_t *at, cons
         return;
     for (; at < end && rows.count < ROWS_MOST; used += lengths[rows.count++])
         lengths[rows.count] = next_row(&at, end, cells + used);
-    size_t most = (rows.count + 1) * ((size_t)image[0] + image[1]);
+    size_t most = (rows.count + 1) * state_len(image, image_len);
     replay(text, length, image, image_len, rows, most);
     replay(text, length, image, image_len, rows, bytes < most ? bytes : 0);
 }

@@ -99,7 +99,7 @@ static struct parts expect_begin(struct expected *e, const struct call *c) {
     if (!e->waits)
         return only(ROLVENKO_IDLE);
     e->waits = 0;
-    e->names = c->count;
+    e->size = c->count;
     memcpy(e->start, c->numbers, sizeof e->start);
     memcpy(e->end, c->numbers, sizeof e->end);
     e->whole = scan(c->image, c->length, e->end, c->count, e->row, e->inputs);
@@ -116,9 +116,9 @@ static struct parts expect_finish(struct expected *e, struct call *c) {
     if (e->done < e->whole.count)
         return only(ROLVENKO_UNFINISHED);
     if (e->whole.number == 0) {
-        if (c->count != e->names || memcmp(c->numbers, e->start, e->names * sizeof *e->start) != 0)
+        if (c->count != e->size || memcmp(c->numbers, e->start, e->size * sizeof *e->start) != 0)
             return only(24);
-        memcpy(c->numbers, e->end, e->names * sizeof *e->end);
+        memcpy(c->numbers, e->end, e->size * sizeof *e->end);
     }
     e->runs = 0;
     return e->whole;
@@ -129,7 +129,7 @@ static struct parts expect(struct expected *e, struct call *c) {
     switch (c->kind) {
     case POST:
         p = check(c->image, c->length);
-        if (p.number == 0 && c->count != c->image[0])
+        if (p.number == 0 && c->count != row_len(c->image, c->length))
             p.number = 12;
         if (p.number != 0)
             return p;
@@ -158,8 +158,8 @@ struct parts expect_post(struct expected *e, const uint8_t *image, size_t length
     return expect(e, &c);
 }
 
-struct parts expect_visit(struct expected *e, const uint8_t *image, size_t length, int32_t *state, size_t names, size_t share) {
-    struct call c = {.kind = BEGIN, .image = image, .length = length, .count = names, .steps = share};
+struct parts expect_visit(struct expected *e, const uint8_t *image, size_t length, int32_t *state, size_t size, size_t share) {
+    struct call c = {.kind = BEGIN, .image = image, .length = length, .count = size, .steps = share};
     memcpy(c.numbers, state, CELLS_MOST * sizeof *state);
     struct parts p = expect(e, &c);
     if (p.number != 0 && p.number != ROLVENKO_UNFINISHED)
@@ -176,19 +176,19 @@ struct parts expect_visit(struct expected *e, const uint8_t *image, size_t lengt
 static size_t steps_of(uint8_t byte) { return byte < 250 ? byte : byte < 253 ? (size_t)65533 + (byte - 250) * 2 : SIZE_MAX - (255 - byte); }
 
 /* The next call: a byte says which, one more how many steps or what changes; numbers follow as signed bytes. */
-static struct call next(const uint8_t **at, const uint8_t *end, const uint8_t *image, size_t length, const int32_t *kept, size_t names) {
+static struct call next(const uint8_t **at, const uint8_t *end, const uint8_t *image, size_t length, const int32_t *kept, size_t size) {
     uint8_t which = *(*at)++, more = *at < end ? *(*at)++ : 0;
     struct call c = {.kind = which % 4, .image = image, .length = length};
     c.steps = steps_of(more);
     if (c.kind == POST) {
-        c.count = image[0];
+        c.count = row_len(image, length);
         for (size_t i = 0; i < c.count && *at < end; i++)
             c.numbers[i] = (int8_t)*(*at)++;
     } else if (c.kind != ADVANCE) {
-        c.count = names;
+        c.count = size;
         memcpy(c.numbers, kept, CELLS_MOST * sizeof *kept);
         if (more % 8 == 7)
-            c.numbers[more / 8 % (names > 0 ? names : 1)] ^= 1;
+            c.numbers[more / 8 % (size > 0 ? size : 1)] ^= 1;
     }
     if (which / 16 == 15 && c.kind != ADVANCE)
         c.count += 1;
@@ -200,12 +200,12 @@ static struct call next(const uint8_t **at, const uint8_t *end, const uint8_t *i
 void call_list(const uint8_t *image, size_t length, const uint8_t *at, const uint8_t *end) {
     static int32_t paused[PAUSED];
     int32_t kept[CELLS_MOST] = {0};
-    size_t names = (size_t)image[0] + image[1];
+    size_t size = state_len(image, length);
     struct expected e = {0};
     memset(paused, 0, sizeof paused);
-    promise(start(image, length, kept, names).number == 0);
+    promise(start(image, length, kept, size).number == 0);
     for (int calls = 0; calls < 60 && at < end; calls++) {
-        struct call c = next(&at, end, image, length, kept, names), wanted = c;
+        struct call c = next(&at, end, image, length, kept, size), wanted = c;
         struct parts p = call(&c, paused, PAUSED), w = expect(&e, &wanted);
         promise(p.number == w.number && p.place == w.place && p.count == w.count);
         promise(memcmp(c.numbers, wanted.numbers, sizeof c.numbers) == 0);

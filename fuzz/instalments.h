@@ -23,13 +23,13 @@ void any_memory(const uint8_t *image, size_t length, const uint8_t *at, const ui
 struct expected {
     int waits, runs;
     int32_t row[CELLS_MOST], start[CELLS_MOST], end[CELLS_MOST];
-    size_t inputs, names;
+    size_t inputs, size;
     struct parts whole;
     uint32_t done;
 };
 
 /* What a post, and a visit with its share, must answer; a finished visit leaves the next state in `state` (CELLS_MOST numbers). */
 struct parts expect_post(struct expected *e, const uint8_t *image, size_t length, const int32_t *row, size_t inputs);
-struct parts expect_visit(struct expected *e, const uint8_t *image, size_t length, int32_t *state, size_t names, size_t share);
+struct parts expect_visit(struct expected *e, const uint8_t *image, size_t length, int32_t *state, size_t size, size_t share);
 
 #endif

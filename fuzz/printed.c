@@ -55,8 +55,9 @@ static int is_word(const uint8_t *at, size_t length) {
     return 0;
 }
 
-/* The place of the first declared name of an accepted text that is a word of Structured Text, or the text's length. */
-static size_t first_word(const uint8_t *text, size_t length) {
+/* The place of the first declared name of an accepted text that is a word of Structured Text, or of a text with timers that of the first word
+ * `timer`, whichever comes first; else the text's length. */
+static size_t first_word(const uint8_t *text, size_t length, int timed) {
     int declares = 0;
     for (size_t at = 0, end; at < length; at = end) {
         end = at + 1;
@@ -64,6 +65,8 @@ static size_t first_word(const uint8_t *text, size_t length) {
         while (end < length && ((letter && isalnum(text[end])) || (digit && isdigit(text[end]))))
             end++;
         if (letter && declares && is_word(text + at, end - at))
+            return at;
+        if (timed && end - at == 5 && memcmp(text + at, "timer", 5) == 0)
             return at;
         if (letter)
             declares = (end - at == 5 && memcmp(text + at, "input", 5) == 0) || (end - at == 3 && memcmp(text + at, "var", 3) == 0);
@@ -93,8 +96,12 @@ static void shaped(size_t count, size_t names, size_t inputs) {
 void printed(const uint8_t *text, size_t length) {
     size_t room = length < ROLVENKO_TEXT_LIMIT ? (7 * length + 2620) / 2 : ROLVENKO_ST_ROOM;
     struct parts t = translate(text, length, ROLVENKO_IMAGE_ROOM, image), p = print(text, length, room);
-    if (t.number == 0 && first_word(text, length) < length)
-        t = (struct parts){21, (uint32_t)first_word(text, length), 0};
+    if (t.number == 0) {
+        int timed = state_len(image, t.count) > (size_t)image[0] + image[1];
+        size_t place = first_word(text, length, timed);
+        if (place < length)
+            t = (struct parts){21, (uint32_t)place, 0};
+    }
     if (t.number != 0) {
         promise(p.number == t.number && p.place == t.place);
         p = print(text, length, 0);

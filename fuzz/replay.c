@@ -45,45 +45,45 @@ struct records {
     size_t places;
 };
 
-static void one_by_one(const uint8_t *image, size_t length, size_t names, struct rows rows, struct records *r) {
+static void one_by_one(const uint8_t *image, size_t length, size_t size, struct rows rows, struct records *r) {
     size_t cell = 0;
-    promise(start(image, length, r->state, names).number == 0);
-    memcpy(r->trace, r->state, names * sizeof *r->trace);
-    r->places = names;
+    promise(start(image, length, r->state, size).number == 0);
+    memcpy(r->trace, r->state, size * sizeof *r->trace);
+    r->places = size;
     for (size_t k = 0; k < rows.count; k++) {
-        struct parts p = scan(image, length, r->state, names, rows.cells + cell, rows.lengths[k]);
+        struct parts p = scan(image, length, r->state, size, rows.cells + cell, rows.lengths[k]);
         cell += rows.lengths[k];
         r->numbers[k] = (uint8_t)p.number;
         r->steps[k] = p.count;
         if (p.number == 0) {
-            memcpy(r->trace + r->places, r->state, names * sizeof *r->trace);
-            r->places += names;
+            memcpy(r->trace + r->places, r->state, size * sizeof *r->trace);
+            r->places += size;
         }
     }
 }
 
 void replay(const uint8_t *text, size_t length, const uint8_t *image, size_t image_len, struct rows rows, size_t room) {
     static struct records wanted;
-    size_t names = (size_t)image[0] + image[1], cells = 0;
+    size_t size = state_len(image, image_len), cells = 0;
     begin();
     for (size_t k = 0; k < rows.count; k++)
         cells += rows.lengths[k];
     memset(&wanted, 0xA5, sizeof wanted);
-    one_by_one(image, image_len, names, rows, &wanted);
+    one_by_one(image, image_len, size, rows, &wanted);
     struct part lent = lend(text_pages, text, length), buffer = lend(image_pages, NULL, image_len);
-    struct part state = lend(state_pages, NULL, names * sizeof(int32_t)), numbers = lend(number_pages, NULL, rows.count);
+    struct part state = lend(state_pages, NULL, size * sizeof(int32_t)), numbers = lend(number_pages, NULL, rows.count);
     struct part line = lend(cell_pages, rows.cells, cells * sizeof(int32_t));
     struct part lengths = lend(length_pages, rows.lengths, rows.count * sizeof(size_t));
     struct part steps = lend(step_pages, NULL, rows.count * sizeof(size_t));
     struct part trace = lend(trace_pages, NULL, room * sizeof(int32_t));
-    uint64_t answer = rolvenko_replay(lent.lent, length, buffer.lent, image_len, (int32_t *)state.lent, names, (const int32_t *)line.lent,
+    uint64_t answer = rolvenko_replay(lent.lent, length, buffer.lent, image_len, (int32_t *)state.lent, size, (const int32_t *)line.lent,
                                       cells, (const size_t *)lengths.lent, rows.count, numbers.lent, rows.count, (size_t *)steps.lent,
                                       rows.count, (int32_t *)trace.lent, room);
     struct part all[] = {lent, buffer, state, numbers, line, lengths, steps, trace};
     for (size_t i = 0; i < sizeof all / sizeof *all; i++)
         part_intact(all[i]);
     promise(answer == image_len && memcmp(buffer.own, image, image_len) == 0);
-    promise(names == 0 || memcmp(state.own, wanted.state, names * sizeof(int32_t)) == 0);
+    promise(size == 0 || memcmp(state.own, wanted.state, size * sizeof(int32_t)) == 0);
     promise(rows.count == 0 || memcmp(numbers.own, wanted.numbers, rows.count) == 0);
     promise(rows.count == 0 || memcmp(steps.own, wanted.steps, rows.count * sizeof(size_t)) == 0);
     promise(room == 0 || memcmp(trace.own, wanted.trace, room * sizeof(int32_t)) == 0);

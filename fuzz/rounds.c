@@ -83,27 +83,28 @@ struct set {
 
 static void post(struct set *set, struct lent *l, size_t i, const uint8_t *image, size_t length, const uint8_t **at, const uint8_t *end) {
     int32_t row[CELLS_MOST] = {0};
-    for (size_t k = 0; k < image[0] && *at < end; k++)
+    size_t numbers = row_len(image, length);
+    for (size_t k = 0; k < numbers && *at < end; k++)
         row[k] = (int8_t)*(*at)++;
-    uint64_t answer = rolvenko_post(l->paused + i * PAUSED, PAUSED, image, length, row, image[0]);
-    same(answer, expect_post(&set->e, image, length, row, image[0]), image, length);
+    uint64_t answer = rolvenko_post(l->paused + i * PAUSED, PAUSED, image, length, row, numbers);
+    same(answer, expect_post(&set->e, image, length, row, numbers), image, length);
 }
 
-static void visit_all(struct set *list, size_t sets, struct lent *l, const uint8_t *image, size_t names) {
+static void visit_all(struct set *list, size_t sets, struct lent *l, const uint8_t *image, size_t size) {
     for (size_t i = 0; i < sets; i++)
-        memcpy(l->states + i * names, list[i].state, names * sizeof *l->states);
+        memcpy(l->states + i * size, list[i].state, size * sizeof *l->states);
     promise(round_of(l) == 0);
     for (size_t i = 0; i < sets; i++) {
         struct set *set = &list[i];
-        same(l->answers[i], expect_visit(&set->e, image, set->length, set->state, names, set->share), image, set->length);
-        promise(names == 0 || memcmp(l->states + i * names, set->state, names * sizeof *l->states) == 0);
+        same(l->answers[i], expect_visit(&set->e, image, set->length, set->state, size, set->share), image, set->length);
+        promise(size == 0 || memcmp(l->states + i * size, set->state, size * sizeof *l->states) == 0);
     }
 }
 
 void event_list(const uint8_t *image, size_t length, const uint8_t *at, const uint8_t *end) {
     static struct lent l;
     static struct set list[SETS];
-    size_t names = (size_t)image[0] + image[1];
+    size_t size = state_len(image, length);
     if (at == end || length > IMAGES_MOST / SETS)
         return;
     size_t sets = 1 + *at++ % SETS;
@@ -113,15 +114,15 @@ void event_list(const uint8_t *image, size_t length, const uint8_t *at, const ui
         uint8_t share = at < end ? *at++ : 1;
         list[i].share = share % 240 == 0 ? ROLVENKO_SHARE_LIMIT : share % 240;
         list[i].length = length - (share >= 240);
-        promise(start(image, length, list[i].state, names).number == 0);
+        promise(start(image, length, list[i].state, size).number == 0);
         memcpy(l.images + l.bytes, image, list[i].length);
         l.bytes += list[i].length;
         l.table[3 * i] = list[i].length;
-        l.table[3 * i + 1] = names;
+        l.table[3 * i + 1] = size;
         l.table[3 * i + 2] = list[i].share;
     }
     l.cells = sets * PAUSED;
-    l.numbers = sets * names;
+    l.numbers = sets * size;
     l.entries = 3 * sets;
     l.room = sets;
     for (int events = 0; events < 60 && at < end; events++) {
@@ -129,10 +130,10 @@ void event_list(const uint8_t *image, size_t length, const uint8_t *at, const ui
         size_t i = event / 4 % sets;
         if (event % 4 < 2)
             post(&list[i], &l, i, image, length, &at, end);
-        else if (event % 4 == 2 || names == 0)
-            visit_all(list, sets, &l, image, names);
+        else if (event % 4 == 2 || size == 0)
+            visit_all(list, sets, &l, image, size);
         else
-            list[i].state[event / 32 % names] ^= 1;
+            list[i].state[event / 32 % size] ^= 1;
     }
 }
 

@@ -53,6 +53,25 @@ static struct part lend(struct region pages, const void *contents, size_t bytes)
     return p;
 }
 
+/* How many instructions 23 the code of a sound image has. */
+static size_t timers_in(const uint8_t *image, size_t length) {
+    size_t at = 2, timers = 0;
+    for (size_t numbers = 3 * ((size_t)image[0] + image[1]); numbers > 0; at++)
+        numbers -= image[at] < 128;
+    while (at < length) {
+        uint8_t code = image[at++];
+        int operands = code == 23 ? 3 : code <= 3 || (code >= 20 && code <= 25);
+        timers += code == 23;
+        for (; operands > 0; at++)
+            operands -= image[at] < 128;
+    }
+    return timers;
+}
+
+size_t state_len(const uint8_t *image, size_t length) { return (size_t)image[0] + image[1] + timers_in(image, length); }
+
+size_t row_len(const uint8_t *image, size_t length) { return image[0] + (size_t)(timers_in(image, length) > 0); }
+
 static int equal(const void *a, const void *b, size_t bytes) { return bytes == 0 || memcmp(a, b, bytes) == 0; }
 
 static int filled(const uint8_t *at, uint8_t with, size_t bytes) {
@@ -60,7 +79,7 @@ static int filled(const uint8_t *at, uint8_t with, size_t bytes) {
 }
 
 static void translation_promises(struct parts p, size_t length, size_t room) {
-    PROMISE(p.number <= 10 || p.number == 30);
+    PROMISE(p.number <= 10 || p.number == 23 || p.number == 30);
     PROMISE((p.number == 9) == (length > ROLVENKO_TEXT_LIMIT));
     if (p.number == 0) {
         PROMISE(p.place == 0 && p.count >= 2 && p.count <= room);
@@ -120,8 +139,8 @@ struct parts start(const uint8_t *image, size_t length, int32_t *state, size_t c
     PROMISE(equal(lent.own, image, length));
     check_comes_first(c, p);
     PROMISE(p.count == 0);
-    if (c.number == 0) /* the counts of a sound image's header have one byte each */
-        PROMISE(p.number == ((size_t)image[0] + image[1] == cells ? 0 : 12));
+    if (c.number == 0)
+        PROMISE(p.number == (state_len(image, length) == cells ? 0 : 12));
     if (p.number != 0)
         PROMISE(equal(buffer.own, state, cells * sizeof *state));
     else if (cells > 0)
@@ -135,8 +154,8 @@ static int at_work(unsigned number) {
     return (number >= 14 && number <= 17) || number == 22;
 }
 
-static void scan_promises(struct parts p, const uint8_t *image, size_t cells, size_t inputs) {
-    int lengths = (size_t)image[0] + image[1] == cells && image[0] == inputs;
+static void scan_promises(struct parts p, const uint8_t *image, size_t length, size_t cells, size_t inputs) {
+    int lengths = state_len(image, length) == cells && row_len(image, length) == inputs;
     PROMISE((p.number == 12) == !lengths);
     PROMISE(p.number == 0 || p.number == 12 || p.number == 13 || p.number == 18 || at_work(p.number));
     PROMISE(p.count == 0 || p.number == 0 || at_work(p.number));
@@ -156,13 +175,13 @@ struct parts scan(const uint8_t *image, size_t length, int32_t *state, size_t ce
     PROMISE(equal(lent.own, image, length) && equal(line.own, row, inputs * sizeof *row));
     check_comes_first(c, p);
     if (c.number == 0)
-        scan_promises(p, image, cells, inputs);
+        scan_promises(p, image, length, cells, inputs);
     if (p.number != 0)
         PROMISE(equal(buffer.own, state, cells * sizeof *state));
     else if (cells > 0)
         memcpy(state, buffer.own, cells * sizeof *state);
     if (p.number == 0)
-        PROMISE(equal(state, row, inputs * sizeof *row)); /* the row's inputs are the state's */
+        PROMISE(equal(state, row, image[0] * sizeof *row)); /* the row's inputs are the state's */
     feature(3, p, image, length);
     return p;
 }
@@ -210,7 +229,7 @@ struct parts local_hour(const uint8_t *text, size_t length, const int64_t *table
     part_intact(farm);
     part_intact(line);
     PROMISE(equal(lent.own, text, length) && equal(farm.own, table, numbers * sizeof *table));
-    clock_promises(t, p, table_within(table, numbers), utc, t.number != 0 || cells == image[0]);
+    clock_promises(t, p, table_within(table, numbers), utc, t.number != 0 || cells == row_len(image, t.count));
     if (p.number != 0)
         PROMISE(equal(line.own, row, cells * sizeof *row));
     else
@@ -238,16 +257,16 @@ static int price_refused(const uint8_t *image, struct bill b) {
 }
 
 /* The answer to a bill for a sound image. */
-static uint64_t charge_wanted(const uint8_t *image, struct bill b) {
+static uint64_t charge_wanted(const uint8_t *image, size_t length, struct bill b) {
     const uint64_t refused = UINT64_C(28) << 56;
-    size_t names = (size_t)image[0] + image[1];
-    if (names == 0 ? b.trace_len > 0 : b.trace_len < names || b.trace_len % names > 0)
+    size_t size = state_len(image, length);
+    if (size == 0 ? b.trace_len > 0 : b.trace_len < size || b.trace_len % size > 0)
         return UINT64_C(12) << 56;
-    if (price_refused(image, b) || b.minutes_len != b.trace_len / names - 1 || b.trace[b.id] < 0)
+    if (price_refused(image, b) || b.minutes_len != b.trace_len / size - 1 || b.trace[b.id] < 0)
         return refused;
     unsigned __int128 sum = 0;
     for (size_t row = 0; row < b.minutes_len; row++) {
-        int64_t held = b.trace[(row + 1) * names + b.id], up_to = held < b.threshold ? held : b.threshold;
+        int64_t held = b.trace[(row + 1) * size + b.id], up_to = held < b.threshold ? held : b.threshold;
         if (held < 0 || outside(b.minutes[row], 1440))
             return refused;
         sum += (unsigned __int128)b.minutes[row] * (uint64_t)(up_to * b.rate + (held - up_to) * b.rate_above);
@@ -270,7 +289,7 @@ uint64_t charge(const uint8_t *image, size_t length, struct bill b) {
     if (c.number != 0)
         PROMISE(answer == ((uint64_t)c.number << 56 | (uint64_t)c.place << 24));
     else
-        PROMISE(answer == charge_wanted(image, b));
+        PROMISE(answer == charge_wanted(image, length, b));
     feature(5, parts(answer), image, length);
     return answer;
 }
@@ -286,8 +305,8 @@ static int64_t header_number(const uint8_t *image, size_t *at) {
     }
 }
 
-uint32_t scans_in(const uint8_t *image) {
-    uint64_t scans = 1;
+uint32_t scans_in(const uint8_t *image, size_t length) {
+    uint64_t scans = timers_in(image, length) > 0 ? ROLVENKO_COMBINATIONS + 1 : 1;
     size_t at = 2;
     for (size_t id = 0; id < (size_t)image[0] + image[1]; id++) {
         int64_t low = header_number(image, &at), high = header_number(image, &at);
@@ -312,8 +331,9 @@ struct parts combination(const uint8_t *image, size_t length, uint32_t index, in
     check_comes_first(c, p);
     PROMISE(p.count == 0);
     if (c.number == 0) {
-        int lengths = (size_t)image[0] + image[1] == cells && image[0] == inputs;
-        PROMISE(p.number == (scans_in(image) > ROLVENKO_COMBINATIONS ? 26 : lengths && index < scans_in(image) ? 0 : 12));
+        int lengths = state_len(image, length) == cells && row_len(image, length) == inputs;
+        uint32_t scans = scans_in(image, length);
+        PROMISE(p.number == (scans > ROLVENKO_COMBINATIONS ? 26 : lengths && index < scans ? 0 : 12));
     }
     if (p.number != 0)
         PROMISE(equal(values.own, state, cells * sizeof *state) && equal(line.own, row, inputs * sizeof *row));
@@ -335,10 +355,10 @@ struct parts closed(const uint8_t *image, size_t length) {
     feature(6, p, image, length);
     if (p.number != 27) {
         check_comes_first(c, p);
-        PROMISE(c.number != 0 || p.number == (scans_in(image) > ROLVENKO_COMBINATIONS ? 26 : 0));
+        PROMISE(c.number != 0 || p.number == (scans_in(image, length) > ROLVENKO_COMBINATIONS ? 26 : 0));
         return p;
     }
-    PROMISE(c.number == 0 && p.place < scans_in(image) && scans_in(image) <= ROLVENKO_COMBINATIONS);
+    PROMISE(c.number == 0 && p.place < scans_in(image, length) && scans_in(image, length) <= ROLVENKO_COMBINATIONS);
     int32_t state[CELLS_MOST], row[CELLS_MOST];
     size_t cells = (size_t)image[0] + image[1], inputs = image[0];
     PROMISE(combination(image, length, p.place, state, cells, row, inputs).number == 0);

@@ -5,7 +5,7 @@
 #include <stddef.h>
 #include <stdint.h>
 
-enum { TEXT_MOST = 40000, IMAGE_MOST = 70000, CELLS_MOST = 80 };
+enum { TEXT_MOST = 40000, IMAGE_MOST = 70000, CELLS_MOST = 140 };
 
 struct parts {
     unsigned number;
@@ -43,8 +43,13 @@ uint64_t charge(const uint8_t *image, size_t length, struct bill bill);
 struct parts closed(const uint8_t *image, size_t length);
 /* The state and row of a number. */
 struct parts combination(const uint8_t *image, size_t length, uint32_t index, int32_t *state, size_t cells, int32_t *row, size_t inputs);
-/* How many scans the closed profile of a sound image has, 65,537 for all above 65,536. */
-uint32_t scans_in(const uint8_t *image);
+/* How many scans the closed profile of a sound image has, 65,537 for all above 65,536 and where there is a timer. */
+uint32_t scans_in(const uint8_t *image, size_t length);
+
+/* Numbers of a state of a sound image: its names, then an elapsed time for each timer. Numbers of a row: its inputs and, with a timer, the
+ * milliseconds. */
+size_t state_len(const uint8_t *image, size_t length);
+size_t row_len(const uint8_t *image, size_t length);
 
 /* Tells libFuzzer which answer was met: number, the byte at its place, and the size of its count. */
 void feature(unsigned service, struct parts answer, const uint8_t *bytes, size_t length);

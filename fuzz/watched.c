@@ -73,11 +73,11 @@ static size_t count_watches(const uint8_t *text, size_t length) {
 }
 
 /* Of a shorter trace a watch that failed later has not failed. */
-static void shorter(const uint8_t *text, size_t length, const int32_t *trace, size_t names, size_t places, const int64_t *whole) {
+static void shorter(const uint8_t *text, size_t length, const int32_t *trace, size_t size, size_t places, const int64_t *whole) {
     int64_t report[ROOM_MOST];
     for (size_t some = 1; some < places; some++) {
         fill(report);
-        struct parts p = watch(text, length, trace, some * names, report, WATCHES);
+        struct parts p = watch(text, length, trace, some * size, report, WATCHES);
         promise(p.number == 0);
         for (size_t i = 0; i < p.count; i++)
             promise(report[i] == (whole[i] < (int64_t)some ? whole[i] : -1));
@@ -86,9 +86,9 @@ static void shorter(const uint8_t *text, size_t length, const int32_t *trace, si
 
 void watched(const uint8_t *text, size_t length, const int32_t *trace, size_t numbers) {
     struct parts t = translate(text, length, ROLVENKO_IMAGE_ROOM, image);
-    size_t names = t.number == 0 ? (size_t)image[0] + image[1] : 1;
-    size_t places = names > 0 ? numbers / names : numbers == 0;
-    int lengths = names > 0 ? numbers % names == 0 && places > 0 : numbers == 0;
+    size_t size = t.number == 0 ? state_len(image, t.count) : 1;
+    size_t places = size > 0 ? numbers / size : numbers == 0;
+    int lengths = size > 0 ? numbers % size == 0 && places > 0 : numbers == 0;
     for (size_t room = WATCHES - 1; room <= WATCHES + 1; room++) {
         int64_t report[ROOM_MOST];
         fill(report);
@@ -103,6 +103,6 @@ void watched(const uint8_t *text, size_t length, const int32_t *trace, size_t nu
         promise(p.count == count_watches(text, length));
         for (size_t i = 0; i < p.count; i++)
             promise(report[i] >= -1 && report[i] < (int64_t)places);
-        shorter(text, length, trace, names, places, report);
+        shorter(text, length, trace, size, places, report);
     }
 }

@@ -40,6 +40,7 @@ extern "C" {
 #define ROLVENKO_IMAGE_ROOM 49154  /* bytes that the image of any accepted text fits in (law buffer-bound) */
 #define ROLVENKO_ST_ROOM 115998    /* bytes that the Structured Text of any accepted text fits in (law st-bound) */
 #define ROLVENKO_NAMES 64          /* inputs and variables together */
+#define ROLVENKO_STATE 127         /* numbers of a state at most: 64 names, and an elapsed time for each of 63 timers */
 #define ROLVENKO_ENTRIES 32        /* entries of a farm table */
 #define ROLVENKO_COMBINATIONS 65536 /* scans of a closed profile */
 #define ROLVENKO_WATCHES 16        /* watches of a text, and numbers of a report */
@@ -88,17 +89,23 @@ uint64_t rolvenko_structured_text(const uint8_t *text, size_t text_len, uint8_t 
  */
 uint64_t rolvenko_check(const uint8_t *image, size_t image_len);
 
-/* Writes the starting values to `state`, one for each name in declared order; state_len is the count of names. 0 as a whole, or
+/* A state has one number for each name, in declared order, and behind them the elapsed milliseconds of each timer (an instruction 23), by the id of
+ * its name: at most ROLVENKO_STATE numbers. A row has one number for each input, in declared order, and if the image has a timer one more, the
+ * milliseconds since the last accepted scan.
+ */
+
+/* Writes the starting values to `state`, and an elapsed time of 0 for each timer. 0 as a whole, or
  *   9, 11     as rolvenko_check
- *   12        state_len is not the count of names
+ *   12        state_len is not the length of a state
  */
 uint64_t rolvenko_start(const uint8_t *image, size_t image_len, int32_t *state, size_t state_len);
 
-/* One scan: `state` becomes the next state; count is the steps, as many as the code has instructions. `row` has one number for each
- * input, in declared order. A refused scan counts the steps up to and including the refusing instruction, 0 before the code.
+/* One scan: `state` becomes the next state; count is the steps, as many as the code has instructions. A refused scan counts the steps up to and
+ * including the refusing instruction, 0 before the code.
  *   9, 11     as rolvenko_check
- *   12        state_len is not the count of names, or row_len not that of inputs
- *   18, 13    a number of the state, of the row, is outside its declared range
+ *   12        state_len or row_len is not the length of a state, of a row
+ *   18, 13    a number of the state, of the row, is outside its declared range; an elapsed time is outside 0 to its timer's limit, the milliseconds
+ *             are negative
  *   14        a result outside 32 bits, or division by zero (mod by zero gives 0)
  *   15        a second condition of a rule holds
  *   16        a case's value equals the previous value
@@ -117,7 +124,7 @@ uint64_t rolvenko_scan(const uint8_t *image, size_t image_len, int32_t *state, s
  *   trace     the states one behind the other: the start, then that after each accepted row
  * Refusals:
  *   9, 1 to 8, 30, 10   as rolvenko_translate
- *   12        state_len is not the count of names; the image stands in its buffer then, and all other memory is as it was
+ *   12        state_len is not the length of a state; the image stands in its buffer then, and all other memory is as it was
  */
 uint64_t rolvenko_replay(const uint8_t *text, size_t text_len, uint8_t *image, size_t image_len, int32_t *state, size_t state_len,
                          const int32_t *cells, size_t cells_len, const size_t *lengths, size_t rows, uint8_t *numbers, size_t numbers_len,
@@ -138,8 +145,8 @@ uint64_t rolvenko_replay(const uint8_t *text, size_t text_len, uint8_t *image, s
  */
 uint64_t rolvenko_clock(const uint8_t *text, size_t text_len, const int64_t *table, size_t table_len, int64_t utc, int32_t *row, size_t row_len);
 
-/* The licence charge of a trace. The variable `id` (names count from 0 in declared order, inputs first) is the licences held. `trace` has
- * the states in turn, the start first, one number for each name; `minutes` one number for each state but the start. Each row charges its
+/* The licence charge of a trace. The variable `id` (names count from 0 in declared order, inputs first; a timer is one too) is the licences held. `trace`
+ * has the states in turn, the start first, elapsed times among their numbers; `minutes` one number for each state but the start. Each row charges its
  * minutes of the licences held after it: those up to `threshold` at `rate`, only those above it at `rate_above`, in cents per
  * licence-hour. A success is the exact sum in sixtieths of a cent, 60 * cents + sixtieths; it is below every refusal, and
  * rolvenko_is_charge tells the two apart. Of a refusal, number and place are as above.
@@ -161,7 +168,7 @@ static inline unsigned rolvenko_sixtieths(uint64_t answer) { return (unsigned)(a
  * that no such scan is refused. Then no list of in-range rows from rolvenko_start ever meets 14 to 17 or 22. Rows are tried inside states; the
  * last declared name moves fastest in both, from low to high. Nothing is written.
  *   9, 11     as rolvenko_check
- *   26        the product of all range sizes times the product of the input range sizes is over 65,536
+ *   26        the image has a timer, or the product of all range sizes times the product of the input range sizes is over 65,536
  *   27        a scan is refused; place counts the scans before it, 0 to 65,535, and rolvenko_combination gives its state and row
  * It takes four to five times as long as so many calls of rolvenko_scan.
  */
@@ -190,15 +197,15 @@ static inline int rolvenko_is_idle(uint64_t answer) { return rolvenko_number(ans
 /* At any time: the row waits for the next scan, in place of one that waits already. It has no effect on the scan in progress. 0 as a
  * whole, or a refusal, which replaces nothing:
  *   9, 11     as rolvenko_check
- *   12        row_len is not the count of inputs
+ *   12        row_len is not the length of a row
  */
 uint64_t rolvenko_post(int32_t *paused, size_t paused_len, const uint8_t *image, size_t image_len, const int32_t *row, size_t row_len);
 
 /* Starts a scan of the waiting row: unfinished before the last scan is over, idle without a row. Else the row is taken and the tests
  * before the code are made; a refused scan is over. `state` is only read: it is written by rolvenko_finish. 0 as a whole, or
  *   9, 11     as rolvenko_check
- *   12        state_len is not the count of names, or the row's length not that of inputs
- *   18, 13    a number of the state, of the row, is outside its declared range
+ *   12        state_len is not the length of a state, or the row's not that of a row
+ *   18, 13    as rolvenko_scan
  */
 uint64_t rolvenko_begin(int32_t *paused, size_t paused_len, const uint8_t *image, size_t image_len, const int32_t *state, size_t state_len);
 

@@ -32,7 +32,7 @@ impl Farm {
             }
         }
         let read = Image::read(&image);
-        let mut state = vec![0; read.names()];
+        let mut state = vec![0; read.state_len()];
         let names = declared(&rules.text).into_iter().map(|d| d.name).collect();
         check(&image).and_then(|()| start(&image, &mut state)).map_err(|r| Stop::Failed(format!("an image that translate wrote: {r}")))?;
         Ok(Farm { path: rules.path.clone(), text: rules.text.clone(), image, read, names, state })
@@ -40,6 +40,11 @@ impl Farm {
 
     pub fn range(&self, id: usize) -> Range {
         self.read.ranges[id].1
+    }
+
+    /// The values of the names; elapsed times stand behind them in the state.
+    pub fn values(&self) -> &[i32] {
+        &self.state[..self.names.len()]
     }
 
     /// Scans a row, or a line that is none: that counts as a row of wrong length.

@@ -13,7 +13,12 @@ pub struct Instruction {
     pub at: usize,
     pub code: u8,
     pub operand: Option<u32>,
+    /// of a timer, whose operand is its id, that of its variable and its limit
+    pub timed: Option<(u32, u32)>,
 }
+
+/// A timer, and its variable and limit.
+pub const TIMER: u8 = 23;
 
 #[derive(Clone, Debug, Default, PartialEq, Eq)]
 pub struct Image {
@@ -23,6 +28,8 @@ pub struct Image {
     pub ranges: Vec<(usize, Range)>,
     pub code_at: usize,
     pub code: Vec<Instruction>,
+    /// how many of them are timers
+    pub timers: usize,
     /// where reading stopped before the end
     pub broken: Option<usize>,
 }
@@ -69,6 +76,7 @@ pub fn name(code: u8) -> Option<&'static str> {
         20 => "pick",
         21 => "let",
         22 => "settle",
+        TIMER => "timer",
         24 => "pick rising",
         25 => "pick falling",
         _ => return None,
@@ -76,7 +84,7 @@ pub fn name(code: u8) -> Option<&'static str> {
 }
 
 fn has_operand(code: u8) -> bool {
-    matches!(code, 1..=3 | 20..=22 | 24 | 25)
+    matches!(code, 1..=3 | 20..=25)
 }
 
 impl Image {
@@ -111,11 +119,19 @@ impl Image {
         while at < bytes.len() {
             let code = bytes[at];
             name(code).ok_or(at)?;
-            let (operand, end) = match has_operand(code) {
+            let (operand, behind) = match has_operand(code) {
                 true => number(bytes, at + 1).map(|(n, end)| (Some(n), end)).ok_or(at)?,
                 false => (None, at + 1),
             };
-            self.code.push(Instruction { at, code, operand });
+            let (timed, end) = match code {
+                TIMER => {
+                    let (of, limit) = number(bytes, behind).ok_or(at)?;
+                    number(bytes, limit).map(|(n, end)| (Some((of, n)), end)).ok_or(at)?
+                }
+                _ => (None, behind),
+            };
+            self.code.push(Instruction { at, code, operand, timed });
+            self.timers += usize::from(code == TIMER);
             at = end;
         }
         Ok(())
@@ -123,6 +139,16 @@ impl Image {
 
     pub fn names(&self) -> usize {
         self.ranges.len()
+    }
+
+    /// Numbers of a state: a value a name, then an elapsed time a timer.
+    pub fn state_len(&self) -> usize {
+        self.names() + self.timers
+    }
+
+    /// Numbers of a row: the inputs and, with a timer, the milliseconds.
+    pub fn row_len(&self) -> usize {
+        self.inputs + usize::from(self.timers > 0)
     }
 
     /// The scans of a closed profile: the product of all range sizes, and once more of the inputs'.
@@ -142,12 +168,11 @@ impl Instruction {
     /// In words, with the names that are known.
     pub fn words(&self, names: &[String]) -> String {
         let word = name(self.code).unwrap_or("?");
-        match (self.code, self.operand) {
-            (1, Some(n)) => format!("{word} {}", (n >> 1) as i32 ^ -((n & 1) as i32)),
-            (_, Some(id)) => match names.get(id as usize) {
-                Some(known) => format!("{word} {id} {known}"),
-                None => format!("{word} {id}"),
-            },
+        let named = |id: u32| names.get(id as usize).map_or(format!("{id}"), |known| format!("{id} {known}"));
+        match (self.code, self.operand, self.timed) {
+            (1, Some(n), _) => format!("{word} {}", (n >> 1) as i32 ^ -((n & 1) as i32)),
+            (_, Some(id), Some((of, limit))) => format!("{word} {} of {} limit {limit}", named(id), named(of)),
+            (_, Some(id), None) => format!("{word} {}", named(id)),
             _ => word.to_owned(),
         }
     }

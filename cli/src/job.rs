@@ -13,19 +13,19 @@ use std::path::{Path, PathBuf};
 /// Rows in turn: from the rule file, another file, or so many of zeros.
 enum Given {
     Lines(Rows),
-    Zeros { left: u64, inputs: usize },
+    Zeros { left: u64, numbers: usize },
     Nothing,
 }
 
 impl Given {
-    fn of(rules: &mut Rules, rows: Option<&Path>, zeros: Option<u64>, inputs: usize) -> Result<Given, Stop> {
+    fn of(rules: &mut Rules, rows: Option<&Path>, zeros: Option<u64>, numbers: usize) -> Result<Given, Stop> {
         if rules.rows.is_some() && (rows.is_some() || zeros.is_some()) {
             return Err(Stop::Failed(format!("{}: rows stand behind its `#` line already", rules.path.display())));
         }
         Ok(match (rows, zeros) {
             (Some(path), _) if path == Path::new("-") && rules.path == path => return Err(Stop::Failed("rules and rows cannot both be standard input".to_owned())),
             (Some(path), _) => Given::Lines(Rows::open(path)?),
-            (None, Some(left)) => Given::Zeros { left, inputs },
+            (None, Some(left)) => Given::Zeros { left, numbers },
             (None, None) => rules.rows.take().map_or(Given::Nothing, Given::Lines),
         })
     }
@@ -43,9 +43,9 @@ impl Given {
     fn next(&mut self) -> Result<Option<Row>, Stop> {
         match self {
             Given::Lines(rows) => Ok(rows.next()?.map(|line| row(&line))),
-            Given::Zeros { left, inputs } if *left > 0 => {
+            Given::Zeros { left, numbers } if *left > 0 => {
                 *left -= 1;
-                Ok(Some(Ok(vec![0; *inputs])))
+                Ok(Some(Ok(vec![0; *numbers])))
             }
             _ => Ok(None),
         }
@@ -60,11 +60,12 @@ impl Given {
     }
 }
 
-/// One scanned row: its number, 0 or its refusal, and the steps of an accepted one.
+/// One scanned row: its number, 0 or its refusal, the steps of an accepted one, and the milliseconds that it ends with where there is a timer.
 pub struct Scanned {
     pub number: u64,
     pub result: u8,
     pub steps: u32,
+    pub milliseconds: u32,
 }
 
 /// How many rows were refused.
@@ -101,17 +102,17 @@ impl Job {
     pub fn new(mut rules: Rules, rows: Option<&Path>, zeros: Option<u64>, clock: Option<Clock>) -> Result<Job, Stop> {
         let farm = Farm::new(&rules)?;
         let reads = [Some(rules.path.as_path()), rows, clock.as_ref().map(|c| c.path.as_path())].into_iter().flatten().map(Path::to_owned).collect();
-        let given = Given::of(&mut rules, rows, zeros, farm.read.inputs)?;
+        let given = Given::of(&mut rules, rows, zeros, farm.read.row_len())?;
         if let Some(clock) = &clock {
             // 19 and 20 come before any row
-            clock.fill(&farm, 0, &mut vec![0; farm.read.inputs])?;
+            clock.fill(&farm, 0, &mut vec![0; farm.read.row_len()])?;
         }
         Ok(Job { farm, given, clock, advised: BTreeSet::new(), reads })
     }
 
     /// Scans the rows in turn and hands each over, the start first as number 0; refused ones are told.
     pub fn scans(&mut self, results_on_output: bool, mut each: impl FnMut(&Farm, Scanned) -> Result<(), Stop>) -> Result<Refused, Stop> {
-        each(&self.farm, Scanned { number: 0, result: 0, steps: 0 })?;
+        each(&self.farm, Scanned { number: 0, result: 0, steps: 0, milliseconds: 0 })?;
         let mut progress = Progress::new(results_on_output);
         let count = self.given.count();
         let (mut number, mut refused) = (0, 0);
@@ -143,18 +144,21 @@ impl Job {
 
     fn scan(&mut self, number: u64, mut row: Row) -> Result<Scanned, Stop> {
         if let (Some(clock), Ok(values)) = (&self.clock, row.as_mut()) {
-            if values.len() == self.farm.read.inputs {
+            if values.len() == self.farm.read.row_len() {
                 clock.fill(&self.farm, number, values)?;
             }
         }
+        let read = &self.farm.read;
+        let whole = row.as_ref().ok().filter(|values| values.len() == read.row_len());
+        let milliseconds = whole.and_then(|values| values.get(read.inputs)).map_or(0, |m| u32::try_from(*m).unwrap_or(0));
         match self.farm.scan(row.as_deref().ok()) {
-            Ok(steps) => Ok(Scanned { number, result: 0, steps }),
+            Ok(steps) => Ok(Scanned { number, result: 0, steps, milliseconds }),
             Err(refusal) => {
                 tell(&format!("{}: {}\n", self.given.place(number), row_refused(&self.farm, row.as_deref(), refusal)));
                 if self.advised.insert(refusal.number) {
                     tell(&format!("  {}\n", advice(refusal.number)));
                 }
-                Ok(Scanned { number, result: refusal.number, steps: refusal.steps })
+                Ok(Scanned { number, result: refusal.number, steps: refusal.steps, milliseconds })
             }
         }
     }

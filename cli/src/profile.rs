@@ -2,10 +2,12 @@
 
 use crate::advice::{advice, refused};
 use crate::farm::Farm;
+use crate::image::TIMER;
 use crate::progress::Progress;
 use crate::refused_row::row_refused;
 use crate::source::Rules;
 use crate::stop::{tell, Stop};
+use crate::text::count;
 use rolvenko::{closed, combination, meaning, scan, Refusal, COMBINATIONS};
 use std::io::Write;
 use std::sync::mpsc::{channel, RecvTimeoutError};
@@ -61,13 +63,17 @@ fn one_scan(farm: &Farm) -> Duration {
     began.elapsed()
 }
 
-/// How many scans that would be, and by which ranges.
+/// How many scans that would be, and by which ranges; or the timers.
 fn sizes(farm: &Farm) -> String {
     let size = |id: usize| {
         let range = farm.range(id);
         let twice = if id < farm.read.inputs { " twice" } else { "" };
         format!("{} {}{twice}", farm.names[id], i64::from(range.high) - i64::from(range.low) + 1)
     };
+    let timers: Vec<&str> = farm.read.code.iter().filter(|i| i.code == TIMER).filter_map(|i| i.operand).map(|id| &*farm.names[id as usize]).collect();
+    if !timers.is_empty() {
+        return format!("{} of timers: {}", count(timers.len(), "elapsed time"), timers.join(", "));
+    }
     let all: Vec<String> = (0..farm.read.names()).map(size).collect();
     format!("over {COMBINATIONS} states and rows to scan: {}", all.join(", "))
 }

@@ -1,7 +1,7 @@
 //! A refused row in words: which name and which values, and for 15 the two cases that held.
 
 use crate::farm::Farm;
-use crate::image::Instruction;
+use crate::image::{Instruction, TIMER};
 use crate::text::{cases, count, line_column, one_line};
 use rolvenko::{meaning, scan, ScanRefusal};
 
@@ -17,8 +17,8 @@ pub fn row_refused(farm: &Farm, row: Result<&[i32], &String>, refusal: ScanRefus
     let what = match (refusal.number, row) {
         (12, Err(why)) => format!("the line is no row: {why}; {}", inputs_wanted(farm)),
         (12, Ok(row)) => format!("the row has {}; {}", count(row.len(), "number"), inputs_wanted(farm)),
-        (13, Ok(row)) => outside(farm, row),
-        (18, _) => outside(farm, &farm.state),
+        (13, Ok(row)) => outside(farm, &row[..farm.read.inputs], row.get(farm.read.inputs)),
+        (18, _) => outside(farm, farm.values(), None),
         (14..=17 | 22, Ok(row)) => at_work(farm, row, refusal),
         _ => meaning(refusal.number).to_owned(),
     };
@@ -26,26 +26,30 @@ pub fn row_refused(farm: &Farm, row: Result<&[i32], &String>, refusal: ScanRefus
 }
 
 fn inputs_wanted(farm: &Farm) -> String {
-    match farm.read.inputs {
+    let (inputs, numbers) = (farm.read.inputs, farm.read.row_len());
+    let words: Vec<&str> = farm.names[..inputs].iter().map(String::as_str).chain(Some("milliseconds").filter(|_| numbers > inputs)).collect();
+    match numbers {
         0 => "a row of no numbers is wanted".to_owned(),
-        n => format!("{} wanted, {}", count(n, "number"), farm.names[..n].join(" ")),
+        n => format!("{} wanted, {}", count(n, "number"), words.join(" ")),
     }
 }
 
-/// Which values are outside the ranges of their names.
-fn outside(farm: &Farm, values: &[i32]) -> String {
+/// Which values are outside the ranges of their names, and milliseconds below 0.
+fn outside(farm: &Farm, values: &[i32], milliseconds: Option<&i32>) -> String {
     let told = |(id, value): (usize, &i32)| {
         let range = farm.range(id);
         let within = (range.low..=range.high).contains(value);
         (!within).then(|| format!("{} is {value}, outside {}..{}", farm.names[id], range.low, range.high))
     };
-    values.iter().enumerate().filter_map(told).collect::<Vec<_>>().join("; ")
+    let negative = milliseconds.filter(|m| **m < 0).map(|m| format!("the milliseconds are {m}, below 0"));
+    values.iter().enumerate().filter_map(told).chain(negative).collect::<Vec<_>>().join("; ")
 }
 
 /// The instructions of the rule that the refusing one belongs to.
 fn rule_of(code: &[Instruction], index: usize) -> std::ops::Range<usize> {
     let ends = |i: &Instruction| matches!(i.code, LET | SETTLE);
-    let first = code[..index].iter().rposition(ends).map_or(0, |i| i + 1);
+    // timers stand behind the rule of their variable
+    let first = code[..index].iter().rposition(|i| ends(i) || i.code == TIMER).map_or(0, |i| i + 1);
     let last = code[index..].iter().position(ends).map_or(code.len(), |i| index + i + 1);
     first..last
 }
@@ -108,9 +112,13 @@ fn holds(farm: &Farm, row: &[i32], rule: &std::ops::Range<usize>, n: usize) -> b
     image.extend(&farm.image[code[first].at..code[picks[n] + 1].at]);
     let id = settle.operand.unwrap_or(0) as u8;
     image.extend([SETTLE, id]);
-    for later in code[rule.end..].iter().filter(|i| matches!(i.code, LET | SETTLE)) {
+    for (n, later) in code.iter().enumerate().skip(rule.end) {
         let id = later.operand.unwrap_or(0) as u8;
-        image.extend([PREVIOUS, id, LET, id]);
+        match later.code {
+            LET | SETTLE => image.extend([PREVIOUS, id, LET, id]),
+            TIMER => image.extend(&farm.image[later.at..code.get(n + 1).map_or(farm.image.len(), |next| next.at)]),
+            _ => (),
+        }
     }
     let before_gate = (first..picks[n]).take_while(|i| code[*i].code != GATE).count();
     let mut state = farm.state.clone();

@@ -12,7 +12,7 @@ pub fn replay(mut job: Job, csv: bool) -> Result<(), Stop> {
     let mut place = 0;
     let refused = job.scans(true, |farm, row| {
         if row.result == 0 {
-            columns.line(&[place, row.number, u64::from(row.steps)], &farm.state, &[])?;
+            columns.line(&[place, row.number, u64::from(row.steps)], farm.values(), &[])?;
             place += 1;
         }
         Ok(())

@@ -4,7 +4,7 @@ use crate::columns::Columns;
 use crate::job::Job;
 use crate::output::Output;
 use crate::stop::Stop;
-use crate::vcd::Waveform;
+use crate::vcd::{Unit, Waveform};
 use std::path::{Path, PathBuf};
 
 pub enum Form {
@@ -24,7 +24,7 @@ pub fn trace(job: Job, form: Form) -> Result<(), Stop> {
 fn lines(mut job: Job, csv: bool) -> Result<(), Stop> {
     let mut columns = Columns::new(csv);
     columns.head(&["scan"], &job.farm.names, &["result"])?;
-    let refused = job.scans(true, |farm, row| columns.line(&[row.number], &farm.state, &[u64::from(row.result)]))?;
+    let refused = job.scans(true, |farm, row| columns.line(&[row.number], farm.values(), &[u64::from(row.result)]))?;
     columns.end()?;
     refused.verdict()
 }
@@ -32,9 +32,20 @@ fn lines(mut job: Job, csv: bool) -> Result<(), Stop> {
 fn waveform(mut job: Job, path: &Path) -> Result<(), Stop> {
     let ranges: Vec<_> = (0..job.farm.read.names()).map(|id| job.farm.range(id)).collect();
     let mut to = Output::open(path, &job.reads)?;
-    let mut wave = Waveform::new("rules", &job.farm.names, &ranges);
+    let unit = if job.farm.read.timers == 0 { Unit::Row } else { Unit::Millisecond };
+    let mut wave = Waveform::new("rules", &job.farm.names, &ranges, unit);
+    // with timers, the milliseconds of all accepted rows, and the time that the dump has come to
+    let (mut accepted, mut now) = (0u64, 0u64);
     let refused = job.scans(false, |farm, row| {
-        wave.at(row.number, &farm.state, row.result);
+        now = match unit {
+            Unit::Row => row.number,
+            // a refused row stands where its own milliseconds say; a dump never goes back
+            Unit::Millisecond => now.max(accepted + u64::from(row.milliseconds)),
+        };
+        if row.result == 0 {
+            accepted += u64::from(row.milliseconds);
+        }
+        wave.at(now, farm.values(), row.result);
         to.put(wave.taken().as_bytes())
     })?;
     to.end()?;

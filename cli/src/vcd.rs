@@ -1,4 +1,5 @@
-//! A trace as a waveform (IEEE 1364 value change dump), which GTKWave opens: a wire a name, as wide as its range; time goes by rows.
+//! A trace as a waveform (IEEE 1364 value change dump), which GTKWave opens: a wire a name, as wide as its range; time goes by rows or, with
+//! timers, by their milliseconds.
 
 use crate::image::Range;
 use std::fmt::Write;
@@ -26,9 +27,17 @@ fn identifier(mut n: usize) -> String {
     }
 }
 
+/// What a unit of time is.
+#[derive(Clone, Copy)]
+pub enum Unit {
+    Row,
+    Millisecond,
+}
+
 pub struct Waveform {
     wires: Vec<u32>,
     last: Vec<Option<i32>>,
+    time: Option<u64>,
     /// what was not taken yet
     text: String,
 }
@@ -37,9 +46,13 @@ pub struct Waveform {
 const RESULT: Range = Range { low: 0, high: 31, start: 0 };
 
 impl Waveform {
-    pub fn new(module: &str, names: &[String], ranges: &[Range]) -> Waveform {
-        let mut text = String::from("$timescale 1 s $end\n");
-        let _ = writeln!(text, "$comment a unit of time is a row $end\n$scope module {module} $end");
+    pub fn new(module: &str, names: &[String], ranges: &[Range], unit: Unit) -> Waveform {
+        let (scale, of_time) = match unit {
+            Unit::Row => ("1 s", "row"),
+            Unit::Millisecond => ("1 ms", "millisecond"),
+        };
+        let mut text = format!("$timescale {scale} $end\n");
+        let _ = writeln!(text, "$comment a unit of time is a {of_time} $end\n$scope module {module} $end");
         let mut wires = Vec::new();
         let all = names.iter().map(String::as_str).zip(ranges.iter().copied()).chain([("_result", RESULT)]);
         for (n, (name, range)) in all.enumerate() {
@@ -48,7 +61,7 @@ impl Waveform {
             wires.push(width);
         }
         text.push_str("$upscope $end\n$enddefinitions $end\n");
-        Waveform { last: vec![None; wires.len()], wires, text }
+        Waveform { last: vec![None; wires.len()], time: None, wires, text }
     }
 
     /// What has come since the last call.
@@ -56,7 +69,7 @@ impl Waveform {
         std::mem::take(&mut self.text)
     }
 
-    /// The values after row `time`, 0 being the start, and its result; only changes are written.
+    /// The values at a time, 0 that of the start, and a row's result; only changes are written.
     pub fn at(&mut self, time: u64, state: &[i32], result: u8) {
         let mut changes = String::new();
         for (n, value) in state.iter().copied().chain([i32::from(result)]).enumerate() {
@@ -73,6 +86,9 @@ impl Waveform {
                 }
             };
         }
-        let _ = write!(self.text, "#{time}\n{changes}");
+        if self.time.replace(time) != Some(time) {
+            let _ = writeln!(self.text, "#{time}");
+        }
+        self.text.push_str(&changes);
     }
 }

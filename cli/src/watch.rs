@@ -11,7 +11,7 @@ pub fn watch(mut job: Job) -> Result<(), Stop> {
     let farm = &job.farm;
     let failures = rolvenko::watch(&farm.text, &found.states).map_err(|r| Stop::Failed(format!("a trace that scan left: {r}")))?;
     // without names the trace is its start, whatever rows there are
-    let places = found.states.len().checked_div(farm.names.len()).unwrap_or(1);
+    let places = found.states.len().checked_div(farm.state.len()).unwrap_or(1);
     let mut out = BufWriter::new(std::io::stdout().lock());
     if failures.is_empty() {
         writeln!(out, "{}: no watch stands behind the rules", farm.path.display())?;
@@ -55,8 +55,8 @@ fn why(farm: &Farm, watch: &Watch, found: &Found, place: usize) -> String {
 
 /// The values at a place of the names in a condition; at the start every previous value is the current one.
 fn values_used(farm: &Farm, condition: &[Token], found: &Found, place: usize) -> String {
-    let names = farm.names.len();
-    let state = |place: usize| &found.states[place * names..(place + 1) * names];
+    let size = farm.state.len();
+    let state = |place: usize| &found.states[place * size..(place + 1) * size];
     let mut values: Vec<String> = Vec::new();
     for token in condition {
         let spelled = String::from_utf8_lossy(token.of(&farm.text));

@@ -14,7 +14,9 @@ pub struct Features {
     pub pair_images: bool,
     /// Request A.6, rising and falling formulas in texts; their images come with them.
     pub pairs: bool,
-    /// Request A.7, delay on start.
+    /// Request A.7, instruction 23 in images.
+    pub timer_images: bool,
+    /// Request A.7, timers in texts; their images come with them.
     pub timers: bool,
     /// Request A.13, watch formulas.
     pub watches: bool,
@@ -26,6 +28,7 @@ impl Features {
         names_without_case: true,
         pair_images: true,
         pairs: true,
+        timer_images: true,
         timers: false,
         watches: true,
     };
@@ -35,6 +38,7 @@ impl Features {
         names_without_case: false,
         pair_images: false,
         pairs: false,
+        timer_images: false,
         timers: false,
         watches: false,
     };
@@ -43,6 +47,7 @@ impl Features {
         names_without_case: true,
         pair_images: true,
         pairs: true,
+        timer_images: true,
         timers: true,
         watches: true,
     };
@@ -52,16 +57,28 @@ impl Features {
         self.pair_images || self.pairs
     }
 
-    /// Every set of requests, and what has landed, of A.6 perhaps a part.
+    /// Whether images may have instruction 23.
+    pub fn timer_codes(&self) -> bool {
+        self.timer_images || self.timers
+    }
+
+    /// Every set of requests, those that images alone have, and what has landed.
     pub fn sets() -> Vec<Features> {
         let set = |index: u32| Features {
             names_without_case: index & 1 != 0,
             pair_images: index & 2 != 0,
             pairs: index & 2 != 0,
+            timer_images: index & 4 != 0,
             timers: index & 4 != 0,
             watches: index & 8 != 0,
         };
-        (0..16).map(set).chain([Features::LANDED]).collect()
+        let images = Features {
+            pairs: false,
+            timers: false,
+            ..Features::ALL
+        };
+        let sets = (0..16).map(set);
+        sets.chain([images, Features::LANDED]).collect()
     }
 }
 

@@ -123,7 +123,7 @@ fn every_answer_is_met_in_force() {
         Breach::Missing as usize
             + 1
             + usize::from(features.pair_codes())
-            + 2 * usize::from(features.timers)
+            + 2 * usize::from(features.timer_codes())
     );
     assert_eq!(counts.scan[22] > 0, features.pair_codes());
     // Each number belongs to the services that the document names, to no others.

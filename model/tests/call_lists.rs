@@ -4,13 +4,13 @@
 mod common;
 
 use common::landed_and_all;
-use rolvenko_model::features::in_force;
+use rolvenko_model::features::{in_force, with};
 use rolvenko_model::generate::{
     alphabet, call_list, closure, small_images, text, Call, Rng, Shape,
 };
 use rolvenko_model::instalments::{IDLE, UNFINISHED};
 use rolvenko_model::{check_detail, read_text, scan, write_image};
-use rolvenko_model::{Answer, Paused, Refusal, ScanRefusal};
+use rolvenko_model::{Answer, Features, Paused, Refusal, ScanRefusal};
 use std::collections::BTreeMap;
 
 /// A list of calls with their answers.
@@ -145,6 +145,16 @@ impl Undivided {
 /// sentences say of the whole list, and "then nothing moves".
 #[test]
 fn closures() {
+    with(Features::NONE, || {
+        assert_eq!(all_closures(), (662, 12_382, 8))
+    });
+    with(Features::ALL, || {
+        assert_eq!(all_closures(), (762, 14_482, 8))
+    });
+}
+
+/// Situations, calls and depth of all small images.
+fn all_closures() -> (usize, usize, usize) {
     let mut all = (0, 0, 0);
     for small in small_images() {
         let calls = alphabet(&small);
@@ -158,7 +168,7 @@ fn closures() {
         );
     }
     println!("situations, calls, depth: {all:?}");
-    assert_eq!(all, (662, 12_382, 8));
+    all
 }
 
 /// What the model has after a list of calls, and what the list itself says: all that

@@ -52,7 +52,7 @@ fn scans(rng: &mut Rng, shape: Shape) {
 #[test]
 fn every_set() {
     let sets = Features::sets();
-    assert_eq!(sets.len(), 17);
+    assert_eq!(sets.len(), 18);
     assert!(sets.contains(&Features::NONE) && sets.contains(&Features::ALL));
     for (index, features) in sets.into_iter().enumerate() {
         with(features, || {

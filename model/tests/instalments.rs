@@ -2,10 +2,11 @@
 
 mod common;
 
-use common::{hex, image};
+use common::{hex, image, landed_and_all};
+use rolvenko_model::features::with;
 use rolvenko_model::generate::{broken, small_images};
 use rolvenko_model::instalments::{IDLE, UNFINISHED};
-use rolvenko_model::{check, instructions, Answer, Paused, ScanRefusal, IMAGE_LIMIT};
+use rolvenko_model::{check, instructions, Answer, Features, Paused, ScanRefusal, IMAGE_LIMIT};
 
 const LAUNCH: &str = "input go 0..1; var run 0..1; run: GX(~(run = _run) -> \
     [_run = 0 & go = 1] & run = (1) | [_run = 1 & go = 0] & run = (0)); \
@@ -74,9 +75,16 @@ const NONE: (u8, u32) = (IDLE, 0);
 
 #[test]
 fn small_images_are_what_they_say() {
-    for (small, steps) in small_images().iter().zip([0, 7, 21, 13, 7, 8]) {
-        assert_eq!(check(small.image), Ok(()), "{}", small.label);
-        assert_eq!(instructions(small.image), steps, "{}", small.label);
+    let wanted = [0, 7, 21, 13, 7, 8, 3];
+    for (features, count) in [(Features::NONE, 6), (Features::ALL, 7)] {
+        with(features, || {
+            let list = small_images();
+            assert_eq!(list.len(), count);
+            for (small, steps) in list.iter().zip(wanted) {
+                assert_eq!(check(small.image), Ok(()), "{}", small.label);
+                assert_eq!(instructions(small.image), steps, "{}", small.label);
+            }
+        });
     }
     assert_eq!(port("launch").image, image(LAUNCH));
     assert_eq!(
@@ -225,7 +233,41 @@ fn waiting_rows() {
 /// A broken image is unsound.
 #[test]
 fn broken_images() {
-    for small in small_images() {
-        assert!(check(&broken(small.image)).is_err());
-    }
+    landed_and_all(|| {
+        for small in small_images() {
+            assert!(check(&broken(small.image)).is_err());
+        }
+    });
+}
+
+/// A row with milliseconds (A.7) waits as any other; the scan has those of its own row.
+#[test]
+fn timer() {
+    with(Features::ALL, || {
+        let mut port = port("timer");
+        let text = "input In 0..1; var W 0..1; timer Q of W limit 50; W: GX(W = (In));";
+        assert_eq!(port.image, image(text));
+        assert_eq!(port.post(&[1]), (12, 0));
+        assert_eq!(port.post(&[1, 30]), OK);
+        assert_eq!(port.begin(&[1, 1, 0, 30]), OK);
+        assert_eq!(port.post(&[0, 7]), OK);
+        assert_eq!(port.divided([2]), [2]);
+        assert_eq!(port.post(&[1, 1]), OK);
+        assert_eq!(port.divided([1]), [1]);
+        assert_eq!(port.no_finish(&[1, 1, 0, 31]), (24, 0));
+        let left = vec![1, 1, 1, 50];
+        assert_eq!(port.finish(&[1, 1, 0, 30]), ((0, 3), left.clone()));
+        assert_eq!(port.begin(&left), OK);
+        assert_eq!(port.divided([9]), [3]);
+        assert_eq!(port.finish(&left), ((0, 3), left.clone()));
+        for (state, row, number) in [
+            (&[1, 1, 0][..], [1, 1], 12),
+            (&[1, 1, 0, 51], [1, 1], 18),
+            (&[1, 1, 0, -1], [1, -1], 18),
+            (&[1, 1, 0, 50], [1, -1], 13),
+        ] {
+            assert_eq!(port.post(&row), OK);
+            assert_eq!(port.begin(state), (number, 0));
+        }
+    });
 }

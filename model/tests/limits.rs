@@ -63,6 +63,6 @@ fn unsound_in_force() {
     }
     // Every breach of the list; `Breach::Missing` is the last of document 01.
     let features = in_force();
-    let more = usize::from(features.pair_codes()) + 2 * usize::from(features.timers);
+    let more = usize::from(features.pair_codes()) + 2 * usize::from(features.timer_codes());
     assert_eq!(met.len(), Breach::Missing as usize + 1 + more);
 }

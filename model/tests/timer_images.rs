@@ -2,7 +2,7 @@
 
 mod common;
 
-use common::image;
+use common::{expect, image};
 use rolvenko_model::features::with;
 use rolvenko_model::generate::{timer_image, Rng};
 use rolvenko_model::{check, check_detail, scan, start, Features, Refusal};
@@ -35,6 +35,10 @@ fn limits_of_the_instruction() {
         assert_eq!(after_set(&[23, 2, 1, 255, 255, 255, 255, 7]), None);
         for broken in [
             &[23, 2, 1, 0][..],
+            &[23, 2, 1, 0x80],
+            &[23, 2, 1, 0x80, 0x80, 0x80, 0x80],
+            &[23, 2, 0x81],
+            &[23, 0x82],
             &[23, 2, 1, 0x80, 0x80, 0x80, 0x80, 8],
             &[23, 2, 1, 0x81, 0],
             &[23, 2, 1, 0x81],
@@ -63,6 +67,25 @@ fn limits_of_the_instruction() {
     });
     with(Features::NONE, || {
         assert_eq!(after_set(&[23, 2, 1, 1]), Some(15))
+    });
+}
+
+/// Images with timers may land before texts with timers.
+#[test]
+fn images_without_texts() {
+    let images = Features {
+        timer_images: true,
+        ..Features::NONE
+    };
+    with(images, || {
+        let image = [&H[..], &SET, &[23, 2, 1, 5]].concat();
+        assert_eq!(check(&image), Ok(()));
+        let mut state = [1, 1, 0, 3];
+        assert_eq!(scan(&image, &mut state, &[1, 2]), Ok(3));
+        assert_eq!(state, [1, 1, 1, 5]);
+        let text = "var w 0..1; @timer t of w limit 5; w: GX(w = (1));";
+        expect(4, text);
+        expect(0, "input timer 0..1; input of 0..1; input limit 0..1;");
     });
 }
 

@@ -1,4 +1,4 @@
-/* Stack that each function takes at most, on texts with the deepest brackets, of 2 names and of 64, and on their images: each call
+/* Stack that each function takes at most, on texts with the deepest brackets, of 2 names and of 64, on their images, and on one with the longest state: each call
  * runs in a thread on a stack of known contents. The proofs speak of a machine without a stack, so this is measured. */
 #include "rolvenko.h"
 
@@ -11,9 +11,10 @@ enum { STACK = 1 << 18, FILL = 0xA5, BOUND = 98304, ST_BOUND = 131072 };
 
 static uint8_t text[16384], image[ROLVENKO_IMAGE_ROOM];
 static size_t text_len, image_len, names;
-static int32_t state[64], row[63];
+static size_t size, numbers; /* of a state, of a row */
+static int32_t state[ROLVENKO_STATE], row[63];
 static int64_t table[64]; /* 32 entries, an hour more or less in turn */
-static const int32_t trace[33 * 64], minutes[32]; /* a start and 32 rows */
+static const int32_t trace[33 * ROLVENKO_STATE], minutes[32]; /* a start and 32 rows */
 static uint64_t answer;
 
 static void *nothing(void *p) { return p; }
@@ -31,7 +32,7 @@ static void *structured_text(void *p) {
 
 static void *watch(void *p) {
     int64_t report[ROLVENKO_WATCHES];
-    answer = rolvenko_watch(text, text_len, trace, 33 * names, report, ROLVENKO_WATCHES);
+    answer = rolvenko_watch(text, text_len, trace, 33 * size, report, ROLVENKO_WATCHES);
     return p;
 }
 
@@ -41,22 +42,22 @@ static void *check(void *p) {
 }
 
 static void *start(void *p) {
-    answer = rolvenko_start(image, image_len, state, names);
+    answer = rolvenko_start(image, image_len, state, size);
     return p;
 }
 
 static void *scan(void *p) {
-    answer = rolvenko_scan(image, image_len, state, names, row, names - 1);
+    answer = rolvenko_scan(image, image_len, state, size, row, numbers);
     return p;
 }
 
 static void *local_hour(void *p) {
-    answer = rolvenko_clock(text, text_len, table, 64, 32000, row, names - 1);
+    answer = rolvenko_clock(text, text_len, table, 64, 32000, row, numbers);
     return p;
 }
 
 static void *charge(void *p) {
-    answer = rolvenko_charge(image, image_len, names - 1, trace, 33 * names, minutes, 32, 0, 1, 1);
+    answer = rolvenko_charge(image, image_len, names - 1, trace, 33 * size, minutes, 32, 0, 1, 1);
     return p;
 }
 
@@ -75,18 +76,18 @@ static void *combination(void *p) {
 }
 
 /* A scan in instalments, and the same image for all the sets of a round. */
-static int32_t paused[ROLVENKO_SETS * ROLVENKO_PAUSED], states[ROLVENKO_SETS * 64];
+static int32_t paused[ROLVENKO_SETS * ROLVENKO_PAUSED], states[ROLVENKO_SETS * ROLVENKO_STATE];
 static uint8_t images[ROLVENKO_SETS * 2048];
 static size_t sets[ROLVENKO_SETS * 3];
 
 static void *post(void *p) {
     for (int i = 0; i < ROLVENKO_SETS && answer == 0; i++)
-        answer = rolvenko_post(paused + i * ROLVENKO_PAUSED, ROLVENKO_PAUSED, image, image_len, row, names - 1);
+        answer = rolvenko_post(paused + i * ROLVENKO_PAUSED, ROLVENKO_PAUSED, image, image_len, row, numbers);
     return p;
 }
 
 static void *begin(void *p) {
-    answer = rolvenko_begin(paused, ROLVENKO_PAUSED, image, image_len, state, names);
+    answer = rolvenko_begin(paused, ROLVENKO_PAUSED, image, image_len, state, size);
     return p;
 }
 
@@ -96,18 +97,18 @@ static void *advance(void *p) {
 }
 
 static void *finish(void *p) {
-    answer = rolvenko_finish(paused, ROLVENKO_PAUSED, state, names);
+    answer = rolvenko_finish(paused, ROLVENKO_PAUSED, state, size);
     return p;
 }
 
 static void *visit(void *p) {
-    answer = rolvenko_visit(paused, ROLVENKO_PAUSED, image, image_len, state, names, 65536);
+    answer = rolvenko_visit(paused, ROLVENKO_PAUSED, image, image_len, state, size, 65536);
     return p;
 }
 
 static void *eight(void *p) {
     uint64_t answers[ROLVENKO_SETS];
-    answer = rolvenko_round(paused, ROLVENKO_SETS * ROLVENKO_PAUSED, images, ROLVENKO_SETS * image_len, states, ROLVENKO_SETS * names, sets,
+    answer = rolvenko_round(paused, ROLVENKO_SETS * ROLVENKO_PAUSED, images, ROLVENKO_SETS * image_len, states, ROLVENKO_SETS * size, sets,
                             ROLVENKO_SETS * 3, answers, ROLVENKO_SETS);
     for (int i = 0; i < ROLVENKO_SETS && answer == 0; i++)
         answer = rolvenko_number(answers[i]);
@@ -117,9 +118,9 @@ static void *eight(void *p) {
 static void join(void) {
     for (size_t i = 0; i < ROLVENKO_SETS; i++) {
         memcpy(images + i * image_len, image, image_len);
-        memcpy(states + i * names, state, names * sizeof *state);
+        memcpy(states + i * size, state, size * sizeof *state);
         sets[3 * i] = image_len;
-        sets[3 * i + 1] = names;
+        sets[3 * i + 1] = size;
         sets[3 * i + 2] = 65536;
     }
 }
@@ -137,12 +138,12 @@ static void hold(void) {
 }
 
 static void *replay(void *p) {
-    static uint8_t buffer[ROLVENKO_IMAGE_ROOM], numbers[2];
+    static uint8_t buffer[ROLVENKO_IMAGE_ROOM], results[2];
     static size_t lengths[2], steps[2];
-    static int32_t cells[2 * 63], found[64], states[3 * 64];
-    lengths[0] = lengths[1] = names - 1;
-    answer = rolvenko_replay(text, text_len, buffer, sizeof buffer, found, names, cells, 2 * (names - 1), lengths, 2, numbers, 2, steps, 2,
-                             states, 3 * names);
+    static int32_t cells[2 * 63], found[ROLVENKO_STATE], states[3 * ROLVENKO_STATE];
+    lengths[0] = lengths[1] = numbers;
+    answer = rolvenko_replay(text, text_len, buffer, sizeof buffer, found, size, cells, 2 * numbers, lengths, 2, results, 2, steps, 2, states,
+                             3 * size);
     return p;
 }
 
@@ -167,7 +168,8 @@ static size_t used(void *(*call)(void *)) {
 static void nested(int square, int operations, size_t declared) {
     static const char *const before[2][2] = {{"-(", "~["}, {"1+1*-(", "1=2|1=1&~["}};
     char condition[256] = "";
-    names = declared;
+    names = size = declared;
+    numbers = declared - 1;
     text_len = 0;
     for (size_t i = 1; i < declared; i++)
         text_len += (size_t)snprintf((char *)text + text_len, sizeof text - text_len, "input i%zu 0..1;", i);
@@ -226,6 +228,44 @@ static void measure(int service) {
         most[service] = bytes;
 }
 
+/* A scan in instalments and rounds of the image. */
+static void measure_divided(void) {
+    measure(START);
+    for (int service = POST; service <= FINISH; service++)
+        measure(service);
+    join();
+    measure(POST);
+    measure(VISIT);
+    measure(POST);
+    measure(ROUND);
+}
+
+/* The longest state: 63 timers of one variable, which is always 1. */
+static void measure_timed(void) {
+    static const uint8_t rule[4] = {1, 2, 21, 0};
+    names = 64;
+    size = ROLVENKO_STATE;
+    numbers = 1;
+    memset(state, 0, sizeof state);
+    memset(image, 0, 2 + 3 * names);
+    image[1] = 64;
+    for (size_t id = 0; id < names; id++)
+        image[3 + 3 * id] = 2;
+    image_len = 2 + 3 * names;
+    memcpy(image + image_len, rule, sizeof rule);
+    image_len += sizeof rule;
+    for (uint8_t id = 1; id < 64; id++) {
+        const uint8_t timer[4] = {23, id, 0, 100};
+        memcpy(image + image_len, timer, sizeof timer);
+        image_len += sizeof timer;
+    }
+    measure(CHECK);
+    measure(START);
+    measure(SCAN);
+    measure(CHARGE);
+    measure_divided();
+}
+
 /* Every service on the text and its image. */
 static void measure_all(void) {
     measure(TRANSLATE);
@@ -244,14 +284,7 @@ static void measure_all(void) {
     hold();
     measure(CLOSED);
     measure(COMBINATION);
-    measure(START);
-    for (int service = POST; service <= FINISH; service++)
-        measure(service);
-    join();
-    measure(POST);
-    measure(VISIT);
-    measure(POST);
-    measure(ROUND);
+    measure_divided();
 }
 
 int main(void) {
@@ -265,6 +298,7 @@ int main(void) {
             nested(square, form / 2, form % 2 ? 64 : 2);
             measure_all();
         }
+    measure_timed();
     printf("stack, bytes at most:");
     int over = 0;
     for (int i = 0; i < SERVICES; i++) {

@@ -87,11 +87,14 @@ impl Call {
         list
     }
 
-    /// A sound image with the plainest code, and without one of the names.
+    /// A sound image with the plainest code, and without one of the names; timers are left as they are.
     fn fewer_names(&self) -> Vec<Call> {
         let Ok(header) = check_detail(&self.image) else {
             return Vec::new();
         };
+        if !header.timers.is_empty() {
+            return Vec::new();
+        }
         let names = header.names;
         let plain = Call {
             image: plain_image(header.inputs, header.ranges()),
@@ -113,8 +116,8 @@ impl Call {
 
     /// Without some rows: half of them, a quarter, down to a 64th or to single ones.
     fn fewer_rows(&self) -> Vec<Call> {
-        let names = check_detail(&self.image).map_or(1, |header| header.names.max(1));
-        let states = self.bill.trace.len() / names;
+        let size = check_detail(&self.image).map_or(1, |header| header.state_length().max(1));
+        let states = self.bill.trace.len() / size;
         let rows = states.saturating_sub(1).min(self.bill.minutes.len());
         let mut list = Vec::new();
         let mut run = rows;
@@ -122,7 +125,7 @@ impl Call {
             for at in (0..=rows - run).step_by(run) {
                 list.push(self.billed(|bill| {
                     bill.minutes.drain(at..at + run);
-                    bill.trace.drain((at + 1) * names..(at + 1 + run) * names);
+                    bill.trace.drain((at + 1) * size..(at + 1 + run) * size);
                 }));
             }
             run /= 2;
@@ -156,9 +159,9 @@ fn name(call: &Call, left: &Left) -> String {
         return format!("{number:>2}");
     }
     let Bill { id, threshold, .. } = call.bill;
-    let names = check_detail(&call.image).expect("a success has a sound image").names;
-    let rows = &call.bill.trace[names..];
-    match rows.chunks(names).any(|state| state[id] > threshold) {
+    let size = check_detail(&call.image).expect("a success has a sound image").state_length();
+    let rows = &call.bill.trace[size..];
+    match rows.chunks(size).any(|state| state[id] > threshold) {
         _ if rows.is_empty() => " 0, no row".to_owned(),
         true => " 0, some above the threshold".to_owned(),
         false => " 0, all up to the threshold".to_owned(),

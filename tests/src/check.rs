@@ -2,8 +2,8 @@
 
 use crate::compare::{deep_image, fence, hex, services, Options, Table};
 use crate::shrink::{shrink, smaller_bytes};
-use rolvenko_model::generate::{damaged_image, random_bytes, random_image, text, unsound_images, Rng, Shape};
-use rolvenko_model::{check_detail, read_text, write_image, IMAGE_LIMIT};
+use rolvenko_model::generate::{damaged_image, random_bytes, random_image, sound_image, unsound_images, Rng};
+use rolvenko_model::{check_detail, IMAGE_LIMIT};
 
 /// The model's answer, as the table names it.
 fn name(image: &[u8]) -> String {
@@ -37,12 +37,6 @@ fn compare(image: &[u8], table: &mut Table) -> Result<(), String> {
     Ok(())
 }
 
-fn small_image(rng: &mut Rng) -> Vec<u8> {
-    let shape = Shape::any(rng);
-    let source = text(rng, shape);
-    read_text(&source).map(|p| write_image(&p)).expect("a generated text is accepted")
-}
-
 /// Images that need no chance: the hand-made ones, and the greatest lengths.
 fn fixed(table: &mut Table) -> Result<(), String> {
     for unsound in unsound_images() {
@@ -70,7 +64,7 @@ fn neighbours(image: &[u8], table: &mut Table) -> Result<(), String> {
         compare(&without, table)?;
     }
     for at in 0..=image.len() {
-        for byte in 0..=24 {
+        for byte in 0..=26 {
             let mut more = image.to_vec();
             more.insert(at, byte);
             compare(&more, table)?;
@@ -84,7 +78,7 @@ pub fn run(options: &Options, table: &mut Table) -> Result<(), String> {
     fixed(table)?;
     let since = table.started();
     while !options.spent(since, table.calls) {
-        let image = small_image(&mut rng);
+        let image = sound_image(&mut rng);
         compare(&image, table)?;
         if image.len() < 60 {
             neighbours(&image, table)?;

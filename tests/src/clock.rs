@@ -124,13 +124,13 @@ fn compare(call: &Call, table: &mut Table) -> Result<(), String> {
 
 /// A row for this text, now and then of a wrong length.
 fn row(rng: &mut Rng, text: &[u8]) -> Vec<i32> {
-    let inputs = read_text(text).map_or(2, |program| program.inputs);
+    let wanted = read_text(text).map_or(2, |program| program.row_length());
     let length = match rng.below(40) {
         0 => 0,
-        1 => inputs + 1,
-        2 => inputs.saturating_sub(1),
+        1 => wanted + 1,
+        2 => wanted.saturating_sub(1),
         3 => rng.below(70),
-        _ => inputs,
+        _ => wanted,
     };
     (0..length).map(|_| any_number(rng)).collect()
 }
@@ -150,13 +150,13 @@ fn fixed(table: &mut Table) -> Result<(), String> {
     let mut texts: Vec<Vec<u8>> = limit_texts().into_iter().map(|limit| limit.text).collect();
     texts.extend([0, 1, 30, 61, 62, 63].map(most_inputs));
     for text in texts {
-        let inputs = read_text(&text).map_or(0, |program| program.inputs);
+        let length = read_text(&text).map_or(0, |program| program.row_length());
         for mixture in 0..8 {
             let call = Call {
                 text: text.clone(),
                 farm: if mixture & 1 == 0 { vec![0, 120, 1000, 60] } else { vec![0, 841] },
                 utc: if mixture & 2 == 0 { 1030 } else { -1 },
-                row: vec![7; inputs + mixture / 4],
+                row: vec![7; length + mixture / 4],
             };
             compare(&call, table)?;
         }

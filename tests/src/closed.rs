@@ -3,8 +3,9 @@
 
 use crate::compare::{fence, hex, Options, Table};
 use crate::shrink::{shrink, smaller_bytes};
+use rolvenko_model::features::in_force;
 use rolvenko_model::generate::{
-    damaged_image, limit_product, one_refused, profile_image, random_bytes, random_image, unsound_images, Rng,
+    damaged_image, limit_product, one_refused, profile_image, random_bytes, random_image, timer_image, unsound_images, Rng,
 };
 use rolvenko_model::{check_detail, read_text, write_image, IMAGE_LIMIT};
 
@@ -97,7 +98,7 @@ fn compare(call: &Call, table: &mut Table) -> Result<(u8, usize), String> {
 
 /// The lengths that the image wants, or any.
 fn lengths(image: &[u8]) -> (usize, usize) {
-    check_detail(image).map_or((2, 1), |header| (header.names, header.inputs))
+    check_detail(image).map_or((2, 1), |header| (header.state_length(), header.row_length()))
 }
 
 /// The profile of an image with the combination at its refused scan; then wrong lengths, and numbers at and past the last.
@@ -175,6 +176,11 @@ fn fixed(rng: &mut Rng, table: &mut Table) -> Result<(), String> {
     }
     for unsound in unsound_images() {
         profile(rng, &unsound.image, table)?;
+    }
+    // "26 a timer", whatever the product
+    for _ in 0..if in_force().timer_codes() { 50 } else { 0 } {
+        let image = timer_image(rng);
+        profile(rng, &image, table)?;
     }
     Ok(())
 }

@@ -1,6 +1,7 @@
 //! Options, the table of answers, fences around lent memory, and an image that the model's generators lack.
 
 use rolvenko_model::generate::Rng;
+use rolvenko_model::Features;
 use std::collections::BTreeMap;
 use std::path::PathBuf;
 use std::time::{Duration, Instant};
@@ -11,6 +12,16 @@ use std::time::{Duration, Instant};
 pub use rolvenko as services;
 #[cfg(feature = "baseline")]
 pub use rolvenko_baseline as services;
+
+/// What the model has in a comparison: all that has landed. The C program has no timers.
+#[cfg(not(feature = "baseline"))]
+pub const COMPARED: Features = Features::LANDED;
+#[cfg(feature = "baseline")]
+pub const COMPARED: Features = Features {
+    timer_images: false,
+    timers: false,
+    ..Features::LANDED
+};
 
 /// What can be compared, in this order.
 pub const SERVICES: [&str; 13] =

@@ -5,9 +5,9 @@ use crate::compare::{fence, hex, Options, Table};
 use crate::shrink::shrink;
 use rolvenko::instalments::{advance, begin, finish, post, PAUSED};
 use rolvenko::Response;
-use rolvenko_model::generate::{alphabet, any_number, call_list, closure, small_images, text, Call, Rng, Shape, SmallImage};
+use rolvenko_model::generate::{alphabet, any_number, call_list, closure, small_images, sound_image, Call, Rng, SmallImage};
 use rolvenko_model::instalments::{IDLE, UNFINISHED};
-use rolvenko_model::{read_text, write_image, Answer, Paused, ScanRefusal};
+use rolvenko_model::{Answer, Paused, ScanRefusal};
 
 const FENCE: i32 = 0x5A5A_5A5A;
 
@@ -230,9 +230,7 @@ pub fn run(options: &Options, table: &mut Table) -> Result<(), String> {
     let mut rng = Rng::new(options.seed);
     let since = table.started();
     while !options.spent(since, table.calls) {
-        let shape = if rng.chance(5) { Shape::MANY } else { Shape::any(&mut rng) };
-        let source = text(&mut rng, shape);
-        let image = write_image(&read_text(&source).expect("a generated text is accepted"));
+        let image = sound_image(&mut rng);
         for fill in [0, 1] {
             let calls = call_list(&mut rng, &image, 60);
             list(fill, &image, calls, table)?;

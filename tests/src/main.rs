@@ -24,7 +24,8 @@ mod translate;
 mod watch;
 mod writer;
 
-use compare::{Options, Table, SERVICES};
+use compare::{Options, Table, COMPARED, SERVICES};
+use rolvenko_model::features::with;
 use std::process::ExitCode;
 
 /// Compares one service until its time is spent, or answers a difference.
@@ -58,7 +59,7 @@ fn main() -> ExitCode {
             continue;
         }
         let mut table = Table::new(name);
-        let outcome = run(&options, &mut table);
+        let outcome = with(COMPARED, || run(&options, &mut table));
         table.print();
         if let Err(difference) = outcome {
             println!("{name}: DIFFERENCE\n{difference}");

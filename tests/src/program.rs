@@ -55,13 +55,13 @@ pub fn run(options: &Options, table: &mut Table) -> Result<(), String> {
         let shape = Shape::any(&mut rng);
         let source = text(&mut rng, shape);
         let parsed = read_text(&source).expect("a generated text is accepted");
-        let inputs = parsed.ranges()[..parsed.inputs].to_vec();
-        let mut input = trace_input(&mut rng, &source, &inputs, 12);
+        let ranges = parsed.row_ranges();
+        let mut input = trace_input(&mut rng, &source, &ranges, 12);
         compare(program, &input, table)?;
         mutate_bytes(&mut rng, &mut input);
         compare(program, &input, table)?;
         let refused = mutated_text(&mut rng, shape);
-        compare(program, &trace_input(&mut rng, &refused, &inputs, 3), table)?;
+        compare(program, &trace_input(&mut rng, &refused, &ranges, 3), table)?;
         compare(program, &random_bytes(&mut rng, 60), table)?;
     }
     Ok(())

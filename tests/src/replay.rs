@@ -88,7 +88,7 @@ fn wanted(call: &Call) -> (Result<usize, (u8, usize)>, Memory) {
         return (Err((10, call.source.len())), left);
     }
     store(left.image.write(call.room[0]), 0, &image);
-    if call.room[1] != program.names.len() {
+    if call.room[1] != program.state_length() {
         return (Err((12, 0)), left);
     }
     record(&program, &image, call, &mut left);
@@ -149,9 +149,9 @@ fn compare(call: Call, table: &mut Table) -> Result<(), String> {
 /// Rows for a program, most of them of the right length; memory with room for all of it, or a little less or more.
 fn call(rng: &mut Rng, source: Vec<u8>) -> Call {
     let program = read_text(&source).ok();
-    let names = program.as_ref().map_or(2, |p| p.names.len());
-    let inputs = program.as_ref().map_or(Vec::new(), |p| p.ranges()[..p.inputs].to_vec());
-    let lines: Vec<Vec<i32>> = (0..rng.below(12)).map(|_| row(rng, &inputs)).collect();
+    let size = program.as_ref().map_or(2, |p| p.state_length());
+    let ranges = program.as_ref().map_or(Vec::new(), |p| p.row_ranges());
+    let lines: Vec<Vec<i32>> = (0..rng.below(12)).map(|_| row(rng, &ranges)).collect();
     let mut lengths: Vec<usize> = lines.iter().map(Vec::len).collect();
     if rng.chance(20) {
         lengths.push(rng.below(5));
@@ -159,7 +159,7 @@ fn call(rng: &mut Rng, source: Vec<u8>) -> Call {
     let image = program.as_ref().map_or(9, |p| write_image(p).len());
     let count = lengths.len();
     let mut near = |n: usize, percent: usize| if rng.chance(percent) { (n + rng.below(5)).saturating_sub(2) } else { n };
-    let room = [near(image, 10), near(names, 5), near(count, 25), near(count, 25), near((count + 1) * names, 25)];
+    let room = [near(image, 10), near(size, 5), near(count, 25), near(count, 25), near((count + 1) * size, 25)];
     Call { source, cells: lines.concat(), lengths, room }
 }
 

@@ -7,6 +7,7 @@ use crate::shrink::shrink;
 use rolvenko::instalments::{advance, begin, finish, post, PAUSED};
 use rolvenko::rounds::{round, visit, RuleSet as Cut, SETS, SHARE_LIMIT};
 use rolvenko::Response;
+use rolvenko_model::features::in_force;
 use rolvenko_model::generate::{any_number, broken, closure, event, farm, small_images, Event, Outcome, Rng, SmallImage};
 use rolvenko_model::{Answer, Paused, Refusal, RuleSet};
 
@@ -278,7 +279,7 @@ fn any_memory(rng: &mut Rng, image: &[u8], table: &mut Table) -> Result<(), Stri
     let sets = *rng.choose(&[0, 1, 2, 3, 8, 9]);
     let entry = |rng: &mut Rng| Cut {
         image_len: if rng.chance(80) { image.len() } else { *rng.choose(&[0, 1, usize::MAX]) },
-        state_len: if rng.chance(80) { rng.below(5) } else { *rng.choose(&[64, 65, usize::MAX]) },
+        state_len: if rng.chance(80) { rng.below(5) } else { *rng.choose(&[64, 65, 127, 128, usize::MAX]) },
         share: if rng.chance(95) { *rng.choose(&[1, 2, 9, SHARE_LIMIT]) } else { *rng.choose(&[0, SHARE_LIMIT + 1, usize::MAX]) },
     };
     let length = (sets * PAUSED + 1).saturating_sub(*rng.choose(&[0, 1, 1, 1, 1, 2, PAUSED]));
@@ -309,13 +310,18 @@ pub fn run(options: &Options, table: &mut Table) -> Result<(), String> {
         (["launch", "latch"], posts_and_rounds),
         (["case of the previous value", "two true cases"], posts_and_rounds),
     ];
-    for (labels, alphabet) in alphabets {
+    let timed: [([&str; 2], Alphabet); 1] = [(["timer", "latch"], posts_and_rounds)];
+    let timed = timed.into_iter().filter(|_| in_force().timer_codes());
+    for (labels, alphabet) in alphabets.into_iter().chain(timed) {
         closed(0, labels, alphabet, table)?;
         closed(1, labels, alphabet, table)?;
     }
     let mut rng = Rng::new(options.seed);
     let since = table.started();
-    while !options.spent(since, table.calls) {
+    // some at least, however long the closures took
+    let mut controllers = 0;
+    while controllers < 50 || !options.spent(since, table.calls) {
+        controllers += 1;
         controller(&mut rng, table)?;
         let image = rng.choose(&small_images()).image;
         for _ in 0..4 {

@@ -2,26 +2,23 @@
 
 use crate::compare::{deep_image, fence, hex, services, Options, Table};
 use crate::shrink::{shrink, smaller_bytes, smaller_numbers};
-use rolvenko_model::generate::{any_number, damaged_image, random_bytes, random_image, row, state, text, unsound_images, Rng, Shape};
-use rolvenko_model::{check_detail, read_text, write_image, Range};
+use rolvenko_model::generate::{any_number, damaged_image, random_bytes, random_image, row, sound_image, state, unsound_images, Rng};
+use rolvenko_model::{check_detail, Range};
 
-/// An image with the ranges of its names (of its undamaged form).
+/// An image with the ranges of its states and rows (of its undamaged form).
 struct Subject {
     image: Vec<u8>,
-    ranges: Vec<Range>,
-    inputs: usize,
+    states: Vec<Range>,
+    rows: Vec<Range>,
 }
 
 fn subject(rng: &mut Rng) -> Subject {
-    let shape = if rng.chance(5) { Shape::MANY } else { Shape::any(rng) };
-    let source = text(rng, shape);
-    let program = read_text(&source).expect("a generated text is accepted");
-    let image = write_image(&program);
-    let header = check_detail(&image).expect("its image is sound");
+    let image = sound_image(rng);
+    let header = check_detail(&image).expect("a sound image");
     Subject {
         image,
-        ranges: header.ranges().to_vec(),
-        inputs: header.inputs,
+        states: header.state_ranges(),
+        rows: header.row_ranges(),
     }
 }
 
@@ -138,8 +135,8 @@ pub fn run(options: &Options, table: &mut Table) -> Result<(), String> {
     while !options.spent(since, table.calls) {
         let subject = subject(&mut rng);
         for _ in 0..20 {
-            let found = state(&mut rng, &subject.ranges);
-            let line = row(&mut rng, &subject.ranges[..subject.inputs]);
+            let found = state(&mut rng, &subject.states);
+            let line = row(&mut rng, &subject.rows);
             both(&subject.image, &found, &line, table)?;
             both(&damaged_image(&mut rng, &subject.image), &found, &line, table)?;
         }

@@ -2,9 +2,9 @@
 
 use crate::compare::{services, Options, Table};
 use crate::shrink::{shrink, smaller_bytes, smaller_rules};
-use rolvenko_model::formula::step_satisfies;
+use rolvenko_model::formula::{satisfies_timed, step_satisfies_timed};
 use rolvenko_model::generate::{row, text, Rng, Shape};
-use rolvenko_model::{check_detail, instructions, plain_scan, read_text, satisfies, Program, Range};
+use rolvenko_model::{check_detail, instructions, plain_scan, read_text, Program, Range};
 
 /// A text, what the state lent to start holds, and rows.
 #[derive(Clone)]
@@ -19,8 +19,9 @@ fn whole(state: &[i32]) -> Vec<i64> {
     state.iter().map(|&z| i64::from(z)).collect()
 }
 
-/// The next states that satisfy every formula, with the inputs given and each variable a little over its range: just `next`.
-fn only_next(program: &Program, ranges: &[Range], before: &[i64], next: &[i64]) -> Result<(), String> {
+/// The next states that satisfy every formula and the equations of the timers after so many milliseconds, with the inputs given and each
+/// variable and elapsed time a little over its range: just `next`.
+fn only_next(program: &Program, ranges: &[Range], before: &[i64], next: &[i64], time: i64) -> Result<(), String> {
     let inputs = program.inputs;
     let spans: Vec<(i64, i64)> = ranges[inputs..].iter().map(|r| (i64::from(r.low) - 1, i64::from(r.high) + 1)).collect();
     let count = spans.iter().fold(1i64, |count, (low, high)| count.saturating_mul(high - low + 1));
@@ -34,7 +35,7 @@ fn only_next(program: &Program, ranges: &[Range], before: &[i64], next: &[i64]) 
             candidate[inputs + k] = low + rest % (high - low + 1);
             rest /= high - low + 1;
         }
-        if step_satisfies(program, before, &candidate) != (candidate == next) {
+        if step_satisfies_timed(program, before, &candidate, time) != (candidate == next) {
             return Err(format!("after {before:?} both {next:?} and {candidate:?} satisfy, or neither"));
         }
     }
@@ -66,23 +67,27 @@ fn run_list(list: &List) -> Result<Vec<u8>, String> {
     let length = services::translate(&list.source, &mut image).map_err(|r| format!("{r:?} for an accepted text"))?;
     let image = &image[..length];
     let header = check_detail(image).map_err(|f| format!("an image written is unsound: {f:?}"))?;
-    let mut state = vec![list.fill; program.names.len()];
+    let mut state = vec![list.fill; program.state_length()];
     services::start(image, &mut state).map_err(|r| format!("start {r:?}"))?;
     if state != program.starts() {
         return Err(format!("start leaves {state:?}, not {:?}", program.starts()));
     }
     let mut trace = vec![whole(&state)];
+    let mut times = Vec::new();
     let mut numbers = Vec::new();
     for line in &list.rows {
         let number = one_row(image, &program, &mut state, line)?;
         if number == 0 {
             let next = whole(&state);
-            only_next(&program, header.ranges(), trace.last().expect("a start"), &next)?;
+            // The milliseconds, of a text with timers.
+            let time = line.get(program.inputs).copied().map_or(0, i64::from);
+            only_next(&program, &header.state_ranges(), trace.last().expect("a start"), &next, time)?;
             trace.push(next);
+            times.push(time);
         }
         numbers.push(number);
     }
-    if !satisfies(&program, &trace) {
+    if !satisfies_timed(&program, &trace, &times) {
         return Err(format!("the trace {trace:?} does not satisfy the text"));
     }
     Ok(numbers)
@@ -123,8 +128,8 @@ pub fn run(options: &Options, table: &mut Table) -> Result<(), String> {
         let shape = Shape::any(&mut rng);
         let source = text(&mut rng, shape);
         let program = read_text(&source).expect("a generated text is accepted");
-        let inputs = program.ranges()[..program.inputs].to_vec();
-        let rows = (0..12).map(|_| row(&mut rng, &inputs)).collect();
+        let ranges = program.row_ranges();
+        let rows = (0..12).map(|_| row(&mut rng, &ranges)).collect();
         let fill = rng.bits() as i32;
         compare(List { source, fill, rows }, table)?;
     }

@@ -3,6 +3,7 @@
 use crate::compare::{services, Options, Table};
 use crate::writer::Writer;
 use rolvenko_model::generate::{limit_texts, mutate_bytes, mutated_text, random_bytes, text, token_soup, Rng, Shape};
+use rolvenko_model::token::words;
 use rolvenko_model::{read_text, write_image};
 
 const TRANSLATE: Writer = Writer {
@@ -22,7 +23,7 @@ fn recased(rng: &mut Rng, source: &[u8]) -> Vec<u8> {
             _ => at + 1,
         };
         let token = &mut text[at..end];
-        if !["input", "var", "init", "mod", "GX", "watch", "G", "X"].iter().any(|word| word.as_bytes().eq_ignore_ascii_case(token)) {
+        if !words().any(|(word, _)| word.eq_ignore_ascii_case(token)) {
             for byte in token.iter_mut().filter(|byte| byte.is_ascii_alphabetic()) {
                 *byte ^= (rng.below(2) as u8) << 5;
             }

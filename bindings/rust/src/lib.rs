@@ -23,6 +23,8 @@ pub const IMAGE_ROOM: usize = 49_154;
 pub const ST_ROOM: usize = 115_998;
 /// Inputs and variables together.
 pub const NAMES: usize = 64;
+/// Numbers of a state at most: 64 names, and an elapsed time for each of 63 timers.
+pub const STATE: usize = 127;
 /// Scans of a closed profile.
 pub const COMBINATIONS: usize = 65_536;
 
@@ -83,19 +85,19 @@ pub fn meaning(number: u8) -> &'static str {
         10 => "the buffer is too short for the image, or the Structured Text",
         11 => "the image is not sound",
         12 => "the state, row, trace or report has the wrong length",
-        13 => "an input of the row is outside its range",
+        13 => "an input of the row is outside its range, or its milliseconds are negative",
         14 => "a result outside 32 bits, or division by zero",
         15 => "two conditions of one rule hold",
         16 => "a case gives the previous value again",
         17 => "a new value is outside its range",
-        18 => "a value of the state is outside its range",
+        18 => "a value of the state is outside its range, or an elapsed time over its timer's limit",
         19 => "the farm table breaks its limits",
         20 => "the UTC minute is below 0 or over 2,147,483,647",
         21 => "a declared name that is a word of Structured Text",
         22 => "a rising pick at or below the previous value, or a falling one at or above it",
         24 => "the state at the finish is not the one at the start",
         25 => "not 1 to 8 rule sets, or a share outside 1 to 65,536",
-        26 => "the states and rows to scan are more than 65,536",
+        26 => "a timer, or more than 65,536 states and rows to scan",
         27 => "an in-range state and row whose scan is refused",
         28 => "no variable whose low and traced values are 0 or above, or a threshold, rate or minutes out of limit or not one a row",
         29 => "the charge is over 9,007,199,254,740,991 cents",
@@ -230,15 +232,31 @@ pub fn check(image: &[u8]) -> Result<(), Refusal> {
     counted(unsafe { archive::rolvenko_check(image.as_ptr(), image.len()) }).map(|_| ())
 }
 
-/// Writes the declared starts of an image to `state`, which has one number for each name. A refusal (9, 11, 12) leaves it as it was.
+/// Writes the declared starts of an image to `state`, which has one number for each name and then one for each timer (instruction 23), its elapsed
+/// milliseconds, by the id of its name: at most [`STATE`]. A refusal (9, 11, 12) leaves it as it was.
 pub fn start(image: &[u8], state: &mut [i32]) -> Result<(), Refusal> {
     // The function reads `image_len` bytes at `image` and reads and writes `state_len` numbers at `state`.
     let answer = unsafe { archive::rolvenko_start(image.as_ptr(), image.len(), state.as_mut_ptr(), state.len()) };
     counted(answer).map(|_| ())
 }
 
-/// Scans a row of inputs: the state becomes the next one, and the steps are answered. A refusal (9, 11 to 18, 22) leaves the state as
-/// it was.
+/// Scans a row of inputs, which ends with the milliseconds since the last accepted scan if the image has a timer: the state becomes the next one,
+/// and the steps are answered. A refusal (9, 11 to 18, 22) leaves the state as it was.
+///
+/// A timer of 50 milliseconds, of the variable 1, which is the input:
+///
+/// ```
+/// let image = [1, 2, 0, 2, 0, 0, 2, 0, 0, 2, 0, 2, 0, 21, 1, 23, 2, 1, 50];
+/// let mut state = [0; 4];
+/// rolvenko::start(&image, &mut state)?;
+/// rolvenko::scan(&image, &mut state, &[1, 20])?; // it rises: nothing has elapsed
+/// rolvenko::scan(&image, &mut state, &[1, 20])?;
+/// assert_eq!(state, [1, 1, 0, 20]);
+/// rolvenko::scan(&image, &mut state, &[1, 90])?;
+/// assert_eq!(state, [1, 1, 1, 50]);
+/// assert_eq!(rolvenko::scan(&image, &mut state, &[1, -1]).unwrap_err().number, 13);
+/// # Ok::<(), Box<dyn std::error::Error>>(())
+/// ```
 pub fn scan(image: &[u8], state: &mut [i32], row: &[i32]) -> Result<u32, ScanRefusal> {
     // As for `start`, and it reads `row_len` numbers at `row`.
     let Parts {
@@ -285,7 +303,7 @@ pub fn clock(text: &[u8], table: &[i64], utc: i64, row: &mut [i32]) -> Result<()
 }
 
 /// What a project owes for the licences that a trace shows. The variable `id` of an image counts the licences held; `trace` has the states
-/// in turn, one number for each name, first the start; `minutes` has one number for each row, 0 to 1440. Of the licences held after a
+/// in turn, elapsed times among their numbers, first the start; `minutes` has one number for each row, 0 to 1440. Of the licences held after a
 /// row, those up to the threshold go at `rate`, those above it at `rate_above`, in cents per licence-hour, 0 to 1,000,000. Refusals:
 /// 9, 11, 12, 28, 29.
 ///
@@ -337,7 +355,7 @@ pub fn charge(
 }
 
 /// Whether the rules of an image can never stop in service: no scan of an in-range state with an in-range row is refused. Then no list
-/// of in-range rows from [`start`] ever is. Refusals: 9, 11, 26 where there are over 65,536 such scans, and 27, whose place counts the
+/// of in-range rows from [`start`] ever is. Refusals: 9, 11, 26 where there is a timer or over 65,536 such scans, and 27, whose place counts the
 /// scans before the refused one; [`combination`] gives its state and row.
 ///
 /// A counter that does not stop at its high:

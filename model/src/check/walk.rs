@@ -37,7 +37,7 @@ fn is_listed(opcode: u8) -> bool {
     let features = features::in_force();
     match opcode {
         code::CONSTANT..=code::SETTLE => true,
-        code::TIMER => features.timers,
+        code::TIMER => features.timer_codes(),
         code::RISE | code::FALL => features.pair_codes(),
         _ => false,
     }

@@ -1,13 +1,11 @@
 //! Inputs of the licence charge: images with licences to count, traces found by scans,
 //! and bills near every limit.
 
+use super::images::sound_image;
 use super::states::{any_number, row};
-use super::text::{text, Shape};
 use super::Rng;
 use crate::check::{check_detail, Header};
-use crate::image::write_image;
 use crate::machine::{scan, start};
-use crate::read_text;
 
 /// What is lent for a licence charge beside the image.
 #[derive(Clone, Debug)]
@@ -23,17 +21,11 @@ pub struct Bill {
 /// The sum of the first bill that is refused, in sixtieths of a cent.
 pub const REFUSED_SUM: u128 = 60 << 53;
 
-/// The image of a random accepted text; nine in ten have a variable that can count
-/// licences.
+/// A sound image; nine in ten have a variable that can count licences.
 pub fn licence_image(rng: &mut Rng) -> Vec<u8> {
     let any = rng.chance(10);
     loop {
-        let shape = match rng.below(20) {
-            0 => Shape::MANY,
-            _ => Shape::any(rng),
-        };
-        let source = text(rng, shape);
-        let image = write_image(&read_text(&source).expect("an accepted text"));
+        let image = sound_image(rng);
         if any || !counters(&header(&image)).is_empty() {
             return image;
         }

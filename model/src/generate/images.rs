@@ -1,11 +1,12 @@
 //! Images that are not sound, or may not be.
 
 use super::pairs::{broken_pairs, more_codes, pick_codes};
-use super::timers::{self, broken_timers, timer_image};
+use super::text::{text, Shape};
+use super::timers::{self, broken_timers, sound_timer_image, timer_image};
 use super::Rng;
 use crate::check::Breach;
-use crate::image::{code, code_start, decode, operands};
-use crate::{HELD, IMAGE_LIMIT};
+use crate::image::{code, code_start, decode, operands, write_image};
+use crate::{read_text, HELD, IMAGE_LIMIT};
 
 /// An unsound image with the sentence of "Sound:" that it breaks and the place.
 #[derive(Clone, Debug)]
@@ -216,6 +217,20 @@ fn missing() -> Vec<BrokenCode> {
         .collect()
 }
 
+/// The image of a random accepted text or, where images have timers, now and then one that no
+/// text has: timers of any ids, in any order of the code.
+pub fn sound_image(rng: &mut Rng) -> Vec<u8> {
+    if timers::in_images() && rng.chance(25) {
+        return sound_timer_image(rng);
+    }
+    let shape = match rng.below(20) {
+        0 => Shape::MANY,
+        _ => Shape::any(rng),
+    };
+    let source = text(rng, shape);
+    write_image(&read_text(&source).expect("an accepted text"))
+}
+
 /// A sound image with some change of bytes or of instructions. It may stay sound.
 pub fn damaged_image(rng: &mut Rng, image: &[u8]) -> Vec<u8> {
     let mut damaged = image.to_vec();
@@ -309,7 +324,7 @@ fn any_instruction(rng: &mut Rng) -> Vec<u8> {
 /// An image made of a header and random instructions, some of them in the order of a
 /// rule. Few are sound.
 pub fn random_image(rng: &mut Rng) -> Vec<u8> {
-    if timers::on() && rng.chance(30) {
+    if timers::in_images() && rng.chance(30) {
         return timer_image(rng);
     }
     let inputs = rng.below(3) as u8;

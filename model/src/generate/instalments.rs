@@ -1,7 +1,7 @@
 //! Calls on a paused scan: lists by seed, and all lists of a small alphabet.
 
 use super::states::{any_number, row, state, state_in_range};
-use super::Rng;
+use super::{timers, Rng};
 use crate::check::{check_detail, Header};
 use crate::instalments::{Answer, Paused};
 use std::collections::HashSet;
@@ -51,16 +51,16 @@ pub struct SmallImage {
     pub rows: &'static [&'static [i32]],
 }
 
-/// Images of 0 to 21 instructions that are accepted, or refused by 14, 15 or 16; the last
-/// state and row of each are outside their ranges where there is a name.
-pub fn small_images() -> [SmallImage; 6] {
+/// Images of 0 to 21 instructions that are accepted, or refused by 14, 15 or 16, with timers
+/// one of them; the last state and row of each are outside their ranges where there is a name.
+pub fn small_images() -> Vec<SmallImage> {
     let small = |label, image, states, rows| SmallImage {
         label,
         image,
         states,
         rows,
     };
-    [
+    let mut list = vec![
         small("no names", &[0, 0], &[&[]], &[&[]]),
         small("latch", &LATCH, &[&[0], &[1], &[2]], &[&[]]),
         small(
@@ -82,7 +82,21 @@ pub fn small_images() -> [SmallImage; 6] {
             &[&[0, 1, 1], &[2, 9, 0], &[0, 0, 10]],
             &[&[0], &[1], &[3]],
         ),
-    ]
+    ];
+    if timers::in_images() {
+        list.push(small(
+            "timer",
+            &TIMER,
+            &[
+                &[0, 0, 0, 0],
+                &[1, 1, 0, 30],
+                &[1, 1, 1, 50],
+                &[1, 1, 0, 51],
+            ],
+            &[&[1, 30], &[0, 7], &[1, -1]],
+        ));
+    }
+    list
 }
 
 const LATCH: [u8; 17] = [0, 1, 0, 2, 0, 3, 0, 1, 0, 10, 19, 1, 2, 20, 0, 22, 0];
@@ -103,6 +117,9 @@ const SAME_VALUE: [u8; 20] = [
 const DIVISION: [u8; 25] = [
     1, 2, 0, 4, 0, 0, 18, 0, 0, 18, 0, 3, 1, 1, 2, 4, 21, 1, 1, 12, 2, 0, 7, 21, 2,
 ];
+
+/// `W` is `In`, and `Q` its timer of limit 50.
+const TIMER: [u8; 19] = [1, 2, 0, 2, 0, 0, 2, 0, 0, 2, 0, 2, 0, 21, 1, 23, 2, 1, 50];
 
 /// The image without its last byte, or one more where that is sound.
 pub fn broken(image: &[u8]) -> Vec<u8> {

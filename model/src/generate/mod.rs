@@ -25,7 +25,7 @@ pub use charge::{
 };
 pub use clock::{broken_table, clock_text, farm_table, mutated_clock_text, utc_minute};
 pub use closed::{limit_product, one_refused, profile_image, OneRefused};
-pub use images::{damaged_image, random_image, unsound_images, Unsound};
+pub use images::{damaged_image, random_image, sound_image, unsound_images, Unsound};
 pub use instalments::{
     alphabet, broken, call_list, closure, small_images, Call, Closure, SmallImage,
 };
@@ -36,7 +36,7 @@ pub use rounds::{event, farm, rule_set, Event, Outcome};
 pub use states::{any_number, row, row_in_range, state, state_in_range, trace_input};
 pub use structured_text::{edited_st_source, st_source, Names};
 pub use text::{render, text, text_tokens, Shape};
-pub use timers::timer_image;
+pub use timers::{sound_timer_image, timer_image};
 pub use watches::{watch_parts, watched_trace, WatchParts};
 
 use crate::Refusal;

@@ -83,7 +83,7 @@ pub(super) fn more_codes() -> Vec<u8> {
     if features.pair_codes() {
         codes.extend([code::RISE, code::FALL]);
     }
-    if features.timers {
+    if features.timer_codes() {
         codes.push(code::TIMER);
     }
     codes

@@ -1,14 +1,14 @@
 //! Rule sets of one controller, and what happens to them.
 
+use super::images::sound_image;
 use super::instalments::{broken, small_images};
 use super::states::{row, state, state_in_range};
-use super::text::{text, Shape};
 use super::Rng;
 use crate::check::check_detail;
-use crate::image::{instructions, write_image};
+use crate::image::instructions;
 use crate::instalments::{Answer, Paused};
 use crate::rounds::{round, RuleSet};
-use crate::{read_text, Refusal};
+use crate::Refusal;
 
 /// What can happen between the visits of a controller's rule sets, and a round.
 #[derive(Clone, Debug, PartialEq, Eq)]
@@ -86,11 +86,7 @@ pub fn rule_set(rng: &mut Rng) -> RuleSet {
     let small = small_images();
     let sound = match rng.below(4) {
         0 => rng.choose(&small).image.to_vec(),
-        _ => {
-            let shape = Shape::any(rng);
-            let source = text(rng, shape);
-            write_image(&read_text(&source).expect("an accepted text"))
-        }
+        _ => sound_image(rng),
     };
     let header = check_detail(&sound).expect("a sound image");
     RuleSet {

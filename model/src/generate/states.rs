@@ -1,6 +1,6 @@
 //! States, rows and inputs of the trace program.
 
-use super::timers::{is_milliseconds, milliseconds};
+use super::timers::{elapsed, is_elapsed, is_milliseconds, milliseconds};
 use super::Rng;
 use crate::check::Range;
 
@@ -17,6 +17,9 @@ pub fn any_number(rng: &mut Rng) -> i32 {
 fn in_range(rng: &mut Rng, range: &Range) -> i32 {
     if is_milliseconds(range) {
         return milliseconds(rng);
+    }
+    if is_elapsed(range) {
+        return elapsed(rng, range.high);
     }
     match rng.below(4) {
         0 => range.low,

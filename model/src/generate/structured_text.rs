@@ -51,7 +51,7 @@ fn source_tokens(rng: &mut Rng, names: Names) -> Vec<Vec<u8>> {
     };
     // The writer answers a timer with 21.
     let timers = match names {
-        Names::Any if timers::on() && rng.chance(50) => shape.timers,
+        Names::Any if timers::in_texts() && rng.chance(50) => shape.timers,
         _ => 0,
     };
     let mut tokens = text_tokens(rng, Shape { timers, ..shape });

@@ -280,7 +280,9 @@ impl<'r> Writer<'r> {
         let v = self.names[variable].spelling.clone();
         if self.rng.chance(35) {
             self.put_all(&[&v, b":", b"GX", b"(", &v, b"=", b"("]);
-            self.value(variable, None);
+            if !self.timed_value(variable) {
+                self.value(variable, None);
+            }
             self.put_all(&[b")", b")", b";"]);
             return;
         }

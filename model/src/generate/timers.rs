@@ -3,13 +3,17 @@
 
 use super::text::{Declared, Writer};
 use super::Rng;
-use crate::check::{Breach, Range};
+use crate::check::{check, Breach, Range};
 use crate::features;
 use crate::image::code;
 use crate::number;
 
-pub(super) fn on() -> bool {
+pub(super) fn in_texts() -> bool {
     features::in_force().timers
+}
+
+pub(super) fn in_images() -> bool {
+    features::in_force().timer_codes()
 }
 
 /// A limit: mostly one that a few rows reach.
@@ -24,7 +28,7 @@ fn limit(rng: &mut Rng, most: i64) -> i64 {
 
 /// Milliseconds of a row: often 0, 1, or a limit that the generator gives, or next to one.
 pub(super) fn milliseconds(rng: &mut Rng) -> i32 {
-    const TIMES: [i32; 14] = [
+    const TIMES: [i32; 15] = [
         0,
         0,
         1,
@@ -34,6 +38,7 @@ pub(super) fn milliseconds(rng: &mut Rng) -> i32 {
         2,
         3,
         4,
+        5,
         4999,
         5000,
         2_147_483_645,
@@ -45,7 +50,23 @@ pub(super) fn milliseconds(rng: &mut Rng) -> i32 {
 
 /// Whether a range may be that of milliseconds: an input of this range is varied like them.
 pub(super) fn is_milliseconds(range: &Range) -> bool {
-    on() && (range.low, range.high) == (0, i32::MAX)
+    in_images() && (range.low, range.high) == (0, i32::MAX)
+}
+
+/// Whether a range may be that of an elapsed time, 0 to N.
+pub(super) fn is_elapsed(range: &Range) -> bool {
+    in_images() && range.low == 0 && range.high > 1
+}
+
+/// An elapsed time: often 0, 1, N - 1 or N.
+pub(super) fn elapsed(rng: &mut Rng, limit: i32) -> i32 {
+    match rng.below(6) {
+        0 => rng.between(0, limit.into()) as i32,
+        1 => 1,
+        2 => 0,
+        3 => limit,
+        _ => limit - 1,
+    }
 }
 
 impl Writer<'_> {
@@ -55,7 +76,7 @@ impl Writer<'_> {
         let watchable: Vec<usize> = variables
             .filter(|&id| (self.names[id].low, self.names[id].high) == (0, 1))
             .collect();
-        if !on() || watchable.is_empty() {
+        if !in_texts() || watchable.is_empty() {
             return;
         }
         let room = crate::NAMES - self.names.len();
@@ -78,6 +99,25 @@ impl Writer<'_> {
         }
     }
 
+    /// Now and then the value of a timer for a variable of range 0..1, so that timers follow
+    /// timers, or 1, so that time passes. Whether one was written.
+    pub(super) fn timed_value(&mut self, variable: usize) -> bool {
+        let bit = (self.names[variable].low, self.names[variable].high) == (0, 1);
+        if self.watched.is_empty() || !bit || self.rng.chance(50) {
+            return false;
+        }
+        let timers = self.watched.iter().map(|&(timer, _)| timer);
+        let known: Vec<usize> = timers.filter(|&timer| self.ruled[timer]).collect();
+        match known.is_empty() || self.rng.chance(50) {
+            true => self.put("1"),
+            false => {
+                let timer = *self.rng.choose(&known);
+                self.put(self.names[timer].spelling.clone());
+            }
+        }
+        true
+    }
+
     /// The rule of a variable is written: its value and its timers' can be used.
     pub(super) fn rule_stands(&mut self, variable: usize) {
         self.ruled[variable] = true;
@@ -91,7 +131,7 @@ impl Writer<'_> {
 
 /// Now and then a word of timers.
 pub(super) fn some_word(rng: &mut Rng) -> Option<Vec<u8>> {
-    if !on() || !rng.chance(8) {
+    if !in_texts() || !rng.chance(8) {
         return None;
     }
     let words = ["timer", "of", "limit", "_timer", "_of", "limits", "Timer"];
@@ -101,8 +141,11 @@ pub(super) fn some_word(rng: &mut Rng) -> Option<Vec<u8>> {
 /// An image with timers whose ids stand anywhere among the variables; sound but now and then
 /// for one number of an instruction 23.
 pub fn timer_image(rng: &mut Rng) -> Vec<u8> {
-    let inputs = rng.below(3);
-    let (variables, timers) = (1 + rng.below(3), 1 + rng.below(3));
+    // Now and then all names but one are timers of it: a state of 127 numbers.
+    let [inputs, variables, timers] = match rng.below(40) {
+        0 => [0, 1, crate::NAMES - 1],
+        _ => [rng.below(3), 1 + rng.below(3), 1 + rng.below(3)],
+    };
     let mut ids: Vec<usize> = (inputs..inputs + variables + timers).collect();
     for last in (1..ids.len()).rev() {
         ids.swap(last, rng.below(last + 1));
@@ -114,22 +157,26 @@ pub fn timer_image(rng: &mut Rng) -> Vec<u8> {
         image.extend([0, 2, 2 * u8::from(start)]);
     }
     let of: Vec<usize> = timed.iter().map(|_| *rng.choose(watched)).collect();
+    let mut known: Vec<usize> = (0..inputs).collect();
     for &w in watched {
-        variable_rule(rng, w, inputs, &mut image);
+        variable_rule(rng, w, &known, &mut image);
         let mut own: Vec<usize> = (0..timers)
             .filter(|&k| of[k] == w)
             .map(|k| timed[k])
             .collect();
         own.sort_unstable();
-        for t in own {
+        for &t in &own {
             timer_instruction(rng, [t, w], &mut image);
         }
+        known.push(w);
+        known.extend(own);
     }
     image
 }
 
-/// A rule of a variable from its inputs and previous value.
-fn variable_rule(rng: &mut Rng, variable: usize, inputs: usize, image: &mut Vec<u8>) {
+/// A rule of a variable from its previous value and what is known before it, timers of other
+/// variables too.
+fn variable_rule(rng: &mut Rng, variable: usize, known: &[usize], image: &mut Vec<u8>) {
     let v = variable as u8;
     let condition = [
         code::PREVIOUS,
@@ -139,10 +186,12 @@ fn variable_rule(rng: &mut Rng, variable: usize, inputs: usize, image: &mut Vec<
         code::EQUAL,
         code::GATE,
     ];
-    match rng.below(4) {
-        0 if inputs > 0 => image.extend([code::CURRENT, rng.below(inputs) as u8, code::LET, v]),
+    match rng.below(5) {
+        0 | 1 if !known.is_empty() => {
+            image.extend([code::CURRENT, *rng.choose(known) as u8, code::LET, v]);
+        }
         0 | 1 => image.extend([code::PREVIOUS, v, code::LET, v]),
-        2 => image.extend([code::CONSTANT, 2, code::LET, v]),
+        2 | 3 => image.extend([code::CONSTANT, 2, code::LET, v]),
         _ => {
             image.extend(condition);
             image.extend([code::CONSTANT, 2, code::PICK, v, code::SETTLE, v]);
@@ -159,6 +208,16 @@ fn timer_instruction(rng: &mut Rng, ids: [usize; 2], image: &mut Vec<u8>) {
     image.push(code::TIMER);
     for operand in numbers {
         number::write(operand, image);
+    }
+}
+
+/// A sound image with timers.
+pub fn sound_timer_image(rng: &mut Rng) -> Vec<u8> {
+    loop {
+        let image = timer_image(rng);
+        if check(&image).is_ok() {
+            return image;
+        }
     }
 }
 
@@ -189,7 +248,7 @@ const BROKEN: [Broken; 17] = [
 /// Broken code with timers after a header of one input and two variables of range 0..1:
 /// breach, how far before the end, code. `case` is a condition, a gate and a value.
 pub(super) fn broken_timers(case: &[u8]) -> Vec<(Breach, usize, Vec<u8>)> {
-    if !on() {
+    if !in_images() {
         return vec![(Breach::UnknownCode, 1, vec![code::TIMER])];
     }
     let set = [2, 0, 21, 1];
