@@ -52,7 +52,7 @@ use Rattle.structured_text.specs.declared.Written.the-variants as W
 use Rattle.structured_text.specs.Services.{declaresName, reservedFrom, reservedPlace, structuredTextOf}
 use Rattle.structured_text.specs.Room.{stRoom}
 use Rattle.structured_text.specs.Results.{afterWriting, WrittenWithin}
-use Rattle.structured_text.specs.Inner.Prepared.{wholePrinted, Compiled, Prepared}
+use Rattle.structured_text.specs.Inner.Prepared.{wholePrinted, Compiled, ReadyToPrint}
 use Rattle.structured_text.proofs.Bound.{st-growth}
 
 -- ---- 21's place stands in the text
@@ -177,7 +177,7 @@ module _ {text starts ends image : List ℕ} (c : Compiled text starts ends imag
         let fits : length zs ≤ length start₀ = omega (arith, length-map (c .program .names) (λ n. n .range .start), count-is, h .extends .few) in
         starts-stored image h ∙ ap (λ (x : Header). sets start₀ 0 (Parts.starts (x .ranges))) its-header ∙ ap (sets start₀ 0) (starts-of (c .program .names)) ∙ sets-front start₀ zs fits
 
-    pub prepared : hasSt (c .program) ≡ true → nameLimit ≤ length start₀ → Prepared encodeAll text starts ends start inputs count (drop place image)
+    pub prepared : hasSt (c .program) ≡ true → nameLimit ≤ length start₀ → ReadyToPrint encodeAll text starts ends start inputs count (drop place image)
     unfolding codeOf
     prepared has long =
         record {
@@ -197,9 +197,9 @@ module _ {text starts ends image : List ℕ} (c : Compiled text starts ends imag
 -- ---- its print
 
 module _ {text starts ends : List ℕ} {values : List ℤ} {inputs count : ℕ} {code : List ℕ} where
-  pub mirror-prepared : (q : Prepared encodeAll text starts ends values inputs count code) (mirror : List ℕ)
+  pub mirror-prepared : (q : ReadyToPrint encodeAll text starts ends values inputs count code) (mirror : List ℕ)
       → ((p : Program) → Translatable p → p .timers ≡ [] → code ≡ encodeAll (codeRules [] (p .rules)) → take (length code) mirror ≡ mirrored (codeRules [] (p .rules)) [])
-      → Prepared (λ is. mirrored is []) text starts ends values inputs count (take (length code) mirror)
+      → ReadyToPrint (λ is. mirrored is []) text starts ends values inputs count (take (length code) mirror)
   mirror-prepared q mirror m =
       record {
         program = q .program;
@@ -215,7 +215,7 @@ module _ {text starts ends : List ℕ} {values : List ℤ} {inputs count : ℕ} 
         coded = m (q .program) (program-translatable text (q .program) (q .parsed)) (st-untimed (q .program) (q .has)) (q .coded);
       }
 
-  module _ (q : Prepared (λ is. mirrored is []) text starts ends values inputs count code) where
+  module _ (q : ReadyToPrint (λ is. mirrored is []) text starts ends values inputs count code) where
     pub st-translatable : Translatable (q .program)
     st-translatable = program-translatable text (q .program) (q .parsed)
 
