@@ -1,15 +1,19 @@
 -- Where the bytes of a number and of an instruction end, and the ways in which an instruction is read. Assumes nothing.
 use Prim.Native.Nat.{ℕ, zero, suc, _+_, _-_, _^_, _≤_, _<_}
 use native.Mathlib.Omega.{arith}
-use mathlib.Core.Path.{_≡_, refl, sym, subst, _∙_}
+use mathlib.Core.Path.{_≡_, refl, sym, ap, subst, _∙_}
 use mathlib.Core.Bool.{Bool, true, false, cond}
 use mathlib.Core.List.{List, [], _∷_}
+use mathlib.Core.Option.{Option}
 use lib.Dec.{eqb, ltb}
 use lib.ListN.{length, getD, drop, length-drop, List·getD-eq-default}
-use borrow.Author.Tests.{lt-ltb, le-ltb, ltb-true, eqb-true}
+use borrow.Author.Tests.{lt-ltb, le-ltb, ltb-true, eqb-true, ne-eqb}
 use Rattle.leb128.specs.Numbers.{Found, found, none, grouped, numberIn, Read, got, nothing, _then_, below32, numberAt}
 use Rattle.bytecode.specs.Instructions.{Instruction, timer, instructionOf, hasOperand, decoded, fetchOne, timerAt, fetch}
-use Rattle.bytecode.specs.Results.{Bounded}
+use Rattle.bytecode.specs.declared.Fetched.{Fetched}
+use Rattle.bytecode.specs.declared.Fetched.the-variants as F
+use Rattle.bytecode.specs.Results.{Bounded, FetchedWithin}
+use Rattle.bytecode.proofs.Codes.{unlisted-low, unlisted-high}
 
 -- ---- the bytes of a number
 
@@ -126,3 +130,32 @@ module _ (bytes : List ℕ) (at : ℕ) where
       pub timer-read : (n next : ℕ) → numberAt bytes third ≡ got n next → timerAt bytes at ≡ got (timer t w n) next
       unfolding timerAt
       timer-read n next g = rw (e, f, g)
+
+-- ---- every instruction, as `bytecode::fetch` reads it
+
+module _ (bytes : List ℕ) (at : ℕ) where
+  pub timer-fetched : getD bytes at 0 ≡ 23 → fetch bytes at ≡ timerAt bytes (at + 1)
+  unfolding fetch
+  timer-fetched e = rw e
+
+  module _ (h : at < length bytes) (o : getD bytes at 0 ≡ 23 → ⊥) where
+    pub alone-fetched : hasOperand (getD bytes at 0) ≡ false → fetch bytes at ≡ decoded (instructionOf (getD bytes at 0) 0) (at + 1)
+    alone-fetched e = fetch-other bytes at (ne-eqb _ 23 o) ∙ fetch-alone bytes at h e
+
+    pub low-fetched : hasOperand (getD bytes at 0) ≡ false → getD bytes at 0 < 4 → fetch bytes at ≡ nothing
+    low-fetched e l = alone-fetched e ∙ ap (λ (x : Option Instruction). decoded x (at + 1)) (unlisted-low (getD bytes at 0) 0 e l)
+
+    pub high-fetched : hasOperand (getD bytes at 0) ≡ false → 19 < getD bytes at 0 → fetch bytes at ≡ nothing
+    high-fetched e l = alone-fetched e ∙ ap (λ (x : Option Instruction). decoded x (at + 1)) (unlisted-high (getD bytes at 0) 0 e o l)
+
+    pub malformed-fetched : hasOperand (getD bytes at 0) ≡ true → numberAt bytes (at + 1) ≡ nothing → fetch bytes at ≡ nothing
+    malformed-fetched e f = fetch-other bytes at (ne-eqb _ 23 o) ∙ fetch-malformed bytes at h e f
+
+    pub number-fetched : (n next : ℕ) → hasOperand (getD bytes at 0) ≡ true → numberAt bytes (at + 1) ≡ got n next → fetch bytes at ≡ decoded (instructionOf (getD bytes at 0) n) next
+    number-fetched n next e f = fetch-other bytes at (ne-eqb _ 23 o) ∙ fetch-number bytes at n next h e f
+
+-- what stands behind a place stands behind the one before
+pub behind-within : (length at : ℕ) (r : Fetched) → FetchedWithin length (at + 1) r → FetchedWithin length at r
+behind-within length at (F.Instruction code n next) h = record { operand = h .operand; behind = omega (arith, h .behind); inside = h .inside; instruction = h .instruction; listed = h .listed }
+behind-within length at (F.Timer t w n next) h = record { id = h .id; watched = h .watched; limit = h .limit; behind = omega (arith, h .behind); inside = h .inside }
+behind-within length at F.Malformed h = h

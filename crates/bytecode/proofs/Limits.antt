@@ -1,25 +1,27 @@
--- The limits of a sound image's timers. While no 23 is sound there are none. Assumes nothing.
+-- The limits of an image's timers: code without timers, and the shape of an image that has none. Document 02, A.7. Assumes nothing.
 use Prim.Native.Nat.{ℕ, zero, suc, _+_, _≤_, _<_}
 use native.Mathlib.Omega.{arith}
-use mathlib.Core.Path.{_≡_, refl, sym, ap, _∙_}
-use mathlib.Core.Bool.{Bool, true, false}
-use mathlib.Core.List.{List, []}
+use mathlib.Core.Path.{_≡_, refl, sym, ap, ap₂, subst, _∙_}
+use mathlib.Core.Bool.{Bool, true, false, cond, _||_}
+use mathlib.Core.List.{List, [], _∷_, map}
 use mathlib.Core.Option.{Option, none, some}
 use lib.Dec.{ltb}
-use lib.ListN.{length, getD, drop, replicate}
-use borrow.Author.Tests.{ltb-true, ltb-false}
-use Rattle.limits.specs.Answer.{accepted}
+use lib.IntN.{ℤ}
+use lib.ListN.{length, getD, set, replicate, length-set, length-replicate, getD-replicate}
+use lib.Seq.{getD-set-same}
+use Rattle.limits.specs.Answer.{Answer}
+use Rattle.arith.specs.Inner.Flags.{flagsOf}
 use Rattle.semantics.specs.Program.{Range}
-use Rattle.semantics.specs.Shape.{timeRanges, hasTimer}
-use Rattle.leb128.specs.Numbers.{nothing}
-use Rattle.bytecode.specs.Instructions.{Instruction, fetch}
+use Rattle.semantics.specs.Formula.{State}
+use Rattle.semantics.specs.Shape.{isLimit, timersOf, hasTimer, timeRanges, withTimes, cells, stateLength, startingState, allWithin, stateInRange, rowLength, rowInRange}
+use Rattle.leb128.specs.Numbers.{Read, got, nothing}
+use Rattle.bytecode.specs.Instructions.{Instruction, fetchOne, fetch}
 use Rattle.bytecode.specs.Signature.{Role, pushes, computes, tests, opens, picks, lets, settles, times, signature}
-use Rattle.bytecode.specs.Check.{Known, checkCode, atStart, checkBody, checkOf}
-use Rattle.bytecode.specs.Parts.{headerOf, codeOf, limitIn, limited, limitsFrom, limitsOf}
-use Rattle.bytecode.proofs.Fetching.{fetch-end}
-use Rattle.bytecode.proofs.Timeless.{TimelessIn, suits-no-timer}
-use Rattle.bytecode.proofs.Walk.{SoundImage, check-stepped, check-sound}
-use Rattle.bytecode.proofs.SoundHeader.{header-is}
+use Rattle.bytecode.specs.Check.{Known, tested, item, advance, suits, complete, ends, ifSome, checkCode}
+use Rattle.bytecode.specs.Parts.{headerOf, codeOf, limitIn, limited, limitsFrom, limitsOf, shapeIn}
+use Rattle.bytecode.specs.Inner.Timers.{NoTimers}
+use Rattle.bytecode.proofs.Fetching.{fetch-end, one-fetched}
+use Rattle.bytecode.proofs.Timeless.{TimelessIn, one-timeless, suits-timeless}
 
 -- an instruction without a timer gives no limit
 pub limit-timeless : (r : Role) (ls : List ℕ) → TimelessIn r → limitIn r ls ≡ ls
@@ -32,39 +34,149 @@ limit-timeless (lets v) ls h = refl
 limit-timeless (settles v) ls h = refl
 limit-timeless (times t w n) ls h = absurd h
 
-limits-kept : (ns : List Range) (base : ℕ) (code : List ℕ) (f at : ℕ) (last : Option Instruction) (c : Known) (ls : List ℕ) → checkCode ns base code f at last c ≡ accepted tt → limitsFrom code f at ls ≡ ls
-limits-kept ns base code zero at last c ls e = refl
-limits-kept ns base code (suc f) at last c ls e = go (ltb at (length code)) refl (limits-kept ns base code f)
-  where
-    go : (b : Bool) → ltb at (length code) ≡ b → ((at₁ : ℕ) (last₁ : Option Instruction) (c₁ : Known) (ls₁ : List ℕ) → checkCode ns base code f at₁ last₁ c₁ ≡ accepted tt → limitsFrom code f at₁ ls₁ ≡ ls₁)
-        → limited (fetch code at) ls (λ next ls₁. limitsFrom code f next ls₁) ≡ ls
-    go true l ih =
-        let x = check-stepped ns base code f at last c (ltb-true at (length code) l) e in
-        let same = limit-timeless (signature (x .instruction) .role) ls (suits-no-timer ns last (signature (x .instruction) .role) (x .suited)) in
-        rw (x .fetched, same) (ih (x .next) (some (x .instruction)) (x .after) ls (x .goes))
-    go false l ih = rw (fetch-end code at (ltb-false at (length code) l))
+-- and one that gives none has no timer
+timeless-limit : (r : Role) → ((ls : List ℕ) → limitIn r ls ≡ ls) → TimelessIn r
+timeless-limit (pushes fits) h = tt
+timeless-limit computes h = tt
+timeless-limit tests h = tt
+timeless-limit opens h = tt
+timeless-limit (picks side v) h = tt
+timeless-limit (lets v) h = tt
+timeless-limit (settles v) h = tt
+timeless-limit (times t w n) h =
+    let ls : List ℕ = replicate (suc t) (suc n) in
+    let l : t < length ls = omega (arith, length-replicate (suc t) (suc n)) in
+    let a : n ≡ getD ls t 0 = sym (getD-set-same ls t n 0 l) ∙ ap (λ (x : List ℕ). getD x t 0) (h ls) in
+    let b : getD ls t 0 ≡ suc n = getD-replicate (suc t) t (suc n) 0 (omega arith) in
+    omega (arith, a, b)
 
-module _ (bytes : List ℕ) (sound : checkOf bytes ≡ accepted tt) where
+-- ---- code without timers from a place on
+
+module _ (code : List ℕ) (at : ℕ) where
+  -- nothing is read there
+  pub no-timers-none : fetch code at ≡ nothing → NoTimers code at
+  no-timers-none e zero ls = refl
+  no-timers-none e (suc f) ls = rw e
+
+  pub no-timers-end : length code ≤ at → NoTimers code at
+  no-timers-end h = no-timers-none (fetch-end code at h)
+
+  -- an instruction of one operand at most, and none behind it
+  pub no-timers-step : (i : Instruction) (next : ℕ) → fetchOne code at ≡ got i next → NoTimers code next → NoTimers code at
+  no-timers-step i next e h zero ls = refl
+  no-timers-step i next e h (suc f) ls = rw (one-fetched code at i next e, limit-timeless (signature i .role) ls (one-timeless code at i next e)) (h f ls)
+
+  -- the other way: the instruction there has none, and there is none behind it
+  module _ (h : NoTimers code at) (i : Instruction) (next : ℕ) (e : fetch code at ≡ got i next) where
+    pub no-timers-here : TimelessIn (signature i .role)
+    no-timers-here = timeless-limit (signature i .role) λ ls. rw e at (h 1 ls)
+
+    pub no-timers-next : NoTimers code next
+    no-timers-next f ls = ap (limitsFrom code f next) (sym (limit-timeless (signature i .role) ls no-timers-here)) ∙ (rw e at (h (suc f) ls))
+
+-- the walk over it looks neither at the ranges nor at the instruction before
+pub check-alike : (ns ms : List Range) (base : ℕ) (code : List ℕ) (f at : ℕ) (last other : Option Instruction) (c : Known) → NoTimers code at
+    → checkCode ns base code f at last c ≡ checkCode ms base code f at other c
+check-alike ns ms base code zero at last other c h = refl
+check-alike ns ms base code (suc f) at last other c h = inside (ltb at (length code)) (λ next i c₁ g. check-alike ns ms base code f next (some i) (some i) c₁ g)
+  where
+    more : (o : Option Known) (i : Instruction) (next : ℕ) → ((c₁ : Known) → checkCode ns base code f next (some i) c₁ ≡ checkCode ms base code f next (some i) c₁)
+        → ifSome o (base + at) (λ c₁. checkCode ns base code f next (some i) c₁) ≡ ifSome o (base + at) (λ c₁. checkCode ms base code f next (some i) c₁)
+    more none i next ih = refl
+    more (some c₁) i next ih = ih c₁
+
+    read : (r : Read Instruction) → fetch code at ≡ r
+        → ((next : ℕ) (i : Instruction) (c₁ : Known) → NoTimers code next → checkCode ns base code f next (some i) c₁ ≡ checkCode ms base code f next (some i) c₁)
+        → item r (base + at) (suits ns last) (λ i next. ifSome (advance i c) (base + at) λ c₁. checkCode ns base code f next (some i) c₁)
+        ≡ item r (base + at) (suits ms other) (λ i next. ifSome (advance i c) (base + at) λ c₁. checkCode ms base code f next (some i) c₁)
+    read nothing e ih = refl
+    read (got i next) e ih =
+        let t = no-timers-here code at h i next e in
+        ap₂ (λ (b : Bool) (a : Answer (Unit {0})). tested b (base + at) a) (suits-timeless ns last (signature i .role) t ∙ sym (suits-timeless ms other (signature i .role) t))
+        (more (advance i c) i next λ c₁. ih next i c₁ (no-timers-next code at h i next e))
+
+    inside : (b : Bool) → ((next : ℕ) (i : Instruction) (c₁ : Known) → NoTimers code next → checkCode ns base code f next (some i) c₁ ≡ checkCode ms base code f next (some i) c₁)
+        → cond b (item (fetch code at) (base + at) (suits ns last) (λ i next. ifSome (advance i c) (base + at) λ c₁. checkCode ns base code f next (some i) c₁)) (ends (complete c) (base + length code))
+        ≡ cond b (item (fetch code at) (base + at) (suits ms other) (λ i next. ifSome (advance i c) (base + at) λ c₁. checkCode ms base code f next (some i) c₁)) (ends (complete c) (base + length code))
+    inside true ih = read (fetch code at) refl ih
+    inside false ih = refl
+
+-- ---- tables of limits
+
+pub length-limit : (r : Role) (ls : List ℕ) → length (limitIn r ls) ≡ length ls
+length-limit (pushes fits) ls = refl
+length-limit computes ls = refl
+length-limit tests ls = refl
+length-limit opens ls = refl
+length-limit (picks side v) ls = refl
+length-limit (lets v) ls = refl
+length-limit (settles v) ls = refl
+length-limit (times t w n) ls = length-set ls t n
+
+pub length-limits : (code : List ℕ) (f at : ℕ) (ls : List ℕ) → length (limitsFrom code f at ls) ≡ length ls
+length-limits code zero at ls = refl
+length-limits code (suc f) at ls = go (fetch code at) (length-limits code f)
+  where
+    go : (r : Read Instruction) → ((next : ℕ) (ls₁ : List ℕ) → length (limitsFrom code f next ls₁) ≡ length ls₁) → length (limited r ls λ next ls₁. limitsFrom code f next ls₁) ≡ length ls
+    go nothing ih = refl
+    go (got i next) ih = ih next (limitIn (signature i .role) ls) ∙ length-limit (signature i .role) ls
+
+-- a table by id has a place for each name
+pub limits-length : (bytes : List ℕ) → length (limitsOf bytes) ≡ length (headerOf bytes .ranges)
+unfolding limitsOf
+limits-length bytes = length-limits (codeOf bytes) (length (codeOf bytes)) 0 (replicate (length (headerOf bytes .ranges)) 0) ∙ length-replicate (length (headerOf bytes .ranges)) 0
+
+all-zero : (ls : List ℕ) → hasTimer ls ≡ false → ls ≡ replicate (length ls) 0
+all-zero [] h = refl
+all-zero (zero ∷ ls) h = ap (λ (l : List ℕ). zero ∷ l) (all-zero ls h)
+all-zero (suc n ∷ ls) h = let z : _≡_ {A = ℕ} 0 1 = cc in let f : ⊥ = omega arith in absurd f
+
+none-timed : (n : ℕ) → hasTimer (replicate n 0) ≡ false
+none-timed zero = refl
+none-timed (suc n) = none-timed n
+
+-- an image whose code has no timers
+pub none-has-timer : (bytes : List ℕ) → NoTimers (codeOf bytes) 0 → hasTimer (limitsOf bytes) ≡ false
+unfolding limitsOf
+none-has-timer bytes h = ap hasTimer (h (length (codeOf bytes)) (replicate (length (headerOf bytes .ranges)) 0)) ∙ none-timed (length (headerOf bytes .ranges))
+
+-- ---- the shape of an image that has none
+
+module _ (bytes : List ℕ) (none-timed : hasTimer (limitsOf bytes) ≡ false) where
   -- no name is a timer
   pub limits-none : limitsOf bytes ≡ replicate (length (headerOf bytes .ranges)) 0
-  unfolding limitsOf codeOf checkBody
-  limits-none =
-      let y = check-sound bytes sound in
-      let h = y .header in
-      let code = drop (h .place) bytes in
-      rw (header-is bytes y) (limits-kept (h .ranges) (h .place) code (length code) 0 none (atStart h) (replicate (length (h .ranges)) 0) (y .body))
+  limits-none = all-zero (limitsOf bytes) none-timed ∙ ap (λ (n : ℕ). replicate n 0) (limits-length bytes)
 
   no-times-in : (n : ℕ) → timeRanges (replicate n 0) ≡ []
   no-times-in zero = refl
   no-times-in (suc n) = no-times-in n
 
-  no-timer-in : (n : ℕ) → hasTimer (replicate n 0) ≡ false
-  no-timer-in zero = refl
-  no-timer-in (suc n) = no-timer-in n
-
   -- so a state has no elapsed times, a row no milliseconds
   pub no-times : timeRanges (limitsOf bytes) ≡ []
   no-times = ap timeRanges limits-none ∙ no-times-in (length (headerOf bytes .ranges))
 
-  pub no-timer : hasTimer (limitsOf bytes) ≡ false
-  no-timer = ap hasTimer limits-none ∙ no-timer-in (length (headerOf bytes .ranges))
+  pub cells-untimed : cells (shapeIn bytes) ≡ headerOf bytes .ranges
+  cells-untimed = ap (withTimes (headerOf bytes .ranges)) no-times
+
+  pub state-length-untimed : stateLength (shapeIn bytes) ≡ length (headerOf bytes .ranges)
+  state-length-untimed = ap length cells-untimed
+
+  pub starting-state-untimed : startingState (shapeIn bytes) ≡ map (λ n. n .start) (headerOf bytes .ranges)
+  starting-state-untimed = ap (map (λ n. n .start)) cells-untimed
+
+  pub state-in-range-untimed : (s : State) → stateInRange (shapeIn bytes) s ≡ allWithin (headerOf bytes .ranges) s
+  state-in-range-untimed s = ap (λ (ns : List Range). allWithin ns s) cells-untimed
+
+  pub row-length-untimed : rowLength (shapeIn bytes) ≡ headerOf bytes .inputs
+  row-length-untimed = rw none-timed
+
+  pub row-in-range-untimed : (row : List ℤ) → rowInRange (shapeIn bytes) row ≡ allWithin (headerOf bytes .ranges) row
+  row-in-range-untimed row = rw none-timed
+
+  flags-none : (n : ℕ) → map isLimit (replicate n 0) ≡ flagsOf n 0
+  unfolding flagsOf
+  flags-none zero = refl
+  flags-none (suc n) = ap (λ (l : List Bool). false ∷ l) (flags-none n)
+
+  pub timers-untimed : timersOf (shapeIn bytes) ≡ flagsOf (length (headerOf bytes .ranges)) 0
+  timers-untimed = ap (map isLimit) limits-none ∙ flags-none (length (headerOf bytes .ranges))

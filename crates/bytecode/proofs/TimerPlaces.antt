@@ -13,7 +13,7 @@ use Rattle.arith.proofs.Basics.{T-true, and-left, and-right, and-T, eqZ-true}
 use Rattle.semantics.specs.Program.{Range, rangeAt, bitRange, isBinary}
 use Rattle.bytecode.specs.Instructions.{Instruction}
 use Rattle.bytecode.specs.Signature.{Role, pushes, computes, tests, opens, picks, lets, settles, times, signature}
-use Rattle.bytecode.specs.Check.{followsIn, follows, isTimerRange, timersWork, suitsIn}
+use Rattle.bytecode.specs.Check.{followsIn, follows, isTimerRange, suitsIn}
 use Rattle.bytecode.specs.Sound.{RuleIn, TimerStands}
 use Rattle.bytecode.specs.Inner.Places.{lastOf}
 
@@ -79,24 +79,21 @@ module _ (ns : List Range) (before : List Instruction) (t w n : ℕ) where
   stands-suits x =
       let a : T (isTimerRange (rangeAt ns t)) = subst (λ (r : Range). T (isTimerRange r)) (sym (x .own)) bit-timer in
       let f : T (follows (lastOf none before) t w) = rw (x .directly, last-append none (x .earlier) (x .last)) (rule-follows (signature (x .last) .role) t w (x .rule)) in
-      and-T timersWork (isTimerRange (rangeAt ns t) && isBinary (rangeAt ns w) && (leb 1 n && leb n timeLimit) && follows (lastOf none before) t w) (x .landed)
-      (and-T (isTimerRange (rangeAt ns t) && isBinary (rangeAt ns w) && (leb 1 n && leb n timeLimit)) (follows (lastOf none before) t w)
+      and-T (isTimerRange (rangeAt ns t) && isBinary (rangeAt ns w) && (leb 1 n && leb n timeLimit)) (follows (lastOf none before) t w)
       (and-T (isTimerRange (rangeAt ns t) && isBinary (rangeAt ns w)) (leb 1 n && leb n timeLimit) (and-T (isTimerRange (rangeAt ns t)) (isBinary (rangeAt ns w)) a (x .watched))
-      (and-T (leb 1 n) (leb n timeLimit) (le→leb 1 n (x .least)) (le→leb n timeLimit (x .most)))) f)
+      (and-T (leb 1 n) (leb n timeLimit) (le→leb 1 n (x .least)) (le→leb n timeLimit (x .most)))) f
 
   pub suits-stands : T (suitsIn ns (lastOf none before) (times t w n)) → TimerStands ns before t w n
-  suits-stands g =
-      let landed = and-left timersWork (isTimerRange (rangeAt ns t) && isBinary (rangeAt ns w) && (leb 1 n && leb n timeLimit) && follows (lastOf none before) t w) g in
-      let h = and-right timersWork (isTimerRange (rangeAt ns t) && isBinary (rangeAt ns w) && (leb 1 n && leb n timeLimit) && follows (lastOf none before) t w) g in
+  suits-stands h =
       let a = and-left (isTimerRange (rangeAt ns t) && isBinary (rangeAt ns w) && (leb 1 n && leb n timeLimit)) (follows (lastOf none before) t w) h in
       let f = and-right (isTimerRange (rangeAt ns t) && isBinary (rangeAt ns w) && (leb 1 n && leb n timeLimit)) (follows (lastOf none before) t w) h in
       let b = and-left (isTimerRange (rangeAt ns t) && isBinary (rangeAt ns w)) (leb 1 n && leb n timeLimit) a in
       let l = and-right (isTimerRange (rangeAt ns t) && isBinary (rangeAt ns w)) (leb 1 n && leb n timeLimit) a in
-      go (lastOf none before) refl landed (timer-range (rangeAt ns t) (and-left (isTimerRange (rangeAt ns t)) (isBinary (rangeAt ns w)) b)) (and-right (isTimerRange (rangeAt ns t)) (isBinary (rangeAt ns w)) b)
+      go (lastOf none before) refl (timer-range (rangeAt ns t) (and-left (isTimerRange (rangeAt ns t)) (isBinary (rangeAt ns w)) b)) (and-right (isTimerRange (rangeAt ns t)) (isBinary (rangeAt ns w)) b)
       (leb→le 1 n (and-left (leb 1 n) (leb n timeLimit) l)) (leb→le n timeLimit (and-right (leb 1 n) (leb n timeLimit) l)) f
     where
-      go : (last : Option Instruction) → lastOf none before ≡ last → T timersWork → rangeAt ns t ≡ bitRange → T (isBinary (rangeAt ns w)) → 1 ≤ n → n ≤ timeLimit → T (follows last t w) → TimerStands ns before t w n
-      go none e landed own watched least most f = absurd f
-      go (some i) e landed own watched least most f =
+      go : (last : Option Instruction) → lastOf none before ≡ last → rangeAt ns t ≡ bitRange → T (isBinary (rangeAt ns w)) → 1 ≤ n → n ≤ timeLimit → T (follows last t w) → TimerStands ns before t w n
+      go none e own watched least most f = absurd f
+      go (some i) e own watched least most f =
           let x = last-ends before i e in
-          record { landed = landed; own = own; watched = watched; least = least; most = most; earlier = x .earlier; last = i; directly = x .directly; rule = follows-rule (signature i .role) t w f }
+          record { own = own; watched = watched; least = least; most = most; earlier = x .earlier; last = i; directly = x .directly; rule = follows-rule (signature i .role) t w f }

@@ -198,10 +198,6 @@ follows (some i) t w = followsIn (signature i .role) t w
 unfoldable pub isTimerRange : Range → Bool
 isTimerRange n = isBinary n && eqZ (n .start) (pos 0)
 
--- No 23 is sound until start and scan work timers.
-abbrev pub timersWork : Bool
-timersWork = false
-
 -- A 23 keeps its limits, w is of range 0..1, N from 1 to 2,147,483,647; of other instructions nothing is asked. `last` is the instruction before.
 abbrev pub suitsIn : List Range → Option Instruction → Role → Bool
 suitsIn ns last (pushes fits) = true
@@ -211,7 +207,7 @@ suitsIn ns last opens = true
 suitsIn ns last (picks side v) = true
 suitsIn ns last (lets v) = true
 suitsIn ns last (settles v) = true
-suitsIn ns last (times t w n) = timersWork && (isTimerRange (rangeAt ns t) && isBinary (rangeAt ns w) && (leb 1 n && leb n timeLimit) && follows last t w)
+suitsIn ns last (times t w n) = isTimerRange (rangeAt ns t) && isBinary (rangeAt ns w) && (leb 1 n && leb n timeLimit) && follows last t w
 
 abbrev pub suits : List Range → Option Instruction → Instruction → Bool
 suits ns last i = suitsIn ns last (signature i .role)

@@ -2,6 +2,7 @@
 use Prim.Native.Nat.{ℕ, _^_, _≤_, _<_}
 use mathlib.Core.Path.{_≡_}
 use mathlib.Core.List.{List}
+use mathlib.Core.Option.{some}
 use lib.IntN.{ℤ}
 use lib.ListN.{length}
 use lib.Seq.{sets}
@@ -9,8 +10,6 @@ use Rattle.semantics.specs.Program.{Range}
 use Rattle.leb128.specs.Numbers.{Read, got, nothing}
 use Rattle.bytecode.specs.declared.Fetched.{Fetched}
 use Rattle.bytecode.specs.declared.Fetched.the-variants as F
-use Rattle.bytecode.specs.declared.Operands.{Operands}
-use Rattle.bytecode.specs.declared.Operands.the-variants as O
 use Rattle.bytecode.specs.declared.Counted.{Counted}
 use Rattle.bytecode.specs.declared.Counted.the-variants as C
 use Rattle.bytecode.specs.declared.Ranged.{Ranged}
@@ -25,9 +24,9 @@ use Rattle.bytecode.specs.Parts.{lows, highs, starts}
 
 -- ---- an instruction
 
--- A code byte that is not listed is no instruction, though its byte was read: who takes the byte apart refuses it.
 abbrev pub fetchedRead : Fetched → Read Instruction
 fetchedRead (F.Instruction code n next) = decoded (instructionOf code n) next
+fetchedRead (F.Timer t w n next) = got (timer t w n) next
 fetchedRead F.Malformed = nothing
 
 -- An operand is below 2 ^ 32; the instruction stands between its place and the place behind it, inside a code of this length.
@@ -36,17 +35,14 @@ pub record Bounded (length at n next : ℕ) : Type 0 where
   pub behind : at < next
   pub inside : next ≤ length
 
-abbrev pub FetchedWithin : ℕ → ℕ → Fetched → Type 0
-FetchedWithin length at (F.Instruction code n next) = Bounded length at n next
-FetchedWithin length at F.Malformed = Unit {0}
+-- and its code byte is listed
+pub record InstructionBounded (length at code n next : ℕ) : Type 0 where
+  pub operand : n < 2 ^ 32
+  pub behind : at < next
+  pub inside : next ≤ length
+  pub instruction : Instruction
+  pub listed : instructionOf code n ≡ some instruction
 
--- ---- a timer
-
-abbrev pub operandsRead : Operands → Read Instruction
-operandsRead (O.Timer t w n next) = got (timer t w n) next
-operandsRead O.Malformed = nothing
-
--- operands are below 2 ^ 32 and end inside a code of this length
 pub record TimerBounded (length at t w n next : ℕ) : Type 0 where
   pub id : t < 2 ^ 32
   pub watched : w < 2 ^ 32
@@ -54,9 +50,10 @@ pub record TimerBounded (length at t w n next : ℕ) : Type 0 where
   pub behind : at < next
   pub inside : next ≤ length
 
-abbrev pub OperandsWithin : ℕ → ℕ → Operands → Type 0
-OperandsWithin length at (O.Timer t w n next) = TimerBounded length at t w n next
-OperandsWithin length at O.Malformed = Unit {0}
+abbrev pub FetchedWithin : ℕ → ℕ → Fetched → Type 0
+FetchedWithin length at (F.Instruction code n next) = InstructionBounded length at code n next
+FetchedWithin length at (F.Timer t w n next) = TimerBounded length at t w n next
+FetchedWithin length at F.Malformed = Unit {0}
 
 -- ---- the header: what breaks it is refusal 11, with its place
 

@@ -11,7 +11,7 @@ use Rattle.leb128.specs.Numbers.{got, numberAt, signedAt}
 use Rattle.bytecode.specs.Instructions.{Instruction, gate, pick, settle, timer, fetch}
 use Rattle.bytecode.specs.Signature.{Sort, Role, pushes, computes, tests, opens, picks, lets, settles, times, signature, heldBy}
 use Rattle.bytecode.specs.Translation.{RangesFit}
-use Rattle.bytecode.specs.Check.{unset, Header, timersWork}
+use Rattle.bytecode.specs.Check.{unset, Header}
 
 -- the sorts of the values held after instructions, the last first
 abbrev pub heldAfter : List Instruction → List Sort → List Sort
@@ -145,9 +145,8 @@ RuleIn t w (settles v) = v ≡ w
 RuleIn t w (times u v n) = (v ≡ w) × (u < t)
 
 -- A 23 keeps these limits: t of range 0..1, starting at 0, w of range 0..1, N from 1 to 2,147,483,647; and stands directly after w's settle or
--- let, timers of one w by id. (None is sound until start and scan work timers.)
+-- let, timers of one w by id.
 pub record TimerStands (ns : List Range) (before : List Instruction) (t w n : ℕ) : Type 0 where
-  pub landed : T timersWork
   pub own : rangeAt ns t ≡ bitRange
   pub watched : T (isBinary (rangeAt ns w))
   pub least : 1 ≤ n

@@ -43,6 +43,9 @@ pub const LET: u8 = 21;
 
 pub const SETTLE: u8 = 22;
 
+// A timer (document 02, A.7).
+pub const TIMER: u8 = 23;
+
 // Picks of a rising and of a falling value (document 02, A.6).
 pub const RISE: u8 = 24;
 

@@ -2,35 +2,51 @@
 use mathlib.Core.Path.{sym, ap, _∙_}
 use native.Mathlib.Omega.{arith}
 use borrow.Author.Needs.{needs}
+use lib.ListN.{length}
 use Rattle.leb128.specs.Results.{unsignedRead}
-use Rattle.bytecode.proofs.Fetching.{number-within, fetch-none, fetch-alone, fetch-malformed, fetch-number}
+use Rattle.bytecode.proofs.Fetching.{number-within, fetch-end, timer-fetched, alone-fetched, low-fetched, high-fetched, malformed-fetched, number-fetched, behind-within}
+use Rattle.bytecode.proofs.Codes.{listed-alone, listed-number}
 use Rattle.bytecode.proofs.fetch.Statement.{statement}
 use Rattle.bytecode.proofs.fetch.Tie as tie
 
 returns : tie.Need-returns
-returns c = (sym (fetch-none _ _ (c .if1 .taken)), tt)
+returns c = (sym (fetch-end _ _ (c .if1 .taken)), tt)
 
 returns-2 : tie.Need-returns-2
 returns-2 c =
-    (sym (fetch-malformed _ _ (c .before .before .before .before .before .before .if1 .left) (sym (c .before .before .before .before .has-operand .ensures) ∙ c .before .before .before .if2 .taken) (sym (c .before .before .unsigned-at .ensures) ∙ ap unsignedRead (c .enum-told .given .1))), tt)
+    (c .timer-at .ensures .0 ∙ sym (timer-fetched _ _ (c .before .if2 .taken)), behind-within (length (c .before .before .before .before .before .args .code .now)) (c .before .before .before .before .before .args .at) (c .timer-at .result) (c .timer-at .ensures .1))
 
 returns-3 : tie.Need-returns-3
 returns-3 c =
-    let at-has-operand = c .before .before .before .before .before in
-    let at-if1 = at-has-operand .before .before in
-    let e = sym (c .before .before .before .unsigned-at .ensures) ∙ ap unsignedRead (c .before .n .given .1) in
-    let w = number-within _ _ _ _ e in (
-      sym (fetch-number _ _ _ _ (at-if1 .if1 .left) (sym (at-has-operand .has-operand .ensures) ∙ c .before .before .before .before .if2 .taken) e),
-      record { operand = w .operand; behind = omega (arith, w .behind); inside = w .inside },
-    )
+    (sym (malformed-fetched _ _ (c .before .before .before .before .before .before .before .if1 .left) (c .before .before .before .before .before .if2 .left) (sym (c .before .before .before .before .has-operand .ensures) ∙ c .before .before .before .if3 .taken) (sym (c .before .before .unsigned-at .ensures) ∙ ap unsignedRead (c .enum-told .given .1))), tt)
 
 returns-4 : tie.Need-returns-4
 returns-4 c =
-    let l = c .before .before .before .if1 .left in
-    (sym (fetch-alone _ _ l (sym (c .before .has-operand .ensures) ∙ c .if2 .left)), record { operand = omega arith; behind = omega arith; inside = omega (arith, l) })
+    let e = sym (c .before .before .before .unsigned-at .ensures) ∙ ap unsignedRead (c .before .n .given .1) in
+    let has = sym (c .before .before .before .before .before .has-operand .ensures) ∙ c .before .before .before .before .if3 .taken in
+    let w = number-within _ _ _ _ e in
+    let l = listed-number _ (c .before .n .given .0 .0) has in (
+      sym (number-fetched _ _ (c .before .before .before .before .before .before .before .before .if1 .left) (c .before .before .before .before .before .before .if2 .left) _ _ has e),
+      record { operand = w .operand; behind = omega (arith, w .behind); inside = w .inside; instruction = l .0; listed = l .1 },
+    )
+
+returns-5 : tie.Need-returns-5
+returns-5 c = (sym (low-fetched _ _ (c .before .before .before .before .before .if1 .left) (c .before .before .before .if2 .left) (sym (c .before .before .has-operand .ensures) ∙ c .before .if3 .left) (c .if4 .taken)), tt)
+
+returns-6 : tie.Need-returns-6
+returns-6 c = (sym (high-fetched _ _ (c .before .before .before .before .before .before .if1 .left) (c .before .before .before .before .if2 .left) (sym (c .before .before .before .has-operand .ensures) ∙ c .before .before .if3 .left) (c .if5 .taken)), tt)
+
+returns-7 : tie.Need-returns-7
+returns-7 c =
+    let has = sym (c .before .before .before .has-operand .ensures) ∙ c .before .before .if3 .left in
+    let l = listed-alone _ 0 (c .before .if4 .left) (c .if5 .left) in
+    let h = c .before .before .before .before .before .before .if1 .left in (
+      sym (alone-fetched _ _ (c .before .before .before .before .before .before .if1 .left) (c .before .before .before .before .if2 .left) has),
+      record { operand = omega arith; behind = omega arith; inside = omega (arith, h); instruction = l .0; listed = l .1 },
+    )
 
 pub fetch-spec : {M : Type 1} → statement M
 fetch-spec =
     tie.close
-    (tie.spec returns (λ c. search needs) (λ c. search needs) (λ c κs. search needs) (λ c κs. search needs) (λ c. search needs)
-    (λ c. search needs) returns-2 returns-3 returns-4)
+    (tie.spec returns (λ c. search needs) (λ c. search needs) (λ c κs. search needs) returns-2 (λ c κs. search needs) (λ c κs. search needs) (λ c. search needs)
+    (λ c. search needs) returns-3 returns-4 returns-5 returns-6 returns-7)
