@@ -1,5 +1,5 @@
 -- Laws of flags kept as the bits of a number. Assumes nothing.
-use Prim.Native.Nat.{ℕ, zero, suc, _+_, _*_, _/_, _%_, _^_, _≤_, _<_}
+use Prim.Native.Nat.{ℕ, zero, suc, _+_, _-_, _*_, _/_, _%_, _^_, _≤_, _<_}
 use mathlib.Core.Path.{_≡_, refl, ap, _∙_}
 use mathlib.Core.Bool.{true, false}
 use native.Mathlib.Omega.{arith}
@@ -8,7 +8,7 @@ use lib.Bits.{bitOr, or-step, or-zero-r, or-lt}
 use lib.Dec.{eqb}
 use lib.ListN.{length, getD, set, List·getD-eq-default}
 use lib.Pow.{pow-lt, shr-shr, shl-exact}
-use Rattle.arith.specs.Inner.Flags.{flagsOf}
+use Rattle.arith.specs.Inner.Flags.{flagsOf, onesBelow}
 
 pub length-flags : (n b : ℕ) → length (flagsOf n b) ≡ n
 unfolding flagsOf
@@ -52,3 +52,14 @@ set-low n b i h l = or-lt n b (2 ^ i) l (pow-lt h)
 -- 1 << i
 pub shifted : (i : ℕ) → i < 64 → (1 * 2 ^ i) % 2 ^ 64 ≡ 2 ^ i
 shifted i h = let e : 1 * 2 ^ i ≡ 2 ^ i = omega arith in shl-exact {a = 1} 1 i 64 (omega arith) (omega arith) ∙ e
+
+-- ---- bits counted
+
+pub ones-none : (n bits : ℕ) → n ≡ 0 → onesBelow n bits ≡ 0
+unfolding onesBelow
+ones-none n bits e = rw e
+
+pub ones-next : (n bits : ℕ) → 0 < n → onesBelow n bits ≡ bits % 2 + onesBelow (n - 1) (bits / 2)
+unfolding onesBelow
+ones-next zero bits h = let f : ⊥ = omega arith in absurd f
+ones-next (suc n) bits h = let e : suc n - 1 ≡ n = omega arith in rw e

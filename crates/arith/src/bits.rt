@@ -3,6 +3,7 @@ ghost use mathlib.Core.Path.{_≡_};
 ghost use Prim.Native.Nat.{_-_, _/_, _%_, _^_, _≤_, _<_};
 ghost use lib.Bits.{bitOr};
 ghost use lib.Dec.{eqb};
+ghost use Rattle.arith.specs.Inner.Flags.{onesBelow};
 
 // The lowest k bits set.
 pub fn ones(k: u64) -> u64
@@ -29,4 +30,19 @@ pub fn with_bit(bits: u64, i: u64) -> u64
     ensures { λ r. ⌜ r ≡ bitOr bits (2 ^ i) ⌝ }
 {
     bits | 1 << i
+}
+
+// How many of the lowest n bits are set.
+pub fn count_below(bits: u64, n: usize) -> usize
+    ensures { λ r. ⌜ (r ≡ onesBelow n bits) × (r ≤ n) ⌝ }
+{
+    let mut rest = bits;
+    let mut i = 0;
+    let mut count = 0;
+    while i < n {
+        count += (rest % 2) as usize;
+        rest /= 2;
+        i += 1;
+    }
+    count
 }

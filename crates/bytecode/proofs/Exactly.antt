@@ -24,6 +24,7 @@ use Rattle.bytecode.specs.Sound.{RangesAt, SpellsCode}
 use Rattle.bytecode.specs.Allowed.{leftIn, leftBy, leftByAll, AllowedIn, Allowed, Finished}
 use Rattle.bytecode.specs.Inner.Places.{lastOf, SoundByPlace}
 use Rattle.bytecode.proofs.RoundTrip.{fetch-next}
+use Rattle.bytecode.proofs.Advancing.{Suited}
 use Rattle.bytecode.proofs.Soundness.{some-inj, none≢some, guard-some}
 use Rattle.bytecode.proofs.Walk.{check-sound, Stepped, check-stepped, check-ended}
 
@@ -163,11 +164,6 @@ places-at (j ∷ is) c p (b ∷ before) i after e =
 pub at-places : (is : List Instruction) (c : Known) → ((before : List Instruction) (i : Instruction) (after : List Instruction) → is ≡ before ++ i ∷ after → Allowed i (leftByAll before c)) → Places is c
 at-places [] c h = tt
 at-places (j ∷ is) c h = (h [] j is refl, at-places is (leftBy j c) (λ before i after e. h (j ∷ before) i after (ap {B = List Instruction} (λ l. j ∷ l) e)))
-
--- what is asked of timers, of each with the instruction before it
-abbrev pub Suited : List Range → Option Instruction → List Instruction → Type 0
-Suited ns last [] = Unit {0}
-Suited ns last (i ∷ is) = T (suits ns last i) × Suited ns (some i) is
 
 suited-at : (ns : List Range) (last : Option Instruction) (is : List Instruction) → Suited ns last is → (before : List Instruction) (i : Instruction) (after : List Instruction) → is ≡ before ++ i ∷ after → T (suits ns (lastOf last before) i)
 suited-at ns last [] p [] i after e = let z : _≡_ {A = ℕ} 0 1 = cc in let f : ⊥ = omega arith in absurd f

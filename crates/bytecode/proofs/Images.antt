@@ -39,12 +39,12 @@ spelled code at (i ∷ is) s h =
 -- the image of a program: its header, its code, and the instructions of its code
 pub record ReadBack (p : Program) : Type 0 where
   pub header : headerOf (imageOf p) ≡ programHeader p
-  pub code : codeOf (imageOf p) ≡ encodeAll (codeRules (p .rules))
-  pub instructions : SpellsCode (codeOf (imageOf p)) 0 (codeRules (p .rules))
+  pub code : codeOf (imageOf p) ≡ encodeAll (codeRules (p .timers) (p .rules))
+  pub instructions : SpellsCode (codeOf (imageOf p)) 0 (codeRules (p .timers) (p .rules))
 
 pub image-read-back : (p : Program) → Translatable p → ReadBack p
 image-read-back p t =
-    record { header = header-of p t; code = code-of p t; instructions = spelled (codeOf (imageOf p)) 0 (codeRules (p .rules)) (translated-small p t) (code-of p t) }
+    record { header = header-of p t; code = code-of p t; instructions = spelled (codeOf (imageOf p)) 0 (codeRules (p .timers) (p .rules)) (translated-small p t) (code-of p t) }
 
 -- ---- the image of every well-formed program within the limits is sound
 

@@ -2,125 +2,34 @@
 use Prim.Native.Nat.{ℕ, zero, suc, _+_, _-_, _≤_, _<_}
 use native.Mathlib.Omega.{arith}
 use mathlib.Core.Path.{_≡_, refl, sym, ap, _∙_}
-use mathlib.Core.Bool.{Bool, true, false, not, _&&_, false≢true}
+use mathlib.Core.Bool.{Bool, true, false, not, _&&_}
 use mathlib.Core.List.{List, [], _∷_, _++_, append-assoc}
 use mathlib.Core.Option.{Option, none, some}
-use lib.Dec.{T, eqb, leb, ltb, lt→ltb, ltb→lt, le→leb, eqb-refl}
+use lib.Dec.{T, leb, ltb, ltb→lt, le→leb}
 use lib.ListN.{length, getD, set, drop, length-append, length-drop, length-set}
 use lib.Seq.{drop-append-seam}
 use lib.Signed.{leZ}
 use borrow.Author.Tests.{lt-ltb, le-ltb}
 use Rattle.limits.specs.Answer.{Answer, accepted}
 use Rattle.arith.specs.Values.{isInt32}
-use Rattle.semantics.specs.Program.{Program, Range, Expression, Condition, Side, Case, Rule, function, change, target, rangesOf, sides, SidedR, SidedAll, UsableE, UsableC, UsableK, UsableR, OrderedRules, knownFirst, allTrue, RangeFits}
+use Rattle.semantics.specs.Program.{Program, Range, rangesOf, knownFirst, RangeFits, firstTimer, EachTimer, TimerFits}
 use Rattle.semantics.specs.Program as P
 use Rattle.arith.proofs.Basics.{T-true, and-left, and-right}
-use Rattle.semantics.proofs.Reference.{length-known}
-use Rattle.semantics.proofs.Untimed.{untimed-order}
+use Rattle.semantics.specs.Shape.{shapeOf, settingOf}
+use Rattle.semantics.proofs.Timers.{each-map, each-both, numbered-from, ownerOf, placed}
+use Rattle.semantics.proofs.Reference.{length-known, first-waiting}
 use Rattle.leb128.specs.Numbers.{number, zigzag}
 use Rattle.bytecode.specs.Instructions.{Instruction, constant, current, previous, operation, negate, comparison, negated, both, either, gate, pick, assign, settle, timer, encode, encodeAll}
-use Rattle.bytecode.specs.Translation.{codeE, codeC, codeCase, codeK, codeR, codeRules, encodeRanges, encodeHeader, imageOf, depthE, depthC, ShallowK, ShallowR, Shallow, RangesFit, Translatable}
+use Rattle.bytecode.specs.Translation.{codeRules, encodeRanges, encodeHeader, imageOf, RangesFit, Translatable}
 use Rattle.bytecode.specs.Signature.{Sort, truth, signature}
-use Rattle.bytecode.specs.Check.{Picks, Known, known, guard, one, empty, unset, closed, mayBegin, mayFollow, mayEnd, fresh, opened, advance, complete, checkRange, checkRanges, Header, checkCounts, checkHeader, checkCode, checkBody, checkOf}
+use Rattle.bytecode.specs.Check.{Picks, Known, known, guard, one, empty, unset, closed, fresh, opened, advance, suits, complete, checkRange, checkRanges, Header, checkCounts, checkHeader, checkCode, checkBody, checkOf}
 use Rattle.bytecode.specs.Parts.{headerOf, codeOf}
 use Rattle.leb128.proofs.RoundTrip.{drop-behind, number-at, signed-at}
-use Rattle.bytecode.proofs.Sides.{Follows, sided-walks}
-use Rattle.bytecode.proofs.Timeless.{TimelessIn, Timeless, suits-timeless, timeless-rules}
+use Rattle.bytecode.proofs.Timeless.{TimelessIn}
+use Rattle.bytecode.proofs.SmallOperands.{SmallTimer, small-rules}
+pub use Rattle.bytecode.proofs.SmallOperands.{known-inside}
+use Rattle.bytecode.proofs.Advancing.{_continue_, advances, adv-rules, Suited, suited-rules}
 use Rattle.bytecode.proofs.RoundTrip.{Small, AllSmall, fetch-encoded, length-encode, encoded-inside}
-
--- ---- the code keeps soundness
-
-infixl 20 _continue_
-abbrev pub _continue_ : Option Known → (Known → Option Known) → Option Known
-none continue f = none
-some c continue f = f c
-
-abbrev pub advances : List Instruction → Known → Option Known
-advances [] c = some c
-advances (i ∷ is) c = advance i c continue λ c₁. advances is c₁
-
-advances-append : (is js : List Instruction) (c : Known) → advances (is ++ js) c ≡ (advances is c continue λ c₁. advances js c₁)
-advances-append [] js c = refl
-advances-append (i ∷ is) js c = go (advance i c) (λ c₁. advances-append is js c₁)
-  where
-    go : (o : Option Known) → ((c₁ : Known) → advances (is ++ js) c₁ ≡ (advances is c₁ continue λ c₂. advances js c₂))
-        → (o continue λ c₁. advances (is ++ js) c₁) ≡ (o continue (λ c₁. advances is c₁) continue λ c₂. advances js c₂)
-    go none ih = refl
-    go (some c₁) ih = ih c₁
-
-ltb-is : (a b : ℕ) → a < b → ltb a b ≡ true
-ltb-is a b h = T-true (ltb a b) (lt→ltb a b h)
-
-eqb-self : (n : ℕ) → eqb n n ≡ true
-eqb-self n = T-true (eqb n n) (eqb-refl n)
-
-module _ (ids : List Bool) where
-  adv-E : (e : Expression) (vs : List Sort) (g : Bool) (o : Option Picks) → UsableE ids e → depthE e + length vs ≤ 40
-      → advances (codeE e) (known vs g o ids) ≡ some (known (Sort.number ∷ vs) g o ids)
-  adv-E (P.constant z) vs g o u d = rw (T-true (isInt32 z) u, ltb-is (length vs) 40 (omega arith))
-  adv-E (P.current i) vs g o u d = rw (u, ltb-is (length vs) 40 (omega arith))
-  adv-E (P.previous i) vs g o u d = rw (T-true (ltb i (length ids)) u, ltb-is (length vs) 40 (omega arith))
-  adv-E (P.operation x a b) vs g o u d =
-      let ha = adv-E a vs g o (u .0) (omega arith) in
-      let hb = adv-E b (Sort.number ∷ vs) g o (u .1) (omega arith) in
-      simp (advances-append, ha, hb)
-  adv-E (P.negate a) vs g o u d = simp (advances-append, adv-E a vs g o u d)
-
-  adv-C : (c : Condition) (vs : List Sort) (o : Option Picks) → UsableC ids c → depthC c + length vs ≤ 40
-      → advances (codeC c) (known vs false o ids) ≡ some (known (truth ∷ vs) false o ids)
-  adv-C (P.comparison x a b) vs o u d =
-      let ha = adv-E a vs false o (u .0) (omega arith) in
-      let hb = adv-E b (Sort.number ∷ vs) false o (u .1) (omega arith) in
-      simp (advances-append, ha, hb)
-  adv-C (P.negated a) vs o u d = simp (advances-append, adv-C a vs o u d)
-  adv-C (P.both a b) vs o u d =
-      let ha = adv-C a vs o (u .0) (omega arith) in
-      let hb = adv-C b (truth ∷ vs) o (u .1) (omega arith) in
-      simp (advances-append, ha, hb)
-  adv-C (P.either a b) vs o u d =
-      let ha = adv-C a vs o (u .0) (omega arith) in
-      let hb = adv-C b (truth ∷ vs) o (u .1) (omega arith) in
-      simp (advances-append, ha, hb)
-
-  module _ (v : ℕ) (declared : v < length ids) (first : getD ids v false ≡ false) where
-    abbrev picksOn : Side → Picks
-    picksOn side = record { side = side; id = v }
-
-    adv-case : (k : Case) (o : Option Picks) → fresh o (k .side) v ≡ true → UsableC ids (k .condition) → UsableE ids (k .value)
-        → depthC (k .condition) ≤ 40 → depthE (k .value) ≤ 40
-        → advances (codeCase v k) (known [] false o ids) ≡ some (known [] false (some (picksOn (k .side))) ids)
-    adv-case k o h uc ue dc de =
-        let hc = adv-C (k .condition) [] o uc (omega arith) in
-        let he = adv-E (k .value) [] true o ue (omega arith) in
-        simp (advances-append, hc, he, ltb-is v (length ids) declared, first, h)
-
-    adv-K : (side : Side) (ks : List Case) → Follows side (sides ks) → UsableK ids ks → ShallowK ks
-        → (last : Side) × (advances (codeK v ks) (known [] false (some (picksOn side)) ids) ≡ some (known [] false (some (picksOn last)) ids)) × (mayEnd last ≡ true)
-    adv-K side [] f u d = (side, refl, T-true (mayEnd side) f)
-    adv-K side (k ∷ ks) f u d =
-        let h = adv-case k (some (picksOn side)) (rw (eqb-self v) (T-true (mayFollow side (k .side)) (f .0))) (u .0) (u .1) (d .0) (d .1) in
-        let ih = adv-K (k .side) ks (f .1) (u .2) (d .2) in
-        (ih .0, rw (advances-append (codeCase v k) (codeK v ks), h) (ih .1), ih .2)
-
-  adv-R : (r : Rule) → SidedR r → UsableR ids r → ShallowR r → target r < length ids → getD ids (target r) false ≡ false
-      → advances (codeR r) (known [] false none ids) ≡ some (known [] false none (set ids (target r) true))
-  adv-R (function v e) sided u d l f =
-      let he = adv-E e [] false none u (omega arith) in
-      simp (advances-append, he, ltb-is v (length ids) l, f)
-  adv-R (change v [] cs) sided u d l f = absurd (sided-walks [] sided)
-  adv-R (change v (k ∷ ks) cs) sided u d l f =
-      let w = sided-walks (sides (k ∷ ks)) sided in
-      let h = adv-case v l f k none (T-true (mayBegin (k .side)) (w .0)) (u .0) (u .1) (d .1 .0) (d .1 .1) in
-      let hs = adv-K v l f (k .side) ks (w .1) (u .2) (d .1 .2) in
-      rw (advances-append (codeCase v k ++ codeK v ks) (settle v ∷ []), advances-append (codeCase v k) (codeK v ks), h, hs .1, ltb-is v (length ids) l, f, eqb-self v, hs .2)
-
-adv-rules : (rs : List Rule) (ids : List Bool) → SidedAll rs → OrderedRules [] ids rs → Shallow rs
-    → (end : List Bool) × (advances (codeRules rs) (known [] false none ids) ≡ some (known [] false none end)) × (allTrue end ≡ true)
-adv-rules [] ids sided o d = (ids, refl, T-true (allTrue ids) o)
-adv-rules (r ∷ rs) ids sided o d =
-    let h = adv-R ids r (sided .0) (o .0) (d .0) (ltb→lt (target r) (length ids) (o .1)) (o .2) in
-    let ih = adv-rules rs (set ids (target r) true) (sided .1) (o .3) (d .1) in
-    (ih .0, rw (advances-append (codeR r) (codeRules rs), h) (ih .1), ih .2)
 
 -- ---- operands are small
 
@@ -148,11 +57,6 @@ continue-some (some c₁) f c e = (c₁, refl, e)
 
 abbrev pub idsOf : Known → List Bool
 idsOf (known vs g o ids) = ids
-
-pub known-inside : (ids : List Bool) (i : ℕ) → getD ids i false ≡ true → i < length ids
-known-inside [] i e = absurd (false≢true e)
-known-inside (b ∷ ids) zero e = omega arith
-known-inside (b ∷ ids) (suc i) e = let h : i < length ids = known-inside ids i e in omega arith
 
 unset-inside : (ids : List Bool) (v : ℕ) → T (unset ids v) → v < length ids
 unset-inside ids v t = ltb→lt v (length ids) (and-left (ltb v (length ids)) (not (getD ids v false)) t)
@@ -223,14 +127,6 @@ module _ (ids : List Bool) (few : length ids ≤ 64) where
 pub advance-small : (i : Instruction) (c d : Known) → length (idsOf c) ≤ 64 → advance i c ≡ some d → (TimelessIn (signature i .role) → Small i) × (length (idsOf d) ≡ length (idsOf c))
 advance-small i (known vs g o ids) d few e = let a = advanced ids few i vs g o d e in (a .small, a .same)
 
-pub all-small : (is : List Instruction) (c d : Known) → length (idsOf c) ≤ 64 → Timeless is → advances is c ≡ some d → AllSmall is
-all-small [] c d few u e = tt
-all-small (i ∷ is) c d few u e =
-    let a = continue-some (advance i c) _ d e in
-    let b = advance-small i c (a .0) few (a .1) in
-    let l : length (idsOf (a .0)) ≡ length (idsOf c) = b .1 in
-    (b .0 (u .0), all-small is (a .0) d (omega arith) (u .1) (a .2))
-
 -- ---- the walk
 
 pub past-end : (code : List ℕ) (at : ℕ) → drop at code ≡ [] → length code ≤ at
@@ -242,17 +138,15 @@ past-end code at h =
 past : (code : List ℕ) (at : ℕ) → drop at code ≡ [] → ltb at (length code) ≡ false
 past code at h = le-ltb at (length code) (past-end code at h)
 
-pub check-code : (ns : List Range) (base : ℕ) (code : List ℕ) (f at : ℕ) (last : Option Instruction) (is : List Instruction) (c d : Known) → drop at code ≡ encodeAll is → length (encodeAll is) ≤ f → length (idsOf c) ≤ 64
-    → Timeless is → advances is c ≡ some d → complete d ≡ true → checkCode ns base code f at last c ≡ accepted tt
-check-code ns base code zero at last [] c d h l few u e k = let q : c ≡ d = cc in rw (q, k)
-check-code ns base code (suc f) at last [] c d h l few u e k = let q : c ≡ d = cc in rw (past code at h, q, k)
-check-code ns base code zero at last (i ∷ is) c d h l few u e k = let b : ⊥ = omega (arith, length-encode i, simp length-append at l) in absurd b
-check-code ns base code (suc f) at last (i ∷ is) c d h l few u e k =
+check-code : (ns : List Range) (base : ℕ) (code : List ℕ) (f at : ℕ) (last : Option Instruction) (is : List Instruction) (c d : Known) → drop at code ≡ encodeAll is → length (encodeAll is) ≤ f
+    → AllSmall is → Suited ns last is → advances is c ≡ some d → complete d ≡ true → checkCode ns base code f at last c ≡ accepted tt
+check-code ns base code zero at last [] c d h l s u e k = let q : c ≡ d = cc in rw (q, k)
+check-code ns base code (suc f) at last [] c d h l s u e k = let q : c ≡ d = cc in rw (past code at h, q, k)
+check-code ns base code zero at last (i ∷ is) c d h l s u e k = let b : ⊥ = omega (arith, length-encode i, simp length-append at l) in absurd b
+check-code ns base code (suc f) at last (i ∷ is) c d h l s u e k =
     let a = continue-some (advance i c) _ d e in
-    let b = advance-small i c (a .0) few (a .1) in
-    let m : length (idsOf (a .0)) ≡ length (idsOf c) = b .1 in
-    rw (lt-ltb at (length code) (encoded-inside code at i (encodeAll is) h), fetch-encoded code at i (encodeAll is) (b .0 (u .0)) h, suits-timeless ns last (signature i .role) (u .0), a .1)
-    (check-code ns base code f (at + length (encode i)) (some i) is (a .0) d (drop-behind code at (encode i) (encodeAll is) h) (omega (arith, length-encode i, simp length-append at l)) (omega arith) (u .1) (a .2) k)
+    rw (lt-ltb at (length code) (encoded-inside code at i (encodeAll is) h), fetch-encoded code at i (encodeAll is) (s .0) h, T-true (suits ns last i) (u .0), a .1)
+    (check-code ns base code f (at + length (encode i)) (some i) is (a .0) d (drop-behind code at (encode i) (encodeAll is) h) (omega (arith, length-encode i, simp length-append at l)) (s .1) (u .1) (a .2) k)
 
 -- ---- the header
 
@@ -300,7 +194,7 @@ unfolding checkHeader checkCounts imageOf
 check-header p t =
     let w : p .inputs ≤ length (rangesOf p) = t .well-formed .inputs-fit in
     let f : length (rangesOf p) ≤ 64 = t .few in
-    let code = encodeAll (codeRules (p .rules)) in
+    let code = encodeAll (codeRules (p .timers) (p .rules)) in
     let bytes = encodeHeader p ++ code in
     let ins = number (p .inputs) in
     let vars = number (length (rangesOf p) - p .inputs) in
@@ -319,26 +213,35 @@ pub header-of : (p : Program) → Translatable p → headerOf (imageOf p) ≡ pr
 unfolding headerOf
 header-of p t = rw (check-header p t)
 
-pub code-of : (p : Program) → Translatable p → codeOf (imageOf p) ≡ encodeAll (codeRules (p .rules))
+pub code-of : (p : Program) → Translatable p → codeOf (imageOf p) ≡ encodeAll (codeRules (p .timers) (p .rules))
 unfolding codeOf imageOf
-code-of p t = rw (header-of p t) (drop-append-seam (encodeHeader p) (encodeAll (codeRules (p .rules))))
+code-of p t = rw (header-of p t) (drop-append-seam (encodeHeader p) (encodeAll (codeRules (p .timers) (p .rules))))
 
-pub translated-small : (p : Program) → Translatable p → AllSmall (codeRules (p .rules))
-translated-small p t =
-    let l : length (knownFirst (p .inputs) (length (rangesOf p))) ≡ length (rangesOf p) = length-known (p .inputs) (length (rangesOf p)) in
+limits-few : (p : Program) → Translatable p → EachTimer SmallTimer (p .timers)
+limits-few p t =
     let f : length (rangesOf p) ≤ 64 = t .few in
-    let r = adv-rules (p .rules) (knownFirst (p .inputs) (length (rangesOf p))) (t .well-formed .sided) (untimed-order p (t .untimed) (t .well-formed .ordered)) (t .shallow) in
-    all-small (codeRules (p .rules)) (known [] false none (knownFirst (p .inputs) (length (rangesOf p)))) (known [] false none (r .0)) (omega arith) (timeless-rules (p .rules)) (r .1)
+    let fit = t .well-formed .timed in
+    each-map (λ x. ((firstTimer p ≤ x .id) × (x .id < length (rangesOf p))) × TimerFits (rangesOf p) (p .inputs) (firstTimer p) x) SmallTimer (λ x q. let a = q .0 .1 in let b = q .1 .most in (omega arith, omega arith)) (p .timers)
+    (each-both (λ x. (firstTimer p ≤ x .id) × (x .id < length (rangesOf p))) (TimerFits (rangesOf p) (p .inputs) (firstTimer p)) (p .timers)
+    (numbered-from (firstTimer p) (firstTimer p) (length (rangesOf p)) (p .timers) (omega arith) (fit .numbered)) (fit .each))
+
+pub translated-small : (p : Program) → Translatable p → AllSmall (codeRules (p .timers) (p .rules))
+translated-small p t =
+    let f : length (rangesOf p) ≤ 64 = t .few in
+    let l = length-known (p .inputs) (length (rangesOf p)) in
+    small-rules (p .timers) (limits-few p t) (knownFirst (p .inputs) (length (rangesOf p))) (p .rules) (omega arith) (t .well-formed .ordered)
 
 check-body : (p : Program) → Translatable p → checkBody (imageOf p) (programHeader p) ≡ accepted tt
 unfolding checkBody imageOf
 check-body p t =
-    let l : length (knownFirst (p .inputs) (length (rangesOf p))) ≡ length (rangesOf p) = length-known (p .inputs) (length (rangesOf p)) in
-    let f : length (rangesOf p) ≤ 64 = t .few in
-    let code = encodeAll (codeRules (p .rules)) in
-    let r = adv-rules (p .rules) (knownFirst (p .inputs) (length (rangesOf p))) (t .well-formed .sided) (untimed-order p (t .untimed) (t .well-formed .ordered)) (t .shallow) in
+    let wf = t .well-formed in
+    let n = length (rangesOf p) in
+    let is = codeRules (p .timers) (p .rules) in
+    let code = encodeAll (codeRules (p .timers) (p .rules)) in
+    let r = adv-rules (settingOf (shapeOf p) []) n (firstTimer p) (ownerOf p) (p .timers) (wf .timed .numbered) (placed p (wf .timed) []) (p .rules) (knownFirst (p .inputs) n) (length-known (p .inputs) n) (first-waiting p wf) (wf .sided) (wf .ordered) (t .shallow) in
     let e : drop (length (encodeHeader p)) (encodeHeader p ++ code) ≡ code = drop-append-seam (encodeHeader p) code in
-    rw e (check-code (rangesOf p) (length (encodeHeader p)) code (length code) 0 none (codeRules (p .rules)) _ (known [] false none (r .0)) refl (omega arith) (omega arith) (timeless-rules (p .rules)) (r .1) (rw (r .2)))
+    rw e (check-code (rangesOf p) (length (encodeHeader p)) code (length code) 0 none (codeRules (p .timers) (p .rules)) _ (known [] false none (r .0)) refl (omega arith) (translated-small p t)
+    (suited-rules (rangesOf p) (p .inputs) (firstTimer p) n (p .timers) (wf .timed .numbered) (wf .timed .each) none (p .rules)) (r .1) (rw (r .2)))
 
 -- check answers sound
 pub check-translated : (p : Program) → Translatable p → checkOf (imageOf p) ≡ accepted tt

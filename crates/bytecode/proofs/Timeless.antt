@@ -66,9 +66,10 @@ pub timeless-R : (r : Rule) → Timeless (codeR r)
 timeless-R (function v e) = timeless-append (codeE e) _ (timeless-E e) (tt, tt)
 timeless-R (change v ks cs) = timeless-append (codeK v ks) _ (timeless-K v ks) (tt, tt)
 
-pub timeless-rules : (rs : List Rule) → Timeless (codeRules rs)
+-- without timers, that of all rules
+pub timeless-rules : (rs : List Rule) → Timeless (codeRules [] rs)
 timeless-rules [] = tt
-timeless-rules (r ∷ rs) = timeless-append (codeR r) (codeRules rs) (timeless-R r) (timeless-rules rs)
+timeless-rules (r ∷ rs) = timeless-append (codeR r) (codeRules [] rs) (timeless-R r) (timeless-rules rs)
 
 -- ---- instructions of one operand at most
 

@@ -19,7 +19,7 @@ use Rattle.bytecode.specs.Inner.Places.{lastOf}
 
 -- ---- the instruction before
 
-last-append : (last : Option Instruction) (is : List Instruction) (i : Instruction) → lastOf last (is ++ i ∷ []) ≡ some i
+pub last-append : (last : Option Instruction) (is : List Instruction) (i : Instruction) → lastOf last (is ++ i ∷ []) ≡ some i
 last-append last [] i = refl
 last-append last (j ∷ is) i = last-append (some j) is i
 
@@ -68,7 +68,7 @@ timer-range n h =
     let z : n .start ≡ pos 0 = eqZ-true (n .start) (pos 0) (T-true _ (and-right (eqZ (n .low) (pos 0) && eqZ (n .high) (pos 1)) (eqZ (n .start) (pos 0)) h)) in
     ap₂ (λ (x y : ℤ). record { low = x; high = y; start = n .start }) l u ∙ ap (λ (x : ℤ). record { low = pos 0; high = pos 1; start = x }) z
 
-bit-timer : T (isTimerRange bitRange)
+pub bit-timer : T (isTimerRange bitRange)
 unfolding isTimerRange isBinary
 bit-timer = tt
 

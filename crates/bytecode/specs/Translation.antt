@@ -1,13 +1,14 @@
--- The image of a program. Document 01, "The image". Assumes nothing.
+-- The image of a program. Document 01, "The image"; document 02, A.7. Assumes nothing.
 use Prim.Native.Nat.{ℕ, suc, _-_, _≤_, max}
-use mathlib.Core.Path.{_≡_}
+use mathlib.Core.Bool.{cond}
 use mathlib.Core.List.{List, [], _∷_, _++_}
+use lib.Dec.{eqb}
 use lib.ListN.{length}
 use Rattle.limits.specs.Limits.{stackLimit, nameLimit, imageLimit}
-use Rattle.semantics.specs.Program.{Range, Expression, Condition, Case, Rule, function, change, Program, rangesOf, WellFormed, RangeFits}
+use Rattle.semantics.specs.Program.{Range, Expression, Condition, Case, Rule, function, change, target, Timer, Program, rangesOf, WellFormed, RangeFits}
 use Rattle.semantics.specs.Program as P
 use Rattle.leb128.specs.Numbers.{number, zigzag}
-use Rattle.bytecode.specs.Instructions.{Instruction, constant, current, previous, operation, negate, comparison, negated, both, either, gate, pick, assign, settle, encodeAll}
+use Rattle.bytecode.specs.Instructions.{Instruction, constant, current, previous, operation, negate, comparison, negated, both, either, gate, pick, assign, settle, timer, encodeAll}
 
 -- Operands come before their operation, left first.
 abbrev pub codeE : Expression → List Instruction
@@ -36,10 +37,15 @@ abbrev pub codeR : Rule → List Instruction
 codeR (function v e) = codeE e ++ assign v ∷ []
 codeR (change v ks cs) = codeK v ks ++ settle v ∷ []
 
--- Rules stand in text order.
-abbrev pub codeRules : List Rule → List Instruction
-codeRules [] = []
-codeRules (r ∷ rs) = codeR r ++ codeRules rs
+-- the timers of v, by id
+abbrev pub codeT : ℕ → List Timer → List Instruction
+codeT v [] = []
+codeT v (x ∷ xs) = cond (eqb (x .watched) v) (timer (x .id) v (x .limit) ∷ codeT v xs) (codeT v xs)
+
+-- Rules stand in text order, directly after each the timers of its variable.
+abbrev pub codeRules : List Timer → List Rule → List Instruction
+codeRules ts [] = []
+codeRules ts (r ∷ rs) = codeR r ++ (codeT (target r) ts ++ codeRules ts rs)
 
 -- low, high, start (signed) of each name in declared order
 abbrev pub encodeRanges : List Range → List ℕ
@@ -52,7 +58,7 @@ encodeHeader p = number (p .inputs) ++ (number (length (rangesOf p) - p .inputs)
 
 -- The code is the rest of the image after the header.
 unfoldable pub imageOf : Program → List ℕ
-imageOf p = encodeHeader p ++ encodeAll (codeRules (p .rules))
+imageOf p = encodeHeader p ++ encodeAll (codeRules (p .timers) (p .rules))
 
 -- ---- values held by translated code
 
@@ -90,8 +96,6 @@ RangesFit (n ∷ ns) = RangeFits n × RangesFit ns
 
 pub record Translatable (p : Program) : Type 0 where
   pub well-formed : WellFormed p
-  -- no timers: `imageOf` writes none yet
-  pub untimed : p .timers ≡ []
   -- at most 64 names in all
   pub few : length (rangesOf p) ≤ nameLimit
   pub ranges-fit : RangesFit (rangesOf p)

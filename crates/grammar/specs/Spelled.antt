@@ -2,7 +2,7 @@
 -- reading them. Document 01, "The text"; document 02, A.6, A.7, A.13. Assumes nothing.
 use Prim.Native.Nat.{ℕ, _+_, _≤_}
 use mathlib.Core.Path.{_≡_}
-use mathlib.Core.Bool.{true, false}
+use mathlib.Core.Bool.{false}
 use mathlib.Core.List.{List, [], _∷_, _++_, map}
 use mathlib.Core.Option.{some}
 use mathlib.Core.Option as O
@@ -55,9 +55,9 @@ Distinct (x ∷ l) = Apart x l × Distinct l
 abbrev pub timerForm : List ℕ → List ℕ → List ℕ → Tokens
 timerForm t w n = bytes "timer" ∷ t ∷ bytes "of" ∷ w ∷ bytes "limit" ∷ n ∷ bytes ";" ∷ []
 
--- Of the names of inputs and variables, in the order of their ids: t is a name of range 0..1, starting at 0, and w the same as that of its id.
+-- t is a name of range 0..1, starting at 0; w, in any case, is the name of its id among those of the inputs and variables.
 pub data DeclaresTimer (names : List (List ℕ)) : Tokens → Name → Timer → Type 0 where
-  declares-timer : (t w n declared : List ℕ) (x : Timer) → IsName t → IsName w → getElem? names (x .watched) ≡ some declared → sameName w declared ≡ true → IsDigits n → x .limit ≡ valueOf n → DeclaresTimer names (timerForm t w n) (record { spelling = t; range = bitRange }) x
+  declares-timer : (t w n : List ℕ) (x : Timer) → IsName t → IsName w → getElem? names (x .watched) ≡ some (normal w) → IsDigits n → x .limit ≡ valueOf n → DeclaresTimer names (timerForm t w n) (record { spelling = t; range = bitRange }) x
 
 pub data DeclareTimers (names : List (List ℕ)) : Tokens → List Name → List Timer → Type 0 where
   none : DeclareTimers names [] [] []
@@ -157,7 +157,7 @@ pub record Spelled (text : List ℕ) (p : Program) : Type 0 where
   pub timer-names : List Name
   pub declares-inputs : DeclareAll (bytes "input") input-tokens inputs
   pub declares-variables : DeclareAll (bytes "var") variable-tokens variables
-  pub declares-timers : DeclareTimers (map (λ x. x .spelling) (inputs ++ variables)) timer-tokens timer-names (p .timers)
+  pub declares-timers : DeclareTimers (normals (map (λ x. x .spelling) (inputs ++ variables))) timer-tokens timer-names (p .timers)
   pub names : p .names ≡ inputs ++ variables ++ timer-names
   pub input-count : p .inputs ≡ length inputs
   pub distinct : Distinct (namesOf p)

@@ -7,10 +7,10 @@ use lib.Dec.{ltb}
 use lib.ListN.{length}
 use Rattle.limits.specs.Limits.{brokenImage}
 use Rattle.arith.specs.Values.{Outcome, ok, refusal}
-use Rattle.semantics.specs.Program.{Range}
 use Rattle.semantics.specs.Formula.{State}
+use Rattle.semantics.specs.Shape.{Setting}
 use Rattle.leb128.specs.Numbers.{Read, got, nothing}
-use Rattle.bytecode.specs.Instructions.{Instruction, fetchOne}
+use Rattle.bytecode.specs.Instructions.{Instruction, fetch}
 use Rattle.machine.specs.Step.{Machine, step}
 
 -- the steps done so far, up to and including the refusing instruction; the place reached; the machine there, or the refusal
@@ -31,14 +31,14 @@ abbrev pub afterFetch : Read Instruction → ℕ → ℕ → (Instruction → �
 afterFetch nothing n at more = ran n at (refusal brokenImage)
 afterFetch (got i next) n at more = more i next
 
--- the ranges of the names, the previous values, the code
-module _ (ns : List Range) (s : State) (code : List ℕ) where
-  -- at most `budget` instructions from a place on, n steps done before (instructions of one operand: timers are not worked yet)
+-- what a scan of a row works with, the previous values, the code
+module _ (ns : Setting) (s : State) (code : List ℕ) where
+  -- at most `budget` instructions from a place on, n steps done before
   abbrev pub run : ℕ → ℕ → ℕ → Machine → Ran
   run zero at n m = ran n at (ok m)
   run (suc budget) at n m =
       cond (ltb at (length code))
-      (afterFetch (fetchOne code at) (n + 1) at λ i next. afterStep (step ns s i m) (n + 1) at λ m₁. run budget next (n + 1) m₁)
+      (afterFetch (fetch code at) (n + 1) at λ i next. afterStep (step ns s i m) (n + 1) at λ m₁. run budget next (n + 1) m₁)
       (ran n at (ok m))
 
   -- go on with a further budget where a run stopped

@@ -1,16 +1,16 @@
 -- One instruction of the machine that runs an image's code. It is total: a missing operand, a 41st value, an id that is not declared
 -- and a code that is not listed are 11. It looks for no other fault of unsound code (sorts, gates, second rules): scan checks the image first.
--- Document 01, "The image" and "Values and formulas". Assumes nothing.
+-- Document 01, "The image" and "Values and formulas"; document 02, A.7. Assumes nothing.
 use Prim.Native.Nat.{ℕ}
 use mathlib.Core.Bool.{Bool, true, false, not, _&&_, _||_, cond}
 use mathlib.Core.List.{List, [], _∷_}
-use lib.Dec.{ltb}
+use lib.Dec.{leb, ltb}
 use lib.IntN.{ℤ, pos}
 use lib.ListN.{length, set}
-use Rattle.limits.specs.Limits.{stackLimit, brokenImage, secondTrueCase}
+use Rattle.limits.specs.Limits.{stackLimit, timeLimit, brokenImage, secondTrueCase}
 use Rattle.arith.specs.Values.{Outcome, ok, refusal, _>>=_, eqZ, arithmetic, negation, compares}
-use Rattle.semantics.specs.Program.{Range}
 use Rattle.semantics.specs.Formula.{State, at}
+use Rattle.semantics.specs.Shape.{Setting, timePlace, timed}
 use Rattle.semantics.specs.ReferenceScan.{ranged, picked}
 use Rattle.bytecode.specs.Instructions.{Instruction, constant, current, previous, operation, negate, comparison, negated, both, either, gate, pick, assign, settle, timer}
 use Rattle.bytecode.specs.Signature.{Role, pushes, computes, tests, opens, picks, lets, settles, times, signature}
@@ -62,11 +62,11 @@ endsPassing (times t w n) = false
 abbrev pub isPick : Instruction → Bool
 isPick i = endsPassing (signature i .role)
 
--- the ranges of the names, and the previous values
-module _ (ns : List Range) (s : State) where
-  -- only ids of names declared
+-- a range for each number of the state, the names that are timers, the milliseconds; and the previous values
+module _ (ns : Setting) (s : State) where
+  -- only ids of numbers that the state has
   abbrev pub declared : ℕ → Outcome Machine → Outcome Machine
-  declared i o = cond (ltb i (length ns)) o (refusal brokenImage)
+  declared i o = cond (ltb i (length (ns .ranges))) o (refusal brokenImage)
 
   -- an instruction that is not passed over
   abbrev pub perform : Instruction → Bool → List ℤ → State → Outcome Machine
@@ -80,11 +80,14 @@ module _ (ns : List Range) (s : State) where
   perform both c vs t = pop vs λ b vs₁. pop vs₁ λ a vs₂. ok (machine false c (bit (yes a && yes b) ∷ vs₂) t)
   perform either c vs t = pop vs λ b vs₁. pop vs₁ λ a vs₂. ok (machine false c (bit (yes a || yes b) ∷ vs₂) t)
   perform gate c vs t = pop vs λ a vs₁. gated (yes a) c vs₁ t
-  perform (pick side v) c vs t = pop vs λ x vs₁. declared v (picked side ns s v x >>= λ z. ok (machine false true vs₁ (set t v z)))
-  perform (assign v) c vs t = pop vs λ x vs₁. declared v (ranged ns v x >>= λ z. ok (machine false c vs₁ (set t v z)))
+  perform (pick side v) c vs t = pop vs λ x vs₁. declared v (picked side (ns .ranges) s v x >>= λ z. ok (machine false true vs₁ (set t v z)))
+  perform (assign v) c vs t = pop vs λ x vs₁. declared v (ranged (ns .ranges) v x >>= λ z. ok (machine false c vs₁ (set t v z)))
   perform (settle v) c vs t = declared v (ok (settled v (at s v) c vs t))
-  -- timers are not worked yet: no 23 is sound
-  perform (timer u w n) c vs t = refusal brokenImage
+  perform (timer u w n) c vs t =
+      declared u
+      (declared w
+      (declared (timePlace (ns .timers) u)
+      (cond (leb n timeLimit) (ok (machine false c vs (timed ns s (record { id = u; watched = w; limit = n }) t))) (refusal brokenImage))))
 
   -- If the gate's condition is false, all instructions up to and including the next pick count a step each and do nothing else.
   abbrev pub step : Instruction → Machine → Outcome Machine

@@ -2,6 +2,8 @@
 // one: a struct that holds flags has a gap, which the loop of a run would copy.
 use crate::Registers;
 use crate::Stepped;
+use crate::Timing;
+use crate::timer;
 use crate::values;
 ghost use mathlib.Core.Path.{_≡_};
 ghost use mathlib.Core.Bool.{false};
@@ -10,7 +12,7 @@ ghost use lib.ListN.{length};
 ghost use Rattle.limits.specs.Limits.{stackLimit};
 ghost use Rattle.leb128.specs.Numbers.{numberAt};
 ghost use Rattle.leb128.specs.Results.{unsignedRead};
-ghost use Rattle.machine.specs.Inner.Memory.{OneEach};
+ghost use Rattle.machine.specs.Inner.Memory.{OneEach, SettingIn};
 ghost use Rattle.machine.specs.Inner.Dispatch.{registers, dispatchedOf, overOf, DispatchedBy, PassedBy, LookaheadBy};
 
 // How many values are held, whether the variable at hand was picked, whether instructions are passed over; the place behind, and how many
@@ -68,6 +70,7 @@ fn pass_over(code: &[u8], at: usize, held: usize, picked: bool) -> Dispatched
 {
     match code[at] {
         20 => over(code, at, held, picked, false),
+        23 => timer::pass(code, at, held, picked),
         24 => over(code, at, held, picked, false),
         25 => over(code, at, held, picked, false),
         1..=3 => over(code, at, held, picked, true),
@@ -85,13 +88,14 @@ fn dispatch_one(
     prev: &[i32],
     cur: &mut [i32],
     vals: &mut [i32],
+    timing: Timing,
     at: usize,
     held: usize,
     picked: bool,
 ) -> Dispatched
     requires { ⌜ (at < length (now code)) × (held ≤ stackLimit) × (stackLimit ≤ length (now vals)) ⌝ }
     requires { ⌜ OneEach (now low) (now high) (now prev) (now cur) ⌝ }
-    ensures { λ r. ⌜ DispatchedBy (now (code .entry)) (now (low .entry)) (now (high .entry)) (now (prev .entry)) at (registers held picked false)
+    ensures { λ r. ⌜ DispatchedBy (now (code .entry)) (SettingIn (now (low .entry)) (now (high .entry)) timing) (now (prev .entry)) at (registers held picked false)
         (now (vals .entry)) (now (cur .entry)) (now (vals .exit)) (now (cur .exit)) 1 r ⌝ }
 {
     let byte = code[at];
@@ -145,6 +149,7 @@ fn dispatch_one(
             };
             onward(next, crate::act(low, high, prev, cur, vals, m, 22, n))
         }
+        23 => timer::run(code, prev, cur, timing, at, held, picked),
         24 => {
             let leb128::Unsigned::Number(n, next) = operand(code, at) else {
                 return Dispatched::Refused(limits::BROKEN_IMAGE);
@@ -225,6 +230,7 @@ pub fn dispatch(
     prev: &[i32],
     cur: &mut [i32],
     vals: &mut [i32],
+    timing: Timing,
     at: usize,
     held: usize,
     picked: bool,
@@ -233,14 +239,14 @@ pub fn dispatch(
 ) -> Dispatched
     requires { ⌜ (at < length (now code)) × (held ≤ stackLimit) × (stackLimit ≤ length (now vals)) × (0 < left) ⌝ }
     requires { ⌜ OneEach (now low) (now high) (now prev) (now cur) ⌝ }
-    ensures { λ r. ⌜ DispatchedBy (now (code .entry)) (now (low .entry)) (now (high .entry)) (now (prev .entry)) at (registers held picked passing)
+    ensures { λ r. ⌜ DispatchedBy (now (code .entry)) (SettingIn (now (low .entry)) (now (high .entry)) timing) (now (prev .entry)) at (registers held picked passing)
         (now (vals .entry)) (now (cur .entry)) (now (vals .exit)) (now (cur .exit)) left r ⌝ }
 {
     if passing {
         return pass_over(code, at, held, picked);
     }
     let Lookahead::Truth(t) = comparison_at(code, prev, cur, at, held, left) else {
-        return dispatch_one(code, low, high, prev, cur, vals, at, held, picked);
+        return dispatch_one(code, low, high, prev, cur, vals, timing, at, held, picked);
     };
     vals[held] = values::bit_of(t);
     Dispatched::On(held + 1, picked, false, at + 5, 3)

@@ -8,8 +8,9 @@ ghost use Prim.Native.Nat.{_≤_};
 ghost use lib.IntN.{ℤ};
 ghost use lib.ListN.{length};
 ghost use Rattle.limits.specs.Limits.{stackLimit};
-ghost use Rattle.semantics.specs.Program.{Range, changing, rising, falling};
+ghost use Rattle.semantics.specs.Program.{changing, rising, falling};
 ghost use Rattle.semantics.specs.Formula.{State};
+ghost use Rattle.semantics.specs.Shape.{Setting};
 ghost use Rattle.bytecode.specs.Instructions.{gate as gating, pick as picking, assign as assigning, settle as settling};
 ghost use Rattle.machine.specs.Step.{perform};
 ghost use Rattle.machine.specs.Inner.Memory.{heldOf, stepOutcome, RangesIn, Stack, Few, OneEach};
@@ -54,7 +55,7 @@ pub fn assign(
     id: u64,
 ) -> Stepped
     requires { ⌜ Stack m (now vals) × (length (now high) ≡ length (now low)) × (length (now cur) ≡ length (now low)) ⌝ }
-    ensures { λ r. ⌜ ((ns : List Range) (s : State) → RangesIn ns (now (low .entry)) (now (high .entry))
+    ensures { λ r. ⌜ ((ns : Setting) (s : State) → RangesIn (ns .ranges) (now (low .entry)) (now (high .entry))
         → stepOutcome r (now (vals .entry)) (now (cur .exit))
         ≡ perform ns s (assigning id) (m .picked) (heldOf (now (vals .entry)) (m .held)) (now (cur .entry))) ⌝ }
     ensures { λ r. ⌜ Few r ⌝ }
@@ -92,7 +93,7 @@ pub fn pick(
 ) -> Stepped
     requires { ⌜ Stack m (now vals) ⌝ }
     requires { ⌜ OneEach (now low) (now high) (now prev) (now cur) ⌝ }
-    ensures { λ r. ⌜ ((ns : List Range) → RangesIn ns (now (low .entry)) (now (high .entry))
+    ensures { λ r. ⌜ ((ns : Setting) → RangesIn (ns .ranges) (now (low .entry)) (now (high .entry))
         → stepOutcome r (now (vals .entry)) (now (cur .exit))
         ≡ perform ns (now (prev .entry)) (picking changing id) (m .picked) (heldOf (now (vals .entry)) (m .held)) (now (cur .entry))) ⌝ }
     ensures { λ r. ⌜ Few r ⌝ }
@@ -129,7 +130,7 @@ pub fn rise(
 ) -> Stepped
     requires { ⌜ Stack m (now vals) ⌝ }
     requires { ⌜ OneEach (now low) (now high) (now prev) (now cur) ⌝ }
-    ensures { λ r. ⌜ ((ns : List Range) → RangesIn ns (now (low .entry)) (now (high .entry))
+    ensures { λ r. ⌜ ((ns : Setting) → RangesIn (ns .ranges) (now (low .entry)) (now (high .entry))
         → stepOutcome r (now (vals .entry)) (now (cur .exit))
         ≡ perform ns (now (prev .entry)) (picking rising id) (m .picked) (heldOf (now (vals .entry)) (m .held)) (now (cur .entry))) ⌝ }
     ensures { λ r. ⌜ Few r ⌝ }
@@ -166,7 +167,7 @@ pub fn fall(
 ) -> Stepped
     requires { ⌜ Stack m (now vals) ⌝ }
     requires { ⌜ OneEach (now low) (now high) (now prev) (now cur) ⌝ }
-    ensures { λ r. ⌜ ((ns : List Range) → RangesIn ns (now (low .entry)) (now (high .entry))
+    ensures { λ r. ⌜ ((ns : Setting) → RangesIn (ns .ranges) (now (low .entry)) (now (high .entry))
         → stepOutcome r (now (vals .entry)) (now (cur .exit))
         ≡ perform ns (now (prev .entry)) (picking falling id) (m .picked) (heldOf (now (vals .entry)) (m .held)) (now (cur .entry))) ⌝ }
     ensures { λ r. ⌜ Few r ⌝ }
@@ -194,7 +195,7 @@ pub fn fall(
 // Keeps the previous value if nothing was picked.
 pub fn settle(prev: &[i32], cur: &mut [i32], m: Registers, id: u64) -> Stepped
     requires { ⌜ (m .held ≤ stackLimit) × (length (now cur) ≡ length (now prev)) ⌝ }
-    ensures { λ r. ⌜ ((ns : List Range) (vs : List ℤ) → length ns ≡ length (now (prev .entry)) → stepOutcome r vs (now (cur .exit))
+    ensures { λ r. ⌜ ((ns : Setting) (vs : List ℤ) → length (ns .ranges) ≡ length (now (prev .entry)) → stepOutcome r vs (now (cur .exit))
         ≡ perform ns (now (prev .entry)) (settling id) (m .picked) (heldOf vs (m .held)) (now (cur .entry))) ⌝ }
     ensures { λ r. ⌜ Few r ⌝ }
 {

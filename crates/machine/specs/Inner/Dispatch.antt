@@ -7,10 +7,11 @@ use lib.IntN.{ℤ}
 use lib.ListN.{length}
 use Rattle.limits.specs.Limits.{stackLimit, brokenImage}
 use Rattle.arith.specs.Values.{refusal, Comparison, compares}
-use Rattle.semantics.specs.Program.{Range}
+use Rattle.semantics.specs.Shape.{Setting}
 use Rattle.leb128.specs.Numbers.{Read, got, nothing, unzigzag}
 use Rattle.bytecode.specs.Instructions.{Instruction, constant, comparison, fetchOne}
 use Rattle.machine.specs.declared.Registers.{Registers}
+use Rattle.machine.specs.declared.Timing.{Timing}
 use Rattle.machine.specs.declared.Stepped.{Stepped}
 use Rattle.machine.specs.declared.Stepped.the-variants as S
 use Rattle.machine.specs.declared.dispatch.Dispatched.{Dispatched}
@@ -19,7 +20,7 @@ use Rattle.machine.specs.declared.dispatch.Lookahead.{Lookahead}
 use Rattle.machine.specs.declared.dispatch.Lookahead.the-variants as C
 use Rattle.machine.specs.Step.{push, perform}
 use Rattle.machine.specs.Runs.{ran, run}
-use Rattle.machine.specs.Inner.Memory.{machineOf, RangesIn}
+use Rattle.machine.specs.Inner.Memory.{machineOf, SettingIn}
 
 abbrev pub registers : ℕ → Bool → Bool → Registers
 registers h c p = record { held = h; picked = c; passing = p }
@@ -36,28 +37,28 @@ abbrev pub overOf : ℕ → Bool → Bool → Read ℕ → Dispatched
 overOf h c p (got n next) = D.On h c p next 1
 overOf h c p nothing = D.Refused brokenImage
 
--- ---- what is done
+-- ---- what is done, in every setting of a kind
 
 -- n instructions from a place on, at most so many: the run goes on behind them
-pub record Continues (code : List ℕ) (low high prev : List ℤ) (at : ℕ) (m : Registers) (vals cur vals₁ cur₁ : List ℤ) (most : ℕ) (k : Registers) (next n : ℕ) : Type 0 where
+pub record Continues (code : List ℕ) (settings : Setting → Type 0) (prev : List ℤ) (at : ℕ) (m : Registers) (vals cur vals₁ cur₁ : List ℤ) (most : ℕ) (k : Registers) (next n : ℕ) : Type 0 where
   pub few : k .held ≤ stackLimit
   pub some-done : 1 ≤ n
   pub no-more : n ≤ most
-  pub goes : (ns : List Range) (budget done : ℕ) → RangesIn ns low high → n ≤ budget
+  pub goes : (ns : Setting) (budget done : ℕ) → settings ns → n ≤ budget
       → run ns prev code budget at done (machineOf m vals cur) ≡ run ns prev code (budget - n) next (done + n) (machineOf k vals₁ cur₁)
 
 -- the instruction at a place is refused
-abbrev pub Stops : List ℕ → List ℤ → List ℤ → List ℤ → ℕ → Registers → List ℤ → List ℤ → ℕ → Type 0
-Stops code low high prev at m vals cur number = (ns : List Range) (budget done : ℕ) → RangesIn ns low high → 0 < budget
+abbrev pub Stops : List ℕ → (Setting → Type 0) → List ℤ → ℕ → Registers → List ℤ → List ℤ → ℕ → Type 0
+Stops code settings prev at m vals cur number = (ns : Setting) (budget done : ℕ) → settings ns → 0 < budget
     → run ns prev code budget at done (machineOf m vals cur) ≡ ran (done + 1) at (refusal number)
 
-abbrev pub DispatchedBy : List ℕ → List ℤ → List ℤ → List ℤ → ℕ → Registers → List ℤ → List ℤ → List ℤ → List ℤ → ℕ → Dispatched → Type 0
-DispatchedBy code low high prev at m vals cur vals₁ cur₁ most (D.On h c p next n) = Continues code low high prev at m vals cur vals₁ cur₁ most (registers h c p) next n
-DispatchedBy code low high prev at m vals cur vals₁ cur₁ most (D.Refused number) = Stops code low high prev at m vals cur number
+abbrev pub DispatchedBy : List ℕ → (Setting → Type 0) → List ℤ → ℕ → Registers → List ℤ → List ℤ → List ℤ → List ℤ → ℕ → Dispatched → Type 0
+DispatchedBy code settings prev at m vals cur vals₁ cur₁ most (D.On h c p next n) = Continues code settings prev at m vals cur vals₁ cur₁ most (registers h c p) next n
+DispatchedBy code settings prev at m vals cur vals₁ cur₁ most (D.Refused number) = Stops code settings prev at m vals cur number
 
 -- passed over: whatever the memory holds
 abbrev pub PassedBy : List ℕ → ℕ → ℕ → Bool → Dispatched → Type 0
-PassedBy code at h c r = (low high prev vals cur : List ℤ) → DispatchedBy code low high prev at (registers h c true) vals cur vals cur 1 r
+PassedBy code at h c r = (timing : Timing) (low high prev vals cur : List ℤ) → DispatchedBy code (SettingIn low high timing) prev at (registers h c true) vals cur vals cur 1 r
 
 -- ---- three instructions at once
 
@@ -73,7 +74,7 @@ pub record Comparing (code : List ℕ) (prev cur : List ℤ) (at held left : ℕ
   pub inside : at + 5 ≤ length code
   pub room : held + 2 ≤ stackLimit
   pub enough : 3 ≤ left
-  pub loaded : (ns : List Range) (c : Bool) (vs : List ℤ) → length ns ≡ length prev → perform ns prev loading c vs cur ≡ push x c vs cur
+  pub loaded : (ns : Setting) (c : Bool) (vs : List ℤ) → length (ns .ranges) ≡ length prev → perform ns prev loading c vs cur ≡ push x c vs cur
   pub finds : found ≡ compares relation x (unzigzag operand)
 
 abbrev pub LookaheadBy : List ℕ → List ℤ → List ℤ → ℕ → ℕ → ℕ → Lookahead → Type 0

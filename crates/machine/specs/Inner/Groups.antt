@@ -9,8 +9,8 @@ use lib.IntN.{ℤ}
 use lib.ListN.{length}
 use Rattle.limits.specs.Limits.{brokenImage}
 use Rattle.arith.specs.Values.{Outcome, ok, refusal, compares}
-use Rattle.semantics.specs.Program.{Range}
 use Rattle.semantics.specs.Formula.{State, at}
+use Rattle.semantics.specs.Shape.{Setting}
 use Rattle.bytecode.specs.Instructions.{Instruction, comparisonOf}
 use Rattle.machine.specs.declared.Registers.{Registers}
 use Rattle.machine.specs.declared.Stepped.{Stepped}
@@ -19,7 +19,7 @@ use Rattle.machine.specs.Inner.Memory.{heldOf, stepOutcome}
 
 -- an instruction that leaves the current values alone
 abbrev pub OnStack : Instruction → Registers → List ℤ → Stepped → List ℤ → Type 0
-OnStack i m vals r left = (ns : List Range) (s t : State) → stepOutcome r left t ≡ perform ns s i (m .picked) (heldOf vals (m .held)) t
+OnStack i m vals r left = (ns : Setting) (s t : State) → stepOutcome r left t ≡ perform ns s i (m .picked) (heldOf vals (m .held)) t
 
 -- current and previous: a value of a list, by id
 abbrev pub loaded : List ℤ → ℕ → Bool → List ℤ → State → Outcome Machine
@@ -32,7 +32,11 @@ truthOf code a b = cond (eqb code 17) (yes a && yes b) (cond (eqb code 18) (yes 
 abbrev pub related : (ℤ → ℤ → Bool) → Bool → List ℤ → State → Outcome Machine
 related f c vs t = pop vs λ b vs₁. pop vs₁ λ a vs₂. ok (machine false c (bit (f a b) ∷ vs₂) t)
 
-module _ (ns : List Range) (s : State) where
+-- a timer at work, or broken
+abbrev pub worked : Bool → Bool → List ℤ → State → Outcome Machine
+worked r c vs t = cond r (ok (machine false c vs t)) (refusal brokenImage)
+
+module _ (ns : Setting) (s : State) where
   -- what a code byte and its operand do: no instruction is 11
   abbrev pub performed : Option Instruction → Bool → List ℤ → State → Outcome Machine
   performed none c vs t = refusal brokenImage

@@ -7,10 +7,13 @@ use lib.IntN.{ℤ, pos}
 use lib.ListN.{length, getD}
 use Rattle.limits.specs.Limits.{stackLimit, brokenImage}
 use Rattle.arith.specs.Values.{Outcome, ok, refusal}
+use Rattle.arith.specs.Inner.Flags.{flagsOf}
 use Rattle.semantics.specs.Program.{Range}
 use Rattle.semantics.specs.Formula.{State}
+use Rattle.semantics.specs.Shape.{Setting}
 use Rattle.bytecode.specs.Instructions.{Instruction}
 use Rattle.machine.specs.declared.Registers.{Registers}
+use Rattle.machine.specs.declared.Timing.{Timing}
 use Rattle.machine.specs.declared.Stepped.{Stepped}
 use Rattle.machine.specs.declared.Stepped.the-variants.{Next, Refused}
 use Rattle.machine.specs.declared.Executed.{Executed}
@@ -28,17 +31,27 @@ stepOutcome (Next m) vals t = ok (machineOf m vals t)
 stepOutcome (Refused k) vals t = refusal k
 
 -- One instruction, given its code byte and its operand as `instructionOf` reads them: a code byte that is not listed is 11.
-abbrev pub stepped : List Range → State → Option Instruction → Machine → Outcome Machine
+abbrev pub stepped : Setting → State → Option Instruction → Machine → Outcome Machine
 stepped ns s none m = refusal brokenImage
 stepped ns s (some i) m = step ns s i m
 
 abbrev pub ranOf : Executed → List ℤ → State → Ran
 ranOf r vals t = ran (r .steps) (r .place) (stepOutcome (r .last) vals t)
 
--- ranges whose bounds stand in two lists, name by name
+-- ranges whose bounds stand in two lists, one by one
 pub record RangesIn (ns : List Range) (low high : List ℤ) : Type 0 where
   pub lows : map (λ n. n .low) ns ≡ low
   pub highs : map (λ n. n .high) ns ≡ high
+
+-- which names are timers, as the bits of a number, and the milliseconds of the row
+pub record TimingIn (ns : Setting) (timing : Timing) : Type 0 where
+  pub flags : ns .timers ≡ flagsOf (timing .names) (timing .timers)
+  pub time : ns .millis ≡ timing .millis
+
+-- the settings that lent memory stands for
+pub record SettingIn (low high : List ℤ) (timing : Timing) (ns : Setting) : Type 0 where
+  pub ranged : RangesIn (ns .ranges) low high
+  pub timed : TimingIn ns timing
 
 -- room for 40 values, and not more held
 pub record Stack (m : Registers) (vals : List ℤ) : Type 0 where
@@ -50,7 +63,7 @@ abbrev pub Few : Stepped → Type 0
 Few (Next m) = m .held ≤ stackLimit
 Few (Refused k) = Unit {0}
 
--- a low, a high, a previous and a current value of each name
+-- a low, a high, a previous and a current value of each number of the state
 pub record OneEach (low high prev cur : List ℤ) : Type 0 where
   pub highs : length high ≡ length low
   pub previous : length prev ≡ length low
