@@ -2,6 +2,7 @@ pub mod Steps
 pub mod Numbers
 pub mod Bounds
 pub mod Ranges
+pub mod Standing
 pub mod NewNames
 pub mod Entries
 pub mod Loop
