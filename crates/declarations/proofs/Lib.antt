@@ -7,3 +7,4 @@ pub mod NewNames
 pub mod Entries
 pub mod Loop
 pub mod Known
+pub mod TimerWays

@@ -23,6 +23,8 @@ ghost use Rattle.declarations.specs.Inner.Ranges.{signedBy, declaredRang
 ghost use Rattle.declarations.specs.Inner.Bounds.{boundedNumber, valuedAt};
 ghost use Rattle.declarations.specs.Inner.Tables.{TableRoom, TableHolds, Names, DeclaresOne, DeclaresAll, FewDeclared};
 
+pub mod timers;
+
 const LOWEST: i32 = -2147483648;
 
 const HIGHEST: i32 = 2147483647;
