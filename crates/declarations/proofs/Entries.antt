@@ -40,11 +40,11 @@ few-bytes p to before after' r x h g = let a = got h g in omega (arith, a .ended
 
 -- ---- the answer
 
-spellings-more : (names : List Name) (x : Name) → spellings (names ++ (x ∷ [])) ≡ spellings names ++ (x .spelling ∷ [])
+pub spellings-more : (names : List Name) (x : Name) → spellings (names ++ (x ∷ [])) ≡ spellings names ++ (x .spelling ∷ [])
 spellings-more [] x = refl
 spellings-more (y ∷ names) x = ap (λ (l : List (List ℕ)). y .spelling ∷ l) (spellings-more names x)
 
-step-refused : (k p : ℕ) (x : Place) {A : Type 0} → Refused k p ≡ Done x → A
+pub step-refused : (k p : ℕ) (x : Place) {A : Type 0} → Refused k p ≡ Done x → A
 step-refused k p x h = let z : _≡_ {A = ℕ} 0 1 = cc in absurd (omega arith)
 
 module _ (text starts ends : List ℕ) (at to count : ℕ) (before mid starts' ends' : List ℕ) where

@@ -16,6 +16,8 @@ use Rattle.lexer.specs.Bytes.{part}
 use Rattle.lexer.specs.Token.{Kind, name, digits, dots, is, token, fault}
 use Rattle.lexer.specs.Lexer.{tokenAt, overLong, valueOf}
 use Rattle.lexer.specs.Names.{idOf, tableNames}
+use Rattle.lexer.specs.declared.Place.{Place}
+use Rattle.lexer.specs.declared.Step.the-variants.{Done}
 use Rattle.semantics.specs.Program.{Name, Range, rangeAt, isBinary}
 use Rattle.grammar.specs.Parsed.{Parsed, accepted, refused, sign, expected}
 use Rattle.grammar.specs.Declarations.{inRange, boundAt, startAt, spellings}
@@ -26,6 +28,9 @@ use Rattle.declarations.specs.Inner.Ranges.{declaredRange}
 use Rattle.declarations.specs.Inner.Timers.{Watchables}
 use Rattle.declarations.proofs.Ranges.{no-low, no-dots, no-high, no-start, whole-range}
 use Rattle.declarations.proofs.Standing.{stand-at}
+
+pub done-place : {x y : Place} → Done x ≡ Done y → x ≡ y
+done-place e = cc
 
 -- ---- the range that stands at a place
 

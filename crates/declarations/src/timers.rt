@@ -2,10 +2,11 @@
 use lexer::Found;
 use lexer::Step;
 ghost use mathlib.Core.Path.{_≡_};
+ghost use mathlib.Core.Bool.{true};
 ghost use mathlib.Core.List.{List};
 ghost use Prim.Native.Nat.{ℕ, _+_, _*_, _≤_, _<_, _^_};
-ghost use lib.ListN.{length};
-ghost use Rattle.limits.specs.Limits.{nameLimit};
+ghost use lib.ListN.{length, set};
+ghost use Rattle.limits.specs.Limits.{nameLimit, timeLimit};
 ghost use Rattle.semantics.specs.Program.{Name, Range, isBinary};
 ghost use Rattle.grammar.specs.Parsed.{accepted};
 ghost use Rattle.grammar.specs.Timers.{WithTimers, isWatchable, watchedAt, limitAt};
@@ -42,6 +43,7 @@ fn is_binary(text: &[u8], at: usize) -> bool
 fn is_watchable(text: &[u8], ends: &[usize], inputs: usize, first: usize, id: usize) -> bool
     requires { ⌜ first ≤ length (now ends) ⌝ }
     ensures { λ r. ⌜ ((starts : List ℕ) (count : ℕ) (names : List Name) → Watchables (now (text .entry)) starts (now (ends .entry)) count first names → r ≡ isWatchable inputs first names id) ⌝ }
+    ensures { λ r. ⌜ (r ≡ true → id < first) ⌝ }
 {
     if id < inputs {
         return false;
@@ -66,6 +68,7 @@ fn watched_at(
     requires { ⌜ first ≤ nameLimit ⌝ }
     ensures { λ r. ⌜ ((names : List Name) → Watchables (now (text .entry)) (now (starts .entry)) (now (ends .entry)) count first names
         → parsedOf numberTold r ≡ watchedAt (now (text .entry)) inputs first names at) ⌝ }
+    ensures { λ r. ⌜ ((x : Place) → r ≡ Done x → x .number < nameLimit) ⌝ }
 {
     let read = lexer::token_at(text, at);
     let Step::Done(token) = read else {
@@ -90,6 +93,7 @@ fn watched_at(
 // N. The number told is its value.
 fn limit_at(text: &[u8], at: usize) -> Step
     ensures { λ r. ⌜ parsedOf numberTold r ≡ limitAt (now (text .entry)) at ⌝ }
+    ensures { λ r. ⌜ ((x : Place) → r ≡ Done x → x .number ≤ timeLimit) ⌝ }
 {
     let read = lexer::token_at(text, at);
     let Step::Done(token) = read else {
@@ -106,4 +110,115 @@ fn limit_at(text: &[u8], at: usize) -> Step
         return Step::Refused(limits::OUT_OF_LIMIT, token.start);
     }
     lexer::reached(token.end, 0, value as usize)
+}
+
+// Of a timer w and N, at its id. Ids are below 64, and N is at most 2,147,483,647.
+fn store(watched: &mut [u8], limits: &mut [u32], id: usize, w: usize, n: usize)
+    requires { ⌜ (id < length (now watched)) × (id < length (now limits)) × (w < 2 ^ 8) × (n < 2 ^ 32) ⌝ }
+    ensures { λ _. ⌜ (now (watched .exit) ≡ set (now (watched .entry)) id w) × (now (limits .exit) ≡ set (now (limits .entry)) id n) ⌝ }
+{
+    watched[id] = w as u8;
+    limits[id] = n as u32;
+}
+
+// A timer after its word.
+fn timer(
+    text: &[u8],
+    at: usize,
+    starts: &mut [usize],
+    ends: &mut [usize],
+    count: usize,
+    inputs: usize,
+    first: usize,
+    watched: &mut [u8],
+    limits: &mut [u32],
+    out: &mut [u8],
+    to: usize,
+) -> Step
+    requires { ⌜ TableRoom (now starts) (now ends) count ⌝ }
+    requires { ⌜ TimerRoom (now watched) (now limits) ⌝ }
+    requires { ⌜ (first ≤ count) × (to < 2 ^ 30) ⌝ }
+    ensures { λ r. ⌜ ((x : WithTimers) → TimersHeld (now (text .entry)) (now (starts .entry)) (now (ends .entry)) (now (watched .entry)) (now (limits .entry)) first count x
+        → DeclaresTimer (now (text .entry)) inputs first x at to count (now (out .entry)) (now (out .exit)) (now (starts .exit)) (now (ends .exit)) (now (watched .exit)) (now (limits .exit)) r) ⌝ }
+    ensures { λ r. ⌜ ((x : Place) → r ≡ Done x → (count < nameLimit) × (x .to ≤ to + 15)) ⌝ }
+{
+    let named = crate::new_name(text, at, starts, ends, count);
+    let Step::Done(next) = named else {
+        return named;
+    };
+    let of = phrases::expect(text, next.at, lexer::OF);
+    let Step::Done(before) = of else {
+        return of;
+    };
+    let w = watched_at(text, before.at, starts, ends, count + 1, inputs, first);
+    let Step::Done(variable) = w else {
+        return w;
+    };
+    let limit = phrases::expect(text, variable.at, lexer::LIMIT);
+    let Step::Done(ahead) = limit else {
+        return limit;
+    };
+    let n = limit_at(text, ahead.at);
+    let Step::Done(most) = n else {
+        return n;
+    };
+    let closed = phrases::expect(text, most.at, lexer::SEMICOLON);
+    let Step::Done(after) = closed else {
+        return closed;
+    };
+    store(watched, limits, count, variable.number, most.number);
+    lexer::reached(after.at, crate::put_range(out, to, 0, 1, 0), 0)
+}
+
+// Timers, after `count` names: inputs and variables.
+pub fn timers(
+    text: &[u8],
+    at: usize,
+    starts: &mut [usize],
+    ends: &mut [usize],
+    count: usize,
+    inputs: usize,
+    watched: &mut [u8],
+    limits: &mut [u32],
+    out: &mut [u8],
+    to: usize,
+) -> Step
+    requires { ⌜ TableRoom (now starts) (now ends) count ⌝ }
+    requires { ⌜ TimerRoom (now watched) (now limits) ⌝ }
+    requires { ⌜ to < 2 ^ 20 ⌝ }
+    ensures { λ r. ⌜ ((x : WithTimers) → TimersHeld (now (text .entry)) (now (starts .entry)) (now (ends .entry)) (now (watched .entry)) (now (limits .entry)) count count x
+        → DeclaresTimers (now (text .entry)) inputs count x at to (now (out .entry)) (now (out .exit)) (now (starts .exit)) (now (ends .exit)) (now (watched .exit)) (now (limits .exit)) r) ⌝ }
+    ensures { λ r. ⌜ FewDeclared to r ⌝ }
+{
+    let mut a = at;
+    let mut known = count;
+    let mut t = to;
+    loop {
+        let read = lexer::token_at(text, a);
+        let Step::Done(token) = read else {
+            return read;
+        };
+        if token.kind != lexer::TIMER {
+            return lexer::reached(a, t, known);
+        }
+        let one = timer(
+            text,
+            token.end,
+            starts,
+            ends,
+            known,
+            inputs,
+            count,
+            watched,
+            limits,
+            out,
+            t,
+        );
+        let Step::Done(b) = one else {
+            return one;
+        };
+        a = b.at;
+        t = b.to;
+        known += 1;
+    }
 }
