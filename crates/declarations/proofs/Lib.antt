@@ -8,3 +8,4 @@ pub mod Entries
 pub mod Loop
 pub mod Known
 pub mod TimerWays
+pub mod TimerEntries

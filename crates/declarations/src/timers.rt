@@ -1,5 +1,6 @@
 // Timers, after the variables: their names into the table, their ranges into the header, and of each w and N into two tables by id.
 use lexer::Found;
+use lexer::Place;
 use lexer::Step;
 ghost use mathlib.Core.Path.{_≡_};
 ghost use mathlib.Core.Bool.{true};
@@ -15,7 +16,7 @@ ghost use Rattle.lexer.specs.declared.Step.the-variants.{Done};
 ghost use Rattle.phrases.specs.Inner.Steps.{parsedOf, numberTold};
 ghost use Rattle.declarations.specs.Inner.Ranges.{declaredRange};
 ghost use Rattle.declarations.specs.Inner.Tables.{TableRoom, FewDeclared};
-ghost use Rattle.declarations.specs.Inner.Timers.{Watchables, TimersHeld, TimerRoom, DeclaresTimer, DeclaresTimers};
+ghost use Rattle.declarations.specs.Inner.Timers.{Watchables, timerTold, timerAt, timerRest, TimersHeld, TimerRoom, DeclaresTimer, DeclaresTimers};
 
 // Whether the range that stands at a place is 0..1.
 fn is_binary(text: &[u8], at: usize) -> bool
@@ -121,6 +122,60 @@ fn store(watched: &mut [u8], limits: &mut [u32], id: usize, w: usize, n: usize)
     limits[id] = n as u32;
 }
 
+// The place after a timer, with w's id and N.
+fn told(at: usize, w: usize, n: usize) -> Step
+    ensures { λ r. ⌜ r ≡ timerAt at w n ⌝ }
+{
+    Step::Done(Place {
+        at,
+        kind: lexer::UNKNOWN,
+        start: n,
+        end: at,
+        to: 0,
+        number: w,
+        value: 0,
+    })
+}
+
+// `of w limit N;` after a timer's name. Told are w's id and N.
+fn rest(
+    text: &[u8],
+    at: usize,
+    starts: &[usize],
+    ends: &[usize],
+    count: usize,
+    inputs: usize,
+    first: usize,
+) -> Step
+    requires { ⌜ TableRoom (now starts) (now ends) count ⌝ }
+    requires { ⌜ first ≤ nameLimit ⌝ }
+    ensures { λ r. ⌜ ((names : List Name) → Watchables (now (text .entry)) (now (starts .entry)) (now (ends .entry)) count first names
+        → parsedOf timerTold r ≡ timerRest (now (text .entry)) inputs first names at) ⌝ }
+    ensures { λ r. ⌜ ((x : Place) → r ≡ Done x → (x .number < nameLimit) × (x .start ≤ timeLimit)) ⌝ }
+{
+    let of = phrases::expect(text, at, lexer::OF);
+    let Step::Done(before) = of else {
+        return of;
+    };
+    let w = watched_at(text, before.at, starts, ends, count, inputs, first);
+    let Step::Done(variable) = w else {
+        return w;
+    };
+    let limit = phrases::expect(text, variable.at, lexer::LIMIT);
+    let Step::Done(ahead) = limit else {
+        return limit;
+    };
+    let n = limit_at(text, ahead.at);
+    let Step::Done(most) = n else {
+        return n;
+    };
+    let closed = phrases::expect(text, most.at, lexer::SEMICOLON);
+    let Step::Done(after) = closed else {
+        return closed;
+    };
+    told(after.at, variable.number, most.number)
+}
+
 // A timer after its word.
 fn timer(
     text: &[u8],
@@ -146,28 +201,12 @@ fn timer(
     let Step::Done(next) = named else {
         return named;
     };
-    let of = phrases::expect(text, next.at, lexer::OF);
-    let Step::Done(before) = of else {
-        return of;
+    let read = rest(text, next.at, starts, ends, count + 1, inputs, first);
+    let Step::Done(x) = read else {
+        return read;
     };
-    let w = watched_at(text, before.at, starts, ends, count + 1, inputs, first);
-    let Step::Done(variable) = w else {
-        return w;
-    };
-    let limit = phrases::expect(text, variable.at, lexer::LIMIT);
-    let Step::Done(ahead) = limit else {
-        return limit;
-    };
-    let n = limit_at(text, ahead.at);
-    let Step::Done(most) = n else {
-        return n;
-    };
-    let closed = phrases::expect(text, most.at, lexer::SEMICOLON);
-    let Step::Done(after) = closed else {
-        return closed;
-    };
-    store(watched, limits, count, variable.number, most.number);
-    lexer::reached(after.at, crate::put_range(out, to, 0, 1, 0), 0)
+    store(watched, limits, count, x.number, x.start);
+    lexer::reached(x.at, crate::put_range(out, to, 0, 1, 0), 0)
 }
 
 // Timers, after `count` names: inputs and variables.

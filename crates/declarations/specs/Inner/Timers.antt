@@ -2,13 +2,17 @@
 use Prim.Native.Nat.{ℕ, suc, _+_, _≤_}
 use mathlib.Core.Path.{_≡_}
 use mathlib.Core.List.{List, [], _∷_, _++_}
+use lib.IntN.{pos}
 use lib.ListN.{length, getD, drop}
 use Rattle.limits.specs.Limits.{nameLimit}
 use Rattle.semantics.specs.Program.{Name, Timer, bitRange}
-use Rattle.grammar.specs.Parsed.{accepted, itemBound}
-use Rattle.grammar.specs.Timers.{WithTimers, timerDeclaration, timersFrom}
+use Rattle.lexer.specs.Token.{ofWord, limitWord, semicolon}
+use Rattle.grammar.specs.Parsed.{Parsed, accepted, andThen, sign, phrase, followed, itemBound}
+use Rattle.grammar.specs.Timers.{WithTimers, watchedAt, limitAt, timerDeclaration, timersFrom}
 use Rattle.grammar.specs.Inner.Bytes.{header}
+use Rattle.lexer.specs.declared.Place.{Place}
 use Rattle.lexer.specs.declared.Step.{Step}
+use Rattle.lexer.specs.declared.Step.the-variants.{Done}
 use Rattle.phrases.specs.Inner.Steps.{nothing, numberTold, Writes}
 use Rattle.declarations.specs.Inner.Ranges.{rangeBytes}
 use Rattle.declarations.specs.Inner.Tables.{TableHolds, RangesStand}
@@ -21,6 +25,21 @@ pub record Watchables (text starts ends : List ℕ) (count first : ℕ) (names :
   pub split : names ≡ variables ++ others
   pub many : length variables ≡ first
   pub stand : RangesStand text ends 0 variables
+
+-- `of w limit N;` after a timer's name, which is the last of these names: w's id and N
+unfoldable pub timerRest : List ℕ → ℕ → ℕ → List Name → ℕ → Parsed (ℕ × ℕ)
+timerRest text inputs first names at =
+    andThen (phrase text (sign ofWord ∷ []) at) (λ u n2.
+    andThen (watchedAt text inputs first names n2) (λ w n3.
+    andThen (phrase text (sign limitWord ∷ []) n3) (λ u n4.
+    andThen (limitAt text n4) (λ n n5.
+    followed text (sign semicolon ∷ []) (w, n) n5))))
+
+abbrev pub timerTold : Place → ℕ × ℕ
+timerTold x = (x .number, x .start)
+
+abbrev pub timerAt : ℕ → ℕ → ℕ → Step
+timerAt at w n = Done (record { at = at; kind = 0; start = n; end = at; to = 0; number = w; value = pos 0 })
 
 -- the timers from the id i on: of each w and N
 abbrev pub TimersStand : List ℕ → List ℕ → ℕ → List Timer → Type 0
