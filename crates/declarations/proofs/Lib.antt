@@ -9,3 +9,4 @@ pub mod Loop
 pub mod Known
 pub mod TimerWays
 pub mod TimerEntries
+pub mod TimerLoop

@@ -159,10 +159,11 @@ module _ (text starts ends watched limits : List ℕ) (inputs first at to count 
                   known = watches x held;
                   timed = timers-more watched' limits' first (x .timers) (record { id = length (x .names); watched = y .number; limit = y .start })
                       (timers-kept watched limits watched' limits' first (x .timers)
-                      (λ j a b. (ap (λ (l : List ℕ). getD l j 0) (stored .0) ∙ getD-set-other watched count j (y .number) 0 (omega (arith, b, here)), ap (λ (l : List ℕ). getD l j 0) (stored .1) ∙ getD-set-other limits count j (y .start) 0 (omega (arith, b, here)))) (held .timed))
-                      (omega (arith, held .known .table .counted, here),
-                      ap (λ (j : ℕ). getD watched' j 0) (sym here) ∙ ap (λ (l : List ℕ). getD l count 0) (stored .0) ∙ getD-set-same watched count (y .number) 0 (omega (arith, few, in-watched)),
-                      ap (λ (j : ℕ). getD limits' j 0) (sym here) ∙ ap (λ (l : List ℕ). getD l count 0) (stored .1) ∙ getD-set-same limits count (y .start) 0 (omega (arith, few, in-limits)));
+                      (λ j a b. (ap (λ (l : List ℕ). getD l j 0) (stored .0) ∙ getD-set-other watched count j (y .number) 0 (omega (arith, b, here)), ap (λ (l : List ℕ). getD l j 0) (stored .1) ∙ getD-set-other limits count j (y .start) 0 (omega (arith, b, here)))) (held .timed)) (
+                        omega (arith, held .known .table .counted, here),
+                        ap (λ (j : ℕ). getD watched' j 0) (sym here) ∙ ap (λ (l : List ℕ). getD l count 0) (stored .0) ∙ getD-set-same watched count (y .number) 0 (omega (arith, few, in-watched)),
+                        ap (λ (j : ℕ). getD limits' j 0) (sym here) ∙ ap (λ (l : List ℕ). getD l count 0) (stored .1) ∙ getD-set-same limits count (y .start) 0 (omega (arith, few, in-limits)),
+                      );
                   as-many = simp length-append (omega (arith, here));
                 }
 

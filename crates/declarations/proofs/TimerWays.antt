@@ -83,8 +83,8 @@ module _ (text starts ends : List ℕ) (count inputs first : ℕ) (names : List 
   a-variable l h w f =
       let s = stand-at text ends 0 (w .variables) (w .stand) id (omega (arith, w .many, h)) in
       let same : rangeAt (map (λ x. x .range) names) id ≡ rangeAt (map (λ x. x .range) (w .variables)) id =
-          ap (λ (ns : List Name). rangeAt (map (λ x. x .range) ns) id) (w .split) ∙ ap (λ (ns : List Range). rangeAt ns id) (map-append (w .variables) (w .others))
-          ∙ getD-front (map (λ x. x .range) (w .variables)) (map (λ x. x .range) (w .others)) id _ (omega (arith, ranges-many (w .variables), w .many, h)) in
+      ap (λ (ns : List Name). rangeAt (map (λ x. x .range) ns) id) (w .split) ∙ ap (λ (ns : List Range). rangeAt ns id) (map-append (w .variables) (w .others))
+      ∙ getD-front (map (λ x. x .range) (w .variables)) (map (λ x. x .range) (w .others)) id _ (omega (arith, ranges-many (w .variables), w .many, h)) in
       rw (le-leb _ _ l, lt-ltb _ _ h, same) (f _ (s .0) (ap (λ (k : ℕ). declaredRange text (getD ends k 0)) (omega arith) ∙ s .1))
 
 -- ---- w

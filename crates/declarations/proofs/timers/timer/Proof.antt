@@ -59,7 +59,7 @@ returns-2 c = timer-cut _ _ _ _ _ _ _ _ _ _ _ _ _ (c .before .before .before .be
 
 -- src/timers.rt:208:5
 store-requires : tie.Need-store-requires
-store-requires c κs = 
+store-requires c κs =
     let few = c .before .before .before .before .before .before .before .before .before .before .before .before .before .before .before .new-name .ensures .1 _ (c .before .before .before .before .before .before .before .before .before .named .given .1) in
     let b = c .before .before .before .before .before .rest .ensures .1 _ (c .before .before .before .read .given .1) in
     (omega (arith, few, c .before .before .before .before .before .before .before .before .before .before .before .before .before .before .before .before .before .before .before .before .before .before .before .before .pre .1 .0 .in-watched), omega (arith, few, c .before .before .before .before .before .before .before .before .before .before .before .before .before .before .before .before .before .before .before .before .before .before .before .before .pre .1 .0 .in-limits), omega (arith, b .0), omega (arith, b .1))
