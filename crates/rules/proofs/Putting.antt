@@ -29,18 +29,18 @@ table-more watched limits i zero = ap (λ (j : ℕ). entry watched limits j ∷ 
 table-more watched limits i (suc n) =
     ap (λ (ts : List Timer). entry watched limits i ∷ ts) (table-more watched limits (suc i) n ∙ ap (λ (j : ℕ). tableTimers watched limits (suc i) n ++ tableTimers watched limits j 1) (omega arith))
 
+differs : {i v : ℕ} → (i ≡ v → ⊥) → v < suc i → v < i
+differs n h = omega (arith, n, h)
+
 table-is : (watched limits : List ℕ) (i n v : ℕ) → v < i + n → isTimer (tableTimers watched limits i n) v ≡ leb i v
 unfolding tableTimers
 table-is watched limits i zero v h = sym (lt-leb i v (omega (arith, h)))
-table-is watched limits i (suc n) v h = go (eqb i v) refl
+table-is watched limits i (suc n) v h = go (table-is watched limits (suc i) n v (omega (arith, h))) (eqb i v) refl (leb (suc i) v) refl
   where
-    go : (b : Bool) → eqb i v ≡ b → cond b true (isTimer (tableTimers watched limits (suc i) n) v) ≡ leb i v
-    go true e = sym (le-leb i v (omega (arith, eqb-true i v e)))
-    go false e = table-is watched limits (suc i) n v (omega (arith, h)) ∙ next (leb (suc i) v) refl
-      where
-        next : (b : Bool) → leb (suc i) v ≡ b → b ≡ leb i v
-        next true f = sym (le-leb i v (omega (arith, leb-true (suc i) v f)))
-        next false f = sym (lt-leb i v (omega (arith, leb-false (suc i) v f, eqb-false i v e)))
+    go : isTimer (tableTimers watched limits (suc i) n) v ≡ leb (suc i) v → (b : Bool) → eqb i v ≡ b → (d : Bool) → leb (suc i) v ≡ d → cond b true (isTimer (tableTimers watched limits (suc i) n) v) ≡ leb i v
+    go ih true e d f = sym (le-leb i v (omega (arith, eqb-true i v e)))
+    go ih false e true f = ih ∙ f ∙ sym (le-leb i v (omega (arith, leb-true (suc i) v f)))
+    go ih false e false f = ih ∙ f ∙ sym (lt-leb i v (differs (eqb-false i v e) (leb-false (suc i) v f)))
 
 pub timers-from : (watched limits : List ℕ) (first count : ℕ) → TimersFrom first count (timersIn watched limits first count)
 timers-from watched limits first count v h = table-is watched limits first (count - first) v (omega (arith, h))
@@ -88,12 +88,12 @@ few-bytes watched limits first count v hv h = small (leb first count) refl
 module _ (watched limits : List ℕ) (id v count known to : ℕ) (before : List ℕ) where
   pub other-timer : eqb (getD watched id 0) v ≡ false → TimersPut (tableTimers watched limits id 1) v count known to before before (record { known = known; to = to })
   unfolding tableTimers bytesT
-  other-timer e = record { known = rw e; ended = rw e (omega arith); wrote = rw e refl }
+  other-timer e = record { usable = rw e; ended = rw e (omega arith); wrote = rw e refl }
 
   pub own-timer : {after : List ℕ} {t k : ℕ} → eqb (getD watched id 0) v ≡ true → (t ≡ to + length (encode (timer id v (getD limits id 0)))) × (after ≡ sets before to (encode (timer id v (getD limits id 0))))
       → flagsOf count k ≡ set (flagsOf count known) id true → TimersPut (tableTimers watched limits id 1) v count known to before after (record { known = k; to = t })
   unfolding tableTimers bytesT
-  own-timer e p f = record { known = rw e f; ended = rw (e, append-nil) (p .0); wrote = rw (e, append-nil) (p .1) }
+  own-timer e p f = record { usable = rw e f; ended = rw (e, append-nil) (p .0); wrote = rw (e, append-nil) (p .1) }
 
 -- ---- all of them, one behind the other
 
@@ -105,7 +105,7 @@ pub record Putting (watched limits : List ℕ) (first v count known₀ to : ℕ)
 module _ (watched limits : List ℕ) (first v count known₀ to : ℕ) (before : List ℕ) where
   none-put : (n : ℕ) → n ≡ 0 → TimersPut (tableTimers watched limits first n) v count known₀ to before before (record { known = known₀; to = to })
   unfolding tableTimers bytesT
-  none-put zero e = record { known = refl; ended = omega arith; wrote = refl }
+  none-put zero e = record { usable = refl; ended = omega arith; wrote = refl }
   none-put (suc n) e = absurd (omega (arith, e))
 
   pub putting-first : Putting watched limits first v count known₀ to before before known₀ to first
@@ -129,7 +129,7 @@ module _ (watched limits : List ℕ) (first v count known₀ to : ℕ) (before :
         record {
           come = (omega (arith, x .come .0), omega (arith, h, x .come .0));
           put = rw whole (record {
-            known = p .known ∙ ap (timersKnown v (tableTimers watched limits id 1)) (x .put .known) ∙ sym (known-append v (tableTimers watched limits first n) (tableTimers watched limits id 1) (flagsOf count known₀));
+            usable = p .usable ∙ ap (timersKnown v (tableTimers watched limits id 1)) (x .put .usable) ∙ sym (known-append v (tableTimers watched limits first n) (tableTimers watched limits id 1) (flagsOf count known₀));
             ended = rw (bytes-append v (tableTimers watched limits first n) (tableTimers watched limits id 1)) (simp length-append (omega (arith, p .ended, x .put .ended)));
             wrote = rw (bytes-append v (tableTimers watched limits first n) (tableTimers watched limits id 1)) (then-bytes before to (bytesT v (tableTimers watched limits first n)) (bytesT v (tableTimers watched limits id 1)) (x .put .ended) (x .put .wrote) (p .wrote));
           });

@@ -164,7 +164,7 @@ module _ {ts : List Timer} {text starts ends : List ℕ} {count known₀ at to :
             {out″ : List ℕ} {y : Behind} (p : TimersPut ts (o .number) count (more .known) (o .to) out′ out″ y) (small : length (bytesT (o .number) ts) ≤ 512)
           where
             kept : flagsOf count (y .known) ≡ timersKnown (o .number) ts (set (flagsOf count known) (o .number) true)
-            kept = p .known ∙ ap (timersKnown (o .number) ts) ek
+            kept = p .usable ∙ ap (timersKnown (o .number) ts) ek
 
             -- one variable fewer is without a rule
             pub ruling-less : unruled (flagsOf count (y .known)) < unruled (flagsOf count known)

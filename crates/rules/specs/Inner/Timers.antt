@@ -30,6 +30,6 @@ pub record TableRoom (watched limits : List ℕ) (count : ℕ) : Type 0 where
 
 -- the timers ts of v are put: their current values may be used, and their bytes are written
 pub record TimersPut (ts : List Timer) (v count known to : ℕ) (before after : List ℕ) (r : Behind) : Type 0 where
-  pub known : flagsOf count (r .known) ≡ timersKnown v ts (flagsOf count known)
+  pub usable : flagsOf count (r .known) ≡ timersKnown v ts (flagsOf count known)
   pub ended : r .to ≡ to + length (bytesT v ts)
   pub wrote : after ≡ sets before to (bytesT v ts)
