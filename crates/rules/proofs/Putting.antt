@@ -125,7 +125,7 @@ module _ (watched limits : List ℕ) (first v count known₀ to : ℕ) (before :
         let n : ℕ = id - first in
         let here : first + n ≡ id = omega (arith, x .come .0) in
         let whole : tableTimers watched limits first (id + 1 - first) ≡ tableTimers watched limits first n ++ tableTimers watched limits id 1 =
-            ap (tableTimers watched limits first) (omega (arith, x .come .0)) ∙ table-more watched limits first n ∙ ap (λ (j : ℕ). tableTimers watched limits first n ++ tableTimers watched limits j 1) here in
+        ap (tableTimers watched limits first) (omega (arith, x .come .0)) ∙ table-more watched limits first n ∙ ap (λ (j : ℕ). tableTimers watched limits first n ++ tableTimers watched limits j 1) here in
         record {
           come = (omega (arith, x .come .0), omega (arith, h, x .come .0));
           put = rw whole (record {

@@ -398,6 +398,17 @@ pub fn rules(
     let mut from = [0usize; limits::CASE_LIMIT];
     let mut upto = [0usize; limits::CASE_LIMIT];
     rules_in(
-        text, starts, ends, names, watched, limits, first, &mut from, &mut upto, at, out, to,
+        text,
+        starts,
+        ends,
+        names,
+        watched,
+        limits,
+        first,
+        &mut from,
+        &mut upto,
+        at,
+        out,
+        to,
     )
 }

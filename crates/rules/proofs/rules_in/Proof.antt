@@ -25,95 +25,95 @@ abbrev μ-loop : tie.MeasureT-loop
 μ-loop text starts ends watched limits first from₀ upto₀ at out₀ to count known₀ a₀ t₀ from upto out known a t = unruled (flagsOf count known)
 
 loop-holds : tie.Need-loop-holds Inv-loop μ-loop
-loop-holds c = (ruling-first _ _ _ _ _ _ _ _ _ (@pre .1 .0), refl, refl, refl)
+loop-holds c = (ruling-first _ _ _ _ _ _ _ _ _ (c .before .before .before .before .before .before .before .before .pre .1 .0), refl, refl, refl)
 
 same-length : tie.Need-same-length Inv-loop μ-loop
-same-length c = @loop .inv .1
+same-length c = c .before .before .before .loop .inv .1
 
 same-length-2 : tie.Need-same-length-2 Inv-loop μ-loop
-same-length-2 c = @loop .inv .2
+same-length-2 c = c .before .before .before .loop .inv .2
 
 same-length-3 : tie.Need-same-length-3 Inv-loop μ-loop
-same-length-3 c = @loop .inv .3
+same-length-3 c = c .before .before .before .loop .inv .3
 
 returns : tie.Need-returns Inv-loop μ-loop
 returns c =
-    let d = declared-as (@pre .0) (@loop .known) in
-    ruling-fault (@loop .inv .0) d (@enum-told .given .1) (is-fault _ _ _ (@token-at .ensures) _ _ (@enum-told .given .1))
+    let d = declared-as (c .before .before .before .before .before .before .before .before .before .before .before .before .pre .0) (c .before .before .before .loop .known) in
+    ruling-fault (c .before .before .before .loop .inv .0) d (c .enum-told .given .1) (is-fault _ _ _ (c .before .before .token-at .ensures) _ _ (c .enum-told .given .1))
 
 same-length-4 : tie.Need-same-length-4 Inv-loop μ-loop
-same-length-4 c = @loop .inv .1
+same-length-4 c = c .before .before .before .before .before .before .loop .inv .1
 
 same-length-5 : tie.Need-same-length-5 Inv-loop μ-loop
-same-length-5 c = @loop .inv .2
+same-length-5 c = c .before .before .before .before .before .before .loop .inv .2
 
 same-length-6 : tie.Need-same-length-6 Inv-loop μ-loop
-same-length-6 c = @loop .inv .3
+same-length-6 c = c .before .before .before .before .before .before .loop .inv .3
 
 returns-2 : tie.Need-returns-2 Inv-loop μ-loop
 unfolding kindOf
 returns-2 c =
-    let d = declared-as (@pre .0) (@loop .known) in
-    let f = found-token _ _ (@token-at .ensures) (@read .given .1) in
-    ruling-end (@loop .inv .0) d f (other-kinds _ _ (f .lies .known-kind) (omega arith) (@if1 .taken))
+    let d = declared-as (c .before .before .before .before .before .before .before .before .before .before .before .before .before .before .before .pre .0) (c .before .before .before .before .before .before .loop .known) in
+    let f = found-token _ _ (c .before .before .before .before .before .token-at .ensures) (c .before .before .before .read .given .1) in
+    ruling-end (c .before .before .before .before .before .before .loop .inv .0) d f (other-kinds _ _ (f .lies .known-kind) (omega arith) (c .if1 .taken))
 
 rule-requires : tie.Need-rule-requires Inv-loop μ-loop
 rule-requires c κs =
-    let d = declared-as (@pre .0) (@loop .known) in
-    let f = found-token _ _ (@token-at .ensures) (@read .given .1) in
-    (d, (ruling-room (@loop .inv .0) d f, (record { in-from = omega (arith, @loop .inv .1, @pre .1 .1 .0 .in-from); in-upto = omega (arith, @loop .inv .2, @pre .1 .1 .0 .in-upto) }, @pre .1 .1 .1 .1)))
+    let d = declared-as (c .before .before .before .before .before .before .before .before .before .before .before .before .before .before .before .before .before .before .pre .0) (c .before .before .before .before .before .before .before .before .before .loop .known) in
+    let f = found-token _ _ (c .before .before .before .before .before .before .before .before .token-at .ensures) (c .before .before .before .before .before .before .read .given .1) in
+    (d, (ruling-room (c .before .before .before .before .before .before .before .before .before .loop .inv .0) d f, (record { in-from = omega (arith, c .before .before .before .before .before .before .before .before .before .loop .inv .1, c .before .before .before .before .before .before .before .before .before .before .before .before .before .before .before .before .before .before .pre .1 .1 .0 .in-from); in-upto = omega (arith, c .before .before .before .before .before .before .before .before .before .loop .inv .2, c .before .before .before .before .before .before .before .before .before .before .before .before .before .before .before .before .before .before .pre .1 .1 .0 .in-upto) }, c .before .before .before .before .before .before .before .before .before .before .before .before .before .before .before .before .before .before .pre .1 .1 .1 .1)))
 
 same-length-7 : tie.Need-same-length-7 Inv-loop μ-loop
-same-length-7 c = @rule .kept .1 .1 .1 .1 .1 .1 .1 .0 ∙ @loop .inv .1
+same-length-7 c = c .before .before .before .before .before .before .before .before .rule .kept .1 .1 .1 .1 .1 .1 .1 .0 ∙ c .before .before .before .before .before .before .before .before .before .before .before .before .before .before .before .before .before .before .loop .inv .1
 
 same-length-8 : tie.Need-same-length-8 Inv-loop μ-loop
-same-length-8 c = @rule .kept .1 .1 .1 .1 .1 .1 .1 .1 .0 ∙ @loop .inv .2
+same-length-8 c = c .before .before .before .before .before .before .before .before .rule .kept .1 .1 .1 .1 .1 .1 .1 .1 .0 ∙ c .before .before .before .before .before .before .before .before .before .before .before .before .before .before .before .before .before .before .loop .inv .2
 
 same-length-9 : tie.Need-same-length-9 Inv-loop μ-loop
-same-length-9 c = @rule .kept .1 .1 .1 .1 .1 .1 .1 .1 .1 .0 ∙ @loop .inv .3
+same-length-9 c = c .before .before .before .before .before .before .before .before .rule .kept .1 .1 .1 .1 .1 .1 .1 .1 .1 .0 ∙ c .before .before .before .before .before .before .before .before .before .before .before .before .before .before .before .before .before .before .loop .inv .3
 
 returns-3 : tie.Need-returns-3 Inv-loop μ-loop
 unfolding kindOf
 returns-3 c =
-    let d = declared-as (@pre .0) (@loop .known) in
-    let f = found-token _ _ (@token-at .ensures) (@read .given .1) in
-    let i = same-kinds _ 2 (@if1 .left) in
-    ruling-refused (@loop .inv .0) d f i (@enum-told2 .given .1) (refused-part (@rule .ensures _ (timers-from _ _ _ _)) (@enum-told2 .given .1))
+    let d = declared-as (c .before .before .before .before .before .before .before .before .before .before .before .before .before .before .before .before .before .before .before .before .before .before .before .before .before .before .before .pre .0) (c .before .before .before .before .before .before .before .before .before .before .before .before .before .before .before .before .before .before .loop .known) in
+    let f = found-token _ _ (c .before .before .before .before .before .before .before .before .before .before .before .before .before .before .before .before .before .token-at .ensures) (c .before .before .before .before .before .before .before .before .before .before .before .before .before .before .before .read .given .1) in
+    let i = same-kinds _ 2 (c .before .before .before .before .before .before .before .before .before .before .before .before .if1 .left) in
+    ruling-refused (c .before .before .before .before .before .before .before .before .before .before .before .before .before .before .before .before .before .before .loop .inv .0) d f i (c .enum-told2 .given .1) (refused-part (c .before .before .before .before .before .before .before .before .rule .ensures _ (timers-from _ _ _ _)) (c .enum-told2 .given .1))
 
 ruled-requires : tie.Need-ruled-requires Inv-loop μ-loop
 unfolding kindOf
 ruled-requires c κs =
-    let d = declared-as (@pre .0) (@loop .known) in
-    let f = found-token _ _ (@token-at .ensures) (@read .given .1) in
-    let i = same-kinds _ 2 (@if1 .left) in
-    ruling-declared (@loop .inv .0) d f i (got (@rule .ensures _ (timers-from _ _ _ _)) (@one .given .1))
+    let d = declared-as (c .before .before .before .before .before .before .before .before .before .before .before .before .before .before .before .before .before .before .before .before .before .before .before .before .before .before .before .before .pre .0) (c .before .before .before .before .before .before .before .before .before .before .before .before .before .before .before .before .before .before .before .loop .known) in
+    let f = found-token _ _ (c .before .before .before .before .before .before .before .before .before .before .before .before .before .before .before .before .before .before .token-at .ensures) (c .before .before .before .before .before .before .before .before .before .before .before .before .before .before .before .before .read .given .1) in
+    let i = same-kinds _ 2 (c .before .before .before .before .before .before .before .before .before .before .before .before .before .if1 .left) in
+    ruling-declared (c .before .before .before .before .before .before .before .before .before .before .before .before .before .before .before .before .before .before .before .loop .inv .0) d f i (got (c .before .before .before .before .before .before .before .before .before .rule .ensures _ (timers-from _ _ _ _)) (c .before .one .given .1))
 
 timers-of-requires : tie.Need-timers-of-requires Inv-loop μ-loop
 unfolding kindOf
 timers-of-requires c κs =
-    let d = declared-as (@pre .0) (@loop .known) in
-    let f = found-token _ _ (@token-at .ensures) (@read .given .1) in
-    let i = same-kinds _ 2 (@if1 .left) in
-    let g = got (@rule .ensures _ (timers-from _ _ _ _)) (@one .given .1) in
-    (@pre .1 .1 .1 .0, (@pre .0 .few, ruling-declared (@loop .inv .0) d f i g, ruling-near (@loop .inv .0) d f i g))
+    let d = declared-as (c .before .before .before .before .before .before .before .before .before .before .before .before .before .before .before .before .before .before .before .before .before .before .before .before .before .before .before .before .before .before .pre .0) (c .before .before .before .before .before .before .before .before .before .before .before .before .before .before .before .before .before .before .before .before .before .loop .known) in
+    let f = found-token _ _ (c .before .before .before .before .before .before .before .before .before .before .before .before .before .before .before .before .before .before .before .before .token-at .ensures) (c .before .before .before .before .before .before .before .before .before .before .before .before .before .before .before .before .before .before .read .given .1) in
+    let i = same-kinds _ 2 (c .before .before .before .before .before .before .before .before .before .before .before .before .before .before .before .if1 .left) in
+    let g = got (c .before .before .before .before .before .before .before .before .before .before .before .rule .ensures _ (timers-from _ _ _ _)) (c .before .before .before .one .given .1) in
+    (c .before .before .before .before .before .before .before .before .before .before .before .before .before .before .before .before .before .before .before .before .before .before .before .before .before .before .before .before .before .before .pre .1 .1 .1 .0, (c .before .before .before .before .before .before .before .before .before .before .before .before .before .before .before .before .before .before .before .before .before .before .before .before .before .before .before .before .before .before .pre .0 .few, ruling-declared (c .before .before .before .before .before .before .before .before .before .before .before .before .before .before .before .before .before .before .before .before .before .loop .inv .0) d f i g, ruling-near (c .before .before .before .before .before .before .before .before .before .before .before .before .before .before .before .before .before .before .before .before .before .loop .inv .0) d f i g))
 
 loop-less : tie.Need-loop-less Inv-loop μ-loop
 unfolding kindOf
 loop-less c =
-    let d = declared-as (@pre .0) (@loop .known) in
-    let f = found-token _ _ (@token-at .ensures) (@read .given .1) in
-    let i = same-kinds _ 2 (@if1 .left) in
-    let g = got (@rule .ensures _ (timers-from _ _ _ _)) (@one .given .1) in
-    ruling-less (@loop .inv .0) d f i g (@ruled .result) (@ruled .ensures .1) (@timers-of .ensures) (few-bytes _ _ _ _ _ (ruling-declared (@loop .inv .0) d f i g) (@pre .0 .few))
+    let d = declared-as (c .before .before .before .before .before .before .before .before .before .before .before .before .before .before .before .before .before .before .before .before .before .before .before .before .before .before .before .before .before .before .before .before .before .pre .0) (c .before .before .before .before .before .before .before .before .before .before .before .before .before .before .before .before .before .before .before .before .before .before .before .before .loop .known) in
+    let f = found-token _ _ (c .before .before .before .before .before .before .before .before .before .before .before .before .before .before .before .before .before .before .before .before .before .before .before .token-at .ensures) (c .before .before .before .before .before .before .before .before .before .before .before .before .before .before .before .before .before .before .before .before .before .read .given .1) in
+    let i = same-kinds _ 2 (c .before .before .before .before .before .before .before .before .before .before .before .before .before .before .before .before .before .before .if1 .left) in
+    let g = got (c .before .before .before .before .before .before .before .before .before .before .before .before .before .before .rule .ensures _ (timers-from _ _ _ _)) (c .before .before .before .before .before .before .one .given .1) in
+    ruling-less (c .before .before .before .before .before .before .before .before .before .before .before .before .before .before .before .before .before .before .before .before .before .before .before .before .loop .inv .0) d f i g (c .before .before .before .before .ruled .result) (c .before .before .before .before .ruled .ensures .1) (c .before .before .timers-of .ensures) (few-bytes _ _ _ _ _ (ruling-declared (c .before .before .before .before .before .before .before .before .before .before .before .before .before .before .before .before .before .before .before .before .before .before .before .before .loop .inv .0) d f i g) (c .before .before .before .before .before .before .before .before .before .before .before .before .before .before .before .before .before .before .before .before .before .before .before .before .before .before .before .before .before .before .before .before .before .pre .0 .few))
 
 loop-again : tie.Need-loop-again Inv-loop μ-loop
 unfolding kindOf
 loop-again c =
-    let d = declared-as (@pre .0) (@loop .known) in
-    let f = found-token _ _ (@token-at .ensures) (@read .given .1) in
-    let i = same-kinds _ 2 (@if1 .left) in
-    let g = got (@rule .ensures _ (timers-from _ _ _ _)) (@one .given .1) in
-    (ruling-more (@loop .inv .0) d f i g (@ruled .result) (@ruled .ensures .1) (@timers-of .ensures) (few-bytes _ _ _ _ _ (ruling-declared (@loop .inv .0) d f i g) (@pre .0 .few)), @rule .kept .1 .1 .1 .1 .1 .1 .1 .0 ∙ @loop .inv .1, @rule .kept .1 .1 .1 .1 .1 .1 .1 .1 .0 ∙ @loop .inv .2, @timers-of .kept .1 .1 .1 .1 .1 .0 ∙ @rule .kept .1 .1 .1 .1 .1 .1 .1 .1 .1 .0 ∙ @loop .inv .3)
+    let d = declared-as (c .before .before .before .before .before .before .before .before .before .before .before .before .before .before .before .before .before .before .before .before .before .before .before .before .before .before .before .before .before .before .before .before .before .pre .0) (c .before .before .before .before .before .before .before .before .before .before .before .before .before .before .before .before .before .before .before .before .before .before .before .before .loop .known) in
+    let f = found-token _ _ (c .before .before .before .before .before .before .before .before .before .before .before .before .before .before .before .before .before .before .before .before .before .before .before .token-at .ensures) (c .before .before .before .before .before .before .before .before .before .before .before .before .before .before .before .before .before .before .before .before .before .read .given .1) in
+    let i = same-kinds _ 2 (c .before .before .before .before .before .before .before .before .before .before .before .before .before .before .before .before .before .before .if1 .left) in
+    let g = got (c .before .before .before .before .before .before .before .before .before .before .before .before .before .before .rule .ensures _ (timers-from _ _ _ _)) (c .before .before .before .before .before .before .one .given .1) in
+    (ruling-more (c .before .before .before .before .before .before .before .before .before .before .before .before .before .before .before .before .before .before .before .before .before .before .before .before .loop .inv .0) d f i g (c .before .before .before .before .ruled .result) (c .before .before .before .before .ruled .ensures .1) (c .before .before .timers-of .ensures) (few-bytes _ _ _ _ _ (ruling-declared (c .before .before .before .before .before .before .before .before .before .before .before .before .before .before .before .before .before .before .before .before .before .before .before .before .loop .inv .0) d f i g) (c .before .before .before .before .before .before .before .before .before .before .before .before .before .before .before .before .before .before .before .before .before .before .before .before .before .before .before .before .before .before .before .before .before .pre .0 .few)), c .before .before .before .before .before .before .before .before .before .before .before .before .before .before .rule .kept .1 .1 .1 .1 .1 .1 .1 .0 ∙ c .before .before .before .before .before .before .before .before .before .before .before .before .before .before .before .before .before .before .before .before .before .before .before .before .loop .inv .1, c .before .before .before .before .before .before .before .before .before .before .before .before .before .before .rule .kept .1 .1 .1 .1 .1 .1 .1 .1 .0 ∙ c .before .before .before .before .before .before .before .before .before .before .before .before .before .before .before .before .before .before .before .before .before .before .before .before .loop .inv .2, c .before .before .timers-of .kept .1 .1 .1 .1 .1 .0 ∙ c .before .before .before .before .before .before .before .before .before .before .before .before .before .before .rule .kept .1 .1 .1 .1 .1 .1 .1 .1 .1 .0 ∙ c .before .before .before .before .before .before .before .before .before .before .before .before .before .before .before .before .before .before .before .before .before .before .before .before .loop .inv .3)
 
 pub rules-in-spec : {M : Type 1} → statement M
 rules-in-spec =
