@@ -51,7 +51,7 @@ analyses-long text starts ends h =
 
 -- the two counts are the first bytes of the image
 two-counts : (q : Program) → q .inputs ≤ length (q .names) → length (q .names) ≤ nameLimit → sets (0 ∷ 0 ∷ []) 0 (image q) ≡ q .inputs ∷ (length (q .names) - q .inputs) ∷ []
-two-counts q h i = rw (image-bytes q (omega arith) (omega arith)) (sets-past (q .inputs ∷ (length (q .names) - q .inputs) ∷ []) 2 (header (q .names) ++ bytesR (q .rules)) (omega arith))
+two-counts q h i = rw (image-bytes q (omega arith) (omega arith)) (sets-past (q .inputs ∷ (length (q .names) - q .inputs) ∷ []) 2 (header (q .names) ++ bytesR (q .timers) (q .rules)) (omega arith))
 
 counted : (p : Parsed Program) (q : Program) (n t : ℕ) (last : List ℕ) → p ≡ accepted q n → t ≡ 0 + length (image q) → last ≡ q .inputs ∷ (length (q .names) - q .inputs) ∷ [] → q .inputs ≤ length (q .names)
     → {i v : ℕ} → i ≡ getD last 0 0 → v ≡ getD last 1 0 → A.accepted (record { end = t; inputs = i; names = i + v }) ≡ measured p

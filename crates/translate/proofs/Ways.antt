@@ -199,7 +199,7 @@ module _ (text before mid after e0 s1 e1 s2 e2 : List ℕ) (a t c b u m : ℕ) (
         let is : timersFrom 65 text (length (x .all)) (length (y .all)) (untimed (y .all)) b ≡ accepted (z .tree) (p .at) = sym same-parse ∙ z .is in
         let few = names-few text short (x .all) (y .all) a b (x .read) (y .read) in
         let more = subst (TimersReads text (length (x .all)) (y .all) (untimed (y .all)) b) is (timers-derive text (length (x .all)) (y .all) 65 (untimed (y .all)) [] (sym (append-nil (y .all))) b (few .2)) in
-        let behind : header (drop m (z .tree .names)) ≡ header (more .names) = rw (more .is-names, y .counted) (ap header (drop-append-seam (y .all) (more .names))) in
+        let behind : header (drop m (z .tree .names)) ≡ header (more .names) = ap (λ (l : List Name). header (drop m l)) (more .is-names) ∙ ap (λ (k : ℕ). header (drop k (y .all ++ more .names))) (y .counted) ∙ ap header (drop-append-seam (y .all) (more .names)) in
         let whole : header (z .tree .names) ≡ header (y .all) ++ header (drop m (z .tree .names)) = ap header (more .is-names) ∙ header-append (y .all) (more .names) ∙ ap (λ (l : List ℕ). header (y .all) ++ l) (sym behind) in
         let long : length (header (z .tree .names)) ≡ length (header (y .all)) + length (header (drop m (z .tree .names))) = ap length whole ∙ simp length-append in
         let kept = d .held (z .tree) (p .at) (z .is) in

@@ -144,7 +144,16 @@ fn descend_in(
     };
     let names = expressions::scope::first_names(all.start, all.number);
     let read = rules::rules(
-        text, starts, ends, names, watched, limits, all.end, all.at, out, all.to,
+        text,
+        starts,
+        ends,
+        names,
+        watched,
+        limits,
+        all.end,
+        all.at,
+        out,
+        all.to,
     );
     let Step::Done(behind) = read else {
         return read;
