@@ -22,15 +22,15 @@ ghost use Rattle.translate.specs.Results.{afterTranslation, TranslatedWi
 ghost use Rattle.translate.specs.Inner.Descent.{freeScope, tailFrom, ReadsHeading, Descends, Analyses};
 ghost use Rattle.translate.specs.Inner.Survey.{Surveys};
 
-// The image's length and the counts of inputs and of names; or a refusal's number and place.
+// The image's length and the counts of inputs, of names and of timers among them; or a refusal's number and place.
 pub enum Analysis {
-    Accepted(usize, usize, usize),
+    Accepted(usize, usize, usize, usize),
     Refused(u8, usize),
 }
 
-// The count of names, the place where the rules end and the count of the watches there; or a refusal's number and place.
+// The count of names, the place where the rules end, the count of the watches there and that of timers; or a refusal's number and place.
 pub enum Surveyed {
-    Watches(usize, usize, usize),
+    Watches(usize, usize, usize, usize),
     Refused(u8, usize),
 }
 
@@ -201,7 +201,7 @@ pub fn analyse(text: &[u8], starts: &mut [usize], ends: &mut [usize]) -> Analysi
     let inputs = count_of(counts[0]);
     let names = inputs + count_of(counts[1]);
     match read {
-        Step::Done(end) => Analysis::Accepted(end.to, inputs, names),
+        Step::Done(end) => Analysis::Accepted(end.to, inputs, names, end.end),
         Step::Refused(number, place) => Analysis::Refused(number, place),
     }
 }
@@ -219,7 +219,7 @@ pub fn survey(text: &[u8], starts: &mut [usize], ends: &mut [usize]) -> Surveyed
     let read = descend(text, starts, ends, &mut counts);
     let names = count_of(counts[0]) + count_of(counts[1]);
     match read {
-        Step::Done(end) => Surveyed::Watches(names, end.start, end.number),
+        Step::Done(end) => Surveyed::Watches(names, end.start, end.number, end.end),
         Step::Refused(number, place) => Surveyed::Refused(number, place),
     }
 }

@@ -75,18 +75,19 @@ tailFrom sc known at = andThen (watchesFrom watchLimit sc [] at) (λ ws n. andTh
 abbrev pub scopeOfWatches : List ℕ → Declarations → Scope
 scopeOfWatches text d = record { text = text; names = spellings (d .names); known = free (length (d .names)) }
 
--- the image's length, and the counts of inputs and of names
+-- the image's length, and the counts of inputs, of names and of timers among them
 pub record HeaderCounts : Type 0 where
   pub end : ℕ
   pub inputs : ℕ
   pub names : ℕ
+  pub timers : ℕ
 
 -- the image's length and the counts of a program
 abbrev pub measuresOf : Program → HeaderCounts
-measuresOf p = record { end = length (image p); inputs = p .inputs; names = length (p .names) }
+measuresOf p = record { end = length (image p); inputs = p .inputs; names = length (p .names); timers = length (p .timers) }
 
 abbrev pub analysed : Analysis → Answer HeaderCounts
-analysed (N.Accepted size inputs names) = A.accepted (record { end = size; inputs = inputs; names = names })
+analysed (N.Accepted size inputs names timers) = A.accepted (record { end = size; inputs = inputs; names = names; timers = timers })
 analysed (N.Refused k p) = A.refused k p
 
 abbrev pub measured : Parsed Program → Answer HeaderCounts
