@@ -1,5 +1,5 @@
 -- From the analysis of the text and the tests to the service's definition. Assumes nothing.
-use mathlib.Core.Path.{_≡_, refl, sym, ap, subst, _∙_}
+use mathlib.Core.Path.{_≡_, refl, sym, ap, ap₂, subst, _∙_}
 use mathlib.Core.Bool.{Bool, true, false, _||_, cond}
 use mathlib.Core.List.{List, [], _∷_, _++_, map}
 use mathlib.Core.Option.{Option, none, some}
@@ -45,6 +45,9 @@ no-timer inputs (suc n) h = absurd (omega (arith, h))
 pub row-few : (inputs timers : ℕ) → inputs ≤ rowFor inputs timers
 row-few inputs zero = omega arith
 row-few inputs (suc n) = omega arith
+
+pub front-length : (row : List ℤ) (inputs timers : ℕ) → length row ≡ rowFor inputs timers → length (take inputs row) ≡ inputs
+front-length row inputs timers e = length-take-le inputs row (omega (arith, e, row-few inputs timers))
 
 after-zeros : (n : ℕ) (l : List ℕ) → hasTimer (replicate n 0 ++ l) ≡ hasTimer l
 after-zeros zero l = refl
@@ -106,7 +109,7 @@ module _ (text starts ends : List ℕ) (r : Analysis) (a : Analyses text (parse 
         end = x .1;
         parsed = x .2;
         counted = x .3;
-        sized = rw (x .3, x .4) (sym (row-length q (parse-translatable text q (x .1) (x .2) .well-formed)));
+        sized = ap₂ rowFor (x .3) (x .4) ∙ sym (row-length q (parse-translatable text q (x .1) (x .2) .well-formed));
         few = omega (arith, x .3);
         spelled = ap (tableNames text starts ends) (x .3) ∙ (names-take text starts ends (q .inputs) (length (q .names)) h ∙ ap (take (q .inputs)) (a .named q (x .1) (x .2) .spelled));
       }
@@ -181,10 +184,10 @@ module _ (text : List ℕ) (table : List ℤ) (utc : ℤ) (row : List ℤ) where
         pub all-filled : (front : List ℤ) → length row ≡ rowFor inputs timers → front ≡ rowFilled (tableNames text starts ends (length (take inputs row))) (entriesOf table) utc (take inputs row) → afterFill F.Done (front ++ drop inputs row) ≡ fillOf text table utc row
         unfolding fillOf programOf
         all-filled front e w =
-            let k : length (take inputs row) ≡ inputs = length-take-le inputs row (omega (arith, e, row-few inputs timers)) in
+            let k : length (take inputs row) ≡ inputs = front-length row inputs timers e in
             let long : length (inputsOf (d .program)) ≤ length (take inputs row) = omega (arith, k, d .counted, ap length (sym (d .spelled)), names-few text starts ends inputs) in
             let whole : front ++ drop inputs row ≡ rowFilled (inputsOf (d .program)) (entriesOf table) utc row =
-                ap (λ (l : List ℤ). l ++ drop inputs row) (w ∙ ap (λ (l : List (List ℕ)). rowFilled l (entriesOf table) utc (take inputs row)) (ap (tableNames text starts ends) k ∙ d .spelled))
-                ∙ sym (front-filled (inputsOf (d .program)) (entriesOf table) utc (take inputs row) (drop inputs row) long)
-                ∙ ap (rowFilled (inputsOf (d .program)) (entriesOf table) utc) (take-append-drop inputs row) in
+            ap (λ (l : List ℤ). l ++ drop inputs row) (w ∙ ap (λ (l : List (List ℕ)). rowFilled l (entriesOf table) utc (take inputs row)) (ap (tableNames text starts ends) k ∙ d .spelled))
+            ∙ sym (front-filled (inputsOf (d .program)) (entriesOf table) utc (take inputs row) (drop inputs row) long)
+            ∙ ap (rowFilled (inputsOf (d .program)) (entriesOf table) utc) (take-append-drop inputs row) in
             rw (d .parsed, ok, now, eq-eqb (length row) (rowLength (shapeOf (d .program))) (e ∙ d .sized), whole)
