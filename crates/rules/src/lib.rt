@@ -19,7 +19,7 @@ ghost use Rattle.expressions.specs.Inner.Steps.{Room, lookedAhead};
 ghost use Rattle.phrases.specs.Inner.Steps.{numberTold, Writes};
 ghost use Rattle.rules.specs.Inner.Spans.{codeOfRule, SpanRoom, endOf};
 ghost use Rattle.rules.specs.Inner.Behind.{codeOfRules, ruledTold, ruledBehind};
-ghost use Rattle.rules.specs.Inner.Timers.{timersIn, TimersFrom, TableRoom};
+ghost use Rattle.rules.specs.Inner.Timers.{timersIn, TimersFrom, TimerTables};
 
 pub mod timers;
 
@@ -325,7 +325,7 @@ fn rules_in(
     requires { ⌜ Declared (now starts) (now ends) names ⌝ }
     requires { ⌜ Room (now text) at to ⌝ }
     requires { ⌜ SpanRoom (now from) (now upto) ⌝ }
-    requires { ⌜ TableRoom (now watched) (now limits) (names .count) ⌝ }
+    requires { ⌜ TimerTables (now watched) (now limits) (names .count) ⌝ }
     requires { ⌜ Named (scopeOf (now text) (now starts) (now ends) names .names) ⌝ }
     ensures { λ r. ⌜ Writes (codeOfRules (timersIn (now (watched .entry)) (now (limits .entry)) first (names .count))) (ruledTold (names .count)) ruledBehind (lookedAhead (now (text .entry)) (rulesFrom itemBound (timersIn (now (watched .entry)) (now (limits .entry)) first (names .count)) (scopeOf (now (text .entry)) (now (starts .entry)) (now (ends .entry)) names) [] at)) to (now (out .entry)) (now (out .exit)) r ⌝ }
 {
@@ -391,7 +391,7 @@ pub fn rules(
 ) -> Step
     requires { ⌜ Declared (now starts) (now ends) names ⌝ }
     requires { ⌜ Room (now text) at to ⌝ }
-    requires { ⌜ TableRoom (now watched) (now limits) (names .count) ⌝ }
+    requires { ⌜ TimerTables (now watched) (now limits) (names .count) ⌝ }
     requires { ⌜ Named (scopeOf (now text) (now starts) (now ends) names .names) ⌝ }
     ensures { λ r. ⌜ Writes (codeOfRules (timersIn (now (watched .entry)) (now (limits .entry)) first (names .count))) (ruledTold (names .count)) ruledBehind (lookedAhead (now (text .entry)) (rulesFrom itemBound (timersIn (now (watched .entry)) (now (limits .entry)) first (names .count)) (scopeOf (now (text .entry)) (now (starts .entry)) (now (ends .entry)) names) [] at)) to (now (out .entry)) (now (out .exit)) r ⌝ }
 {

@@ -2,7 +2,7 @@
 use expressions::scope::Names;
 ghost use Prim.Native.Nat.{_+_, _*_, _≤_, _<_, _^_};
 ghost use Rattle.limits.specs.Limits.{nameLimit};
-ghost use Rattle.rules.specs.Inner.Timers.{tableTimers, timersIn, TableRoom, TimersPut};
+ghost use Rattle.rules.specs.Inner.Timers.{tableTimers, timersIn, TimerTables, TimersPut};
 
 // The names known and the end of the code, behind timers.
 pub struct Behind {
@@ -20,7 +20,7 @@ fn timer_of(
     out: &mut [u8],
     to: usize,
 ) -> Behind
-    requires { ⌜ TableRoom (now watched) (now limits) (names .count) ⌝ }
+    requires { ⌜ TimerTables (now watched) (now limits) (names .count) ⌝ }
     requires { ⌜ (id < names .count) × (names .count ≤ nameLimit) × (v < nameLimit) × (to < 2 ^ 30) ⌝ }
     ensures { λ r. ⌜ TimersPut (tableTimers (now (watched .entry)) (now (limits .entry)) id 1) v (names .count) (names .known) to (now (out .entry)) (now (out .exit)) r ⌝ }
 {
@@ -48,7 +48,7 @@ pub fn timers_of(
     out: &mut [u8],
     to: usize,
 ) -> Behind
-    requires { ⌜ TableRoom (now watched) (now limits) (names .count) ⌝ }
+    requires { ⌜ TimerTables (now watched) (now limits) (names .count) ⌝ }
     requires { ⌜ (names .count ≤ nameLimit) × (v < nameLimit) × (to + 8 * nameLimit < 2 ^ 30) ⌝ }
     ensures { λ r. ⌜ TimersPut (timersIn (now (watched .entry)) (now (limits .entry)) first (names .count)) v (names .count) (names .known) to (now (out .entry)) (now (out .exit)) r ⌝ }
 {

@@ -24,7 +24,7 @@ abbrev pub TimersFrom : ℕ → ℕ → List Timer → Type 0
 TimersFrom first count ts = (v : ℕ) → v < count → isTimer ts v ≡ leb first v
 
 -- two tables with room for all names
-pub record TableRoom (watched limits : List ℕ) (count : ℕ) : Type 0 where
+pub record TimerTables (watched limits : List ℕ) (count : ℕ) : Type 0 where
   pub in-watched : count ≤ length watched
   pub in-limits : count ≤ length limits
 
