@@ -43,7 +43,7 @@ fn print_before(
 ) -> usize
     requires { ⌜ Table (now starts) (now ends) count ⌝ }
     requires { ⌜ (inputs ≤ count) × (count ≤ length (now values)) ⌝ }
-    ensures { λ r. ⌜ ((p : Program) → Translatable p → now (code .entry) ≡ mirrored (codeRules (p .rules)) []
+    ensures { λ r. ⌜ ((p : Program) → Translatable p → p .timers ≡ [] → now (code .entry) ≡ mirrored (codeRules [] (p .rules)) []
         → Fronts (wholePrinted inputs (tableNames (now (text .entry)) (now (starts .entry)) (now (ends .entry)) count) (now (values .entry)) (p .rules))
         (now (out .entry)) (now (out .exit)) to r) ⌝ }
 {
@@ -139,7 +139,7 @@ fn write_image(
     let Headed::Header(inputs, count, place) = headed else {
         return Written::Refused(limits::BROKEN_IMAGE, 0);
     };
-    if !reserved::has_st(text, starts, ends, count) {
+    if !reserved::has_st(text, starts, ends, &image[place..], count) {
         return Written::Refused(limits::NOT_IN_ST, reserved::reserved_place(text));
     }
     write_code(

@@ -2,7 +2,7 @@
 use Prim.Native.Nat.{ℕ, _≤_}
 use mathlib.Core.Path.{_≡_}
 use mathlib.Core.Bool.{true}
-use mathlib.Core.List.{List, _++_, map}
+use mathlib.Core.List.{List, [], _++_, map}
 use lib.IntN.{ℤ}
 use lib.ListN.{length}
 use Rattle.limits.specs.Answer.{accepted}
@@ -43,4 +43,4 @@ pub record Prepared (form : List Instruction → List ℕ) (text starts ends : L
   pub table : Table starts ends count
   pub among : inputs ≤ count
   pub long : count ≤ length values
-  pub coded : code ≡ form (codeRules (program .rules))
+  pub coded : code ≡ form (codeRules [] (program .rules))
