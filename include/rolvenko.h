@@ -114,7 +114,7 @@ uint64_t rolvenko_start(const uint8_t *image, size_t image_len, int32_t *state, 
  */
 uint64_t rolvenko_scan(const uint8_t *image, size_t image_len, int32_t *state, size_t state_len, const int32_t *row, size_t row_len);
 
-/* A whole list of rows in one call: translates `text` into `image`, starts `state` and scans the rows in turn; the image is checked once.
+/* A whole list of rows in one call: translates `text` into `image`, starts `state` and scans the rows in turn; the image is not checked at each row.
  * Row k is the next lengths[k] numbers of `cells`, as many of them as there are. A refused row leaves the state, and the next one goes on
  * from there. Written are, each as far as there is room and with what lies behind as it was:
  *   image     as rolvenko_translate; count is the image's length
