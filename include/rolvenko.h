@@ -8,7 +8,7 @@
  *
  * The answer. Each function answers one 64-bit number, number * 2^56 + place * 2^24 + count:
  *
- *     number   0 for a success, else the refusal, 1 to 22 or 24 to 30; of the calls of a scan in instalments also 254 and 255
+ *     number   0 for a success, else the refusal, 1 to 30; of the calls of a scan in instalments also 254 and 255
  *     place    the byte place of a refusal in the text or image; of 27 the scans before the refused one; 0 for a success and for the
  *              refusals 9, 12 to 20, 22, 24 to 26, 28 and 29
  *     count    of a success of rolvenko_translate and rolvenko_replay the image's length, of rolvenko_structured_text that of the
@@ -54,6 +54,7 @@ static inline uint32_t rolvenko_count(uint64_t answer) { return (uint32_t)(answe
  * Names are the same in any letter case; a word of the grammar in another case is fault 2.
  *   9         the text is longer than 32,768 bytes; place 0
  *   1 to 8    the first fault of the text; place is that of its token, or text_len for the end of the text
+ *   23        a timer of a name that is no variable of range 0..1; place is that of the name
  *   30        a 17th watch; place is that of its word
  *   10        the text has no fault, but its image is longer than image_len; place is text_len
  */
@@ -62,11 +63,11 @@ uint64_t rolvenko_translate(const uint8_t *text, size_t text_len, uint8_t *image
 /* Watches the promises of a text over a trace. Behind its rules a text has up to 16 watches, which its image does not hold:
  * `watch: G([c]);` must hold at each place of the trace, and `watch: G([c] -> X([c]));` over each two neighbouring places: where the first
  * condition holds at the earlier one, the second holds at the later one. They may use every current and previous value; at the start each
- * previous value is the current one. `trace` has the states in turn, the start first, one number for each name; they may be any numbers.
+ * previous value is the current one. `trace` has the states in turn, the start first, elapsed times among their numbers; they may be any numbers.
  * `report` has ROLVENKO_WATCHES numbers; count is that of the watches, and as many numbers are written, in text order: the place of the trace,
  * 0 the start, where a watch first fails, for a pair the later place, or -1 if it never does. The numbers behind them stay. Both conditions of
  * a pair are worked out, and a watch fails where one meets 14 (as rolvenko_scan).
- *   9, 1 to 8, 30 of the text, as rolvenko_translate
+ *   9, 1 to 8, 23, 30 of the text, as rolvenko_translate
  *   12        the trace has no start or its last state is cut (without names, trace_len 0 is the start alone), or report_len is not
  *             ROLVENKO_WATCHES
  */
@@ -76,8 +77,9 @@ uint64_t rolvenko_watch(const uint8_t *text, size_t text_len, const int32_t *tra
  * The bytes behind it stay. Sections VAR_INPUT and VAR (each left out if empty), one IF block or assignment a rule, then `_name := name;` for
  * each name in declared order; every name is a DINT and printed as declared, lines end with LF. Started with a state in names and previous
  * values alike, then given the inputs of a row that rolvenko_scan accepts, the statements leave the values of that scan.
- *   9, 1 to 8, 30 of the text, as rolvenko_translate
- *   21        a declared name is IF, THEN, ELSIF, DINT, AND, OR or NOT, in any letter case; place is that of the first in its declaration
+ *   9, 1 to 8, 23, 30 of the text, as rolvenko_translate
+ *   21        a declared name is IF, THEN, ELSIF, DINT, AND, OR or NOT, in any letter case, or there is a timer; place is that of the first such name in its
+ *             declaration or, if that comes first, of the first word `timer`
  *   10        the Structured Text is longer than out_len; place is text_len
  */
 uint64_t rolvenko_structured_text(const uint8_t *text, size_t text_len, uint8_t *out, size_t out_len);
@@ -123,7 +125,7 @@ uint64_t rolvenko_scan(const uint8_t *image, size_t image_len, int32_t *state, s
  *   steps     for each row its steps, as rolvenko_scan counts them
  *   trace     the states one behind the other: the start, then that after each accepted row
  * Refusals:
- *   9, 1 to 8, 30, 10   as rolvenko_translate
+ *   9, 1 to 8, 23, 30, 10   as rolvenko_translate
  *   12        state_len is not the length of a state; the image stands in its buffer then, and all other memory is as it was
  */
 uint64_t rolvenko_replay(const uint8_t *text, size_t text_len, uint8_t *image, size_t image_len, int32_t *state, size_t state_len,
@@ -131,17 +133,16 @@ uint64_t rolvenko_replay(const uint8_t *text, size_t text_len, uint8_t *image, s
                          size_t *steps, size_t steps_len, int32_t *trace, size_t trace_len);
 
 /* Fills the inputs named `day`, `minute` and `again` (in any letter case) of `row`, those of them that the text declares, with the local
- * time of a farm at the UTC minute `utc`, counted from 1 January 1970. The other numbers of the row stay. `row` has one number for each input, in declared
- * order; a variable of such a name is not filled, and no declared range is looked at. 0 as a whole, or a refusal.
+ * time of a farm at the UTC minute `utc`, counted from 1 January 1970. The other numbers of the row stay, milliseconds too; a variable of such a name is not filled, and no declared range is looked at. 0 as a whole, or a refusal.
  * `table` has two numbers for each of 1 to 32 entries, a UTC minute and the offset in minutes that holds from there on; table_len counts
  * the numbers. The first offset also holds for all earlier minutes.
  * 1440 * day + minute is utc plus the offset at utc, minute is 0 to 1439, and again is 1 if some earlier UTC minute (one below 0 too) has
  * the same day and minute, else 0. Refusals, in this order:
- *   9, 1 to 8, 30 of the text, as rolvenko_translate
+ *   9, 1 to 8, 23, 30 of the text, as rolvenko_translate
  *   19        the table: table_len is odd, 0 or over 64, a minute is outside 0 to 2,147,483,647 or not above the one before it, or an
  *             offset is outside -720 to 840
  *   20        utc is outside 0 to 2,147,483,647 (also where none of the three inputs is declared)
- *   12        row_len is not the count of inputs
+ *   12        row_len is not the length of a row: the inputs and, with a timer, the milliseconds
  */
 uint64_t rolvenko_clock(const uint8_t *text, size_t text_len, const int64_t *table, size_t table_len, int64_t utc, int32_t *row, size_t row_len);
 

@@ -61,6 +61,14 @@ pub fn inputs() -> Vec<Input> {
     list
 }
 
+/// The papers' lock with its timer, and those of its rows that are accepted.
+pub fn timed() -> Input {
+    let mut input = case("lock_timer");
+    let mut state = input.starts.clone();
+    input.rows.retain(|row| rolvenko_model::scan(&input.image, &mut state, row).is_ok());
+    input
+}
+
 /// Rows of a generated text.
 fn rows_of(seed: u64) -> Vec<Vec<i32>> {
     let mut rng = Rng::new(seed);

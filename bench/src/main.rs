@@ -7,6 +7,7 @@
 //!     bench --shares                                the table of rounds of eight rule sets alone
 //!     bench --structured-text [INPUT CALLS]         the table of Structured Text alone, or so many calls of one
 //!     bench --watches                               the table of watches over long traces alone
+//!     bench --timers                                the table of a text with a timer alone
 //!     bench --closed [NAME CALLS]                   the table of closed profiles alone, or so many calls of one
 //!     bench --instalments [INPUT SIZE CALLS]        the table of instalments alone, or so many scans in instalments of this size
 
@@ -19,6 +20,7 @@ mod refused;
 mod rounds;
 mod rows;
 mod structured_text;
+mod timers;
 mod timing;
 mod watch;
 
@@ -49,6 +51,7 @@ fn main() {
         ["--structured-text"] => structured_text::table(&inputs(), 30),
         ["--structured-text", input, calls] => structured_text::run(&inputs(), input, calls.parse().expect("a number of calls")),
         ["--watches"] => watch::table(30),
+        ["--timers"] => timers::table(30),
         ["--closed"] => closed::table(30),
         ["--closed", name, calls] => closed::run(name, calls.parse().expect("a number of calls")),
         ["--instalments"] => instalments::table(&inputs(), 30),
@@ -59,7 +62,7 @@ fn main() {
         ["--once", who, service, input, calls] => once::run(who, service, input, calls.parse().expect("a number of calls")),
         _ => {
             eprintln!(
-                "usage: bench [--rounds N] | --shares | --structured-text [INPUT CALLS] | --watches | --once WHO SERVICE INPUT CALLS | --closed [NAME CALLS] | \
+                "usage: bench [--rounds N] | --shares | --structured-text [INPUT CALLS] | --watches | --timers | --once WHO SERVICE INPUT CALLS | --closed [NAME CALLS] | \
                  --instalments [INPUT SIZE CALLS]"
             );
             std::process::exit(2);
@@ -92,6 +95,7 @@ fn tables(rounds: u32) {
     closed::table(rounds);
     rows::table(&inputs, rounds);
     watch::table(rounds);
+    timers::table(rounds);
 }
 
 impl<'i> Line<'i> {

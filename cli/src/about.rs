@@ -3,7 +3,7 @@
 use crate::advice::advice;
 use crate::ask;
 use crate::source::{is_image, printed};
-use crate::text::{declared, token_end, tokens};
+use crate::text::{declared, token_end, tokens, Sort};
 use rolvenko::Refusal;
 
 /// Of the token, of another place that it has to do with, and below the source line.
@@ -26,10 +26,12 @@ pub fn about(text: &[u8], refusal: Refusal) -> Told {
         },
         3 => number(text, place),
         4 => name(text, place, spelled, &mut told),
-        5 => "its rule does not stand before this one".to_owned(),
+        5 => too_early(text, place, spelled).to_owned(),
         6 => rule(text, place, spelled),
         8 => limit(spelled),
+        21 if spelled == b"timer" => "a timer has no Structured Text here".to_owned(),
         21 => format!("{} is a word of Structured Text", String::from_utf8_lossy(spelled).to_ascii_uppercase()),
+        23 => not_watched(text, place, spelled).to_owned(),
         30 => "the 17th watch".to_owned(),
         _ => String::new(),
     };
@@ -66,7 +68,7 @@ fn character(text: &[u8], place: usize) -> Option<String> {
 }
 
 /// Words of the grammar, which are no names in any letter case.
-const WORDS: [&str; 8] = ["input", "var", "init", "mod", "GX", "watch", "G", "X"];
+const WORDS: [&str; 11] = ["input", "var", "init", "mod", "GX", "timer", "of", "limit", "watch", "G", "X"];
 
 /// Signs that begin a comment elsewhere.
 const COMMENTS: [&[u8]; 4] = [b"//", b"/*", b"--", b"(*"];
@@ -84,9 +86,10 @@ fn number(text: &[u8], place: usize) -> String {
     let wide = digits.parse::<u64>().map_or(true, |n| n > least);
     let after = if back(1) == b"-" { back(2) } else { back(1) };
     match after {
-        _ if wide => "outside 32 bits".to_owned(),
+        _ if wide && after != b"limit" => "outside 32 bits".to_owned(),
         b".." => "below the low of its range".to_owned(),
         b"init" => "outside the range".to_owned(),
+        b"limit" => "a limit is 1 to 2,147,483,647 milliseconds".to_owned(),
         _ => "out of its limit".to_owned(),
     }
 }
@@ -107,8 +110,35 @@ fn rule(text: &[u8], place: usize, spelled: &[u8]) -> String {
         let missing = ask::without_rule(text);
         return if missing.is_empty() { "a variable has no rule".to_owned() } else { format!("no rule for {}", missing.join(", ")) };
     }
-    let input = declared(&text[..place]).iter().any(|d| d.input && d.name.as_bytes().eq_ignore_ascii_case(spelled));
-    if input { "an input" } else { "has a rule already" }.to_owned()
+    match sort_of(text, place, spelled) {
+        Some(Sort::Input) => "an input",
+        Some(Sort::Timer) => "a timer, which is worked behind the rule of its variable",
+        _ => "has a rule already",
+    }
+    .to_owned()
+}
+
+/// What a name is declared as before a place.
+fn sort_of(text: &[u8], place: usize, spelled: &[u8]) -> Option<Sort> {
+    let names = declared(&text[..place]);
+    names.iter().find(|d| d.name.as_bytes().eq_ignore_ascii_case(spelled)).map(|d| d.sort)
+}
+
+/// 5: which rule is missing before a current value.
+fn too_early(text: &[u8], place: usize, spelled: &[u8]) -> &'static str {
+    match sort_of(text, place, spelled) {
+        Some(Sort::Timer) => "a timer, and the rule of its variable does not stand before this one",
+        _ => "its rule does not stand before this one",
+    }
+}
+
+/// 23: why a timer cannot be one of this name.
+fn not_watched(text: &[u8], place: usize, spelled: &[u8]) -> &'static str {
+    match sort_of(text, place, spelled) {
+        Some(Sort::Input) => "an input",
+        Some(Sort::Timer) => "a timer",
+        _ => "its range is not 0..1",
+    }
 }
 
 /// 8: which count is over.

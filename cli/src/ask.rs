@@ -1,12 +1,12 @@
 //! What would have been taken instead of a refused token: asked of the archive, by trying each candidate behind what stands before the place.
 //! A refusal speaks of the text up to and including its token (law `first-found`), so what follows does not count.
 
-use crate::text::{declared, tokens};
+use crate::text::{declared, tokens, Sort};
 use rolvenko::{translate, Refusal, IMAGE_ROOM};
 use std::collections::BTreeSet;
 
-const SIGNS: [&str; 29] = [
-    "input", "var", "init", "mod", "GX", "watch", "G", "X", ";", ":", "(", ")", "[", "]", "~", "&", "|", "=", "<>", "<", "<=", ">", ">=", "+", "-", "*", "/",
+const SIGNS: [&str; 32] = [
+    "input", "var", "timer", "of", "limit", "init", "mod", "GX", "watch", "G", "X", ";", ":", "(", ")", "[", "]", "~", "&", "|", "=", "<>", "<", "<=", ">", ">=", "+", "-", "*", "/",
     "..", "->",
 ];
 /// candidates from the text that are tried at most
@@ -72,7 +72,7 @@ pub fn wanted(text: &[u8], refusal: Refusal) -> Vec<String> {
 /// The variables without a rule, of a text that is refused 6 at its end: a rule for one of them is not refused at its name.
 pub fn without_rule(text: &[u8]) -> Vec<String> {
     let mut names = declared(text);
-    names.retain(|d| !d.input && takes(text, text.len(), d.name.as_bytes()));
+    names.retain(|d| d.sort == Sort::Variable && takes(text, text.len(), d.name.as_bytes()));
     names.into_iter().map(|d| d.name).collect()
 }
 

@@ -72,7 +72,7 @@ fn sizes(farm: &Farm) -> String {
     };
     let timers: Vec<&str> = farm.read.code.iter().filter(|i| i.code == TIMER).filter_map(|i| i.operand).map(|id| &*farm.names[id as usize]).collect();
     if !timers.is_empty() {
-        return format!("{} of timers: {}", count(timers.len(), "elapsed time"), timers.join(", "));
+        return format!("with {}: {}", count(timers.len(), "timer"), timers.join(", "));
     }
     let all: Vec<String> = (0..farm.read.names()).map(size).collect();
     format!("over {COMBINATIONS} states and rows to scan: {}", all.join(", "))

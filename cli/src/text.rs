@@ -42,11 +42,18 @@ pub fn tokens(text: &[u8]) -> Vec<Token> {
     found
 }
 
+#[derive(Clone, Copy, Debug, PartialEq, Eq)]
+pub enum Sort {
+    Input,
+    Variable,
+    Timer,
+}
+
 #[derive(Clone, Debug, PartialEq, Eq)]
 pub struct Declared {
     pub name: String,
     pub at: usize,
-    pub input: bool,
+    pub sort: Sort,
 }
 
 /// The names that an accepted text declares, in order; of another text, those before its fault.
@@ -54,13 +61,14 @@ pub fn declared(text: &[u8]) -> Vec<Declared> {
     let all = tokens(text);
     all.windows(2)
         .filter_map(|pair| {
-            let input = match pair[0].of(text) {
-                b"input" => true,
-                b"var" => false,
+            let sort = match pair[0].of(text) {
+                b"input" => Sort::Input,
+                b"var" => Sort::Variable,
+                b"timer" => Sort::Timer,
                 _ => return None,
             };
             let name = String::from_utf8_lossy(pair[1].of(text)).into_owned();
-            Some(Declared { name, at: pair[1].at, input })
+            Some(Declared { name, at: pair[1].at, sort })
         })
         .collect()
 }

@@ -6,8 +6,8 @@ use common::{fed, out, status, told};
 use std::fs;
 
 const RUNS: usize = 400;
-const PIECES: [&[u8]; 18] =
-    [b"watch: G([", b"X([", b"input ", b"var ", b"GX", b";", b"(", b"]", b"_", b"..", b"->", b"\n#\n", b"\r\n", b"99999999999", b"\xff", b"\0", b"\x1b[2J", b"\xef\xbb\xbf"];
+const PIECES: [&[u8]; 20] =
+    [b"timer t of v limit 5;", b" of ", b"watch: G([", b"X([", b"input ", b"var ", b"GX", b";", b"(", b"]", b"_", b"..", b"->", b"\n#\n", b"\r\n", b"99999999999", b"\xff", b"\0", b"\x1b[2J", b"\xef\xbb\xbf"];
 
 /// Marsaglia's xorshift.
 struct Numbers(u64);

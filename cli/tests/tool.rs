@@ -126,6 +126,18 @@ fn refused_rows_name_values_and_cases() {
     assert_eq!(out(&traced), "scan a v result\n0 0 0 0\n1 0 0 15\n2 0 2 0\n3 0 2 13\n4 0 2 12\n5 0 2 12\n");
 }
 
+/// Timers stand between the rules; the cases of a rule behind one are found all the same.
+#[test]
+fn refused_rows_behind_timers_name_cases() {
+    let timers = TWO_CASES.replace("var v 0..3;\n", "var w 0..1;\nvar v 0..3;\nvar y 0..1;\ntimer t of w limit 5;\ntimer u of w limit 7;\ntimer s of y limit 1;\nw: GX(w = (a));\n") + "y: GX(y = (t));\n";
+    let o = fed(&["trace", "-"], format!("{timers}#\n1 5\n0 5\n1 5\n1 -5\n").as_bytes());
+    assert_eq!(status(&o), 1);
+    assert_eq!(out(&o), "scan a w v y t u s result\n0 0 0 0 0 0 0 0 0\n1 0 0 0 0 0 0 0 15\n2 0 0 2 0 0 0 0 0\n3 1 1 1 0 0 0 0 0\n4 1 1 1 0 0 0 0 13\n");
+    let said = told(&o);
+    assert!(said.contains("two cases of v hold: case 1 (line 9) [a = 1] & v = (1) and case 2 (line 9) [_v = 0] & v = (2); a is 1, _v is 0"), "{said}");
+    assert!(said.contains("refused 13: the milliseconds are -5, below 0"), "{said}");
+}
+
 #[test]
 fn values_out_of_range_name_the_variable() {
     let path = file("over.txt", b"input i 0..9; var v 0..5; v: GX(v = (_v + i));\n#\n3\n3\n");

@@ -63,6 +63,23 @@ fn a_waveform_goes_through_gtkwave_and_back() {
     assert_eq!(out(&tool(&["trace", word(&rules), "--vcd", "-"])), written);
 }
 
+/// With a timer, time goes by the milliseconds of the accepted rows; a refused row stands where its own say, and time never goes back.
+#[test]
+fn time_goes_by_milliseconds() {
+    let rules = file("timer.txt", b"input i 0..1;\nvar w 0..1;\ntimer t of w limit 50;\nw: GX(w = (i));\n#\n1 10\n1 20\n2 25\n1 30\n1 2147483647\n1\n2 5\n0 3\n1 -1\n1 0\n");
+    let o = tool(&["trace", word(&rules), "--vcd", "-"]);
+    assert_eq!(status(&o), 1, "{}", told(&o));
+    let written = out(&o);
+    assert!(written.starts_with("$timescale 1 ms $end\n$comment a unit of time is a millisecond $end\n"), "{written}");
+    let own = values(&written);
+    let end = 60 + 2_147_483_647;
+    assert_eq!(own["w"], BTreeMap::from([(0, 0), (10, 1), (end + 5, 1)]));
+    assert_eq!(own["t"], BTreeMap::from([(0, 0), (60, 1), (end + 5, 0)]));
+    assert_eq!(own["_result"], BTreeMap::from([(0, 0), (55, 13), (60, 0), (end, 12), (end + 5, 0)]));
+    assert!(!own.contains_key("elapsed"));
+    assert_eq!(values(&converted("timer", &written)), own);
+}
+
 /// 64 names, with ranges of every width from 1 to 32 bits, above and below 0.
 #[test]
 fn wires_of_every_width_go_through_gtkwave() {

@@ -29,7 +29,7 @@ impl Features {
         pair_images: true,
         pairs: true,
         timer_images: true,
-        timers: false,
+        timers: true,
         watches: true,
     };
 

@@ -68,6 +68,6 @@ fn every_refusal_of_a_trace() {
         }
         met.extend(shown);
     }
-    let wanted: BTreeSet<u8> = (0..=9).chain(12..=17).chain([22, 30]).collect();
+    let wanted: BTreeSet<u8> = (0..=9).chain(12..=17).chain([22, 23, 30]).collect();
     assert_eq!(met, wanted);
 }

@@ -240,29 +240,20 @@ static void measure_divided(void) {
     measure(ROUND);
 }
 
-/* The longest state: 63 timers of one variable, which is always 1. */
+/* The longest state: 63 timers of one variable, which is always 1. Structured Text has none. */
 static void measure_timed(void) {
-    static const uint8_t rule[4] = {1, 2, 21, 0};
     names = 64;
     size = ROLVENKO_STATE;
     numbers = 1;
     memset(state, 0, sizeof state);
-    memset(image, 0, 2 + 3 * names);
-    image[1] = 64;
-    for (size_t id = 0; id < names; id++)
-        image[3 + 3 * id] = 2;
-    image_len = 2 + 3 * names;
-    memcpy(image + image_len, rule, sizeof rule);
-    image_len += sizeof rule;
-    for (uint8_t id = 1; id < 64; id++) {
-        const uint8_t timer[4] = {23, id, 0, 100};
-        memcpy(image + image_len, timer, sizeof timer);
-        image_len += sizeof timer;
-    }
-    measure(CHECK);
-    measure(START);
-    measure(SCAN);
-    measure(CHARGE);
+    text_len = (size_t)sprintf((char *)text, "var w 0..1;");
+    for (int id = 1; id < 64; id++)
+        text_len += (size_t)sprintf((char *)text + text_len, "timer t%d of w limit 100;", id);
+    text_len += (size_t)sprintf((char *)text + text_len, "w:GX(w=(1));watch:G([t63=0]);");
+    measure(TRANSLATE);
+    image_len = rolvenko_count(answer);
+    for (int service = WATCH; service <= CHARGE; service++)
+        measure(service);
     measure_divided();
 }
 

@@ -78,7 +78,7 @@ pub fn meaning(number: u8) -> &'static str {
         3 => "a number out of its limit, low over high, or a start outside them",
         4 => "an unknown name, or one declared twice",
         5 => "a current value used before its rule",
-        6 => "a rule for an input, a second rule, or a variable without rule",
+        6 => "a rule for an input or a timer, a second rule, or a variable without rule",
         7 => "the no-change formula has another list of conditions",
         8 => "over 16 brackets, 32 cases, 64 names or 16 bytes of a name",
         9 => "the text is over 32,768 bytes, or the image over 65,536",
@@ -93,8 +93,9 @@ pub fn meaning(number: u8) -> &'static str {
         18 => "a value of the state is outside its range, or an elapsed time over its timer's limit",
         19 => "the farm table breaks its limits",
         20 => "the UTC minute is below 0 or over 2,147,483,647",
-        21 => "a declared name that is a word of Structured Text",
+        21 => "a declared name that is a word of Structured Text, or a timer",
         22 => "a rising pick at or below the previous value, or a falling one at or above it",
+        23 => "a timer of a name that is no variable of range 0..1",
         24 => "the state at the finish is not the one at the start",
         25 => "not 1 to 8 rule sets, or a share outside 1 to 65,536",
         26 => "a timer, or more than 65,536 states and rows to scan",
@@ -187,7 +188,7 @@ fn counted(answer: u64) -> Result<u32, Refusal> {
     }
 }
 
-/// Translates a rule text and writes its image to the first bytes of `image`; answers the image's length. A refusal (1 to 10, 30)
+/// Translates a rule text and writes its image to the first bytes of `image`; answers the image's length. A refusal (1 to 10, 23, 30)
 /// leaves `image` as it was; a buffer of 49,154 bytes is enough for every text.
 pub fn translate(text: &[u8], image: &mut [u8]) -> Result<usize, Refusal> {
     // The function reads `text_len` bytes at `text` and reads and writes `image_len` bytes at `image`.
@@ -197,7 +198,7 @@ pub fn translate(text: &[u8], image: &mut [u8]) -> Result<usize, Refusal> {
 
 /// Prints a rule text as Structured Text, the text language of IEC 61131-3, to the first bytes of `out`; answers its length. Started with
 /// a state in names and previous values alike, then given the inputs of a row that [`scan`] accepts, its statements leave the values of that
-/// scan. A refusal (1 to 10, 21, 30) leaves `out` as it was; a buffer of [`ST_ROOM`] bytes is enough for every text.
+/// scan. A refusal (1 to 10, 21, 23, 30) leaves `out` as it was; a buffer of [`ST_ROOM`] bytes is enough for every text.
 ///
 /// ```
 /// let text = b"input go 0..1; var run 0..1; run: GX(run = (1 - go));";
@@ -279,7 +280,7 @@ pub fn scan(image: &[u8], state: &mut [i32], row: &[i32]) -> Result<u32, ScanRef
 
 /// Fills a row with a farm's local time: the values of a text's inputs named `day`, `minute` and `again`; all others stay. `table` has
 /// 1 to 32 entries, the UTC minute (rising) and then the offset in minutes of each; `utc` counts minutes from 1 January 1970. A refusal
-/// (1 to 9, 30, 19, 20, 12) leaves `row` as it was.
+/// (1 to 9, 23, 30, 19, 20, 12) leaves `row` as it was. A row of a text with timers ends with its milliseconds, which stay too.
 ///
 /// In the hour after the clocks go back from two hours to one, each local minute comes again:
 ///

@@ -36,7 +36,7 @@ pub struct Records<'a> {
 
 /// A whole list of rows: translates a text into `image`, starts `state` and scans the rows in turn without a check of the image at each. Row k is the
 /// next `lengths[k]` numbers of `cells`, as many of them as there are. A refused row leaves the state, and the next one goes on from there.
-/// Answers the image's length; `state` ends as the state after the last row. A refusal of the text (1 to 10, 30) leaves all memory as it was, a
+/// Answers the image's length; `state` ends as the state after the last row. A refusal of the text (1 to 10, 23, 30) leaves all memory as it was, a
 /// state of the wrong length (12) all but the image.
 ///
 /// ```

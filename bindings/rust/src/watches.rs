@@ -19,8 +19,8 @@ mod archive {
 }
 
 /// Where the watches of a text, `watch: G([c]);` and `watch: G([c] -> X([c]));` behind its rules, first fail over a trace: one answer a watch, in text
-/// order, a place of the trace (0 the start, of a pair the later one) or none. `trace` has the states in turn, the start first, one number for
-/// each name. Refusals: 1 to 9, 30, and 12 for a trace without its start or with a cut state.
+/// order, a place of the trace (0 the start, of a pair the later one) or none. `trace` has the states in turn, the start first, elapsed
+/// times among their numbers. Refusals: 1 to 9, 23, 30, and 12 for a trace without its start or with a cut state.
 ///
 /// ```
 /// let text = b"input go 0..1; var run 0..9; run: GX(run = (_run + go)); watch: G([run >= _run]); watch: G([go = 1] -> X([run > _run]));";

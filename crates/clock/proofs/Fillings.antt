@@ -13,6 +13,8 @@ use Rattle.lexer.specs.Names.{idFrom, idOf}
 use Rattle.grammar.specs.Parsed.{expected, phrase, followed, rest, chain}
 use Rattle.grammar.specs.Expressions.{withId, currentAt, previousValueAt as previousIn, constantAt, primary, negative, factor, productOf, sumOf, term, expression, bracket, wholeExpression}
 use Rattle.grammar.specs.Declarations.{inRange, signedDigits, boundAt, newName, startAt, declaration, declarationsFrom, declarations}
+use Rattle.grammar.specs.Timers.{isWatchable, watchedAt, limitAt, timerDeclaration, timersFrom}
+use Rattle.semantics.specs.Program.{isBinary}
 use Rattle.grammar.specs.Rules.{functionAt, formulaAt, formulas, ruleAt, rulesFrom}
 use Rattle.grammar.specs.Watches.{watchesFrom}
 use Rattle.grammar.specs.Parse.{endAt, program, parse, programOf}
@@ -39,6 +41,9 @@ refuses text table utc row number place =
 abbrev three : String
 three = "input day 0..40000; input minute 0..1439; input again 0..1; var v 0..1; v: GX(v = (again));"
 
+abbrev timed : String
+timed = "input minute 0..1439; var day 0..1; timer t of day limit 5; day: GX(day = (1));"
+
 pub fillings : List Filling
 fillings =
     -- 2:00 the second time: each input gets its own value
@@ -56,6 +61,9 @@ fillings =
     -- none is declared; no input at all
     ∷ fills "input go 0..1;" berlin (pos 0) (pos 7 ∷ []) (pos 7 ∷ [])
     ∷ fills "" berlin (pos 2147483647) [] []
+    -- a row of a text with timers ends with the milliseconds, which stay; a variable `day` does not take them
+    ∷ fills timed berlin (pos 28833180) (pos 7 ∷ pos 8 ∷ []) (pos 120 ∷ pos 8 ∷ [])
+    ∷ refuses timed berlin (pos 28833180) (pos 7 ∷ []) 12 0
     -- the text's faults before 19, 19 before 20, 20 before 12
     ∷ refuses "input day 0..1" [] (negsuc 0) [] 2 14
     ∷ refuses "input day 0..1; var day 0..1;" [] (pos 0) (pos 7 ∷ []) 4 20
@@ -74,5 +82,5 @@ answerOf c = fillOf (c .text) (c .table) (c .utc) (c .row)
 
 -- the definition gives what the table says
 pub fillings-hold : map answerOf fillings ≡ map (λ (c : Filling). c .after) fillings
-unfolding fillings isSpace isDigit isLetter isAlphanumeric runOn runEnd capital capitals sameName sameBytes grammarWord exactWord wordOf overLong pairOf signOf readOf signAt wordAt digitsAt previousAt tokenOf tokenPast tokenAt sameSpelling sameToken valueOn valueOf is kindNumber idFrom idOf expected phrase followed rest chain withId currentAt previousIn constantAt primary negative factor productOf sumOf term expression bracket wholeExpression inRange signedDigits boundAt newName startAt declaration declarationsFrom declarations functionAt formulaAt formulas ruleAt rulesFrom watchesFrom endAt program parse programOf entriesOf entriesFit isTable offsetFrom offsetAt localAt dayOf minuteOf repeatsIn isAgain rowFilled fillOf
+unfolding fillings isSpace isDigit isLetter isAlphanumeric runOn runEnd capital capitals sameName sameBytes grammarWord exactWord wordOf overLong pairOf signOf readOf signAt wordAt digitsAt previousAt tokenOf tokenPast tokenAt sameSpelling sameToken valueOn valueOf is kindNumber idFrom idOf expected phrase followed rest chain withId currentAt previousIn constantAt primary negative factor productOf sumOf term expression bracket wholeExpression inRange signedDigits boundAt newName startAt declaration declarationsFrom declarations isBinary isWatchable watchedAt limitAt timerDeclaration timersFrom functionAt formulaAt formulas ruleAt rulesFrom watchesFrom endAt program parse programOf entriesOf entriesFit isTable offsetFrom offsetAt localAt dayOf minuteOf repeatsIn isAgain rowFilled fillOf
 fillings-hold = refl

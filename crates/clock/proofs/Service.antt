@@ -1,13 +1,13 @@
 -- From the analysis of the text and the tests to the service's definition. Assumes nothing.
-use mathlib.Core.Path.{_≡_, refl, sym, ap, subst, _∙_}
-use mathlib.Core.Bool.{true, false}
-use mathlib.Core.List.{List, [], _∷_}
+use mathlib.Core.Path.{_≡_, refl, sym, ap, ap₂, subst, _∙_}
+use mathlib.Core.Bool.{Bool, true, false, _||_, cond}
+use mathlib.Core.List.{List, [], _∷_, _++_, map}
 use mathlib.Core.Option.{Option, none, some}
-use Prim.Native.Nat.{ℕ, zero, suc, _^_, _≤_, _<_}
+use Prim.Native.Nat.{ℕ, zero, suc, _+_, _^_, _≤_, _<_}
 use native.Mathlib.Omega.{arith}
 use lib.IntN.{ℤ, pos, negsuc}
-use lib.ListN.{length, take, length-set, length-map}
-use lib.Seq.{take-nil}
+use lib.ListN.{length, take, drop, replicate, length-set, length-map, take-append-drop}
+use lib.Seq.{take-nil, set-append-left, length-take-le}
 use lib.Signed.{mag, leZ}
 use borrow.Author.Tests.{eq-eqb, ne-eqb, leb-true}
 use Rattle.limits.specs.Limits.{textLimit, nameLimit, lastMinute}
@@ -15,9 +15,11 @@ use Rattle.limits.specs.Answer as A
 use Rattle.arith.proofs.Basics.{and-both}
 use Rattle.lexer.specs.Bytes.{bytes, part}
 use Rattle.lexer.specs.Names.{tableNames, idOf}
-use Rattle.semantics.specs.Program.{Program}
+use Rattle.semantics.specs.Program.{Program, Timer, rangesOf, firstTimer, EachTimer, TimerFits, WellFormed}
+use Rattle.semantics.specs.Shape.{shapeOf, isLimit, hasTimer, rowLength}
 use Rattle.grammar.specs.Parsed.{Parsed, accepted, refused}
 use Rattle.grammar.specs.Parse.{parse, programOf}
+use Rattle.grammar.proofs.Bytes.{id-of}
 use Rattle.grammar.proofs.Accepted.{parse-translatable, parse-few}
 use Rattle.grammar.proofs.PlacesText.{Placed, parse-limited}
 use Rattle.translate.specs.declared.Analysis.{Analysis}
@@ -27,7 +29,40 @@ use Rattle.translate.proofs.Service.{measured-refused}
 use Rattle.clock.specs.declared.Filled.the-variants as F
 use Rattle.clock.specs.Clock.{Entry, entriesOf, isMinute, isTable, localAt, dayOf, minuteOf, againOf}
 use Rattle.clock.specs.Services.{inputsOf, filledAt, rowFilled, fillOf}
+use Rattle.clock.specs.Inner.Rows.{rowFor}
 use Rattle.clock.specs.Results.{afterFill, FilledWithin}
+
+-- ---- a row's length
+
+pub some-timer : (inputs timers : ℕ) → 0 < timers → inputs + 1 ≡ rowFor inputs timers
+some-timer inputs zero h = absurd (omega (arith, h))
+some-timer inputs (suc n) h = refl
+
+pub no-timer : (inputs timers : ℕ) → timers ≤ 0 → inputs ≡ rowFor inputs timers
+no-timer inputs zero h = refl
+no-timer inputs (suc n) h = absurd (omega (arith, h))
+
+pub row-few : (inputs timers : ℕ) → inputs ≤ rowFor inputs timers
+row-few inputs zero = omega arith
+row-few inputs (suc n) = omega arith
+
+pub front-length : (row : List ℤ) (inputs timers : ℕ) → length row ≡ rowFor inputs timers → length (take inputs row) ≡ inputs
+front-length row inputs timers e = length-take-le inputs row (omega (arith, e, row-few inputs timers))
+
+after-zeros : (n : ℕ) (l : List ℕ) → hasTimer (replicate n 0 ++ l) ≡ hasTimer l
+after-zeros zero l = refl
+after-zeros (suc n) l = after-zeros n l
+
+row-length : (p : Program) → WellFormed p → rowLength (shapeOf p) ≡ rowFor (p .inputs) (length (p .timers))
+row-length p w = ap (λ (b : Bool). cond b (p .inputs + 1) (p .inputs)) (after-zeros (firstTimer p) (map (λ (x : Timer). x .limit) (p .timers))) ∙ go (p .timers) (w .timed .each)
+  where
+    one : (n : ℕ) (b : Bool) → 1 ≤ n → cond (isLimit n || b) (p .inputs + 1) (p .inputs) ≡ p .inputs + 1
+    one zero b h = absurd (omega (arith, h))
+    one (suc n) b h = refl
+
+    go : (ts : List Timer) → EachTimer (TimerFits (rangesOf p) (p .inputs) (firstTimer p)) ts → cond (hasTimer (map (λ (x : Timer). x .limit) ts)) (p .inputs + 1) (p .inputs) ≡ rowFor (p .inputs) (length ts)
+    go [] h = refl
+    go (x ∷ xs) h = one (x .limit) (hasTimer (map (λ (y : Timer). y .limit) xs)) (h .0 .least)
 
 -- ---- the inputs are the first names of the table
 
@@ -39,25 +74,33 @@ names-take text (s ∷ starts) (e ∷ ends) zero n h = refl
 names-take text (s ∷ starts) (e ∷ ends) (suc k) zero h = absurd (omega arith)
 names-take text (s ∷ starts) (e ∷ ends) (suc k) (suc n) h = ap (λ (l : List (List ℕ)). part text s e ∷ l) (names-take text starts ends k n (omega arith))
 
+names-few : (text starts ends : List ℕ) (k : ℕ) → length (tableNames text starts ends k) ≤ k
+unfolding tableNames
+names-few text [] ends k = omega arith
+names-few text (s ∷ starts) [] k = omega arith
+names-few text (s ∷ starts) (e ∷ ends) zero = omega arith
+names-few text (s ∷ starts) (e ∷ ends) (suc k) = omega (arith, names-few text starts ends k)
+
 -- an accepted text: its program, whose inputs the table holds first
-pub record Read (text starts ends : List ℕ) (inputs : ℕ) : Type 0 where
+pub record Read (text starts ends : List ℕ) (inputs timers : ℕ) : Type 0 where
   pub program : Program
   pub end : ℕ
   pub parsed : parse text ≡ accepted program end
   pub counted : inputs ≡ program .inputs
+  pub sized : rowFor inputs timers ≡ rowLength (shapeOf program)
   pub few : inputs ≤ nameLimit
   pub spelled : tableNames text starts ends inputs ≡ inputsOf program
 
-measured-inputs : (y : Parsed Program) (size inputs names : ℕ) → measured y ≡ A.accepted (record { end = size; inputs = inputs; names = names }) → (q : Program) × (n : ℕ) × (y ≡ accepted q n) × (inputs ≡ q .inputs)
-measured-inputs (accepted q n) size inputs names e =
-    let c : measuresOf q ≡ record { end = size; inputs = inputs; names = names } = cc in
-    (q, n, refl, sym (ap {A = HeaderCounts} (λ z. z .inputs) c))
-measured-inputs (refused i j) size inputs names e = let z : _≡_ {A = ℕ} 0 1 = cc in let f : ⊥ = omega arith in absurd f
+measured-inputs : (y : Parsed Program) (size inputs names timers : ℕ) → measured y ≡ A.accepted (record { end = size; inputs = inputs; names = names; timers = timers }) → (q : Program) × (n : ℕ) × (y ≡ accepted q n) × (inputs ≡ q .inputs) × (timers ≡ length (q .timers))
+measured-inputs (accepted q n) size inputs names timers e =
+    let c : measuresOf q ≡ record { end = size; inputs = inputs; names = names; timers = timers } = cc in
+    (q, n, refl, sym (ap {A = HeaderCounts} (λ z. z .inputs) c), sym (ap {A = HeaderCounts} (λ z. z .timers) c))
+measured-inputs (refused i j) size inputs names timers e = let z : _≡_ {A = ℕ} 0 1 = cc in let f : ⊥ = omega arith in absurd f
 
 module _ (text starts ends : List ℕ) (r : Analysis) (a : Analyses text (parse text) starts ends r) where
-  pub read-text : (size inputs names : ℕ) → r ≡ N.Accepted size inputs names → Read text starts ends inputs
-  read-text size inputs names e =
-      let x = measured-inputs (parse text) size inputs names (sym (a .answer) ∙ ap analysed e) in
+  pub read-text : (size inputs names timers : ℕ) → r ≡ N.Accepted size inputs names timers → Read text starts ends inputs timers
+  read-text size inputs names timers e =
+      let x = measured-inputs (parse text) size inputs names timers (sym (a .answer) ∙ ap analysed e) in
       let q = x .0 in
       let h : q .inputs ≤ length (q .names) = subst (λ (n : ℕ). q .inputs ≤ n) (length-map (q .names) (λ n. n .range)) (parse-translatable text q (x .1) (x .2) .well-formed .inputs-fit) in
       let f = parse-few text q (x .1) (x .2) in
@@ -66,6 +109,7 @@ module _ (text starts ends : List ℕ) (r : Analysis) (a : Analyses text (parse 
         end = x .1;
         parsed = x .2;
         counted = x .3;
+        sized = ap₂ rowFor (x .3) (x .4) ∙ sym (row-length q (parse-translatable text q (x .1) (x .2) .well-formed));
         few = omega (arith, x .3);
         spelled = ap (tableNames text starts ends) (x .3) ∙ (names-take text starts ends (q .inputs) (length (q .names)) h ∙ ap (take (q .inputs)) (a .named q (x .1) (x .2) .spelled));
       }
@@ -91,6 +135,26 @@ module _ (text starts ends : List ℕ) (t : List Entry) (u : ℤ) (row one two t
       let k : length two ≡ length row = ap {A = List ℤ} length f ∙ (length-filled (idOf (named one) (bytes "minute")) m one ∙ l) in
       g ∙ rw (k, f, l, e, hd, hm, ha)
 
+-- values behind the inputs stay
+front-named : (names : List (List ℕ)) (w : List ℕ) (z : ℤ) (xs ys : List ℤ) → length names ≤ length xs → filledAt (idOf names w) z (xs ++ ys) ≡ filledAt (idOf names w) z xs ++ ys
+front-named names w z xs ys h = go (idOf names w) refl
+  where
+    go : (o : Option ℕ) → idOf names w ≡ o → filledAt o z (xs ++ ys) ≡ filledAt o z xs ++ ys
+    go none e = refl
+    go (some i) e = set-append-left xs ys i z (omega (arith, h, id-of names w i e))
+
+front-filled : (names : List (List ℕ)) (t : List Entry) (u : ℤ) (xs ys : List ℤ) → length names ≤ length xs → rowFilled names t u (xs ++ ys) ≡ rowFilled names t u xs ++ ys
+unfolding rowFilled
+front-filled names t u xs ys h =
+    let day = front-named names (bytes "day") (dayOf (localAt t u)) xs ys h in
+    let one = filledAt (idOf names (bytes "day")) (dayOf (localAt t u)) xs in
+    let h1 : length names ≤ length one = omega (arith, h, length-filled (idOf names (bytes "day")) (dayOf (localAt t u)) xs) in
+    let two = filledAt (idOf names (bytes "minute")) (minuteOf (localAt t u)) one in
+    let h2 : length names ≤ length two = omega (arith, h1, length-filled (idOf names (bytes "minute")) (minuteOf (localAt t u)) one) in
+    ap (λ (l : List ℤ). filledAt (idOf names (bytes "again")) (againOf t u) (filledAt (idOf names (bytes "minute")) (minuteOf (localAt t u)) l)) day
+    ∙ ap (filledAt (idOf names (bytes "again")) (againOf t u)) (front-named names (bytes "minute") (minuteOf (localAt t u)) one ys h1)
+    ∙ front-named names (bytes "again") (againOf t u) two ys h2
+
 -- ---- the tests in their order
 
 pub minute-fits : (u : ℤ) → isMinute u ≡ true → mag u < 2 ^ 31
@@ -102,7 +166,7 @@ module _ (text : List ℕ) (table : List ℤ) (utc : ℤ) (row : List ℤ) where
   unfolding fillOf programOf
   text-refused k x e = (rw e, subst (Placed textLimit) e (parse-limited text) .1)
 
-  module _ {starts ends : List ℕ} {inputs : ℕ} (d : Read text starts ends inputs) where
+  module _ {starts ends : List ℕ} {inputs timers : ℕ} (d : Read text starts ends inputs timers) where
     pub table-refused : isTable table ≡ false → afterFill (F.Refused 19 0) row ≡ fillOf text table utc row
     unfolding fillOf programOf
     table-refused e = rw (d .parsed, e)
@@ -113,10 +177,17 @@ module _ (text : List ℕ) (table : List ℤ) (utc : ℤ) (row : List ℤ) where
       minute-refused e = rw (d .parsed, ok, e)
 
       module _ (now : isMinute utc ≡ true) where
-        pub length-refused : (length row ≡ inputs → ⊥) → afterFill (F.Refused 12 0) row ≡ fillOf text table utc row
+        pub length-refused : (length row ≡ rowFor inputs timers → ⊥) → afterFill (F.Refused 12 0) row ≡ fillOf text table utc row
         unfolding fillOf programOf
-        length-refused e = rw (d .parsed, ok, now, ne-eqb (length row) (d .program .inputs) (λ h. e (h ∙ sym (d .counted))))
+        length-refused e = rw (d .parsed, ok, now, ne-eqb (length row) (rowLength (shapeOf (d .program))) (λ h. e (h ∙ sym (d .sized))))
 
-        pub all-filled : (left : List ℤ) → length row ≡ inputs → left ≡ rowFilled (tableNames text starts ends (length row)) (entriesOf table) utc row → afterFill F.Done left ≡ fillOf text table utc row
+        pub all-filled : (front : List ℤ) → length row ≡ rowFor inputs timers → front ≡ rowFilled (tableNames text starts ends (length (take inputs row))) (entriesOf table) utc (take inputs row) → afterFill F.Done (front ++ drop inputs row) ≡ fillOf text table utc row
         unfolding fillOf programOf
-        all-filled left e w = rw (d .parsed, ok, now, eq-eqb (length row) (d .program .inputs) (e ∙ d .counted), w, e, d .spelled)
+        all-filled front e w =
+            let k : length (take inputs row) ≡ inputs = front-length row inputs timers e in
+            let long : length (inputsOf (d .program)) ≤ length (take inputs row) = omega (arith, k, d .counted, ap length (sym (d .spelled)), names-few text starts ends inputs) in
+            let whole : front ++ drop inputs row ≡ rowFilled (inputsOf (d .program)) (entriesOf table) utc row =
+            ap (λ (l : List ℤ). l ++ drop inputs row) (w ∙ ap (λ (l : List (List ℕ)). rowFilled l (entriesOf table) utc (take inputs row)) (ap (tableNames text starts ends) k ∙ d .spelled))
+            ∙ sym (front-filled (inputsOf (d .program)) (entriesOf table) utc (take inputs row) (drop inputs row) long)
+            ∙ ap (rowFilled (inputsOf (d .program)) (entriesOf table) utc) (take-append-drop inputs row) in
+            rw (d .parsed, ok, now, eq-eqb (length row) (rowLength (shapeOf (d .program))) (e ∙ d .sized), whole)

@@ -13,6 +13,7 @@ use Rattle.limits.specs.Answer.{Answer, accepted, refused}
 use Rattle.lexer.specs.Bytes.{bytes}
 use Rattle.lexer.specs.Names.{idOf}
 use Rattle.semantics.specs.Program.{Program}
+use Rattle.semantics.specs.Shape.{shapeOf, rowLength}
 use Rattle.grammar.specs.Declarations.{spellings}
 use Rattle.grammar.specs.Parse.{programOf}
 use Rattle.clock.specs.Clock.{Entry, entriesOf, isMinute, isTable, localAt, dayOf, minuteOf, againOf}
@@ -53,7 +54,7 @@ filled (refused number place) table utc row = refusedFill number place row
 filled (accepted p) table utc row =
     testedFill (isTable table) brokenTable row
     (testedFill (isMinute utc) minuteOutOfLimit row
-    (testedFill (eqb (length row) (p .inputs)) wrongLength row
+    (testedFill (eqb (length row) (rowLength (shapeOf p))) wrongLength row
     (record { answer = accepted tt; row = rowFilled (inputsOf p) (entriesOf table) utc row })))
 
 unfoldable pub fillOf : List ℕ → List ℤ → ℤ → List ℤ → AfterFill

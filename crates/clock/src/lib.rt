@@ -1,15 +1,17 @@
 // The clock service: the inputs `day`, `minute` and `again` of a row, filled from a farm table and a UTC minute.
 use translate::Analysis;
 ghost use mathlib.Core.Path.{_≡_};
-ghost use Prim.Native.Nat.{_<_, _^_};
+ghost use Prim.Native.Nat.{_≤_, _<_, _^_};
 ghost use lib.ListN.{length};
 ghost use lib.Signed.{mag};
+ghost use Rattle.limits.specs.Limits.{nameLimit};
 ghost use Rattle.lexer.specs.Names.{tableNames, idOf, Table};
 ghost use Rattle.declarations.specs.Inner.Tables.{TableRoom};
 ghost use Rattle.clock.specs.Clock.{entriesOf};
 ghost use Rattle.clock.specs.Services.{filledAt, rowFilled, fillOf};
 ghost use Rattle.clock.specs.Results.{afterFill, FilledWithin};
 ghost use Rattle.clock.specs.Inner.Numbers.{SmallNumbers};
+ghost use Rattle.clock.specs.Inner.Rows.{rowFor};
 
 mod local;
 
@@ -61,6 +63,17 @@ fn fill_row(text: &[u8], starts: &[usize], ends: &[usize], table: &[i64], utc: i
     );
 }
 
+// A row has the inputs, and the milliseconds behind them where there is any timer.
+fn row_length(inputs: usize, timers: usize) -> usize
+    requires { ⌜ inputs ≤ nameLimit ⌝ }
+    ensures { λ r. ⌜ r ≡ rowFor inputs timers ⌝ }
+{
+    if 0 < timers {
+        return inputs + 1;
+    }
+    inputs
+}
+
 // With lent memory for the names.
 fn fill_in(
     text: &[u8],
@@ -76,17 +89,17 @@ fn fill_in(
 {
     let analysis = translate::analyse(text, starts, ends);
     match analysis {
-        Analysis::Accepted(_, inputs, _) => {
+        Analysis::Accepted(_, inputs, _, timers) => {
             if !local::is_table(table) {
                 return Filled::Refused(limits::BROKEN_TABLE, 0);
             }
             if !local::is_minute(utc) {
                 return Filled::Refused(limits::MINUTE_OUT_OF_LIMIT, 0);
             }
-            if row.len() != inputs {
+            if row.len() != row_length(inputs, timers) {
                 return Filled::Refused(limits::WRONG_LENGTH, 0);
             }
-            fill_row(text, starts, ends, table, utc, row);
+            fill_row(text, starts, ends, table, utc, &mut row[..inputs]);
             Filled::Done
         }
         Analysis::Refused(number, place) => Filled::Refused(number, place),

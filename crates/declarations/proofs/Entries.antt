@@ -3,7 +3,7 @@ use mathlib.Core.Path.{_≡_, refl, sym, ap, _∙_}
 use mathlib.Core.List.{List, [], _∷_, _++_}
 use Prim.Native.Nat.{ℕ, _+_, _≤_, _<_}
 use native.Mathlib.Omega.{arith}
-use lib.ListN.{length, length-append}
+use lib.ListN.{length, getD, length-append}
 use Rattle.semantics.specs.Program.{Name, Range}
 use Rattle.grammar.specs.Parsed.{Parsed, accepted, refused, andThen}
 use Rattle.grammar.specs.Declarations.{spellings, newName, declaration}
@@ -15,9 +15,10 @@ use Rattle.phrases.specs.Inner.Steps.{parsedOf, nothing, answered, Writes}
 use Rattle.phrases.proofs.Writing.{got, refuses}
 use Rattle.grammar.proofs.Combine.{then-then, never}
 use Rattle.declarations.specs.Inner.Ranges.{declaredRange, rangeBytes}
-use Rattle.declarations.specs.Inner.Tables.{TableHolds, Names, DeclaresOne}
+use Rattle.declarations.specs.Inner.Tables.{TableHolds, RangesStand, Names, DeclaresOne}
 use Rattle.declarations.proofs.Numbers.{range-bytes}
 use Rattle.declarations.proofs.Steps.{After, after, refused-then}
+use Rattle.declarations.proofs.Standing.{stand-kept, stand-more}
 
 -- the name with spelling w
 abbrev spelledAs : List ℕ → Range → Name
@@ -39,23 +40,23 @@ few-bytes p to before after' r x h g = let a = got h g in omega (arith, a .ended
 
 -- ---- the answer
 
-spellings-more : (names : List Name) (x : Name) → spellings (names ++ (x ∷ [])) ≡ spellings names ++ (x .spelling ∷ [])
+pub spellings-more : (names : List Name) (x : Name) → spellings (names ++ (x ∷ [])) ≡ spellings names ++ (x .spelling ∷ [])
 spellings-more [] x = refl
 spellings-more (y ∷ names) x = ap (λ (l : List (List ℕ)). y .spelling ∷ l) (spellings-more names x)
 
-step-refused : (k p : ℕ) (x : Place) {A : Type 0} → Refused k p ≡ Done x → A
+pub step-refused : (k p : ℕ) (x : Place) {A : Type 0} → Refused k p ≡ Done x → A
 step-refused k p x h = let z : _≡_ {A = ℕ} 0 1 = cc in absurd (omega arith)
 
 module _ (text starts ends : List ℕ) (at to count : ℕ) (before mid starts' ends' : List ℕ) where
   abbrev Answers : Step → Type 0
-  Answers r = ((names : List Name) → TableHolds text starts ends count names → DeclaresOne text names at to count before mid starts' ends' r) × ((x : Place) → r ≡ Done x → (count < 64) × (x .to ≤ to + 15))
+  Answers r = ((names : List Name) → TableHolds text starts ends count names → DeclaresOne text names at to count before mid ends starts' ends' r) × ((x : Place) → r ≡ Done x → (count < 64) × (x .to ≤ to + 15))
 
-  module _ {named : Step} (h : (names : List Name) → TableHolds text starts ends count names → Names text names at count starts' ends' named) where
+  module _ {named : Step} (h : (names : List Name) → TableHolds text starts ends count names → Names text names at count ends starts' ends' named) where
     pub unnamed : {k q : ℕ} → named ≡ Refused k q → Answers named
     unnamed {k} {q} g = (
       λ names held.
           let e = no-new-name text names at k q (refused-then (λ (x : List ℕ). tt {0}) (newName text names at) k q (sym (h names held .answer) ∙ ap (parsedOf nothing) g)) in
-          record { writes = refuses g e; named = λ x n f. never k q n x (sym e ∙ f) },
+          record { writes = refuses g e; named = λ x n f. never k q n x (sym e ∙ f); ranged = λ stand x n f. never k q n x (sym e ∙ f) },
       λ x f. step-refused k q x (sym g ∙ f),
     )
 
@@ -67,7 +68,7 @@ module _ (text starts ends : List ℕ) (at to count : ℕ) (before mid starts' e
         is : declaration text names at ≡ andThen (declaredRange text (next .at)) (λ r m. accepted (spelledAs (new .0) r) m)
         is = named-range text names at (new .0) (next .at) (new .1)
 
-        declared : DeclaresOne text names at to count before mid starts' ends' r
+        declared : DeclaresOne text names at to count before mid ends starts' ends' r
         unfolding header rangeBytes
         declared = record {
           writes = record {
@@ -80,6 +81,11 @@ module _ (text starts ends : List ℕ) (at to count : ℕ) (before mid starts' e
                 counted = simp length-append (omega (arith, held .counted));
                 spelled = h names held .named (new .0) (next .at) (new .1) ∙ sym (spellings-more names x ∙ ap (λ (y : Name). spellings names ++ (y .spelling ∷ [])) (a .2));
               };
+          ranged = λ stand x m f.
+              let a = after (spelledAs (new .0)) (declaredRange text (next .at)) x m (sym is ∙ f) in
+              let k = h names held .ended (new .0) (next .at) (new .1) in
+              let own : declaredRange text (getD ends' count 0) ≡ accepted (x .range) m = ap (declaredRange text) (k .0) ∙ a .1 ∙ ap (λ (y : Name). accepted (y .range) m) (sym (a .2)) in
+              stand-more text ends' names x (stand-kept text ends ends' 0 names (λ j l b. k .1 j (omega (arith, b, held .counted))) stand) (m, ap (λ (j : ℕ). declaredRange text (getD ends' j 0)) (sym (held .counted)) ∙ own);
         }
 
       pub entered : count < 64 → Answers r

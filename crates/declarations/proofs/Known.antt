@@ -18,7 +18,7 @@ use Rattle.lexer.specs.declared.Place.{Place}
 use Rattle.lexer.specs.declared.Step.{Step}
 use Rattle.lexer.specs.declared.Step.the-variants.{Done, Refused}
 use Rattle.phrases.proofs.Writing.{got, refused-part}
-use Rattle.declarations.specs.Inner.Tables.{TableHolds, headerAfter, DeclaresAll}
+use Rattle.declarations.specs.Inner.Tables.{TableHolds, RangesStand, headerAfter, DeclaresAll}
 use Rattle.declarations.proofs.Loop.{header-append}
 
 -- an empty table holds no names
@@ -31,16 +31,17 @@ holds-none text (s ∷ starts) (e ∷ ends) = record { counted = refl; spelled =
 -- ---- the answer
 
 -- all names up to n, c of them, with their bytes from `to` up to t
-pub record AllDeclared (word : Kind) (text : List ℕ) (names : List Name) (at to : ℕ) (before after starts ends : List ℕ) (n t c : ℕ) : Type 0 where
+pub record AllDeclared (word : Kind) (text : List ℕ) (names : List Name) (at to : ℕ) (before after ends₀ starts ends : List ℕ) (n t c : ℕ) : Type 0 where
   pub all : List Name
   pub read : declarations word text names at ≡ accepted all n
   pub counted : c ≡ length all
   pub ended : t ≡ to + length (headerAfter names all)
   pub wrote : after ≡ sets before to (headerAfter names all)
   pub held : TableHolds text starts ends c all
+  pub stand : RangesStand text ends₀ 0 names → RangesStand text ends 0 all
 
-module _ (word : Kind) (text : List ℕ) (names : List Name) (at to : ℕ) (before after' starts ends : List ℕ) {r : Step} (d : DeclaresAll word text names at to before after' starts ends r) where
-  pub all-declared : {x : Place} → r ≡ Done x → AllDeclared word text names at to before after' starts ends (x .at) (x .to) (x .number)
+module _ (word : Kind) (text : List ℕ) (names : List Name) (at to : ℕ) (before after' ends₀ starts ends : List ℕ) {r : Step} (d : DeclaresAll word text names at to before after' ends₀ starts ends r) where
+  pub all-declared : {x : Place} → r ≡ Done x → AllDeclared word text names at to before after' ends₀ starts ends (x .at) (x .to) (x .number)
   all-declared {x} g =
       let a = got (d .writes) g in
       record {
@@ -50,6 +51,7 @@ module _ (word : Kind) (text : List ℕ) (names : List Name) (at to : ℕ) (befo
         ended = a .ended;
         wrote = a .wrote;
         held = subst (λ (m : ℕ). TableHolds text starts ends m (a .tree)) (sym (a .tells-it)) (d .named (a .tree) (x .at) (a .is));
+        stand = λ h. d .ranged h (a .tree) (x .at) (a .is);
       }
 
   pub not-declared : {k p : ℕ} → r ≡ Refused k p → declarations word text names at ≡ refused k p

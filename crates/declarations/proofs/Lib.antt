@@ -2,7 +2,11 @@ pub mod Steps
 pub mod Numbers
 pub mod Bounds
 pub mod Ranges
+pub mod Standing
 pub mod NewNames
 pub mod Entries
 pub mod Loop
 pub mod Known
+pub mod TimerWays
+pub mod TimerEntries
+pub mod TimerLoop

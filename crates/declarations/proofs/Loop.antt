@@ -21,7 +21,7 @@ use Rattle.phrases.proofs.Writing.{got, refused-part, writes}
 use Rattle.phrases.proofs.Writing as W
 use Rattle.leb128.proofs.Stores.{sets-append}
 use Rattle.grammar.proofs.Combine.{same-value, never}
-use Rattle.declarations.specs.Inner.Tables.{TableRoom, TableHolds, DeclaresOne, headerAfter, DeclaresAll, FewDeclared}
+use Rattle.declarations.specs.Inner.Tables.{TableRoom, TableHolds, RangesStand, DeclaresOne, headerAfter, DeclaresAll, FewDeclared}
 
 pub header-append : (l k : List Name) → header (l ++ k) ≡ header l ++ header k
 unfolding header
@@ -50,37 +50,39 @@ module _ (fuel : ℕ) (word : Kind) (text : List ℕ) (all : List Name) (at : �
 
 -- ---- the loop has come to the place a, with the names declared here, and their bytes from `to` up to t
 
-pub record Going (word : Kind) (text : List ℕ) (names : List Name) (at to : ℕ) (before starts ends after : List ℕ) (a known t : ℕ) : Type 0 where
+pub record Going (word : Kind) (text : List ℕ) (names : List Name) (at to : ℕ) (before ends₀ starts ends after : List ℕ) (a known t : ℕ) : Type 0 where
   pub fuel : ℕ
   pub enough : 64 ≤ fuel + known
   pub new : List Name
   pub held : TableHolds text starts ends known (names ++ new)
+  pub stand : RangesStand text ends₀ 0 names → RangesStand text ends 0 (names ++ new)
   pub goes : declarations word text names at ≡ declarationsFrom (suc fuel) word text (names ++ new) a
   pub ended : t ≡ to + length (header new)
   pub wrote : after ≡ sets before to (header new)
 
 module _ (word : Kind) (text : List ℕ) (names : List Name) (at to : ℕ) (before : List ℕ) where
-  pub begins : (starts₀ ends₀ : List ℕ) (count : ℕ) → TableHolds text starts₀ ends₀ count names → Going word text names at to before starts₀ ends₀ before at count to
+  pub begins : (starts₀ ends₀ : List ℕ) (count : ℕ) → TableHolds text starts₀ ends₀ count names → Going word text names at to before ends₀ starts₀ ends₀ before at count to
   unfolding declarations header
   begins starts₀ ends₀ count h = record {
     fuel = 64;
     enough = omega arith;
     new = [];
     held = rw append-nil h;
+    stand = λ r. rw append-nil r;
     goes = rw append-nil;
     ended = omega arith;
     wrote = refl;
   }
 
-  refuses : (after' starts ends : List ℕ) {r : Step} (k p : ℕ) → r ≡ Refused k p → declarations word text names at ≡ refused k p → DeclaresAll word text names at to before after' starts ends r
-  refuses after' starts ends k p h e = record { writes = W.refuses h e; named = λ all n f. never k p n all (sym e ∙ f) }
+  refuses : (after' ends₀ starts ends : List ℕ) {r : Step} (k p : ℕ) → r ≡ Refused k p → declarations word text names at ≡ refused k p → DeclaresAll word text names at to before after' ends₀ starts ends r
+  refuses after' ends₀ starts ends k p h e = record { writes = W.refuses h e; named = λ all n f. never k p n all (sym e ∙ f); ranged = λ stand all n f. never k p n all (sym e ∙ f) }
 
-  module _ (starts ends after' : List ℕ) (a known t : ℕ) (g : Going word text names at to before starts ends after' a known t) where
-    pub stops-fault : {r : Step} {k p : ℕ} → r ≡ Refused k p → (tokenAt text a ≡ fault p) × (k ≡ noToken) → DeclaresAll word text names at to before after' starts ends r
-    stops-fault {p = p} h e = refuses after' starts ends noToken p (h ∙ ap (λ (x : ℕ). Refused x p) (e .1)) (g .goes ∙ turn-fault (g .fuel) word text (names ++ g .new) a p (e .0))
+  module _ (ends₀ starts ends after' : List ℕ) (a known t : ℕ) (g : Going word text names at to before ends₀ starts ends after' a known t) where
+    pub stops-fault : {r : Step} {k p : ℕ} → r ≡ Refused k p → (tokenAt text a ≡ fault p) × (k ≡ noToken) → DeclaresAll word text names at to before after' ends₀ starts ends r
+    stops-fault {p = p} h e = refuses after' ends₀ starts ends noToken p (h ∙ ap (λ (x : ℕ). Refused x p) (e .1)) (g .goes ∙ turn-fault (g .fuel) word text (names ++ g .new) a p (e .0))
 
     module _ (k : Kind) (s n : ℕ) (e : tokenAt text a ≡ token k s n) where
-      pub ends-all : {r : Step} → r ≡ reachedAt a t known → is k word ≡ false → DeclaresAll word text names at to before after' starts ends r
+      pub ends-all : {r : Step} → r ≡ reachedAt a t known → is k word ≡ false → DeclaresAll word text names at to before after' ends₀ starts ends r
       unfolding headerAfter
       ends-all i f =
           let d = g .goes ∙ turn-end (g .fuel) word text (names ++ g .new) a k s n e f in
@@ -88,14 +90,15 @@ module _ (word : Kind) (text : List ℕ) (names : List Name) (at to : ℕ) (befo
           record {
             writes = writes i (record { tree = names ++ g .new; is = d; ended = rw seam (g .ended); tells-it = g .held .counted; wrote = rw seam (g .wrote) });
             named = λ all m j. subst (λ (l : List Name). TableHolds text starts ends (length l) l) (same-value (sym d ∙ j)) (rw (g .held .counted) at (g .held));
+            ranged = λ r all m j. subst (λ (l : List Name). RangesStand text ends 0 l) (same-value (sym d ∙ j)) (g .stand r);
           }
 
       module _ (f : is k word ≡ true) (mid starts' ends' : List ℕ) where
-        module _ {one : Step} (d : DeclaresOne text (names ++ g .new) n t known after' mid starts' ends' one) where
-          pub stops-at : {q p : ℕ} → one ≡ Refused q p → DeclaresAll word text names at to before mid starts' ends' one
-          stops-at {q} {p} h = refuses mid starts' ends' q p h (g .goes ∙ turn-refused (g .fuel) word text (names ++ g .new) a k s n e q p f (refused-part (d .writes) h))
+        module _ {one : Step} (d : DeclaresOne text (names ++ g .new) n t known after' mid ends starts' ends' one) where
+          pub stops-at : {q p : ℕ} → one ≡ Refused q p → DeclaresAll word text names at to before mid ends₀ starts' ends' one
+          stops-at {q} {p} h = refuses mid ends₀ starts' ends' q p h (g .goes ∙ turn-refused (g .fuel) word text (names ++ g .new) a k s n e q p f (refused-part (d .writes) h))
 
-          pub more : {x : Place} → known < 64 → one ≡ Done x → Going word text names at to before starts' ends' mid (x .at) (known + 1) (x .to)
+          pub more : {x : Place} → known < 64 → one ≡ Done x → Going word text names at to before ends₀ starts' ends' mid (x .at) (known + 1) (x .to)
           more {x} few h =
               let y = got (d .writes) h in
               let bytes = header-append (g .new) (y .tree ∷ []) in
@@ -107,6 +110,7 @@ module _ (word : Kind) (text : List ℕ) (names : List Name) (at to : ℕ) (befo
                 enough = omega (arith, g .enough);
                 new = g .new ++ (y .tree ∷ []);
                 held = rw append-assoc at (d .named (y .tree) (x .at) (y .is));
+                stand = λ r. rw append-assoc at (d .ranged (g .stand r) (y .tree) (x .at) (y .is));
                 goes = g .goes ∙ turn-more (g .fuel) word text (names ++ g .new) a k s n e (y .tree) (x .at) f (y .is) ∙ left;
                 ended = rw bytes (simp length-append (omega (arith, y .ended, g .ended)));
                 wrote = rw bytes (d .writes .wrote (y .tree) (x .at) (y .is) ∙ placed ∙ sym (sets-append before to (header (g .new)) (header (y .tree ∷ []))));
@@ -128,7 +132,7 @@ pub record Turning (word : Kind) (text : List ℕ) (at to : ℕ) (before starts�
   pub starts-kept : length starts ≡ length starts₀
   pub ends-kept : length ends ≡ length ends₀
   pub after-kept : length after ≡ length before
-  pub going : (names : List Name) → TableHolds text starts₀ ends₀ count names → Going word text names at to before starts ends after a known t
+  pub going : (names : List Name) → TableHolds text starts₀ ends₀ count names → Going word text names at to before ends₀ starts ends after a known t
 
 module _ (word : Kind) (text : List ℕ) (at to : ℕ) (before starts₀ ends₀ : List ℕ) (count : ℕ) where
   pub turning : TableRoom starts₀ ends₀ count → Turning word text at to before starts₀ ends₀ count starts₀ ends₀ before at count to
@@ -146,13 +150,13 @@ module _ (word : Kind) (text : List ℕ) (at to : ℕ) (before starts₀ ends₀
     room r = record { few = g .few; in-starts = omega (arith, r .in-starts, g .starts-kept); in-ends = omega (arith, r .in-ends, g .ends-kept) }
 
     module _ (k : Kind) (s n : ℕ) (e : tokenAt text a ≡ token k s n) (f : is k word ≡ true) (mid starts' ends' : List ℕ) {one : Step}
-        (d : (names : List Name) → TableHolds text starts ends known names → DeclaresOne text names n t known after' mid starts' ends' one)
+        (d : (names : List Name) → TableHolds text starts ends known names → DeclaresOne text names n t known after' mid ends starts' ends' one)
         (l : (x : Place) → one ≡ Done x → (known < 64) × (x .to ≤ t + 15))
       where
-        pub turns-out : {q p : ℕ} → one ≡ Refused q p → (names : List Name) → TableHolds text starts₀ ends₀ count names → DeclaresAll word text names at to before mid starts' ends' one
+        pub turns-out : {q p : ℕ} → one ≡ Refused q p → (names : List Name) → TableHolds text starts₀ ends₀ count names → DeclaresAll word text names at to before mid ends₀ starts' ends' one
         turns-out h names held =
             let go = g .going names held in
-            stops-at word text names at to before starts ends after' a known t go k s n e f mid starts' ends' (d (names ++ go .new) (go .held)) h
+            stops-at word text names at to before ends₀ starts ends after' a known t go k s n e f mid starts' ends' (d (names ++ go .new) (go .held)) h
 
         pub turns-on : {y : Place} → one ≡ Done y → length starts' ≡ length starts → length ends' ≡ length ends → length mid ≡ length after' → Turning word text at to before starts₀ ends₀ count starts' ends' mid (y .at) (known + 1) (y .to)
         turns-on {y} h x z w =
@@ -164,5 +168,5 @@ module _ (word : Kind) (text : List ℕ) (at to : ℕ) (before starts₀ ends₀
               ends-kept = z ∙ g .ends-kept;
               after-kept = w ∙ g .after-kept;
               going = λ names held. let go = g .going names held in
-                  more word text names at to before starts ends after' a known t go k s n e f mid starts' ends' (d (names ++ go .new) (go .held)) (m .0) h;
+                  more word text names at to before ends₀ starts ends after' a known t go k s n e f mid starts' ends' (d (names ++ go .new) (go .held)) (m .0) h;
             }

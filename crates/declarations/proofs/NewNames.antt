@@ -6,7 +6,8 @@ use mathlib.Core.Option.{none, some}
 use Prim.Native.Nat.{ℕ, _≤_, _<_}
 use native.Mathlib.Numerals.{add-one}
 use native.Mathlib.Omega.{arith}
-use lib.ListN.{length, set}
+use lib.ListN.{length, getD, set}
+use lib.Seq.{getD-set-same, getD-set-other}
 use borrow.Author.Tests.{lt-ltb, le-ltb}
 use Rattle.limits.specs.Limits.{nameLimit, noToken, notAllowed, wrongName, tooMany}
 use Rattle.lexer.specs.Bytes.{part}
@@ -21,7 +22,7 @@ use Rattle.lexer.specs.Results.{reachedAt}
 use Rattle.lexer.specs.declared.Place.{Place}
 use Rattle.lexer.specs.declared.Step.{Step}
 use Rattle.lexer.specs.declared.Step.the-variants.{Done, Refused}
-use Rattle.grammar.proofs.Combine.{same-value, never}
+use Rattle.grammar.proofs.Combine.{same-value, same-end, never}
 use Rattle.declarations.specs.Inner.Tables.{TableRoom, TableHolds, Names}
 
 -- ---- the definition, test by test
@@ -61,11 +62,11 @@ not-done k p x h = let z : _≡_ {A = ℕ} 0 1 = cc in absurd (omega arith)
 
 module _ (text starts ends : List ℕ) (at count : ℕ) (starts' ends' : List ℕ) where
   abbrev Answers : Step → Type 0
-  Answers r = ((names : List Name) → TableHolds text starts ends count names → Names text names at count starts' ends' r) × ((x : Place) → r ≡ Done x → count < 64)
+  Answers r = ((names : List Name) → TableHolds text starts ends count names → Names text names at count ends starts' ends' r) × ((x : Place) → r ≡ Done x → count < 64)
 
   refuses : {r : Step} (k p : ℕ) → r ≡ Refused k p → ((names : List Name) → TableHolds text starts ends count names → newName text names at ≡ refused k p) → Answers r
   refuses k p g f =
-      (λ names h. record { answer = rw (g, f names h); named = λ w n e. never k p n w (sym (f names h) ∙ e) }, λ x e. not-done k p x (sym g ∙ e))
+      (λ names h. record { answer = rw (g, f names h); named = λ w n e. never k p n w (sym (f names h) ∙ e); ended = λ w n e. never k p n w (sym (f names h) ∙ e) }, λ x e. not-done k p x (sym g ∙ e))
 
   pub faulty-name : {r : Step} (k p : ℕ) → r ≡ Refused k p → (tokenAt text at ≡ fault p) × (k ≡ noToken) → Answers r
   faulty-name k p g e = refuses noToken p (g ∙ ap (λ (x : ℕ). Refused x p) (e .1)) (λ names h. name-fault text names at p (e .0))
@@ -92,6 +93,7 @@ module _ (text starts ends : List ℕ) (at count : ℕ) (starts' ends' : List �
               record {
                 answer = rw (d, fresh);
                 named = λ w q i. rw (a .0, a .1, add-one count) (names-add text starts ends count s n (omega (arith, room .in-starts)) (omega (arith, room .in-ends))) ∙ ap (λ (x : List (List ℕ)). x ++ (part text s n ∷ [])) (h .spelled) ∙ ap (λ (x : List ℕ). spellings names ++ (x ∷ [])) (same-value (sym fresh ∙ i));
+                ended = λ w q i. (ap (λ (l : List ℕ). getD l count 0) (a .1) ∙ getD-set-same ends count n 0 (omega (arith, room .in-ends)) ∙ same-end (sym fresh ∙ i), λ j b. ap (λ (l : List ℕ). getD l j 0) (a .1) ∙ getD-set-other ends count j n 0 (omega (arith, b)));
               },
           λ q i. m,
         )

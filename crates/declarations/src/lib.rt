@@ -23,6 +23,8 @@ ghost use Rattle.declarations.specs.Inner.Ranges.{signedBy, declaredRang
 ghost use Rattle.declarations.specs.Inner.Bounds.{boundedNumber, valuedAt};
 ghost use Rattle.declarations.specs.Inner.Tables.{TableRoom, TableHolds, Names, DeclaresOne, DeclaresAll, FewDeclared};
 
+pub mod timers;
+
 const LOWEST: i32 = -2147483648;
 
 const HIGHEST: i32 = 2147483647;
@@ -184,7 +186,7 @@ fn range(text: &[u8], at: usize, out: &mut [u8], to: usize) -> Step
 // A new name into the table.
 fn new_name(text: &[u8], at: usize, starts: &mut [usize], ends: &mut [usize], count: usize) -> Step
     requires { ⌜ TableRoom (now starts) (now ends) count ⌝ }
-    ensures { λ r. ⌜ ((names : List Name) → TableHolds (now (text .entry)) (now (starts .entry)) (now (ends .entry)) count names → Names (now (text .entry)) names at count (now (starts .exit)) (now (ends .exit)) r) ⌝ }
+    ensures { λ r. ⌜ ((names : List Name) → TableHolds (now (text .entry)) (now (starts .entry)) (now (ends .entry)) count names → Names (now (text .entry)) names at count (now (ends .entry)) (now (starts .exit)) (now (ends .exit)) r) ⌝ }
     ensures { λ r. ⌜ ((x : Place) → r ≡ Done x → count < nameLimit) ⌝ }
 {
     let read = lexer::token_at(text, at);
@@ -220,7 +222,7 @@ fn declaration(
 ) -> Step
     requires { ⌜ TableRoom (now starts) (now ends) count ⌝ }
     requires { ⌜ to < 2 ^ 30 ⌝ }
-    ensures { λ r. ⌜ ((names : List Name) → TableHolds (now (text .entry)) (now (starts .entry)) (now (ends .entry)) count names → DeclaresOne (now (text .entry)) names at to count (now (out .entry)) (now (out .exit)) (now (starts .exit)) (now (ends .exit)) r) ⌝ }
+    ensures { λ r. ⌜ ((names : List Name) → TableHolds (now (text .entry)) (now (starts .entry)) (now (ends .entry)) count names → DeclaresOne (now (text .entry)) names at to count (now (out .entry)) (now (out .exit)) (now (ends .entry)) (now (starts .exit)) (now (ends .exit)) r) ⌝ }
     ensures { λ r. ⌜ ((x : Place) → r ≡ Done x → (count < nameLimit) × (x .to ≤ to + 15)) ⌝ }
 {
     let named = new_name(text, at, starts, ends, count);
@@ -243,7 +245,7 @@ pub fn declarations(
 ) -> Step
     requires { ⌜ (word ≤ lastKind) × (to < 2 ^ 20) ⌝ }
     requires { ⌜ TableRoom (now starts) (now ends) count ⌝ }
-    ensures { λ r. ⌜ ((names : List Name) → TableHolds (now (text .entry)) (now (starts .entry)) (now (ends .entry)) count names → DeclaresAll (kindOf word) (now (text .entry)) names at to (now (out .entry)) (now (out .exit)) (now (starts .exit)) (now (ends .exit)) r) ⌝ }
+    ensures { λ r. ⌜ ((names : List Name) → TableHolds (now (text .entry)) (now (starts .entry)) (now (ends .entry)) count names → DeclaresAll (kindOf word) (now (text .entry)) names at to (now (out .entry)) (now (out .exit)) (now (ends .entry)) (now (starts .exit)) (now (ends .exit)) r) ⌝ }
     ensures { λ r. ⌜ FewDeclared to r ⌝ }
 {
     let mut a = at;

@@ -10,7 +10,7 @@ use lib.Seq.{drop-cons}
 use lib.ListN.{length, getD, set, drop, drop-of-length-le}
 use Rattle.arith.specs.Inner.Flags.{flagsOf}
 use Rattle.arith.proofs.Flags.{length-flags}
-use Rattle.semantics.specs.Program.{allTrue}
+use Rattle.semantics.specs.Program.{allTrue, Timer, timersKnown}
 use Rattle.lexer.specs.Names.{idOf, tableNames, Table}
 use Rattle.grammar.specs.Rules.{ruled}
 use Rattle.grammar.proofs.Bytes.{id-of}
@@ -68,5 +68,6 @@ module _ (text : List ℕ) {starts ends : List ℕ} {names : Names} (d : Declare
     id-few = omega (arith, id-below, d .few)
 
 -- after a rule
-pub scope-ruled : (text starts ends : List ℕ) (names after : Names) (i : ℕ) → after .count ≡ names .count → flagsOf (names .count) (after .known) ≡ set (flagsOf (names .count) (names .known)) i true → scopeOf text starts ends after ≡ ruled (scopeOf text starts ends names) i
-scope-ruled text starts ends names after i e k = rw (e, k)
+pub scope-ruled : (ts : List Timer) (text starts ends : List ℕ) (names after : Names) (i : ℕ) → after .count ≡ names .count → flagsOf (names .count) (after .known) ≡ timersKnown i ts (set (flagsOf (names .count) (names .known)) i true)
+    → scopeOf text starts ends after ≡ ruled ts (scopeOf text starts ends names) i
+scope-ruled ts text starts ends names after i e k = rw (e, k)

@@ -1,5 +1,5 @@
 -- Refusal 2: what stands before the token refused is allowed, and with it nothing begins. Document 01, "Who can cause which refusal": 2 token
--- that the grammar doesn't allow there, a wrong repeated name and an early end included; document 02, A.13. Assumes nothing.
+-- that the grammar doesn't allow there, a wrong repeated name and an early end included; document 02, A.7, A.13. Assumes nothing.
 use Prim.Native.Nat.{ℕ, _≤_, _<_}
 use mathlib.Core.Path.{_≡_}
 use mathlib.Core.List.{List, [], _∷_, _++_}
@@ -16,9 +16,9 @@ use Rattle.grammar.specs.Parsed.{refused}
 use Rattle.grammar.specs.Expressions.{Scope, wholeExpression}
 use Rattle.grammar.specs.Conditions.{wholeCondition, listed}
 use Rattle.grammar.specs.Parse.{programOf}
-use Rattle.lexer.specs.Spelling.{SpellsName}
+use Rattle.lexer.specs.Spelling.{SpellsName, IsDigits}
 use Rattle.grammar.specs.Derivation.{Tokens, normal, normals, Spells, IsName, Level, SpellsE, expression, LevelC, SpellsC, condition}
-use Rattle.grammar.specs.Spelled.{SpellsZ, SpellsStart, declarationForm, squared, cased, Distinct, changeForm, functionForm, pairForm, aloneForm, pairedForm, Spelled}
+use Rattle.grammar.specs.Spelled.{SpellsZ, SpellsStart, declarationForm, timerForm, squared, cased, Distinct, changeForm, functionForm, pairForm, aloneForm, pairedForm, Spelled}
 use Rattle.faults.specs.Texts.{SameThrough}
 
 -- the tokens spell an expression of the names, however many brackets are open at the same time (8, not 2, limits these)
@@ -46,6 +46,14 @@ pub data IsDeclaration (word : List ℕ) : Tokens → Type 0 where
 pub data AreDeclarations (word : List ℕ) : Tokens → Type 0 where
   none : AreDeclarations word []
   more : (ts us : Tokens) → IsDeclaration word ts → AreDeclarations word us → AreDeclarations word (ts ++ us)
+
+-- `timer t of w limit N;`
+pub data IsTimer : Tokens → Type 0 where
+  declares-timer : (t w n : List ℕ) → SpellsName t → SpellsName w → IsDigits n → IsTimer (timerForm t w n)
+
+pub data AreTimers : Tokens → Type 0 where
+  none : AreTimers []
+  more : (ts us : Tokens) → IsTimer ts → AreTimers us → AreTimers (ts ++ us)
 
 -- `[c] & v = (e) | [c] & v = (e)`
 pub data AreCases (names : List (List ℕ)) (v : List ℕ) : Tokens → Type 0 where
@@ -75,19 +83,21 @@ pub data AreWatches (names : List (List ℕ)) : Tokens → Type 0 where
   none : AreWatches names []
   more : (ts us : Tokens) → IsWatch names ts → AreWatches names us → AreWatches names (ts ++ us)
 
--- All inputs, then all variables. Then the rules, then the watches, with values of any names.
+-- All inputs, then all variables, then all timers. Then the rules, then the watches, with values of any names.
 pub record IsText (ts : Tokens) : Type 0 where
   pub names : List (List ℕ)
   pub are-names : AreNames names
   pub inputs : Tokens
   pub variables : Tokens
+  pub timers : Tokens
   pub rules : Tokens
   pub watches : Tokens
   pub are-inputs : AreDeclarations (bytes "input") inputs
   pub are-variables : AreDeclarations (bytes "var") variables
+  pub are-timers : AreTimers timers
   pub are-rules : AreRules names rules
   pub are-watches : AreWatches names watches
-  pub in-order : ts ≡ inputs ++ variables ++ rules ++ watches
+  pub in-order : ts ≡ inputs ++ variables ++ timers ++ rules ++ watches
 
 -- from `at` on stand the tokens `before`, as the rule forms know them, then the token at the place; those before it begin a token list of
 -- the language. (A word of the grammar in another case is a token that is in no such list: 2.)

@@ -1,7 +1,7 @@
 -- What holds of the program of every accepted text: it can be translated, its code holds at most 38 values, and its names are
 -- distinct and of 1 to 16 bytes. Assumes nothing.
 use mathlib.Core.Path.{_≡_, ap, _∙_}
-use mathlib.Core.List.{List, [], _∷_, map}
+use mathlib.Core.List.{List, [], _∷_, _++_, map}
 use mathlib.Core.Bool.{_&&_}
 use Prim.Native.Nat.{ℕ, _+_, _*_, _≤_}
 use native.Mathlib.Omega.{arith}
@@ -13,7 +13,6 @@ use Rattle.limits.specs.Answer as A
 use Rattle.arith.specs.Values.{isInt32}
 use Rattle.arith.proofs.Basics.{and-left, and-right, and-T}
 use Rattle.semantics.specs.Program.{Range, Name, Program, rangesOf, within, Ordered, StartsWithin, RangeFits}
-use Rattle.semantics.proofs.Untimed.{plain-fit}
 use Rattle.bytecode.specs.Translation.{imageOf, RangesFit, Translatable}
 use Rattle.grammar.specs.Parsed.{Parsed, accepted, refused}
 use Rattle.grammar.specs.Parse.{parse, answerOf, programOf}
@@ -26,7 +25,7 @@ use Rattle.grammar.proofs.Whole.{named, spelled-fit}
 use Rattle.grammar.proofs.DerivedText.{parse-reads}
 use Rattle.grammar.proofs.Depth.{depthRules, rules-depth, rules-shallow}
 use Rattle.grammar.proofs.Sided.{rules-sided}
-use Rattle.grammar.proofs.Size.{spelled-small}
+use Rattle.grammar.proofs.SizeText.{spelled-small}
 use Rattle.grammar.proofs.Image.{image-emitted}
 
 -- ---- names
@@ -79,7 +78,7 @@ module _ (text : List ℕ) (p : Program) (n : ℕ) (e : parse text ≡ accepted 
 
   -- twice the image's bytes are at most three times the text's, and four
   pub parse-growth : 2 * length (imageOf p) ≤ 3 * length text + 4
-  parse-growth = rw (← image-emitted p (parse-spelled .untimed)) (spelled-small text p parse-spelled)
+  parse-growth = rw (← image-emitted p) (spelled-small text p parse-spelled)
 
   pub parse-ordered : Ordered p
   parse-ordered = parse-spelled .ordered
@@ -90,15 +89,16 @@ module _ (text : List ℕ) (p : Program) (n : ℕ) (e : parse text ≡ accepted 
       let s = parse-spelled in
       let fits = ranges-fit (p .names) (spelled-fit text p s) in
       let l : length (rangesOf p) ≡ length (p .names) = length-map (p .names) (λ n. n .range) in
-      let count : length (p .names) ≡ length (s .inputs) + length (s .variables) = ap length (s .names) ∙ length-append (s .inputs) (s .variables) in
+      let base = s .inputs ++ s .variables in
+      let count : length (p .names) ≡ length base + length (s .timer-names) = ap length (s .names) ∙ length-append base (s .timer-names) in
       record {
         well-formed = record {
-          inputs-fit = omega (arith, l, count, s .input-count);
+          inputs-fit = omega (arith, l, count, length-append (s .inputs) (s .variables), s .input-count);
           starts = starts-within (rangesOf p) fits;
           ordered = s .ordered;
           agrees = parse-reads text p n e .1;
           sided = rules-sided (normals (namesOf p)) (s .rule-tokens) (p .rules) (s .spells-rules);
-          timed = plain-fit p (s .untimed);
+          timed = s .timers-fit;
         };
         few = omega (arith, l, s .few);
         ranges-fit = fits;

@@ -52,7 +52,7 @@ module _ (text : List ℕ) where
 
   -- ---- a declaration
 
-  name-reads : (names : List Name) (w : List ℕ) → IsName w → Apart w (spellings names) → length names < 64 → (a n : ℕ) → a ≤ length text → Stands asWritten text a n w → newName text names a ≡ accepted w n
+  pub name-reads : (names : List Name) (w : List ℕ) → IsName w → Apart w (spellings names) → length names < 64 → (a n : ℕ) → a ≤ length text → Stands asWritten text a n w → newName text names a ≡ accepted w n
   unfolding newName overLong is kindNumber
   name-reads names w nm apart room a n h st =
       let short = nm .short in

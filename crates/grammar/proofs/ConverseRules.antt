@@ -1,19 +1,20 @@
 -- Tokens that spell rules in the order of work are read as them. Assumes nothing.
 use mathlib.Core.Path.{_≡_, refl, ap, ap₂, sym, _∙_, subst}
 use mathlib.Core.List.{List, [], _∷_, _++_, append-assoc, append-nil}
-use mathlib.Core.Bool.{Bool, true, false}
+use mathlib.Core.Bool.{Bool, true, false, cond}
 use mathlib.Core.Option.{none, some}
 use Prim.Native.Nat.{ℕ, zero, suc, _+_, _-_, _≤_, _<_}
 use native.Mathlib.Omega.{arith}
 use lib.ListN.{length, getD, set, getElem?}
-use lib.Dec.{ltb→lt}
+use lib.Dec.{eqb, ltb→lt}
 use Rattle.limits.specs.Limits.{caseLimit, bracketLimit}
 use Rattle.lexer.specs.Bytes.{bytes, part, capitals}
 use Rattle.lexer.specs.Spelling.{SpellsName}
 use Rattle.lexer.specs.Token.{Kind, kindNumber, name, colon, closeRound, tilde, greater, plus, is, token}
 use Rattle.lexer.specs.Lexer.{tokenAt}
 use Rattle.lexer.proofs.Laws.{token-at-moved}
-use Rattle.semantics.specs.Program.{Expression, Condition, Case, Rule, function, change, target, UsableE, UsableK, UsableR, OrderedRules}
+use Rattle.semantics.specs.Program.{Expression, Condition, Case, Rule, Timer, function, change, target, taken, timersKnown, UsableE, UsableK, UsableR, OrderedRules}
+use Rattle.semantics.proofs.Cells.{not-taken}
 use Rattle.grammar.specs.Parsed.{accepted, phrase, followed, itemBound}
 use Rattle.grammar.specs.Expressions.{Scope, productOf, sumOf, wholeExpression}
 use Rattle.grammar.specs.Forms.{valueOpening, functionClosing, formulaClosing, changeOpening, noChangeOpening, ruleOpening, turnedOpening, fallingOpening}
@@ -136,20 +137,20 @@ module _ (sc : Scope) (good : Named (sc .names)) (w : List ℕ) (nm : IsName w) 
 -- ---- a rule
 
 -- where a rule's name stands, and what is read after it
-pub record RuleReads (sc : Scope) (a m : ℕ) (r : Rule) : Type 0 where
+pub record RuleReads (xs : List Timer) (sc : Scope) (a m : ℕ) (r : Rule) : Type 0 where
   pub start : ℕ
   pub place : ℕ
   pub is-name : tokenAt (sc .text) a ≡ token name start place
-  pub reads : ruleAt sc start place ≡ accepted r m
+  pub reads : ruleAt xs sc start place ≡ accepted r m
 
-module _ (sc : Scope) (good : Named (sc .names)) where
-  rule-goes : (w : List ℕ) (v s n m : ℕ) (r : Rule) → s ≤ n → n ≤ length (sc .text) → SpellsName (part (sc .text) s n) → normal (part (sc .text) s n) ≡ w → getElem? (normals (sc .names)) v ≡ some w → getD (sc .known) v false ≡ false → formulas sc w v n ≡ accepted r m → ruleAt sc s n ≡ accepted r m
+module _ (xs : List Timer) (sc : Scope) (good : Named (sc .names)) where
+  rule-goes : (w : List ℕ) (v s n m : ℕ) (r : Rule) → s ≤ n → n ≤ length (sc .text) → SpellsName (part (sc .text) s n) → normal (part (sc .text) s n) ≡ w → getElem? (normals (sc .names)) v ≡ some w → taken xs (sc .known) v ≡ false → formulas sc w v n ≡ accepted r m → ruleAt xs sc s n ≡ accepted r m
   unfolding ruleAt
   rule-goes w v s n m r h i nm e ev new reads =
       let u = part (sc .text) s n in
       named-id sc good {A = Rule} s s n v w _ h i nm e ev ∙ rw (new, formulas-same sc u w (sym (normal-twice u nm) ∙ ap capitals e) v n) reads
 
-  rule-reads : (ts : List (List ℕ)) (r : Rule) → SpellsR (normals (sc .names)) ts r → UsableR (sc .known) r → getD (sc .known) (target r) false ≡ false → (a m : ℕ) → a ≤ length (sc .text) → Spells normal (sc .text) a m ts → RuleReads sc a m r
+  rule-reads : (ts : List (List ℕ)) (r : Rule) → SpellsR (normals (sc .names)) ts r → UsableR (sc .known) r → taken xs (sc .known) (target r) ≡ false → (a m : ℕ) → a ≤ length (sc .text) → Spells normal (sc .text) a m ts → RuleReads xs sc a m r
   unfolding signs isFixed kindNumber
   rule-reads ts r (a-function w v us e ev d) u new a m h g =
       let text = sc .text in
@@ -192,7 +193,7 @@ module _ (sc : Scope) (good : Named (sc .names)) where
             (fixed-at normally text tilde refl (p .place) (p .second .0) i (p .second .1))
             (change-reads sc good w nm v us ls ks cs d room e u (p .second .0) m j (p .second .2))));
       }
-  rule-reads ts r (a-pair w v xs ls ys ms ks js ev d f room) u new a m h g =
+  rule-reads ts r (a-pair w v us ls ys ms ks js ev d f room) u new a m h g =
       let text = sc .text in
       let nm = each-normal (sc .names) good v w ev in
       let st = g .1 in
@@ -206,7 +207,7 @@ module _ (sc : Scope) (good : Named (sc .names)) where
         reads = rule-goes w v (st .start) n m (pairRule v ks js) (mv .1) (mv .2) (stands-raw normally text name w (spells-normal sc good v w ev) a n h st) (st .spelled) ev new
             (formulas-pair sc good w nm v (pairRule v ks js) n (g .2 .1 .start) (g .2 .0) m
             (fixed-at normally text plus refl n (g .2 .0) (mv .2) (g .2 .1))
-            (pair-reads sc good w nm v xs ls ys ms ks js d f room u (g .2 .0) m j (g .2 .2)));
+            (pair-reads sc good w nm v us ls ys ms ks js d f room u (g .2 .0) m j (g .2 .2)));
       }
 
 -- ---- all rules
@@ -217,40 +218,59 @@ unruled [] = 0
 unruled (true ∷ l) = unruled l
 unruled (false ∷ l) = suc (unruled l)
 
-pub rule-counts : (known : List Bool) (v : ℕ) → v < length known → getD known v false ≡ false → unruled known ≡ suc (unruled (set known v true))
+rule-counts : (known : List Bool) (v : ℕ) → v < length known → getD known v false ≡ false → unruled known ≡ suc (unruled (set known v true))
 rule-counts [] v h e = absurd (omega arith)
 rule-counts (true ∷ l) zero h e = let z : _≡_ {A = ℕ} 0 1 = cc in absurd (omega arith)
 rule-counts (false ∷ l) zero h e = refl
 rule-counts (true ∷ l) (suc v) h e = rule-counts l v (omega arith) e
 rule-counts (false ∷ l) (suc v) h e = ap suc (rule-counts l v (omega arith) e)
 
+set-counts : (known : List Bool) (v : ℕ) → unruled (set known v true) ≤ unruled known
+set-counts [] v = omega arith
+set-counts (true ∷ l) zero = omega arith
+set-counts (false ∷ l) zero = omega arith
+set-counts (true ∷ l) (suc v) = set-counts l v
+set-counts (false ∷ l) (suc v) = omega (arith, set-counts l v)
+
+timers-count : (v : ℕ) (xs : List Timer) (known : List Bool) → unruled (timersKnown v xs known) ≤ unruled known
+timers-count v [] known = omega arith
+timers-count v (x ∷ xs) known = go (eqb (x .watched) v) (timers-count v xs (set known (x .id) true)) (timers-count v xs known)
+  where
+    go : (b : Bool) → unruled (timersKnown v xs (set known (x .id) true)) ≤ unruled (set known (x .id) true) → unruled (timersKnown v xs known) ≤ unruled known → unruled (timersKnown v xs (cond b (set known (x .id) true) known)) ≤ unruled known
+    go true h g = omega (arith, h, set-counts known (x .id))
+    go false h g = g
+
+-- after a rule one name less has none, or fewer
+pub rule-leaves : (xs : List Timer) (known : List Bool) (v : ℕ) → v < length known → taken xs known v ≡ false → unruled (timersKnown v xs (set known v true)) < unruled known
+rule-leaves xs known v h e = omega (arith, timers-count v xs (set known v true), rule-counts known v h (not-taken xs known v e .1))
+
 pub unruled-few : (known : List Bool) → unruled known ≤ length known
 unruled-few [] = omega arith
 unruled-few (true ∷ l) = omega (arith, unruled-few l)
 unruled-few (false ∷ l) = omega (arith, unruled-few l)
 
-rules-on : (sc : Scope) (f a s n m : ℕ) (done : List Rule) (r : Rule) → tokenAt (sc .text) a ≡ token name s n → ruleAt sc s n ≡ accepted r m → rulesFrom (suc f) sc done a ≡ rulesFrom f (ruled sc (target r)) (done ++ (r ∷ [])) m
+rules-on : (xs : List Timer) (sc : Scope) (f a s n m : ℕ) (done : List Rule) (r : Rule) → tokenAt (sc .text) a ≡ token name s n → ruleAt xs sc s n ≡ accepted r m → rulesFrom (suc f) xs sc done a ≡ rulesFrom f xs (ruled xs sc (target r)) (done ++ (r ∷ [])) m
 unfolding rulesFrom is kindNumber
-rules-on sc f a s n m done r e1 e2 = rw (e1, e2)
+rules-on xs sc f a s n m done r e1 e2 = rw (e1, e2)
 
 -- up to a token that is no name
-rules-end : (sc : Scope) (f a : ℕ) (k : Kind) (s n : ℕ) (done : List Rule) → tokenAt (sc .text) a ≡ token k s n → is k name ≡ false → rulesFrom (suc f) sc done a ≡ accepted (record { rules = done; known = sc .known }) a
+rules-end : (xs : List Timer) (sc : Scope) (f a : ℕ) (k : Kind) (s n : ℕ) (done : List Rule) → tokenAt (sc .text) a ≡ token k s n → is k name ≡ false → rulesFrom (suc f) xs sc done a ≡ accepted (record { rules = done; known = sc .known }) a
 unfolding rulesFrom
-rules-end sc f a k s n done e1 e2 = rw (e1, e2)
+rules-end xs sc f a k s n done e1 e2 = rw (e1, e2)
 
-pub rules-read : (f : ℕ) (sc : Scope) → Named (sc .names) → (done : List Rule) (ts : List (List ℕ)) (rs : List Rule) → SpellsRules (normals (sc .names)) ts rs → OrderedRules [] (sc .known) rs → unruled (sc .known) < f → (a n : ℕ) → a ≤ length (sc .text) → Spells normal (sc .text) a n ts → (k : Kind) (s m : ℕ) → tokenAt (sc .text) n ≡ token k s m → is k name ≡ false → rulesFrom f sc done a ≡ accepted (record { rules = done ++ rs; known = knownAfter (sc .known) rs }) n
-rules-read zero sc good done ts rs d o fuel a n h g k s m et other = absurd (omega arith)
-rules-read (suc f) sc good done ts rs S.SpellsRules.none o fuel a n h g k s m et other =
-    rules-end sc f a k s m done (subst (λ (y : ℕ). tokenAt (sc .text) y ≡ token k s m) (sym g) et) other
+pub rules-read : (f : ℕ) (xs : List Timer) (sc : Scope) → Named (sc .names) → (done : List Rule) (ts : List (List ℕ)) (rs : List Rule) → SpellsRules (normals (sc .names)) ts rs → OrderedRules xs (sc .known) rs → unruled (sc .known) < f → (a n : ℕ) → a ≤ length (sc .text) → Spells normal (sc .text) a n ts → (k : Kind) (s m : ℕ) → tokenAt (sc .text) n ≡ token k s m → is k name ≡ false → rulesFrom f xs sc done a ≡ accepted (record { rules = done ++ rs; known = knownAfter xs (sc .known) rs }) n
+rules-read zero xs sc good done ts rs d o fuel a n h g k s m et other = absurd (omega arith)
+rules-read (suc f) xs sc good done ts rs S.SpellsRules.none o fuel a n h g k s m et other =
+    rules-end xs sc f a k s m done (subst (λ (y : ℕ). tokenAt (sc .text) y ≡ token k s m) (sym g) et) other
     ∙ ap₂ (λ (y : List Rule) (z : ℕ). accepted (record { rules = y; known = sc .known }) z) (sym (append-nil done)) g
-rules-read (suc f) sc good done ts rs (S.SpellsRules.more us vs r qs d e) o fuel a n h g k s m et other =
+rules-read (suc f) xs sc good done ts rs (S.SpellsRules.more us vs r qs d e) o fuel a n h g k s m et other =
     let p = split normally (sc .text) a n us vs g in
     let i = spells-in normally (sc .text) a (p .place) us h (p .first) .1 in
-    let x = rule-reads sc good us r d (o .0) (o .2) a (p .place) h (p .first) in
-    let c = rule-counts (sc .known) (target r) (ltb→lt (target r) (length (sc .known)) (o .1)) (o .2) in
-    rules-on sc f a (x .start) (x .place) (p .place) done r (x .is-name) (x .reads)
-    ∙ (rules-read f (ruled sc (target r)) good (done ++ (r ∷ [])) vs qs e (o .3) (omega arith) (p .place) n i (p .second) k s m et other
-    ∙ ap (λ (y : List Rule). accepted (record { rules = y; known = knownAfter (sc .known) (r ∷ qs) }) n) (append-assoc done (r ∷ []) qs))
+    let x = rule-reads xs sc good us r d (o .0) (o .2) a (p .place) h (p .first) in
+    let c = rule-leaves xs (sc .known) (target r) (ltb→lt (target r) (length (sc .known)) (o .1)) (o .2) in
+    rules-on xs sc f a (x .start) (x .place) (p .place) done r (x .is-name) (x .reads)
+    ∙ (rules-read f xs (ruled xs sc (target r)) good (done ++ (r ∷ [])) vs qs e (o .3) (omega arith) (p .place) n i (p .second) k s m et other
+    ∙ ap (λ (y : List Rule). accepted (record { rules = y; known = knownAfter xs (sc .known) (r ∷ qs) }) n) (append-assoc done (r ∷ []) qs))
 
 -- `itemBound` rules are enough
 pub few-unruled : (known : List Bool) → length known ≤ 64 → unruled known < itemBound

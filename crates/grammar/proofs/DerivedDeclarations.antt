@@ -105,7 +105,7 @@ module _ (text : List ℕ) where
     pub room : length names < 64
 
   -- its token
-  name-derives : (names : List Name) (a : ℕ) → a ≤ length text → Derives written text (λ ts w. (ts ≡ w ∷ []) × Fresh names w) a (newName text names a)
+  pub name-derives : (names : List Name) (a : ℕ) → a ≤ length text → Derives written text (λ ts w. (ts ≡ w ∷ []) × Fresh names w) a (newName text names a)
   unfolding newName overLong is kindNumber
   name-derives names a h =
       token-prop P (tokenAt text a) _ (λ k q. tt)

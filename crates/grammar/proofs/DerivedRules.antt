@@ -5,7 +5,7 @@ use mathlib.Core.Bool.{Bool, true, false}
 use mathlib.Core.Option.{none, some}
 use Prim.Native.Nat.{ℕ, zero, suc, _+_, _-_, _≤_, _<_}
 use native.Mathlib.Omega.{arith}
-use lib.ListN.{length, getD, set, getElem?, length-set}
+use lib.ListN.{length, set, getElem?, length-set}
 use lib.Dec.{T, lt→ltb}
 use Rattle.limits.specs.Limits.{caseLimit, bracketLimit}
 use Rattle.lexer.specs.Bytes.{bytes, part, capitals}
@@ -13,7 +13,8 @@ use Rattle.lexer.specs.Token.{kindNumber, name, tilde, greater, plus, is}
 use Rattle.lexer.specs.Lexer.{tokenAt, overLong}
 use Rattle.lexer.specs.Names.{idOf}
 use Rattle.lexer.proofs.Laws.{cond-prop, token-at-moved}
-use Rattle.semantics.specs.Program.{Condition, Case, Rule, change, target, allTrue, UsableK, UsableR, AgreesR, AgreesAll, OrderedRules}
+use Rattle.semantics.specs.Program.{Condition, Case, Rule, Timer, change, target, allTrue, taken, timersKnown, UsableK, UsableR, AgreesR, AgreesAll, OrderedRules}
+use Rattle.semantics.proofs.Cells.{known-length}
 use Rattle.grammar.specs.Parsed.{Parsed, accepted, refused, phrase, followed}
 use Rattle.grammar.specs.Expressions.{Scope, withId, wholeExpression}
 use Rattle.grammar.specs.Forms.{valueOpening, functionClosing, formulaClosing, changeOpening, noChangeOpening, ruleOpening, turnedOpening, fallingOpening}
@@ -206,20 +207,20 @@ module _ (sc : Scope) (few : length (sc .names) ≤ 64) (lengths : length (sc .n
 
   -- ---- a rule, and all rules
 
-  -- a rule that is the first of its variable
-  abbrev pub First : Rule → Type 0
-  First r = (UsableR (sc .known) r × AgreesR r) × (target r < length (sc .known)) × (getD (sc .known) (target r) false ≡ false)
+  -- a rule that is the first of its variable, which is no timer
+  abbrev pub First : List Timer → Rule → Type 0
+  First ts r = (UsableR (sc .known) r × AgreesR r) × (target r < length (sc .known)) × (taken ts (sc .known) (target r) ≡ false)
 
   -- after its name, which stands from s up to n
-  pub rule-derives : (s n : ℕ) → n ≤ length (sc .text) → Derives normally (sc .text) (λ ts r. SpellsR (normals (sc .names)) (normal (part (sc .text) s n) ∷ ts) r × First r) n (ruleAt sc s n)
+  pub rule-derives : (xs : List Timer) (s n : ℕ) → n ≤ length (sc .text) → Derives normally (sc .text) (λ ts r. SpellsR (normals (sc .names)) (normal (part (sc .text) s n) ∷ ts) r × First xs r) n (ruleAt xs sc s n)
   unfolding ruleAt withId
-  rule-derives s n h =
+  rule-derives xs s n h =
       let u = part (sc .text) s n in
       let w = normal u in
-      let R : Parsed Rule → Type 0 = Derives normally (sc .text) (λ ts r. SpellsR (normals (sc .names)) (w ∷ ts) r × First r) n in
+      let R : Parsed Rule → Type 0 = Derives normally (sc .text) (λ ts r. SpellsR (normals (sc .names)) (w ∷ ts) r × First xs r) n in
       cond-prop R (overLong s n) _ _ (λ e. tt)
       (λ e. option-prop R (idOf (sc .names) u) _ _ (λ z. tt)
-      (λ v ev. cond-prop R (getD (sc .known) v false) _ _ (λ t. tt)
+      (λ v ev. cond-prop R (taken xs (sc .known) v) _ _ (λ t. tt)
       (λ t.
       let l : v < length (sc .known) = omega (arith, lengths, id-of (sc .names) u v ev) in
       let no = id-word (sc .names) good u v ev in
@@ -227,44 +228,44 @@ module _ (sc : Scope) (few : length (sc .names) ≤ 64) (lengths : length (sc .n
       let big : capitals w ≡ w = ap capitals seen-u ∙ (capitals-twice u ∙ sym seen-u) in
       let at-v = id-names (sc .names) u v no ev in
       rw (formulas-same sc u w (sym (capitals-twice u) ∙ ap capitals (sym seen-u)) v n)
-      (weaker normally (sc .text) (λ ts r. SpellsR (normals (sc .names)) (w ∷ ts) r × ScopedR w big v at-v r) (λ ts r. SpellsR (normals (sc .names)) (w ∷ ts) r × First r)
-      (λ ts r d. (d .0, ((d .1 .0, d .1 .1), subst (λ (x : ℕ). x < length (sc .known)) (sym (d .1 .2)) l, subst (λ (x : ℕ). getD (sc .known) x false ≡ false) (sym (d .1 .2)) t))) n (formulas sc w v n) (formulas-derive w big v at-v n h)))))
+      (weaker normally (sc .text) (λ ts r. SpellsR (normals (sc .names)) (w ∷ ts) r × ScopedR w big v at-v r) (λ ts r. SpellsR (normals (sc .names)) (w ∷ ts) r × First xs r)
+      (λ ts r d. (d .0, ((d .1 .0, d .1 .1), subst (λ (x : ℕ). x < length (sc .known)) (sym (d .1 .2)) l, subst (λ (x : ℕ). taken xs (sc .known) x ≡ false) (sym (d .1 .2)) t))) n (formulas sc w v n) (formulas-derive w big v at-v n h)))))
 
 -- rules from a place to another, after those done: in the order of work, if every variable has its rule in the end
-pub record RulesRead (text : List ℕ) (names : List (List ℕ)) (known : List Bool) (done : List Rule) (at end : ℕ) (read : Ruled) : Type 0 where
+pub record RulesRead (xs : List Timer) (text : List ℕ) (names : List (List ℕ)) (known : List Bool) (done : List Rule) (at end : ℕ) (read : Ruled) : Type 0 where
   pub more : List Rule
   pub is-more : read .rules ≡ done ++ more
   pub tokens : List (List ℕ)
   pub spells : Spells normal text at end tokens
   pub derives : SpellsRules (normals names) tokens more
-  pub ordered : T (allTrue (read .known)) → OrderedRules [] known more
+  pub ordered : T (allTrue (read .known)) → OrderedRules xs known more
   pub agrees : AgreesAll more
 
-abbrev pub RulesReads : List ℕ → List (List ℕ) → List Bool → List Rule → ℕ → Parsed Ruled → Type 0
-RulesReads text names known done at (accepted read n) = RulesRead text names known done at n read
-RulesReads text names known done at (refused k q) = Unit {0}
+abbrev pub RulesReads : List Timer → List ℕ → List (List ℕ) → List Bool → List Rule → ℕ → Parsed Ruled → Type 0
+RulesReads xs text names known done at (accepted read n) = RulesRead xs text names known done at n read
+RulesReads xs text names known done at (refused k q) = Unit {0}
 
-pub rules-derive : (f : ℕ) (sc : Scope) → length (sc .names) ≤ 64 → length (sc .names) ≡ length (sc .known) → Named (sc .names) → (done : List Rule) (at : ℕ) → at ≤ length (sc .text) → RulesReads (sc .text) (sc .names) (sc .known) done at (rulesFrom f sc done at)
+pub rules-derive : (f : ℕ) (xs : List Timer) (sc : Scope) → length (sc .names) ≤ 64 → length (sc .names) ≡ length (sc .known) → Named (sc .names) → (done : List Rule) (at : ℕ) → at ≤ length (sc .text) → RulesReads xs (sc .text) (sc .names) (sc .known) done at (rulesFrom f xs sc done at)
 unfolding rulesFrom is kindNumber
-rules-derive zero sc few lengths good done at h = tt
-rules-derive (suc f) sc few lengths good done at h =
+rules-derive zero xs sc few lengths good done at h = tt
+rules-derive (suc f) xs sc few lengths good done at h =
     token-prop R (tokenAt (sc .text) at) _ (λ k q. tt)
     (λ k s n et.
     let mv = token-at-moved (sc .text) at k s n h et in
     cond-prop R (is k name) _ _
-    (λ e. then-prop R (ruleAt sc s n) _ (λ k q. tt)
+    (λ e. then-prop R (ruleAt xs sc s n) _ (λ k q. tt)
     (λ r m er.
-    let d = subst (Derives normally (sc .text) (λ ts r. SpellsR (normals (sc .names)) (normal (part (sc .text) s n) ∷ ts) r × First sc few lengths good r) n) er (rule-derives sc few lengths good s n (mv .2)) in
+    let d = subst (Derives normally (sc .text) (λ ts r. SpellsR (normals (sc .names)) (normal (part (sc .text) s n) ∷ ts) r × First sc few lengths good xs r) n) er (rule-derives sc few lengths good xs s n (mv .2)) in
     let i = spells-in normally (sc .text) n m (d .tokens) (mv .2) (d .spells) .1 in
-    let l = lengths ∙ sym (length-set (sc .known) (target r) true) in
+    let l = lengths ∙ sym (known-length (target r) xs (set (sc .known) (target r) true) ∙ length-set (sc .known) (target r) true) in
     next (normal (part (sc .text) s n)) n m r (sign-stands normally (sc .text) name refl at k s n h et e .0) d
-    (rulesFrom f (ruled sc (target r)) (done ++ (r ∷ [])) m) (rules-derive f (ruled sc (target r)) few l good (done ++ (r ∷ [])) m i)))
+    (rulesFrom f xs (ruled xs sc (target r)) (done ++ (r ∷ [])) m) (rules-derive f xs (ruled xs sc (target r)) few l good (done ++ (r ∷ [])) m i)))
     (λ e. record { more = []; is-more = sym (append-nil done); tokens = []; spells = refl; derives = S.SpellsRules.none; ordered = λ t. t; agrees = tt }))
   where
     R : Parsed Ruled → Type 0
-    R p = RulesReads (sc .text) (sc .names) (sc .known) done at p
+    R p = RulesReads xs (sc .text) (sc .names) (sc .known) done at p
 
-    next : (w : List ℕ) (n m : ℕ) (r : Rule) → Stands normal (sc .text) at n w → Derived normally (sc .text) (λ ts r. SpellsR (normals (sc .names)) (w ∷ ts) r × First sc few lengths good r) n m r → (p : Parsed Ruled) → RulesReads (sc .text) (sc .names) (set (sc .known) (target r) true) (done ++ (r ∷ [])) m p → R p
+    next : (w : List ℕ) (n m : ℕ) (r : Rule) → Stands normal (sc .text) at n w → Derived normally (sc .text) (λ ts r. SpellsR (normals (sc .names)) (w ∷ ts) r × First sc few lengths good xs r) n m r → (p : Parsed Ruled) → RulesReads xs (sc .text) (sc .names) (timersKnown (target r) xs (set (sc .known) (target r) true)) (done ++ (r ∷ [])) m p → R p
     next w n m r st d (accepted read i) q =
         let f = d .derives .1 in
         record {

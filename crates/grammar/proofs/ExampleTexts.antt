@@ -65,7 +65,7 @@ abbrev short : String
 short = "abcdefghijklmnop"
 
 -- n inputs a0, a1, ..
-abbrev inputs : ℕ → List ℕ
+abbrev pub inputs : ℕ → List ℕ
 inputs zero = []
 inputs (suc n) = inputs n ++ bytes "input " ++ ((97 + n / 10) ∷ (48 + n % 10) ∷ bytes " 0..0;")
 
@@ -264,11 +264,12 @@ recasedRule = recased ++ bytes "run: GX(run = _run -> ~([_run = 0 & go = 1])); "
 abbrev pub letterCases : List Example
 letterCases =
     fine recasedRule
-    ∷ fine (bytes "input moda 0..1; input limit 0..1; input Timer 0..1;")
+    ∷ fine (bytes "input moda 0..1; input limits 0..1; input Timer1 0..1;")
     ∷ at (bytes "input a 0..1; input ") 4 "A 0..1;"
     ∷ at (bytes "input day 0..9; input ") 4 "Day 0..9;"
     ∷ at [] 2 "Input a 0..1;"
     ∷ at (bytes "input ") 2 "Var 0..1;"
+    ∷ at (bytes "input ") 2 "Timer 0..1;"
     ∷ at (bytes "input a 0..1 ") 2 "INIT 0;"
     ∷ at (one ++ bytes "v: ") 2 "gx(v = (1));"
     ∷ at (one ++ bytes "v: GX(v = (_v ") 2 "MOD 2));"

@@ -12,17 +12,19 @@ use Rattle.lexer.specs.Token.{is, kindNumber}
 use Rattle.lexer.specs.Lexer.{isSpace, isDigit, isLetter, isAlphanumeric, runOn, runEnd, sameName, grammarWord, exactWord, wordOf, overLong, pairOf, signOf, readOf, signAt, wordAt, digitsAt, previousAt, tokenOf, tokenPast, tokenAt, sameSpelling, sameToken, valueOn, valueOf}
 use Rattle.lexer.specs.Names.{idFrom, idOf}
 use Rattle.leb128.specs.Numbers.{number, groups, zigzag}
-use Rattle.semantics.specs.Program.{Program}
+use Rattle.semantics.specs.Program.{Program, isBinary}
 use Rattle.bytecode.specs.Translation.{imageOf}
 use Rattle.grammar.specs.Parsed.{expected, phrase, followed, rest, chain}
 use Rattle.grammar.specs.Expressions.{withId, currentAt, previousValueAt as previousIn, constantAt, primary, negative, factor, productOf, sumOf, term, expression, bracket, wholeExpression}
 use Rattle.grammar.specs.Conditions.{comparisonBy, compared, comparisonAt, opposite, inverted, atom, connect, andOf, orOf, conjunction, condition, square, wholeCondition, listed}
 use Rattle.grammar.specs.Declarations.{inRange, signedDigits, boundAt, newName, startAt, declaration, declarationsFrom, declarations}
+use Rattle.grammar.specs.Timers.{isWatchable, watchedAt, limitAt, timerDeclaration, timersFrom}
 use Rattle.grammar.specs.Rules.{caseAt, casesFrom, listFrom, plainList, partFrom, kindAt, partsFrom, firstFound, agreeingList, functionAt, changeAt, pairAt, formulaAt, formulas, ruleAt, rulesFrom}
 use Rattle.grammar.specs.Watches.{laterAt, afterFirst, watchAt, watchesFrom}
 use Rattle.grammar.specs.Parse.{endAt, program, parse, programOf}
 use Rattle.grammar.proofs.ExampleTexts.{Example, numberOrder, afterChange, otherTokens, longNames, manyNames, missingRules, numbers, longestMatch, manyBrackets, manyCases, letterCases, recasedRule, pairTexts, examples, round, computing}
 use Rattle.grammar.proofs.WatchTexts.{ruled, watchTexts}
+use Rattle.grammar.proofs.TimerTexts.{wrongTimers, timerForms, timerRules}
 use Rattle.grammar.proofs.Bytes.{heads, tails}
 
 -- ---- the two statements
@@ -68,7 +70,7 @@ hold (e ∷ es) h = (heads h, hold es (tails h))
 
 -- what a computation opens
 opened : Unit {0}
-unfolding isSpace isDigit isLetter isAlphanumeric runOn runEnd capital capitals sameName sameBytes grammarWord exactWord wordOf overLong pairOf signOf readOf signAt wordAt digitsAt previousAt tokenOf tokenPast tokenAt sameSpelling sameToken valueOn valueOf is kindNumber idFrom idOf expected phrase followed rest chain withId currentAt previousIn constantAt primary negative factor productOf sumOf term expression bracket wholeExpression comparisonBy compared comparisonAt opposite inverted atom connect andOf orOf conjunction condition square wholeCondition listed inRange signedDigits boundAt newName startAt declaration declarationsFrom declarations caseAt casesFrom listFrom plainList partFrom kindAt partsFrom firstFound agreeingList functionAt changeAt pairAt formulaAt formulas ruleAt rulesFrom laterAt afterFirst watchAt watchesFrom endAt program parse programOf imageOf number groups zigzag
+unfolding isSpace isDigit isLetter isAlphanumeric runOn runEnd capital capitals sameName sameBytes grammarWord exactWord wordOf overLong pairOf signOf readOf signAt wordAt digitsAt previousAt tokenOf tokenPast tokenAt sameSpelling sameToken valueOn valueOf is kindNumber idFrom idOf expected phrase followed rest chain withId currentAt previousIn constantAt primary negative factor productOf sumOf term expression bracket wholeExpression comparisonBy compared comparisonAt opposite inverted atom connect andOf orOf conjunction condition square wholeCondition listed inRange signedDigits boundAt newName startAt declaration declarationsFrom declarations isBinary isWatchable watchedAt limitAt timerDeclaration timersFrom caseAt casesFrom listFrom plainList partFrom kindAt partsFrom firstFound agreeingList functionAt changeAt pairAt formulaAt formulas ruleAt rulesFrom laterAt afterFirst watchAt watchesFrom endAt program parse programOf imageOf number groups zigzag
 opened = tt
 
 numberOrder-computed : answersOf numberOrder ≡ wanted numberOrder
@@ -159,6 +161,21 @@ watchTexts-computed = refl
 pub watch-texts-hold : Every Holds watchTexts
 watch-texts-hold = hold watchTexts watchTexts-computed
 
+wrongTimers-computed : answersOf wrongTimers ≡ wanted wrongTimers
+unfolding opened
+wrongTimers-computed = refl
+
+timerForms-computed : answersOf timerForms ≡ wanted timerForms
+unfolding opened
+timerForms-computed = refl
+
+timerRules-computed : answersOf timerRules ≡ wanted timerRules
+unfolding opened
+timerRules-computed = refl
+
+pub timer-texts-hold : Every (Every Holds) (wrongTimers ∷ timerForms ∷ timerRules ∷ [])
+timer-texts-hold = (hold wrongTimers wrongTimers-computed, (hold timerForms timerForms-computed, (hold timerRules timerRules-computed, tt)))
+
 -- ---- the limit of a text
 
 -- a text over its limit is 9, before all else
@@ -196,6 +213,19 @@ latches =
     ∷ record {
       text = ruled ++ bytes "watch: G([v < 2]); watch: G([i = 1] -> X([v > _v]));";
       image = 0x01 ∷ 0x01 ∷ 0x00 ∷ 0x02 ∷ 0x00 ∷ 0x00 ∷ 0x12 ∷ 0x00 ∷ 0x03 ∷ 0x01 ∷ 0x02 ∷ 0x00 ∷ 0x04 ∷ 0x15 ∷ 0x01 ∷ [];
+    }
+    -- timers (document 02, A.7): directly after the rule of w; a limit of four groups
+    ∷ record {
+      text = bytes "input In 0..1; var W 0..1; timer Q of W limit 5000; W: GX(W = (In));";
+      image = 0x01 ∷ 0x02 ∷ 0x00 ∷ 0x02 ∷ 0x00 ∷ 0x00 ∷ 0x02 ∷ 0x00 ∷ 0x00 ∷ 0x02 ∷ 0x00 ∷ 0x02 ∷ 0x00 ∷ 0x15 ∷ 0x01 ∷ 0x17 ∷ 0x02 ∷ 0x01 ∷ 0x88 ∷ 0x27 ∷ [];
+    }
+    ∷ record {
+      text = bytes "input i 0..1; var w 0..1; timer t of w limit 2147483647; w: GX(w = (i));";
+      image = 0x01 ∷ 0x02 ∷ 0x00 ∷ 0x02 ∷ 0x00 ∷ 0x00 ∷ 0x02 ∷ 0x00 ∷ 0x00 ∷ 0x02 ∷ 0x00 ∷ 0x02 ∷ 0x00 ∷ 0x15 ∷ 0x01 ∷ 0x17 ∷ 0x02 ∷ 0x01 ∷ 0xff ∷ 0xff ∷ 0xff ∷ 0xff ∷ 0x07 ∷ [];
+    }
+    ∷ record {
+      text = bytes "input i 0..1; var w 0..1; var y 0..1; timer t of w limit 3; timer u of y limit 2; y: GX(y = (i)); w: GX(w = (y * u));";
+      image = 0x01 ∷ 0x04 ∷ 0x00 ∷ 0x02 ∷ 0x00 ∷ 0x00 ∷ 0x02 ∷ 0x00 ∷ 0x00 ∷ 0x02 ∷ 0x00 ∷ 0x00 ∷ 0x02 ∷ 0x00 ∷ 0x00 ∷ 0x02 ∷ 0x00 ∷ 0x02 ∷ 0x00 ∷ 0x15 ∷ 0x02 ∷ 0x17 ∷ 0x04 ∷ 0x02 ∷ 0x02 ∷ 0x02 ∷ 0x02 ∷ 0x02 ∷ 0x04 ∷ 0x06 ∷ 0x15 ∷ 0x01 ∷ 0x17 ∷ 0x03 ∷ 0x01 ∷ 0x03 ∷ [];
     }
     -- the comparisons
     ∷ record {

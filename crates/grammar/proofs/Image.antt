@@ -2,13 +2,16 @@
 -- Assumes nothing.
 use mathlib.Core.Path.{_≡_, refl}
 use mathlib.Core.List.{List, [], _∷_, _++_, map, append-assoc, append-nil}
+use mathlib.Core.Bool.{Bool, true, false, cond}
 use Prim.Native.Nat.{ℕ}
 use lib.ListN.{length-map}
-use Rattle.semantics.specs.Program.{Name, Expression, constant, current, previous, operation, negate, Condition, comparison, negated, both, either, Case, Rule, function, change, Program}
-use Rattle.bytecode.specs.Instructions.{Instruction, encodeAll}
-use Rattle.bytecode.specs.Translation.{imageOf, encodeRanges, codeRules}
+use lib.Dec.{eqb}
+use Rattle.leb128.specs.Numbers.{number}
+use Rattle.semantics.specs.Program.{Name, Expression, constant, current, previous, operation, negate, Condition, comparison, negated, both, either, Case, Rule, function, change, Timer, Program}
+use Rattle.bytecode.specs.Instructions.{Instruction, timer, encodeAll}
+use Rattle.bytecode.specs.Translation.{imageOf, encodeRanges, codeT, codeRules}
 use Rattle.bytecode.specs.Translation as B
-use Rattle.grammar.specs.Inner.Bytes.{bytesE, bytesC, bytesK, bytesR, header, image}
+use Rattle.grammar.specs.Inner.Bytes.{bytesE, bytesC, bytesK, bytesT, bytesR, header, image}
 
 pub encode-append : (xs ys : List Instruction) → encodeAll (xs ++ ys) ≡ encodeAll xs ++ encodeAll ys
 encode-append [] ys = refl
@@ -35,18 +38,27 @@ cases-emitted v [] = refl
 cases-emitted v (k ∷ ks) =
     simp (condition-emitted (k .condition), expression-emitted (k .value), cases-emitted v ks, encode-append, append-assoc)
 
-pub rules-emitted : (rs : List Rule) → bytesR rs ≡ encodeAll (codeRules [] rs)
+pub timers-emitted : (v : ℕ) (ts : List Timer) → bytesT v ts ≡ encodeAll (codeT v ts)
+unfolding bytesT
+timers-emitted v [] = refl
+timers-emitted v (x ∷ xs) = go (eqb (x .watched) v) (bytesT v xs) (timers-emitted v xs)
+  where
+    go : (b : Bool) (rest : List ℕ) → rest ≡ encodeAll (codeT v xs) → cond b (23 ∷ (number (x .id) ++ (number v ++ (number (x .limit) ++ rest)))) rest ≡ encodeAll (cond b (timer (x .id) v (x .limit) ∷ codeT v xs) (codeT v xs))
+    go true rest e = simp (e, append-assoc)
+    go false rest e = e
+
+pub rules-emitted : (ts : List Timer) (rs : List Rule) → bytesR ts rs ≡ encodeAll (codeRules ts rs)
 unfolding bytesR
-rules-emitted [] = refl
-rules-emitted (function v e ∷ rs) = simp (expression-emitted e, rules-emitted rs, encode-append, append-assoc)
-rules-emitted (change v ks cs ∷ rs) = simp (cases-emitted v ks, rules-emitted rs, encode-append, append-assoc)
+rules-emitted ts [] = refl
+rules-emitted ts (function v e ∷ rs) = simp (expression-emitted e, timers-emitted v ts, rules-emitted ts rs, encode-append, append-assoc)
+rules-emitted ts (change v ks cs ∷ rs) = simp (cases-emitted v ks, timers-emitted v ts, rules-emitted ts rs, encode-append, append-assoc)
 
 pub header-emitted : (names : List Name) → header names ≡ encodeRanges (map (λ n. n .range) names)
 unfolding header
 header-emitted [] = refl
 header-emitted (x ∷ l) = rw (header-emitted l)
 
--- what is emitted for a program without timers is its image
-pub image-emitted : (p : Program) → p .timers ≡ [] → image p ≡ imageOf p
+-- what is emitted for a program is its image
+pub image-emitted : (p : Program) → image p ≡ imageOf p
 unfolding image imageOf
-image-emitted p none = rw none (simp (rules-emitted (p .rules), header-emitted (p .names), length-map, append-assoc))
+image-emitted p = simp (rules-emitted (p .timers) (p .rules), header-emitted (p .names), length-map, append-assoc)

@@ -7,7 +7,7 @@ use Prim.Native.Nat.{ℕ, zero, suc, _+_}
 use native.Mathlib.Omega.{arith}
 use lib.ListN.{length, getElem?}
 use Rattle.lexer.specs.Bytes.{bytes, sameBytes, capital, capitals}
-use Rattle.lexer.specs.Token.{Kind, kindNumber, unknown, ending, name, previous, digits, inputWord, varWord, initWord, modWord, nextWord, dots, arrow, lessEqual, greaterEqual, notEqual, semicolon, colon, openRound, closeRound, openSquare, closeSquare, tilde, ampersand, bar, equals, less, greater, plus, minus, star, slash, otherCase, watchWord, alwaysWord, afterWord, is}
+use Rattle.lexer.specs.Token.{Kind, kindNumber, unknown, ending, name, previous, digits, inputWord, varWord, initWord, modWord, nextWord, dots, arrow, lessEqual, greaterEqual, notEqual, semicolon, colon, openRound, closeRound, openSquare, closeSquare, tilde, ampersand, bar, equals, less, greater, plus, minus, star, slash, otherCase, watchWord, alwaysWord, afterWord, timerWord, ofWord, limitWord, is}
 use Rattle.lexer.specs.Lexer.{isDigit, sameName, grammarWord, sameSpelling}
 use Rattle.lexer.specs.Names.{idFrom, idOf}
 use Rattle.lexer.specs.Spelling.{AllBytes, IsDigits, SpellsName, IsPrevious, Spelling}
@@ -116,6 +116,9 @@ other-seen otherCase w e f h = normal-word w (word-some w (h .some-word))
 other-seen watchWord w e f h = rw h
 other-seen alwaysWord w e f h = rw h
 other-seen afterWord w e f h = rw h
+other-seen timerWord w e f h = rw h
+other-seen ofWord w e f h = rw h
+other-seen limitWord w e f h = rw h
 
 module _ (k : Kind) where
   -- a kind is a name's, a previous value's, or another

@@ -1,32 +1,34 @@
--- Where a refusal of declarations, of rules, of watches and of a whole text stands: its place is within the text, and its number is a fault's.
+-- Where a refusal of declarations, of timers, of rules, of watches and of a whole text stands: its place is within the text, and its number is a fault's.
 -- Assumes nothing.
 use mathlib.Core.Path.{_≡_, refl}
 use mathlib.Core.List.{List, [], _∷_, _++_}
 use mathlib.Core.Bool.{Bool, true, false, _&&_, cond}
 use Prim.Native.Nat.{ℕ, zero, suc, _-_, _≤_}
 use native.Mathlib.Omega.{arith}
-use lib.ListN.{length, getD}
+use lib.ListN.{length}
 use lib.Dec.{ltb, leb, eqb}
 use lib.IntN.{ℤ, pos, negℤ}
 use lib.Signed.{leZ}
 use borrow.Author.Tests.{ltb-false}
-use Rattle.limits.specs.Limits.{caseLimit, textLimit, nameLimit, watchLimit}
+use Rattle.limits.specs.Limits.{caseLimit, textLimit, nameLimit, timeLimit, watchLimit}
 use Rattle.limits.specs.Answer as A
 use Rattle.arith.specs.Values.{isInt32}
 use Rattle.lexer.specs.Bytes.{part}
-use Rattle.lexer.specs.Token.{Kind, name, ending, digits, openSquare, tilde, bar, plus, minus, initWord, semicolon, closeRound, arrow, is, TokenRead, token, fault, inputWord, varWord, watchWord}
+use Rattle.lexer.specs.Token.{Kind, name, ending, digits, openSquare, tilde, bar, plus, minus, initWord, semicolon, closeRound, arrow, is, TokenRead, token, fault, inputWord, varWord, timerWord, watchWord}
 use Rattle.lexer.specs.Lexer.{tokenAt, sameToken, overLong, valueOf}
 use Rattle.lexer.specs.Names.{idOf}
 use Rattle.lexer.proofs.Laws.{cond-prop, Moved, token-moved, Faulted, token-faulted}
-use Rattle.semantics.specs.Program.{Name, Condition, Rule, Watch, Program, target, allTrue, knownFirst, free}
-use Rattle.grammar.specs.Parsed.{Parsed, accepted, refused, andThen, onToken, phrase, itemBound}
-use Rattle.grammar.specs.Expressions.{Scope, wholeExpression}
+use Rattle.semantics.specs.Program.{Name, Condition, Timer, Rule, Watch, Program, target, allTrue, taken, knownFirst, free}
+use Rattle.grammar.specs.Parsed.{Parsed, accepted, refused, andThen, onToken, phrase, followed, itemBound}
+use Rattle.grammar.specs.Expressions.{Scope, withId, wholeExpression}
 use Rattle.grammar.specs.Conditions.{listed}
 use Rattle.grammar.specs.Declarations.{inRange, signedDigits, boundAt, spellings, newName, startAt, declaration, declarationsFrom, declarations}
+use Rattle.grammar.specs.Timers.{timerName, WithTimers, isWatchable, watchedAt, limitAt, timerDeclaration, timersFrom}
 use Rattle.grammar.specs.Rules.{Spanned, caseAt, casesFrom, listFrom, plainList, Compared, agrees, differs, onCompared, onFound, onWanted, partFrom, kindAt, partsFrom, firstFound, agreeingList, functionAt, changeAt, pairAt, formulaAt, formulas, ruleAt, ruled, rulesFrom}
 use Rattle.grammar.specs.Watches.{laterAt, afterFirst, watchAt, watchesFrom}
-use Rattle.grammar.specs.Accepts.{IsFault, one-to-nine, a-watch}
+use Rattle.grammar.specs.Accepts.{IsFault, one-to-nine, a-timer, a-watch}
 use Rattle.grammar.specs.Parse.{endAt, program, parse, answerOf, programOf}
+use Rattle.grammar.proofs.Combine.{option-prop}
 use Rattle.grammar.proofs.Places.{Within, then-within, cond-within, option-within, token-within, phrase-within, followed-within, id-within, whole-expression-within, listed-within}
 
 -- ---- declarations
@@ -208,20 +210,20 @@ module _ (sc : Scope) where
   unfolding formulas
   formulas-within w v at h = token-within (sc .text) at _ h (λ k s n l m. cond-within (length (sc .text)) (is k plus) _ _ (pair-within w v n m) (formula-within w v at h))
 
-  rule-within : (s n : ℕ) → s ≤ length (sc .text) → n ≤ length (sc .text) → Within (length (sc .text)) (ruleAt sc s n)
+  rule-within : (xs : List Timer) (s n : ℕ) → s ≤ length (sc .text) → n ≤ length (sc .text) → Within (length (sc .text)) (ruleAt xs sc s n)
   unfolding ruleAt
-  rule-within s n l m =
+  rule-within xs s n l m =
       id-within sc s s n _ l
-      (λ v. cond-within (length (sc .text)) (getD (sc .known) v false) _ _ (omega arith, omega arith, l) (formulas-within (part (sc .text) s n) v n m))
+      (λ v. cond-within (length (sc .text)) (taken xs (sc .known) v) _ _ (omega arith, omega arith, l) (formulas-within (part (sc .text) s n) v n m))
 
-rules-within : (f : ℕ) (sc : Scope) (done : List Rule) (at : ℕ) → at ≤ length (sc .text) → Within (length (sc .text)) (rulesFrom f sc done at)
+rules-within : (f : ℕ) (xs : List Timer) (sc : Scope) (done : List Rule) (at : ℕ) → at ≤ length (sc .text) → Within (length (sc .text)) (rulesFrom f xs sc done at)
 unfolding rulesFrom
-rules-within zero sc done at h = (omega arith, omega arith, h)
-rules-within (suc f) sc done at h =
+rules-within zero xs sc done at h = (omega arith, omega arith, h)
+rules-within (suc f) xs sc done at h =
     token-within (sc .text) at _ h
     (λ k s n l m.
     cond-within (length (sc .text)) (is k name) _ _
-    (then-within (length (sc .text)) (ruleAt sc s n) _ (rule-within sc s n l m) (λ r e i. rules-within f (ruled sc (target r)) (done ++ (r ∷ [])) e i))
+    (then-within (length (sc .text)) (ruleAt xs sc s n) _ (rule-within sc xs s n l m) (λ r e i. rules-within f xs (ruled xs sc (target r)) (done ++ (r ∷ [])) e i))
     h)
 
 -- ---- watches
@@ -240,7 +242,7 @@ module _ (sc : Scope) where
       (λ u n1 h1. then-within (length (sc .text)) (listed sc n1) _ (listed-within sc n1 h1)
       (λ c n2 h2. token-within (sc .text) n2 _ h2 (λ k s n l m. cond-within (length (sc .text)) (is k arrow) _ _ (later-within c n m) (followed-within (sc .text) _ _ n2 h2))))
 
--- ---- the whole text
+-- ---- refusals of any number of a text's
 
 -- what is accepted ends within len bytes; a refusal has the number of a fault and its place is within them, or at their end
 abbrev pub Placed : {A : Type 0} → ℕ → Parsed A → Type 0
@@ -255,21 +257,65 @@ then-placed : {A B : Type 0} (len : ℕ) (p : Parsed A) (f : A → ℕ → Parse
 then-placed len (accepted a n) f h g = g a n h
 then-placed len (refused k q) f h g = h
 
+token-placed : {A : Type 0} (text : List ℕ) (at : ℕ) (f : Kind → ℕ → ℕ → Parsed A) → at ≤ length text → ((k : Kind) (s n : ℕ) → s ≤ length text → n ≤ length text → Placed (length text) (f k s n)) → Placed (length text) (onToken (tokenAt text at) f)
+token-placed text at f h g = go (tokenAt text at) (token-moved text at h) (token-faulted text at)
+  where
+    go : (r : TokenRead) → Moved at (length text) r → Faulted (length text) r → Placed (length text) (onToken r f)
+    go (token k s n) m e = g k s n (omega (arith, m .1, m .2)) (m .2)
+    go (fault p) m e = (one-to-nine (omega arith) (omega arith), omega arith)
+
 pub watches-placed : (left : ℕ) (sc : Scope) (done : List Watch) (at : ℕ) → at ≤ length (sc .text) → Placed (length (sc .text)) (watchesFrom left sc done at)
 unfolding watchesFrom
-watches-placed zero sc done at h = go (tokenAt (sc .text) at) (token-moved (sc .text) at h) (token-faulted (sc .text) at)
-  where
-    go : (r : TokenRead) → Moved at (length (sc .text)) r → Faulted (length (sc .text)) r → Placed (length (sc .text)) (onToken r (λ k s n. cond (is k watchWord) (refused 30 s) (accepted done at)))
-    go (token k s n) m e = cond-prop (Placed (length (sc .text))) (is k watchWord) _ _ (λ t. (a-watch refl, omega (arith, m .1, m .2))) (λ t. h)
-    go (fault p) m e = (one-to-nine (omega arith) (omega arith), omega arith)
-watches-placed (suc left) sc done at h = go (tokenAt (sc .text) at) (token-moved (sc .text) at h) (token-faulted (sc .text) at) (λ w m i. watches-placed left sc (done ++ (w ∷ [])) m i)
-  where
-    go : (r : TokenRead) → Moved at (length (sc .text)) r → Faulted (length (sc .text)) r → ((w : Watch) (m : ℕ) → m ≤ length (sc .text) → Placed (length (sc .text)) (watchesFrom left sc (done ++ (w ∷ [])) m))
-        → Placed (length (sc .text)) (onToken r (λ k s n. cond (is k watchWord) (andThen (watchAt sc n) (λ w m. watchesFrom left sc (done ++ (w ∷ [])) m)) (accepted done at)))
-    go (token k s n) m e ih =
-        cond-prop (Placed (length (sc .text))) (is k watchWord) _ _
-        (λ t. then-placed (length (sc .text)) (watchAt sc n) _ (placed (length (sc .text)) (watchAt sc n) (watch-within sc n (m .2))) ih) (λ t. h)
-    go (fault p) m e ih = (one-to-nine (omega arith) (omega arith), omega arith)
+watches-placed zero sc done at h = token-placed (sc .text) at _ h (λ k s n l m. cond-prop (Placed (length (sc .text))) (is k watchWord) _ _ (λ t. (a-watch refl, l)) (λ t. h))
+watches-placed (suc left) sc done at h =
+    token-placed (sc .text) at _ h
+    (λ k s n l m. cond-prop (Placed (length (sc .text))) (is k watchWord) _ _
+    (λ t. then-placed (length (sc .text)) (watchAt sc n) _ (placed (length (sc .text)) (watchAt sc n) (watch-within sc n m)) (λ w e i. watches-placed left sc (done ++ (w ∷ [])) e i)) (λ t. h))
+
+-- ---- timers
+
+module _ (text : List ℕ) (inputs first : ℕ) where
+  watched-placed : (names : List Name) (at : ℕ) → at ≤ length text → Placed (length text) (watchedAt text inputs first names at)
+  unfolding watchedAt withId
+  watched-placed names at h =
+      token-placed text at _ h
+      (λ k s n l m. cond-prop P (is k name) _ _
+      (λ e. cond-prop P (overLong s n) _ _ (λ t. (one-to-nine (omega arith) (omega arith), l))
+      (λ t. option-prop P (idOf (spellings names) (part text s n)) _ _ (λ z. (one-to-nine (omega arith) (omega arith), l))
+      (λ i ei. cond-prop P (isWatchable inputs first names i) _ _ (λ t. m) (λ t. (a-timer refl, l)))))
+      (λ e. (one-to-nine (omega arith) (omega arith), l)))
+    where
+      P : Parsed ℕ → Type 0
+      P p = Placed (length text) p
+
+  limit-within : (at : ℕ) → at ≤ length text → Within (length text) (limitAt text at)
+  unfolding limitAt
+  limit-within at h =
+      token-within text at _ h
+      (λ k s n l m.
+      let v = valueOf (part text s n) in
+      cond-within (length text) (is k digits) _ _ (cond-within (length text) (leb 1 v && leb v timeLimit) _ _ m (omega arith, omega arith, l)) (omega arith, omega arith, l))
+
+  pub timer-placed : (x : WithTimers) (at : ℕ) → at ≤ length text → Placed (length text) (timerDeclaration text inputs first x at)
+  unfolding timerDeclaration
+  timer-placed x at h =
+      let len = length text in
+      then-placed len (newName text (x .names) at) _ (placed len (newName text (x .names) at) (name-within text (x .names) at h))
+      (λ t n1 h1. then-placed len (phrase text _ n1) _ (placed len (phrase text _ n1) (phrase-within text _ n1 h1))
+      (λ u n2 h2. then-placed len (watchedAt text inputs first (x .names ++ (timerName t ∷ [])) n2) _ (watched-placed (x .names ++ (timerName t ∷ [])) n2 h2)
+      (λ w n3 h3. then-placed len (phrase text _ n3) _ (placed len (phrase text _ n3) (phrase-within text _ n3 h3))
+      (λ u n4 h4. then-placed len (limitAt text n4) _ (placed len (limitAt text n4) (limit-within n4 h4))
+      (λ n n5 h5. placed len (followed text _ _ n5) (followed-within text _ _ n5 h5))))))
+
+  pub timers-placed : (f : ℕ) (x : WithTimers) (at : ℕ) → at ≤ length text → Placed (length text) (timersFrom f text inputs first x at)
+  unfolding timersFrom
+  timers-placed zero x at h = h
+  timers-placed (suc f) x at h =
+      token-placed text at _ h
+      (λ k s n l m. cond-prop (Placed (length text)) (is k timerWord) _ _
+      (λ t. then-placed (length text) (timerDeclaration text inputs first x n) _ (timer-placed x n m) (λ y e i. timers-placed f y e i)) (λ t. h))
+
+-- ---- the whole text
 
 end-within : (text : List ℕ) (known : List Bool) (at : ℕ) → at ≤ length text → Within (length text) (endAt text known at)
 unfolding endAt
@@ -283,11 +329,13 @@ program-placed text =
     let len = length text in
     then-placed len (declarations inputWord text [] 0) _ (placed len (declarations inputWord text [] 0) (declarations-within text itemBound inputWord [] 0 (omega arith)))
     (λ inputs n1 h1. then-placed len (declarations varWord text inputs n1) _ (placed len (declarations varWord text inputs n1) (declarations-within text itemBound varWord inputs n1 h1))
-    (λ names n2 h2.
-    let sc : Scope = record { text = text; names = spellings names; known = knownFirst (length inputs) (length names) } in
-    then-placed len (rulesFrom itemBound sc [] n2) _ (placed len (rulesFrom itemBound sc [] n2) (rules-within itemBound sc [] n2 h2))
-    (λ ruled n3 h3. then-placed len (watchesFrom watchLimit (record { text = text; names = spellings names; known = free (length names) }) [] n3) _ (watches-placed watchLimit (record { text = text; names = spellings names; known = free (length names) }) [] n3 h3)
-    (λ watches n4 h4. then-placed len (endAt text (ruled .known) n4) _ (placed len (endAt text (ruled .known) n4) (end-within text (ruled .known) n4 h4)) (λ u n5 h5. h5)))))
+    (λ names n2 h2. then-placed len (timersFrom itemBound text (length inputs) (length names) (record { names = names; timers = [] }) n2) _ (timers-placed text (length inputs) (length names) itemBound (record { names = names; timers = [] }) n2 h2)
+    (λ x n3 h3.
+    let sc : Scope = record { text = text; names = spellings (x .names); known = knownFirst (length inputs) (length (x .names)) } in
+    let sw : Scope = record { text = text; names = spellings (x .names); known = free (length (x .names)) } in
+    then-placed len (rulesFrom itemBound (x .timers) sc [] n3) _ (placed len (rulesFrom itemBound (x .timers) sc [] n3) (rules-within itemBound (x .timers) sc [] n3 h3))
+    (λ ruled n4 h4. then-placed len (watchesFrom watchLimit sw [] n4) _ (watches-placed watchLimit sw [] n4 h4)
+    (λ watches n5 h5. then-placed len (endAt text (ruled .known) n5) _ (placed len (endAt text (ruled .known) n5) (end-within text (ruled .known) n5 h5)) (λ u n6 h6. h6))))))
 
 parse-placed : (text : List ℕ) → Placed (length text) (parse text)
 unfolding parse
@@ -316,4 +364,5 @@ program-refused text number place = go (parse text) (parse-placed text)
 -- 10 is none of a text's
 pub not-ten : (number : ℕ) → IsFault number → number ≡ 10 → ⊥
 not-ten number (one-to-nine h g) e = omega (arith, h, g, e)
+not-ten number (a-timer h) e = omega (arith, h, e)
 not-ten number (a-watch h) e = omega (arith, h, e)

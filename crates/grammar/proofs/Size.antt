@@ -1,11 +1,11 @@
--- The image of an accepted text: twice its bytes are at most three times the text's, and four; by the tokens that spell it. Assumes
+-- The bytes of each part of an accepted text's image: twice these are at most three times the part's own; by the tokens that spell it. Assumes
 -- nothing.
 use mathlib.Core.Path.{_≡_, refl, subst, sym}
 use mathlib.Core.List.{List, [], _∷_, _++_}
 use mathlib.Core.Bool.{true, false}
 use Prim.Native.Nat.{ℕ, zero, suc, _+_, _-_, _*_, _≤_, _<_}
 use native.Mathlib.Omega.{arith}
-use lib.ListN.{length, getD, length-append, length-map}
+use lib.ListN.{length, length-append, length-map}
 use lib.IntN.{ℤ, pos, negℤ}
 use Rattle.limits.specs.Limits.{caseLimit, bracketLimit}
 use Rattle.leb128.specs.Numbers.{number, zigzag}
@@ -15,16 +15,16 @@ use Rattle.lexer.specs.Lexer.{tokenAt, overLong, valueOf, sameName}
 use Rattle.lexer.specs.Names.{idOf}
 use Rattle.lexer.proofs.Laws.{cond-prop, token-at-moved}
 use Rattle.lexer.proofs.Same.{both-true}
-use Rattle.semantics.specs.Program.{Name, Case, Rule, function, change, Program}
+use Rattle.semantics.specs.Program.{Name, Case, Rule, Timer, function, change, target, taken}
 use Rattle.grammar.specs.Parsed.{Parsed, accepted, refused, Wanted, sign, own, ownPrevious, isWanted, expected, phrase, followed}
 use Rattle.grammar.specs.Expressions.{Scope, withId, wholeExpression}
 use Rattle.grammar.specs.Declarations.{declaration, declarationsFrom}
 use Rattle.grammar.specs.Rules.{Spanned, caseAt, casesFrom, agreeingList, casesOf, functionAt, changeAt, pairAt, formulaAt, formulas, ruleAt}
 use Rattle.grammar.specs.Derivation.{SpellsE, SpellsC, normal, normals}
 use Rattle.grammar.specs.Derivation as D
-use Rattle.grammar.specs.Spelled.{SpellsZ, positive, negative, SpellsStart, absent, given, Declares, declares, DeclareAll, cased, SpellsCases, one-case, more-cases, changeForm, pairForm, SpellsR, a-change, a-function, a-pair, SpellsRules, namesOf, Spelled}
+use Rattle.grammar.specs.Spelled.{SpellsZ, positive, negative, SpellsStart, absent, given, Declares, declares, DeclareAll, cased, SpellsCases, one-case, more-cases, changeForm, pairForm, SpellsR, a-change, a-function, a-pair, SpellsRules}
 use Rattle.grammar.specs.Spelled as S
-use Rattle.grammar.specs.Inner.Bytes.{bytesE, bytesK, bytesPicked, bytesR, header, image}
+use Rattle.grammar.specs.Inner.Bytes.{bytesE, bytesK, bytesPicked, bytesT, bytesR, header}
 use Rattle.grammar.proofs.Combine.{token-prop, then-prop, option-prop}
 use Rattle.grammar.proofs.Bytes.{digits-bytes, value-bytes, id-bytes, id-of, place-in}
 use Rattle.grammar.proofs.Standing.{written, normally, seen-capitals, spells-in}
@@ -140,16 +140,16 @@ module _ (sc : Scope) (few : length (sc .names) ≤ 64) (v : ℕ) (hv : v < 64) 
 abbrev pub nameBytes : Name → ℕ
 nameBytes x = length (number (zigzag (x .range .low))) + (length (number (zigzag (x .range .high))) + length (number (zigzag (x .range .start))))
 
-header-append : (k l : List Name) → length (header (k ++ l)) ≡ length (header k) + length (header l)
+pub header-append : (k l : List Name) → length (header (k ++ l)) ≡ length (header k) + length (header l)
 unfolding header
 header-append [] l = omega arith
 header-append (x ∷ k) l = simp length-append (omega (arith, header-append k l))
 
-header-code : (x : Name) (l : List Name) → length (header (x ∷ l)) ≡ nameBytes x + length (header l)
+pub header-code : (x : Name) (l : List Name) → length (header (x ∷ l)) ≡ nameBytes x + length (header l)
 unfolding header
 header-code x l = simp length-append (omega arith)
 
-header-none : length (header []) ≡ 0
+pub header-none : length (header []) ≡ 0
 unfolding header
 header-none = refl
 
@@ -172,7 +172,7 @@ declares-make word ts x (declares w ls hs ss r nm dl dh ds fits) =
     let bounds = (word ∷ w ∷ ls) ++ bytes ".." ∷ hs in
     omega (arith, number-makes ls (r .low) dl, number-makes hs (r .high) dh, start-makes ss (r .start) ds, bytes-append (bounds ++ ss) (bytes ";" ∷ []), bytes-append bounds ss, bytes-append (word ∷ w ∷ ls) (bytes ".." ∷ hs))
 
-all-make : (word : List ℕ) (ts : List (List ℕ)) (l : List Name) → DeclareAll word ts l → 2 * length (header l) ≤ 3 * bytesOf ts
+pub all-make : (word : List ℕ) (ts : List (List ℕ)) (l : List Name) → DeclareAll word ts l → 2 * length (header l) ≤ 3 * bytesOf ts
 unfolding header
 all-make word ts l S.DeclareAll.none = omega arith
 all-make word ts l (S.DeclareAll.more us vs x k d r) = omega (arith, declares-make word us x d, all-make word vs k r, header-code x k, bytes-append us vs)
@@ -199,20 +199,21 @@ module _ (text : List ℕ) where
       declarations-pay f word (names ++ (x ∷ [])) m (d .1) (omega (arith, header-append names (x ∷ []), header-code x [], header-none, d .0, mv .0, mv .1))))
       (λ e. (omega arith, h)))
 
--- ---- rules
+-- ---- rules, without their timers
 
 abbrev pub ruleBytes : Rule → ℕ
-ruleBytes r = length (bytesR (r ∷ []))
+ruleBytes r = length (bytesR [] (r ∷ []))
 
-rules-code : (r : Rule) (rs : List Rule) → length (bytesR (r ∷ rs)) ≡ ruleBytes r + length (bytesR rs)
-unfolding bytesR
-rules-code (function v e) rs = simp length-append (omega arith)
-rules-code (change v ks cs) rs = simp length-append (omega arith)
+-- behind a rule's bytes stand those of its timers
+pub rules-code : (ts : List Timer) (r : Rule) (rs : List Rule) → length (bytesR ts (r ∷ rs)) ≡ ruleBytes r + (length (bytesT (target r) ts) + length (bytesR ts rs))
+unfolding bytesR bytesT
+rules-code ts (function v e) rs = simp length-append (omega arith)
+rules-code ts (change v ks cs) rs = simp length-append (omega arith)
 
 module _ (sc : Scope) (few : length (sc .names) ≤ 64) (lengths : length (sc .names) ≡ length (sc .known)) where
   module _ (v : ℕ) (hv : v < 64) where
     pub function-pays : (w : List ℕ) (at : ℕ) → at ≤ length (sc .text) → Pays ruleBytes (length (sc .text)) at (functionAt sc w v at)
-    unfolding functionAt followed bytesR is kindNumber
+    unfolding functionAt followed bytesR bytesT is kindNumber
     function-pays w at h =
         then-prop (Pays ruleBytes (length (sc .text)) at) (phrase (sc .text) _ at) _ (λ k q. tt)
         (λ u n1 e1.
@@ -226,7 +227,7 @@ module _ (sc : Scope) (few : length (sc .names) ≤ 64) (lengths : length (sc .n
         (simp length-append (omega (arith, g1 .0, g2 .2, g3 .0, id-bytes v (omega arith))), g3 .1))))
 
     pub change-pays : (w : List ℕ) (at : ℕ) → at ≤ length (sc .text) → Pays ruleBytes (length (sc .text)) at (changeAt sc w v at)
-    unfolding changeAt followed bytesR bytesK is kindNumber
+    unfolding changeAt followed bytesR bytesT bytesK is kindNumber
     change-pays w at h =
         then-prop (Pays ruleBytes (length (sc .text)) at) (phrase (sc .text) _ at) _ (λ k q. tt)
         (λ u n1 e1.
@@ -267,7 +268,7 @@ module _ (sc : Scope) (few : length (sc .names) ≤ 64) (lengths : length (sc .n
         (λ e. later at n (functionAt sc w v n) (g .0) (function-pays w n (g .1)))))
 
     pub pair-pays : (w : List ℕ) (at : ℕ) → at ≤ length (sc .text) → Pays ruleBytes (length (sc .text)) at (pairAt sc w v at)
-    unfolding pairAt followed bytesR is kindNumber
+    unfolding pairAt followed bytesR bytesT is kindNumber
     pair-pays w at h =
         then-prop (Pays ruleBytes (length (sc .text)) at) (phrase (sc .text) _ at) _ (λ k q. tt)
         (λ u n1 e1.
@@ -296,12 +297,12 @@ module _ (sc : Scope) (few : length (sc .names) ≤ 64) (lengths : length (sc .n
         (λ e. later at n (pairAt sc w v n) (omega (arith, mv .0, mv .1)) (pair-pays w n (mv .2)))
         (λ e. formula-pays w at h))
 
-  pub rule-pays : (s n : ℕ) → n ≤ length (sc .text) → Pays ruleBytes (length (sc .text)) n (ruleAt sc s n)
+  pub rule-pays : (xs : List Timer) (s n : ℕ) → n ≤ length (sc .text) → Pays ruleBytes (length (sc .text)) n (ruleAt xs sc s n)
   unfolding ruleAt withId
-  rule-pays s n h =
+  rule-pays xs s n h =
       cond-prop (Pays ruleBytes (length (sc .text)) n) (overLong s n) _ _ (λ e. tt)
       (λ e. option-prop (Pays ruleBytes (length (sc .text)) n) (idOf (sc .names) (part (sc .text) s n)) _ _ (λ z. tt)
-      (λ v ev. cond-prop (Pays ruleBytes (length (sc .text)) n) (getD (sc .known) v false) _ _ (λ t. tt)
+      (λ v ev. cond-prop (Pays ruleBytes (length (sc .text)) n) (taken xs (sc .known) v) _ _ (λ t. tt)
       (λ t. formulas-pay v (omega (arith, id-of (sc .names) (part (sc .text) s n) v ev)) (part (sc .text) s n) n h)))
 
 -- the same of tokens that spell a rule, and rules
@@ -319,7 +320,7 @@ module _ (names : List (List ℕ)) (few : length names ≤ 64) where
       omega (arith, bytes-append ((opening ++ ts) ++ (fallTokens v ++ us)) closing, bytes-append (opening ++ ts) (fallTokens v ++ us), bytes-append opening ts, bytes-append (fallTokens v) us)
 
   rule-makes : (ts : List (List ℕ)) (r : Rule) → SpellsR names ts r → 2 * ruleBytes r ≤ 3 * bytesOf ts
-  unfolding bytesR
+  unfolding bytesR bytesT
   rule-makes ts r (a-change v i us ls ks cs ei d room e) =
       let hi : i < 64 = omega (arith, place-in names i v ei) in
       simp length-append (omega (arith, cases-make names few i hi v us ls ks d, change-form-bytes v us ls, id-bytes i (omega arith)))
@@ -332,28 +333,7 @@ module _ (names : List (List ℕ)) (few : length names ≤ 64) where
       let b = bytes-append (v ∷ bytes ":" ∷ bytes "GX" ∷ bytes "(" ∷ v ∷ bytes "=" ∷ bytes "(" ∷ us) (bytes ")" ∷ bytes ")" ∷ bytes ";" ∷ []) in
       simp length-append (omega (arith, g .1, b, id-bytes i (omega arith)))
 
-  rules-make : (ts : List (List ℕ)) (rs : List Rule) → SpellsRules names ts rs → 2 * length (bytesR rs) ≤ 3 * bytesOf ts
-  unfolding bytesR
+  pub rules-make : (ts : List (List ℕ)) (rs : List Rule) → SpellsRules names ts rs → 2 * length (bytesR [] rs) ≤ 3 * bytesOf ts
+  unfolding bytesR bytesT
   rules-make ts rs S.SpellsRules.none = omega arith
-  rules-make ts rs (S.SpellsRules.more us vs r qs d q) = omega (arith, rule-makes us r d, rules-make vs qs q, rules-code r qs, bytes-append us vs)
-
--- ---- the image of a text that spells a program
-
-pub spelled-small : (text : List ℕ) (p : Program) → Spelled text p → 2 * length (image p) ≤ 3 * length text + 4
-unfolding image
-spelled-small text p s =
-    let front = s .input-tokens ++ s .variable-tokens in
-    let few : length (normals (namesOf p)) ≤ 64 = omega (arith, s .few, length-map (p .names) (λ x. x .spelling), length-map (namesOf p) normal) in
-    let count : length (p .names) ≡ length (s .inputs) + length (s .variables) = rw (s .names) (length-append (s .inputs) (s .variables)) in
-    let heads : length (header (p .names)) ≡ length (header (s .inputs)) + length (header (s .variables)) = rw (s .names) (header-append (s .inputs) (s .variables)) in
-    let inputs = all-make (bytes "input") (s .input-tokens) (s .inputs) (s .declares-inputs) in
-    let variables = all-make (bytes "var") (s .variable-tokens) (s .variables) (s .declares-variables) in
-    let rules = rules-make (normals (namesOf p)) few (s .rule-tokens) (p .rules) (s .spells-rules) in
-    let declared = spells-bytes written text 0 (s .rules-from) front (omega arith) (s .spells-declarations) in
-    let before = spells-in written text 0 (s .rules-from) front (omega arith) (s .spells-declarations) .1 in
-    let back = s .rule-tokens ++ s .watch-tokens in
-    let ruled = spells-bytes normally text (s .rules-from) (s .end) back before (s .spells-tokens) in
-    let within = spells-in normally text (s .rules-from) (s .end) back before (s .spells-tokens) .1 in
-    let small = id-bytes (p .inputs) (omega (arith, s .few, s .input-count, count)) in
-    let small2 = id-bytes (length (p .names) - p .inputs) (omega (arith, s .few)) in
-    simp length-append (omega (arith, heads, inputs, variables, rules, declared, ruled, within, small, small2, bytes-append (s .input-tokens) (s .variable-tokens), bytes-append (s .rule-tokens) (s .watch-tokens)))
+  rules-make ts rs (S.SpellsRules.more us vs r qs d q) = omega (arith, rule-makes us r d, rules-make vs qs q, rules-code [] r qs, bytes-append us vs)

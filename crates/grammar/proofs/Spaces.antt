@@ -36,6 +36,7 @@ spaces-spelled n h =
       short = omega (arith, length-spaces n);
       input-tokens = [];
       variable-tokens = [];
+      timer-tokens = [];
       rule-tokens = [];
       watch-tokens = [];
       rules-from = 0;
@@ -45,13 +46,15 @@ spaces-spelled n h =
       ends = record { ordered = omega arith; within = le-refl (length (spaces n)); spaces = rw (take-all (length (spaces n) - 0) (spaces n) (omega arith)) (all-spaces n) };
       inputs = [];
       variables = [];
+      timer-names = [];
       declares-inputs = S.DeclareAll.none;
       declares-variables = S.DeclareAll.none;
+      declares-timers = S.DeclareTimers.none;
       names = refl;
       input-count = refl;
       distinct = tt;
       few = omega arith;
-      untimed = refl;
+      timers-fit = record { numbered = refl; each = tt };
       spells-rules = S.SpellsRules.none;
       spells-watches = S.SpellsWatches.none;
       few-watches = omega arith;

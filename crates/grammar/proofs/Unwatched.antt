@@ -77,22 +77,25 @@ cut-spelled text p s cut within after sr =
       short = omega arith;
       input-tokens = s .input-tokens;
       variable-tokens = s .variable-tokens;
+      timer-tokens = s .timer-tokens;
       rule-tokens = s .rule-tokens;
       watch-tokens = [];
       rules-from = s .rules-from;
       end = cut;
-      spells-declarations = spells-kept text cut within written 0 (s .rules-from) (s .input-tokens ++ s .variable-tokens) (omega arith) after (s .spells-declarations);
+      spells-declarations = spells-kept text cut within written 0 (s .rules-from) (s .input-tokens ++ s .variable-tokens ++ s .timer-tokens) (omega arith) after (s .spells-declarations);
       spells-tokens = subst (Spells normal (take cut text) (s .rules-from) cut) (sym (append-nil (s .rule-tokens))) (spells-kept text cut within normally (s .rules-from) cut (s .rule-tokens) (omega arith) (omega arith) sr);
       ends = record { ordered = omega arith; within = omega arith; spaces = no-space (take cut text) cut size };
       inputs = s .inputs;
       variables = s .variables;
+      timer-names = s .timer-names;
       declares-inputs = s .declares-inputs;
       declares-variables = s .declares-variables;
+      declares-timers = s .declares-timers;
       names = s .names;
       input-count = s .input-count;
       distinct = s .distinct;
       few = s .few;
-      untimed = s .untimed;
+      timers-fit = record { numbered = s .timers-fit .numbered; each = s .timers-fit .each };
       spells-rules = s .spells-rules;
       spells-watches = S.SpellsWatches.none;
       few-watches = omega arith;
@@ -107,7 +110,7 @@ pub watches-leave : WatchesLeave
 watches-leave = record {
   leave = λ text p e.
       let s = accepted-exactly .accepted-spelled text p e in
-      let i = spells-in written text 0 (s .rules-from) (s .input-tokens ++ s .variable-tokens) (omega arith) (s .spells-declarations) .1 in
+      let i = spells-in written text 0 (s .rules-from) (s .input-tokens ++ s .variable-tokens ++ s .timer-tokens) (omega arith) (s .spells-declarations) .1 in
       let q = split normally text (s .rules-from) (s .end) (s .rule-tokens) (s .watch-tokens) (s .spells-tokens) in
       let j = spells-in normally text (s .rules-from) (q .place) (s .rule-tokens) i (q .first) in
       record {

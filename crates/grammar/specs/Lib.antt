@@ -2,6 +2,7 @@ pub mod Parsed
 pub mod Expressions
 pub mod Conditions
 pub mod Declarations
+pub mod Timers
 pub mod Forms
 pub mod Pairs
 pub mod Rules

@@ -1,15 +1,15 @@
 -- Rules: functions, change formulas and their no-change formulas; pairs of rising and falling formulas. Document 01, "The text"; document 02,
--- A.6. Assumes nothing.
+-- A.6, A.7. Assumes nothing.
 use Prim.Native.Nat.{ℕ, zero, suc, _-_}
 use mathlib.Core.Bool.{Bool, true, false, cond}
 use mathlib.Core.List.{List, [], _∷_, _++_}
-use lib.ListN.{length, getD, set}
+use lib.ListN.{length, set}
 use lib.Dec.{ltb, leb, eqb}
 use Rattle.limits.specs.Limits.{caseLimit, notAllowed, wrongRule, listsDiffer, tooMany}
 use Rattle.lexer.specs.Bytes.{part}
 use Rattle.lexer.specs.Token.{Kind, name, closeRound, openSquare, tilde, bar, greater, plus, is, TokenRead, token, fault}
 use Rattle.lexer.specs.Lexer.{tokenAt, sameToken}
-use Rattle.semantics.specs.Program.{Condition, changing, Case, Rule, function, change, target}
+use Rattle.semantics.specs.Program.{Condition, changing, Case, Rule, function, change, Timer, target, taken, timersKnown}
 use Rattle.grammar.specs.Parsed.{Parsed, accepted, refused, andThen, onToken, sign, phrase, followed}
 use Rattle.grammar.specs.Expressions.{Scope, withId, wholeExpression}
 use Rattle.grammar.specs.Conditions.{listed}
@@ -168,31 +168,28 @@ formulas sc w v at =
     let formula = formulaAt sc w v at in
     cond (is k plus) pair formula)
 
--- an input, or a variable that has its rule: just those whose current values may be used (law `known-exactly`)
-abbrev pub inputOrRuled : Scope → ℕ → Bool
-inputOrRuled sc v = getD (sc .known) v false
-
--- the rule whose name stands from s to n: 6 for an input, or a second rule
-unfoldable pub ruleAt : Scope → ℕ → ℕ → Parsed Rule
-ruleAt sc s n =
+-- the rule whose name stands from s to n: 6 for an input, a second rule, or a timer
+unfoldable pub ruleAt : List Timer → Scope → ℕ → ℕ → Parsed Rule
+ruleAt ts sc s n =
     withId sc s s n (λ v.
     let rule = formulas sc (part (sc .text) s n) v n in
-    cond (inputOrRuled sc v) (refused wrongRule s) rule)
+    cond (taken ts (sc .known) v) (refused wrongRule s) rule)
 
--- after a rule its variable's current value may be used
-abbrev pub ruled : Scope → ℕ → Scope
-ruled sc v = record { text = sc .text; names = sc .names; known = set (sc .known) v true }
+-- after a rule the current values of its variable and of the timers of that may be used
+abbrev pub ruled : List Timer → Scope → ℕ → Scope
+ruled ts sc v = record { text = sc .text; names = sc .names; known = timersKnown v ts (set (sc .known) v true) }
 
--- rules read, and which names may be used with their current value after them: just the inputs and the variables that have a rule
+-- rules read, and which names may be used with their current value after them: just the inputs, the variables that have a rule and the timers
+-- of these (law `known-exactly`)
 pub record Ruled : Type 0 where
   pub rules : List Rule
   pub known : List Bool
 
 -- rules up to the first token that is no name, after those done. No variable has two rules, so `itemBound` rules are enough
-unfoldable pub rulesFrom : ℕ → Scope → List Rule → ℕ → Parsed Ruled
-rulesFrom zero sc done at = refused wrongRule at
-rulesFrom (suc f) sc done at =
+unfoldable pub rulesFrom : ℕ → List Timer → Scope → List Rule → ℕ → Parsed Ruled
+rulesFrom zero ts sc done at = refused wrongRule at
+rulesFrom (suc f) ts sc done at =
     onToken (tokenAt (sc .text) at)
     (λ k s n.
-    let more = andThen (ruleAt sc s n) (λ r m. rulesFrom f (ruled sc (target r)) (done ++ (r ∷ [])) m) in
+    let more = andThen (ruleAt ts sc s n) (λ r m. rulesFrom f ts (ruled ts sc (target r)) (done ++ (r ∷ [])) m) in
     cond (is k name) more (accepted (record { rules = done; known = sc .known }) at))

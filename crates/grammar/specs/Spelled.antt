@@ -1,5 +1,5 @@
 -- Which texts spell a program: document 01's grammar, limits, order of work and agreement of the two lists, apart from any way of
--- reading them. Document 01, "The text"; document 02, A.6, A.13. Assumes nothing.
+-- reading them. Document 01, "The text"; document 02, A.6, A.7, A.13. Assumes nothing.
 use Prim.Native.Nat.{ℕ, _+_, _≤_}
 use mathlib.Core.Path.{_≡_}
 use mathlib.Core.Bool.{false}
@@ -9,7 +9,7 @@ use mathlib.Core.Option as O
 use lib.ListN.{length, getElem?}
 use lib.IntN.{ℤ, pos, negℤ}
 use Rattle.limits.specs.Limits.{textLimit, nameLimit, caseLimit, bracketLimit, watchLimit}
-use Rattle.semantics.specs.Program.{Range, Name, Expression, Condition, changing, Case, Rule, function, change, Watch, Program, Ordered, RangeFits}
+use Rattle.semantics.specs.Program.{Range, Name, Expression, Condition, changing, Case, Rule, function, change, Timer, Watch, Program, Ordered, RangeFits, bitRange, TimersFit}
 use Rattle.lexer.specs.Bytes.{bytes}
 use Rattle.lexer.specs.Lexer.{sameName, valueOf}
 use Rattle.lexer.specs.Spelling.{IsDigits, Separated}
@@ -48,6 +48,20 @@ Apart w (x ∷ l) = (sameName w x ≡ false) × Apart w l
 abbrev pub Distinct : List (List ℕ) → Type 0
 Distinct [] = Unit {0}
 Distinct (x ∷ l) = Apart x l × Distinct l
+
+-- ---- timers (document 02, A.7)
+
+-- `timer t of w limit N;`
+abbrev pub timerForm : List ℕ → List ℕ → List ℕ → Tokens
+timerForm t w n = bytes "timer" ∷ t ∷ bytes "of" ∷ w ∷ bytes "limit" ∷ n ∷ bytes ";" ∷ []
+
+-- t is a name of range 0..1, starting at 0; w, in any case, is the name of its id among those of the inputs and variables.
+pub data DeclaresTimer (names : List (List ℕ)) : Tokens → Name → Timer → Type 0 where
+  declares-timer : (t w n : List ℕ) (x : Timer) → IsName t → IsName w → getElem? names (x .watched) ≡ some (normal w) → IsDigits n → x .limit ≡ valueOf n → DeclaresTimer names (timerForm t w n) (record { spelling = t; range = bitRange }) x
+
+pub data DeclareTimers (names : List (List ℕ)) : Tokens → List Name → List Timer → Type 0 where
+  none : DeclareTimers names [] [] []
+  more : (ts us : Tokens) (t : Name) (l : List Name) (x : Timer) (xs : List Timer) → DeclaresTimer names ts t x → DeclareTimers names us l xs → DeclareTimers names (ts ++ us) (t ∷ l) (x ∷ xs)
 
 -- ---- rules
 
@@ -126,32 +140,35 @@ namesOf p = map (λ x. x .spelling) (p .names)
 pub record Spelled (text : List ℕ) (p : Program) : Type 0 where
   -- At most 32,768 bytes.
   pub short : length text ≤ textLimit
-  -- All inputs, then all variables. Then the rules. Watches stand after the rules. A declaration's name is as it stands there; in rules and
-  -- watches only sameness counts.
+  -- All inputs, then all variables. Timers stand after the variables. Then the rules. Watches stand after the rules. A declaration's name is as
+  -- it stands there; in rules and watches only sameness counts.
   pub input-tokens : Tokens
   pub variable-tokens : Tokens
+  pub timer-tokens : Tokens
   pub rule-tokens : Tokens
   pub watch-tokens : Tokens
   pub rules-from : ℕ
   pub end : ℕ
-  pub spells-declarations : Spells asWritten text 0 rules-from (input-tokens ++ variable-tokens)
+  pub spells-declarations : Spells asWritten text 0 rules-from (input-tokens ++ variable-tokens ++ timer-tokens)
   pub spells-tokens : Spells normal text rules-from end (rule-tokens ++ watch-tokens)
   pub ends : Separated text end (length text)
   pub inputs : List Name
   pub variables : List Name
+  pub timer-names : List Name
   pub declares-inputs : DeclareAll (bytes "input") input-tokens inputs
   pub declares-variables : DeclareAll (bytes "var") variable-tokens variables
-  pub names : p .names ≡ inputs ++ variables
+  pub declares-timers : DeclareTimers (normals (map (λ x. x .spelling) (inputs ++ variables))) timer-tokens timer-names (p .timers)
+  pub names : p .names ≡ inputs ++ variables ++ timer-names
   pub input-count : p .inputs ≡ length inputs
   pub distinct : Distinct (namesOf p)
   -- At most 64 names in all.
   pub few : length (p .names) ≤ nameLimit
-  -- Document 01's texts have no timers.
-  pub untimed : p .timers ≡ []
+  -- Their ids are those of their names, w is a `var` of range 0..1, and N from 1 to 2,147,483,647.
+  pub timers-fit : TimersFit p
   pub spells-rules : SpellsRules (normals (namesOf p)) rule-tokens (p .rules)
   pub spells-watches : SpellsWatches (normals (namesOf p)) watch-tokens (p .watches)
   -- At most 16.
   pub few-watches : length (p .watches) ≤ watchLimit
-  -- The rules are in the order of work; every variable has exactly one. A current value is used only for inputs and for variables
-  -- whose rule stands earlier; a previous value for any name.
+  -- The rules are in the order of work; every variable has exactly one, and no timer has one. A current value is used only for inputs, for
+  -- variables whose rule stands earlier and for their timers; a previous value for any name.
   pub ordered : Ordered p

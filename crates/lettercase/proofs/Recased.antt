@@ -303,12 +303,12 @@ spelled-too text other p c s =
         ordered = subst (λ (n : ℕ). OrderedRules [] (knownFirst n (length (map (λ n. n .range) k))) (p .rules)) (sym inputs) (subst (λ (l : List Range). OrderedRules [] (knownFirst (p .inputs) (length l)) (p .rules)) (sym ranges) (untimed-order p (s .untimed) (s .ordered)));
         untimed = refl;
       };
-      same = record { same-inputs = inputs; same-names = seen; same-ranges = ranges; same-timers = sym (s .untimed); same-rules = refl; same-watches = refl };
+      same = record { same-inputs = inputs; same-names = seen; same-ranges = ranges; same-rules = refl; same-watches = refl };
     }
 
 image-same : (p q : Program) → SameProgram p q → imageOf q ≡ imageOf p
 unfolding imageOf
-image-same p q s = rw (s .same-inputs, s .same-ranges, s .same-timers, s .same-rules)
+image-same p q s = rw (s .same-inputs, s .same-ranges, s .same-rules)
 
 pub case-ignored : CaseIgnored
 case-ignored = record {

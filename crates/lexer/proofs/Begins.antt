@@ -8,7 +8,7 @@ use lib.ListN.{length, getD}
 use lib.Dec.{eqb, ltb}
 use borrow.Author.Tests.{eq-eqb, ltb-true, ltb-false}
 use Rattle.lexer.specs.Bytes.{part, sameBytes}
-use Rattle.lexer.specs.Token.{Kind, kindNumber, unknown, ending, name, previous, digits, inputWord, varWord, initWord, modWord, nextWord, dots, arrow, lessEqual, greaterEqual, notEqual, semicolon, colon, openRound, closeRound, openSquare, closeSquare, tilde, ampersand, bar, equals, less, greater, plus, minus, star, slash, otherCase, watchWord, alwaysWord, afterWord, is, token}
+use Rattle.lexer.specs.Token.{Kind, kindNumber, unknown, ending, name, previous, digits, inputWord, varWord, initWord, modWord, nextWord, dots, arrow, lessEqual, greaterEqual, notEqual, semicolon, colon, openRound, closeRound, openSquare, closeSquare, tilde, ampersand, bar, equals, less, greater, plus, minus, star, slash, otherCase, watchWord, alwaysWord, afterWord, timerWord, ofWord, limitWord, is, token}
 use Rattle.lexer.specs.Lexer.{isDigit, isLetter, isAlphanumeric, runEnd, pairOf, signOf}
 use Rattle.lexer.specs.Spelling.{AllBytes, IsWord, IsDigits, SpellsName, IsPrevious, Spelling}
 use Rattle.lexer.proofs.Laws.{letter-in-run, run-stop, run-step, run-from}
@@ -63,6 +63,9 @@ class-of otherCase w h = lettered (h .is-word)
 class-of watchWord w h = rw h (lettered (refl, (refl, (refl, (refl, (refl, tt))))))
 class-of alwaysWord w h = rw h (lettered (refl, tt))
 class-of afterWord w h = rw h (lettered (refl, tt))
+class-of timerWord w h = rw h (lettered (refl, (refl, (refl, (refl, (refl, tt))))))
+class-of ofWord w h = rw h (lettered (refl, (refl, tt)))
+class-of limitWord w h = rw h (lettered (refl, (refl, (refl, (refl, (refl, tt))))))
 
 -- ---- runs
 

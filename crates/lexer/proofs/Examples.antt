@@ -3,7 +3,7 @@ use mathlib.Core.Path.{_≡_, refl}
 use mathlib.Core.Bool.{true, false}
 use mathlib.Core.List.{[], _∷_}
 use Rattle.lexer.specs.Bytes.{bytes, sameBytes, capital, capitals}
-use Rattle.lexer.specs.Token.{name, previous, digits, modWord, otherCase, watchWord, alwaysWord, afterWord, dots, arrow, lessEqual, greaterEqual, notEqual, less, greater, kindNumber, ending, is, token, fault}
+use Rattle.lexer.specs.Token.{name, previous, digits, modWord, otherCase, watchWord, alwaysWord, afterWord, timerWord, ofWord, limitWord, dots, arrow, lessEqual, greaterEqual, notEqual, less, greater, kindNumber, ending, is, token, fault}
 use Rattle.lexer.specs.Lexer.{isSpace, isDigit, isLetter, isAlphanumeric, runOn, runEnd, sameName, grammarWord, exactWord, wordOf, overLong, pairOf, signOf, readOf, signAt, wordAt, digitsAt, previousAt, tokenOf, tokenPast, tokenAt, valueOn, valueOf}
 
 underscores : (tokenAt (bytes "_modx") 0 ≡ token previous 0 5) × (tokenAt (bytes "_mod") 0 ≡ fault 0) × (tokenAt (bytes "a_b") 0 ≡ token name 0 1) × (tokenAt (bytes "a_b") 1 ≡ token previous 1 3) × (tokenAt (bytes "_ a") 0 ≡ fault 0) × (tokenAt (bytes "_1") 0 ≡ fault 0) × (tokenAt (bytes " _") 0 ≡ fault 1)
@@ -37,3 +37,8 @@ other-cases = (refl, refl, refl, refl, refl, refl, refl, refl, refl)
 watch-words : (tokenAt (bytes "watch:") 0 ≡ token watchWord 0 5) × (tokenAt (bytes " G(") 0 ≡ token alwaysWord 1 2) × (tokenAt (bytes "X(") 0 ≡ token afterWord 0 1) × (tokenAt (bytes "g(") 0 ≡ token otherCase 0 1) × (tokenAt (bytes "x") 0 ≡ token otherCase 0 1) × (tokenAt (bytes "Watch") 0 ≡ token otherCase 0 5) × (tokenAt (bytes "G1") 0 ≡ token name 0 2) × (tokenAt (bytes "_x") 0 ≡ fault 0) × (tokenAt (bytes "_watches") 0 ≡ token previous 0 8)
 unfolding tokenAt tokenPast tokenOf previousAt wordAt digitsAt signAt readOf pairOf signOf wordOf grammarWord exactWord sameName capitals capital runEnd runOn isSpace isDigit isLetter isAlphanumeric is kindNumber sameBytes
 watch-words = (refl, refl, refl, refl, refl, refl, refl, refl, refl)
+
+-- the words of timers: the same
+timer-words : (tokenAt (bytes "timer t") 0 ≡ token timerWord 0 5) × (tokenAt (bytes " of w") 0 ≡ token ofWord 1 3) × (tokenAt (bytes "limit 1") 0 ≡ token limitWord 0 5) × (tokenAt (bytes "Timer") 0 ≡ token otherCase 0 5) × (tokenAt (bytes "OF") 0 ≡ token otherCase 0 2) × (tokenAt (bytes "limit1") 0 ≡ token name 0 6) × (tokenAt (bytes "limits") 0 ≡ token name 0 6) × (tokenAt (bytes "_timer") 0 ≡ fault 0) × (tokenAt (bytes "_Of") 0 ≡ fault 0)
+unfolding tokenAt tokenPast tokenOf previousAt wordAt digitsAt signAt readOf pairOf signOf wordOf grammarWord exactWord sameName capitals capital runEnd runOn isSpace isDigit isLetter isAlphanumeric is kindNumber sameBytes
+timer-words = (refl, refl, refl, refl, refl, refl, refl, refl, refl)

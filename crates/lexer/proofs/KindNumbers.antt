@@ -7,7 +7,7 @@ use native.Mathlib.Omega.{arith}
 use lib.ListN.{length, getD, List·getD-eq-default}
 use lib.Dec.{eqb, leb}
 use borrow.Author.Tests.{eq-eqb, ne-eqb, eqb-true, eqb-false, leb-true, leb-false}
-use Rattle.lexer.specs.Token.{Kind, kindNumber, unknown, ending, name, previous, digits, inputWord, varWord, initWord, modWord, nextWord, dots, arrow, lessEqual, greaterEqual, notEqual, semicolon, colon, openRound, closeRound, openSquare, closeSquare, tilde, ampersand, bar, equals, less, greater, plus, minus, star, slash, otherCase, watchWord, alwaysWord, afterWord, is, lastKind}
+use Rattle.lexer.specs.Token.{Kind, kindNumber, unknown, ending, name, previous, digits, inputWord, varWord, initWord, modWord, nextWord, dots, arrow, lessEqual, greaterEqual, notEqual, semicolon, colon, openRound, closeRound, openSquare, closeSquare, tilde, ampersand, bar, equals, less, greater, plus, minus, star, slash, otherCase, watchWord, alwaysWord, afterWord, timerWord, ofWord, limitWord, is, lastKind}
 use Rattle.lexer.specs.Results.{kinds, kindOf}
 use Rattle.lexer.proofs.Laws.{cond-prop, both-true}
 
@@ -49,6 +49,9 @@ number-kind otherCase = refl
 number-kind watchWord = refl
 number-kind alwaysWord = refl
 number-kind afterWord = refl
+number-kind timerWord = refl
+number-kind ofWord = refl
+number-kind limitWord = refl
 
 -- the kinds are those of the numbers from i on
 abbrev counted : ℕ → List Kind → Bool

@@ -9,7 +9,7 @@ use lib.ListN.{length, getD, take, drop, List·getD-eq-default}
 use lib.Dec.{eqb, ltb, leb}
 use borrow.Author.Tests.{eqb-true, ltb-true, ltb-false, lt-leb}
 use Rattle.lexer.specs.Bytes.{bytes, part, sameBytes, capital, capitals}
-use Rattle.lexer.specs.Token.{Kind, kindNumber, unknown, ending, name, previous, digits, inputWord, varWord, initWord, modWord, nextWord, dots, arrow, lessEqual, greaterEqual, notEqual, semicolon, colon, openRound, closeRound, openSquare, closeSquare, tilde, ampersand, bar, equals, less, greater, plus, minus, star, slash, otherCase, watchWord, alwaysWord, afterWord, spellingOf, wordKinds, pairKinds, signKinds, is, TokenRead, token, fault}
+use Rattle.lexer.specs.Token.{Kind, kindNumber, unknown, ending, name, previous, digits, inputWord, varWord, initWord, modWord, nextWord, dots, arrow, lessEqual, greaterEqual, notEqual, semicolon, colon, openRound, closeRound, openSquare, closeSquare, tilde, ampersand, bar, equals, less, greater, plus, minus, star, slash, otherCase, watchWord, alwaysWord, afterWord, timerWord, ofWord, limitWord, spellingOf, wordKinds, pairKinds, signKinds, is, TokenRead, token, fault}
 use Rattle.lexer.specs.Lexer.{isSpace, isDigit, isLetter, isAlphanumeric, runOn, runEnd, sameName, sameIn, grammarWord, exactWord, kindIn, wordOf, pairOf, signOf, readOf, signAt, wordAt, digitsAt, previousAt, tokenOf, tokenPast, tokenAt}
 use Rattle.lexer.specs.Spelling.{AllBytes, IsWord, IsDigits, NoneOf, NoneAgree, OneAgrees, Spelling}
 use Rattle.lexer.proofs.Laws.{cond-prop, run-on-ge, run-from, run-within, run-some, token-at-moved}
@@ -57,6 +57,9 @@ fixed-spelling otherCase e w = let z : _≡_ {A = ℕ} 0 1 = cc in absurd (omega
 fixed-spelling watchWord e w = (λ h. h, λ h. h)
 fixed-spelling alwaysWord e w = (λ h. h, λ h. h)
 fixed-spelling afterWord e w = (λ h. h, λ h. h)
+fixed-spelling timerWord e w = (λ h. h, λ h. h)
+fixed-spelling ofWord e w = (λ h. h, λ h. h)
+fixed-spelling limitWord e w = (λ h. h, λ h. h)
 
 -- ---- words of the grammar are no names
 
@@ -119,7 +122,7 @@ word-in (k ∷ ks) w f g =
 
 exact-spelled : (w : List ℕ) → IsWord w → grammarWord w ≡ true → Spelling (exactWord w) w
 unfolding exactWord grammarWord isFixed kindNumber
-exact-spelled w h e = word-in wordKinds w (refl, (refl, (refl, (refl, (refl, (refl, (refl, (refl, tt)))))))) (λ n. record { is-word = h; some-word = same-one wordKinds w e; other-bytes = n })
+exact-spelled w h e = word-in wordKinds w (refl, (refl, (refl, (refl, (refl, (refl, (refl, (refl, (refl, (refl, (refl, tt))))))))))) (λ n. record { is-word = h; some-word = same-one wordKinds w e; other-bytes = n })
 
 no-name-in : (ks : List Kind) (w : List ℕ) → AllFixed ks → kindIn ks w otherCase ≡ name → ⊥
 unfolding isFixed kindNumber
@@ -135,7 +138,7 @@ unfolding wordOf exactWord isFixed kindNumber
 name-word w e = go (grammarWord w) refl e
   where
     go : (t : Bool) → grammarWord w ≡ t → cond t (kindIn wordKinds w otherCase) name ≡ name → NoneAgree wordKinds w
-    go true t q = absurd (no-name-in wordKinds w (refl, (refl, (refl, (refl, (refl, (refl, (refl, (refl, tt)))))))) q)
+    go true t q = absurd (no-name-in wordKinds w (refl, (refl, (refl, (refl, (refl, (refl, (refl, (refl, (refl, (refl, (refl, tt))))))))))) q)
     go false t q = not-word w t
 
 -- ---- from kind to spelling
@@ -351,6 +354,9 @@ kind-of otherCase w h = other-kind w (h .is-word) (h .some-word) (h .other-bytes
 kind-of watchWord w h = rw h
 kind-of alwaysWord w h = rw h
 kind-of afterWord w h = rw h
+kind-of timerWord w h = rw h
+kind-of ofWord w h = rw h
+kind-of limitWord w h = rw h
 
 -- one spelling is of one kind
 pub one-kind : (k m : Kind) (w : List ℕ) → Spelling k w → Spelling m w → k ≡ m

@@ -72,7 +72,7 @@ word-in-known (k ∷ ks) run h = cond-prop (λ (w : Kind). is w unknown ≡ fals
 
 word-known : (run : List ℕ) → is (wordOf run) unknown ≡ false
 unfolding wordOf exactWord is kindNumber
-word-known run = cond-prop (λ (w : Kind). is w unknown ≡ false) (grammarWord run) _ _ (λ t. word-in-known wordKinds run (refl, (refl, (refl, (refl, (refl, (refl, (refl, (refl, tt))))))))) (λ t. refl)
+word-known run = cond-prop (λ (w : Kind). is w unknown ≡ false) (grammarWord run) _ _ (λ t. word-in-known wordKinds run (refl, (refl, (refl, (refl, (refl, (refl, (refl, (refl, (refl, (refl, (refl, tt)))))))))))) (λ t. refl)
 
 sign-known : (a b s : ℕ) → Known (signAt a b s)
 unfolding signAt readOf

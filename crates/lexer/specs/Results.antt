@@ -6,7 +6,7 @@ use mathlib.Core.Option.{Option, none, some}
 use lib.ListN.{getD}
 use lib.IntN.{pos}
 use Rattle.limits.specs.Limits.{noToken}
-use Rattle.lexer.specs.Token.{Kind, kindNumber, unknown, ending, name, previous, digits, inputWord, varWord, initWord, modWord, nextWord, dots, arrow, lessEqual, greaterEqual, notEqual, semicolon, colon, openRound, closeRound, openSquare, closeSquare, tilde, ampersand, bar, equals, less, greater, plus, minus, star, slash, otherCase, watchWord, alwaysWord, afterWord, lastKind, TokenRead, token, fault}
+use Rattle.lexer.specs.Token.{Kind, kindNumber, unknown, ending, name, previous, digits, inputWord, varWord, initWord, modWord, nextWord, dots, arrow, lessEqual, greaterEqual, notEqual, semicolon, colon, openRound, closeRound, openSquare, closeSquare, tilde, ampersand, bar, equals, less, greater, plus, minus, star, slash, otherCase, watchWord, alwaysWord, afterWord, timerWord, ofWord, limitWord, lastKind, TokenRead, token, fault}
 use Rattle.lexer.specs.declared.Place.{Place}
 use Rattle.lexer.specs.declared.Step.{Step}
 use Rattle.lexer.specs.declared.Step.the-variants.{Done, Refused}
@@ -15,7 +15,7 @@ use Rattle.lexer.specs.declared.Found.the-variants.{At, Nothing}
 
 -- the kinds in the order of their numbers
 abbrev pub kinds : List Kind
-kinds = unknown ∷ ending ∷ name ∷ previous ∷ digits ∷ inputWord ∷ varWord ∷ initWord ∷ modWord ∷ nextWord ∷ dots ∷ arrow ∷ lessEqual ∷ greaterEqual ∷ notEqual ∷ semicolon ∷ colon ∷ openRound ∷ closeRound ∷ openSquare ∷ closeSquare ∷ tilde ∷ ampersand ∷ bar ∷ equals ∷ less ∷ greater ∷ plus ∷ minus ∷ star ∷ slash ∷ otherCase ∷ watchWord ∷ alwaysWord ∷ afterWord ∷ []
+kinds = unknown ∷ ending ∷ name ∷ previous ∷ digits ∷ inputWord ∷ varWord ∷ initWord ∷ modWord ∷ nextWord ∷ dots ∷ arrow ∷ lessEqual ∷ greaterEqual ∷ notEqual ∷ semicolon ∷ colon ∷ openRound ∷ closeRound ∷ openSquare ∷ closeSquare ∷ tilde ∷ ampersand ∷ bar ∷ equals ∷ less ∷ greater ∷ plus ∷ minus ∷ star ∷ slash ∷ otherCase ∷ watchWord ∷ alwaysWord ∷ afterWord ∷ timerWord ∷ ofWord ∷ limitWord ∷ []
 
 -- the kind that a number tells
 unfoldable pub kindOf : ℕ → Kind

@@ -7,7 +7,7 @@ use mathlib.Core.List.{List, [], _∷_, _++_}
 use mathlib.Core.Logic.{_⊎_}
 use lib.ListN.{length, getD}
 use Rattle.lexer.specs.Bytes.{bytes, part, capitals}
-use Rattle.lexer.specs.Token.{Kind, unknown, ending, name, previous, digits, inputWord, varWord, initWord, modWord, nextWord, dots, arrow, lessEqual, greaterEqual, notEqual, semicolon, colon, openRound, closeRound, openSquare, closeSquare, tilde, ampersand, bar, equals, less, greater, plus, minus, star, slash, otherCase, watchWord, alwaysWord, afterWord, spellingOf, wordKinds, TokenRead, token, fault}
+use Rattle.lexer.specs.Token.{Kind, unknown, ending, name, previous, digits, inputWord, varWord, initWord, modWord, nextWord, dots, arrow, lessEqual, greaterEqual, notEqual, semicolon, colon, openRound, closeRound, openSquare, closeSquare, tilde, ampersand, bar, equals, less, greater, plus, minus, star, slash, otherCase, watchWord, alwaysWord, afterWord, timerWord, ofWord, limitWord, spellingOf, wordKinds, TokenRead, token, fault}
 use Rattle.lexer.specs.Lexer.{isSpace, isDigit, isLetter, isAlphanumeric, tokenAt}
 
 -- ---- spellings
@@ -95,6 +95,9 @@ Spelling otherCase w = IsOtherCase w
 Spelling watchWord w = w ≡ spellingOf watchWord
 Spelling alwaysWord w = w ≡ spellingOf alwaysWord
 Spelling afterWord w = w ≡ spellingOf afterWord
+Spelling timerWord w = w ≡ spellingOf timerWord
+Spelling ofWord w = w ≡ spellingOf ofWord
+Spelling limitWord w = w ≡ spellingOf limitWord
 
 -- ---- tokens in a text
 

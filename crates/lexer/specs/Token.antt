@@ -18,8 +18,9 @@ pub data Kind : Type 0 where
   plus minus star slash : Kind
   otherCase : Kind  -- a word of the grammar in another case (document 02, A.2)
   watchWord alwaysWord afterWord : Kind  -- words of the grammar (document 02, A.13)
+  timerWord ofWord limitWord : Kind  -- words of the grammar (document 02, A.7)
 
--- The table of spellings: words of the grammar, `input var init mod GX`, and `watch`, `G` and `X` (document 02, A.13); `..` `->` `<=` `>=` `<>`, and `; : ( ) [ ] ~ & | = < > + - * /`.
+-- The table of spellings: words of the grammar, `input var init mod GX`, `watch`, `G` and `X` (document 02, A.13), and `timer`, `of` and `limit` (A.7); `..` `->` `<=` `>=` `<>`, and `; : ( ) [ ] ~ & | = < > + - * /`.
 -- A kind that has more than one spelling, or none, has no bytes here.
 abbrev pub spellingOf : Kind → List ℕ
 spellingOf unknown = []
@@ -57,10 +58,13 @@ spellingOf otherCase = []
 spellingOf watchWord = bytes "watch"
 spellingOf alwaysWord = bytes "G"
 spellingOf afterWord = bytes "X"
+spellingOf timerWord = bytes "timer"
+spellingOf ofWord = bytes "of"
+spellingOf limitWord = bytes "limit"
 
 -- the kinds in it: words of the grammar, signs of two bytes, signs of one byte
 abbrev pub wordKinds : List Kind
-wordKinds = inputWord ∷ varWord ∷ initWord ∷ modWord ∷ nextWord ∷ watchWord ∷ alwaysWord ∷ afterWord ∷ []
+wordKinds = inputWord ∷ varWord ∷ initWord ∷ modWord ∷ nextWord ∷ watchWord ∷ alwaysWord ∷ afterWord ∷ timerWord ∷ ofWord ∷ limitWord ∷ []
 
 abbrev pub pairKinds : List Kind
 pairKinds = dots ∷ arrow ∷ lessEqual ∷ greaterEqual ∷ notEqual ∷ []
@@ -106,10 +110,13 @@ kindNumber otherCase = 31
 kindNumber watchWord = 32
 kindNumber alwaysWord = 33
 kindNumber afterWord = 34
+kindNumber timerWord = 35
+kindNumber ofWord = 36
+kindNumber limitWord = 37
 
 -- the greatest of them
 abbrev pub lastKind : ℕ
-lastKind = 34
+lastKind = 37
 
 -- the same kind
 unfoldable pub is : Kind → Kind → Bool

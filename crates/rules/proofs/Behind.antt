@@ -6,6 +6,7 @@ use Prim.Native.Nat.{ℕ, _+_}
 use lib.ListN.{length}
 use lib.Seq.{sets}
 use Rattle.arith.specs.Inner.Flags.{flagsOf}
+use Rattle.semantics.specs.Program.{Timer}
 use Rattle.lexer.specs.Token.{token}
 use Rattle.lexer.specs.declared.Place.{Place}
 use Rattle.grammar.specs.Parsed.{Parsed, accepted}
@@ -18,15 +19,15 @@ use Rattle.phrases.proofs.Writing.{Got}
 use Rattle.rules.specs.Inner.Behind.{codeOfRules, ruledTold, ruledBehind}
 
 -- rules that read as p, with the token x behind them
-pub record RulesBehind (text : List ℕ) (count : ℕ) (p : Parsed Ruled) (to : ℕ) (before after : List ℕ) (x : Place) : Type 0 where
+pub record RulesBehind (ts : List Timer) (text : List ℕ) (count : ℕ) (p : Parsed Ruled) (to : ℕ) (before after : List ℕ) (x : Place) : Type 0 where
   pub ruled : Ruled
   pub is : p ≡ accepted ruled (x .at)
   pub known : flagsOf count (x .number) ≡ ruled .known
   pub stands : StandsAt text x
-  pub ended : x .to ≡ to + length (bytesR (ruled .rules))
-  pub wrote : after ≡ sets before to (bytesR (ruled .rules))
+  pub ended : x .to ≡ to + length (bytesR ts (ruled .rules))
+  pub wrote : after ≡ sets before to (bytesR ts (ruled .rules))
 
-pub rules-behind : {text : List ℕ} {count : ℕ} {p : Parsed Ruled} {to : ℕ} {before after : List ℕ} {x : Place} → Got codeOfRules (ruledTold count) ruledBehind (lookedAhead text p) to before after x → RulesBehind text count p to before after x
+pub rules-behind : {ts : List Timer} {text : List ℕ} {count : ℕ} {p : Parsed Ruled} {to : ℕ} {before after : List ℕ} {x : Place} → Got (codeOfRules ts) (ruledTold count) ruledBehind (lookedAhead text p) to before after x → RulesBehind ts text count p to before after x
 rules-behind {text} {p = p} {x = x} g =
     let y = g .tree in
     let l = looked text p y (x .at) (g .is) in

@@ -1,3 +1,4 @@
 pub mod Ways
+pub mod Putting
 pub mod Ruling
 pub mod Behind

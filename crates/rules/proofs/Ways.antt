@@ -14,12 +14,12 @@ use Rattle.lexer.specs.Token.{Kind, tilde, greater, plus, is, token, fault}
 use Rattle.lexer.specs.Lexer.{tokenAt, overLong}
 use Rattle.lexer.specs.Names.{idOf}
 use Rattle.lexer.proofs.Laws.{cond-prop}
-use Rattle.semantics.specs.Program.{Expression, Condition, changing, Rule, function, change, target}
+use Rattle.semantics.specs.Program.{Expression, Condition, changing, Rule, Timer, function, change, target, isTimer, taken}
 use Rattle.grammar.specs.Parsed.{Parsed, accepted, refused, Wanted, phrase, followed}
 use Rattle.grammar.specs.Expressions.{Scope, withId, wholeExpression}
 use Rattle.grammar.specs.Rules.{Spanned, casesFrom, agreeingList, casesOf, functionAt, changeAt, pairAt, formulaAt, formulas, ruleAt}
 use Rattle.grammar.specs.Pairs.{pairRule}
-use Rattle.grammar.specs.Inner.Bytes.{bytesE, bytesK, bytesR}
+use Rattle.grammar.specs.Inner.Bytes.{bytesE, bytesK, bytesT, bytesR}
 use Rattle.grammar.proofs.Bytes.{id-of}
 use Rattle.grammar.proofs.Combine.{token-prop, then-prop, option-prop}
 use Rattle.grammar.proofs.Growth.{Kept, phrase-kept}
@@ -62,11 +62,11 @@ module _ (sc : Scope) (w : List ℕ) (v at : ℕ) where
 
 -- its bytes
 pub function-bytes : (before : List ℕ) {mid after : List ℕ} (to : ℕ) {t : ℕ} (v : ℕ) (e : Expression) → t ≡ to + length (bytesE e) → mid ≡ sets before to (bytesE e) → after ≡ sets mid t (21 ∷ number v) → after ≡ sets before to (codeOfRule (function v e))
-unfolding bytesR
+unfolding bytesR bytesT
 function-bytes before to v e ht hm ha = rw (append-nil (number v)) (then-bytes before to (bytesE e) (21 ∷ number v) ht hm ha)
 
 pub function-length : (to : ℕ) {t u : ℕ} (v : ℕ) (e : Expression) → t ≡ to + length (bytesE e) → u ≡ t + length (21 ∷ number v) → u ≡ to + length (codeOfRule (function v e))
-unfolding bytesR
+unfolding bytesR bytesT
 function-length to v e ht hu = simp length-append (omega arith)
 
 -- ---- a change formula and its no-change formula
@@ -107,12 +107,12 @@ level-code sc w v n1 h {cs} {n2} e =
     rw (r .is-more) (picked-side changing v (casesOf (r .more)) ∙ ap (bytesK v) (cases-level (normals (sc .names)) (capitals w) (r .tokens) (r .list) (casesOf (r .more)) (r .derives)))
 
 pub change-bytes : (before : List ℕ) {mid after : List ℕ} (to : ℕ) {t : ℕ} (v : ℕ) (cs : List Spanned) (ds : List Condition) → codeOfCases 20 v cs ≡ bytesK v (casesOf cs) → t ≡ to + length (codeOfCases 20 v cs) → mid ≡ sets before to (codeOfCases 20 v cs) → after ≡ sets mid t (22 ∷ number v) → after ≡ sets before to (codeOfRule (change v (casesOf cs) ds))
-unfolding bytesR
+unfolding bytesR bytesT
 change-bytes before to v cs ds level ht hm ha =
     rw (append-nil (number v)) (then-bytes before to (bytesK v (casesOf cs)) (22 ∷ number v) (ht ∙ ap (λ (l : List ℕ). to + length l) level) (hm ∙ ap (sets before to) level) ha)
 
 pub change-length : (to : ℕ) {t u : ℕ} (v : ℕ) (cs : List Spanned) (ds : List Condition) → codeOfCases 20 v cs ≡ bytesK v (casesOf cs) → t ≡ to + length (codeOfCases 20 v cs) → u ≡ t + length (22 ∷ number v) → u ≡ to + length (codeOfRule (change v (casesOf cs) ds))
-unfolding bytesR
+unfolding bytesR bytesT
 change-length to v cs ds level ht hu = simp length-append (omega (arith, ht ∙ ap (λ (l : List ℕ). to + length l) level))
 
 -- ---- a pair
@@ -154,13 +154,13 @@ few-cases sc w n1 h {cs} {n2} e =
     rw (r .is-more) (omega (arith, length-cases (r .more), r .counted))
 
 pub pair-written : (before : List ℕ) {mid1 mid2 after : List ℕ} (to : ℕ) {t u : ℕ} (v : ℕ) (ups downs : List Spanned) → t ≡ to + length (codeOfCases 24 v ups) → mid1 ≡ sets before to (codeOfCases 24 v ups) → u ≡ t + length (codeOfCases 25 v downs) → mid2 ≡ sets mid1 t (codeOfCases 25 v downs) → after ≡ sets mid2 u (22 ∷ number v) → after ≡ sets before to (codeOfRule (pairRule v (casesOf ups) (casesOf downs)))
-unfolding bytesR
+unfolding bytesR bytesT
 pair-written before {mid1} to {t} v ups downs ht h1 hu h2 h3 =
     rw (append-nil (number v), pair-bytes v (casesOf ups) (casesOf downs), append-assoc (codeOfCases 24 v ups) (codeOfCases 25 v downs) (22 ∷ number v))
     (then-bytes before to (codeOfCases 24 v ups) (codeOfCases 25 v downs ++ (22 ∷ number v)) ht h1 (then-bytes mid1 t (codeOfCases 25 v downs) (22 ∷ number v) hu h2 h3))
 
 pub pair-ended : (to : ℕ) {t u x : ℕ} (v : ℕ) (ups downs : List Spanned) → t ≡ to + length (codeOfCases 24 v ups) → u ≡ t + length (codeOfCases 25 v downs) → x ≡ u + length (22 ∷ number v) → x ≡ to + length (codeOfRule (pairRule v (casesOf ups) (casesOf downs)))
-unfolding bytesR
+unfolding bytesR bytesT
 pair-ended to v ups downs ht hu hx = rw (pair-bytes v (casesOf ups) (casesOf downs)) (simp length-append (omega arith))
 
 module _ (sc : Scope) (w : List ℕ) (pick v n1 to : ℕ) {before after : List ℕ} {x : Place} where
@@ -225,24 +225,29 @@ module _ (sc : Scope) (w : List ℕ) (v at : ℕ) where
 
 -- ---- a rule, from its name
 
-module _ (sc : Scope) (s n : ℕ) where
-  pub rule-long : overLong s n ≡ true → ruleAt sc s n ≡ refused tooMany s
+module _ (ts : List Timer) (sc : Scope) (s n : ℕ) where
+  pub rule-long : overLong s n ≡ true → ruleAt ts sc s n ≡ refused tooMany s
   unfolding ruleAt withId
   rule-long e = rw e
 
   module _ (short : overLong s n ≡ false) where
-    pub rule-unknown : idOf (sc .names) (part (sc .text) s n) ≡ none → ruleAt sc s n ≡ refused wrongName s
+    pub rule-unknown : idOf (sc .names) (part (sc .text) s n) ≡ none → ruleAt ts sc s n ≡ refused wrongName s
     unfolding ruleAt withId
     rule-unknown e = rw (short, e)
 
     module _ {v : ℕ} (e : idOf (sc .names) (part (sc .text) s n) ≡ some v) where
-      pub rule-second : getD (sc .known) v false ≡ true → ruleAt sc s n ≡ refused wrongRule s
+      pub rule-timer : isTimer ts v ≡ true → ruleAt ts sc s n ≡ refused wrongRule s
       unfolding ruleAt withId
-      rule-second k = rw (short, e, k)
+      rule-timer k = rw (short, e, k)
 
-      pub rule-formulas : getD (sc .known) v false ≡ false → ruleAt sc s n ≡ formulas sc (part (sc .text) s n) v n
-      unfolding ruleAt withId
-      rule-formulas k = rw (short, e, k)
+      module _ (o : isTimer ts v ≡ false) where
+        pub rule-second : getD (sc .known) v false ≡ true → ruleAt ts sc s n ≡ refused wrongRule s
+        unfolding ruleAt withId
+        rule-second k = rw (short, e, o, k)
+
+        pub rule-formulas : getD (sc .known) v false ≡ false → ruleAt ts sc s n ≡ formulas sc (part (sc .text) s n) v n
+        unfolding ruleAt withId
+        rule-formulas k = rw (short, e, o, k)
 
 -- ---- the variable of a rule has none before
 
@@ -277,19 +282,19 @@ formulas-target sc w v at =
     (λ downs n4 e4. then-prop (Targets v) (phrase (sc .text) _ n4) _ (λ k q. tt) (λ u n5 e5. refl))))))
     (λ i. formula-target sc w v at))
 
--- a declared name that is not known
-abbrev pub Fresh : Scope → Parsed Rule → Type 0
-Fresh sc (accepted r n) = (target r < length (sc .names)) × (getD (sc .known) (target r) false ≡ false)
-Fresh sc (refused k q) = Unit {0}
+-- a declared name that may have a rule
+abbrev pub Fresh : List Timer → Scope → Parsed Rule → Type 0
+Fresh ts sc (accepted r n) = (target r < length (sc .names)) × (taken ts (sc .known) (target r) ≡ false)
+Fresh ts sc (refused k q) = Unit {0}
 
-pub rule-fresh : (sc : Scope) (s n : ℕ) → Fresh sc (ruleAt sc s n)
+pub rule-fresh : (ts : List Timer) (sc : Scope) (s n : ℕ) → Fresh ts sc (ruleAt ts sc s n)
 unfolding ruleAt withId
-rule-fresh sc s n =
-    cond-prop (Fresh sc) (overLong s n) _ _ (λ e. tt)
-    (λ e. option-prop (Fresh sc) (idOf (sc .names) (part (sc .text) s n)) _ _ (λ z. tt)
-    (λ v ev. cond-prop (Fresh sc) (getD (sc .known) v false) _ _ (λ t. tt)
+rule-fresh ts sc s n =
+    cond-prop (Fresh ts sc) (overLong s n) _ _ (λ e. tt)
+    (λ e. option-prop (Fresh ts sc) (idOf (sc .names) (part (sc .text) s n)) _ _ (λ z. tt)
+    (λ v ev. cond-prop (Fresh ts sc) (taken ts (sc .known) v) _ _ (λ t. tt)
     (λ t. fresh v (id-of (sc .names) (part (sc .text) s n) v ev) t (formulas sc (part (sc .text) s n) v n) (formulas-target sc (part (sc .text) s n) v n))))
   where
-    fresh : (v : ℕ) → v < length (sc .names) → getD (sc .known) v false ≡ false → (p : Parsed Rule) → Targets v p → Fresh sc p
-    fresh v l t (accepted r m) g = (subst (λ (x : ℕ). x < length (sc .names)) (sym g) l, subst (λ (x : ℕ). getD (sc .known) x false ≡ false) (sym g) t)
+    fresh : (v : ℕ) → v < length (sc .names) → taken ts (sc .known) v ≡ false → (p : Parsed Rule) → Targets v p → Fresh ts sc p
+    fresh v l t (accepted r m) g = (subst (λ (x : ℕ). x < length (sc .names)) (sym g) l, subst (λ (x : ℕ). taken ts (sc .known) x ≡ false) (sym g) t)
     fresh v l t (refused k q) g = tt

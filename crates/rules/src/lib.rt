@@ -1,5 +1,5 @@
 // The rules of a text: functions, change formulas with their no-change formulas, and pairs of a rising and a falling formula. A rule is written as it is read.
-ghost use mathlib.Core.List.{[]};
+ghost use mathlib.Core.List.{List, []};
 use bytecode::opcode;
 use cases::Variable;
 use expressions::scope::Names;
@@ -13,12 +13,15 @@ ghost use Rattle.lexer.specs.Bytes.{part};
 ghost use Rattle.grammar.specs.Parsed.{itemBound};
 ghost use Rattle.grammar.specs.Rules.{functionAt, changeAt, pairAt, formulaAt, formulas as formulasAt, ruleAt, rulesFrom};
 ghost use Rattle.grammar.specs.Inner.Names.{Named};
-ghost use Rattle.semantics.specs.Program.{target};
+ghost use Rattle.semantics.specs.Program.{Timer, target};
 ghost use Rattle.expressions.specs.Inner.Scopes.{scopeOf, Declared};
 ghost use Rattle.expressions.specs.Inner.Steps.{Room, lookedAhead};
 ghost use Rattle.phrases.specs.Inner.Steps.{numberTold, Writes};
 ghost use Rattle.rules.specs.Inner.Spans.{codeOfRule, SpanRoom, endOf};
 ghost use Rattle.rules.specs.Inner.Behind.{codeOfRules, ruledTold, ruledBehind};
+ghost use Rattle.rules.specs.Inner.Timers.{timersIn, TimersFrom, TimerTables};
+
+pub mod timers;
 
 // `w = (e));`
 fn function(
@@ -243,12 +246,13 @@ fn formulas(
     formula(text, starts, ends, names, w, from, upto, at, out, to)
 }
 
-// The rule whose name stands from `start` to `end`. The number told is the variable's id.
+// The rule whose name stands from `start` to `end`. The number told is the variable's id. The names from the id `first` on are timers.
 fn rule(
     text: &[u8],
     starts: &[usize],
     ends: &[usize],
     names: Names,
+    first: usize,
     start: usize,
     end: usize,
     from: &mut [usize],
@@ -260,7 +264,7 @@ fn rule(
     requires { ⌜ Room (now text) end to ⌝ }
     requires { ⌜ SpanRoom (now from) (now upto) ⌝ }
     requires { ⌜ Named (scopeOf (now text) (now starts) (now ends) names .names) ⌝ }
-    ensures { λ r. ⌜ Writes codeOfRule numberTold target (ruleAt (scopeOf (now (text .entry)) (now (starts .entry)) (now (ends .entry)) names) start end) to (now (out .entry)) (now (out .exit)) r ⌝ }
+    ensures { λ r. ⌜ ((ts : List Timer) → TimersFrom first (names .count) ts → Writes codeOfRule numberTold target (ruleAt ts (scopeOf (now (text .entry)) (now (starts .entry)) (now (ends .entry)) names) start end) to (now (out .entry)) (now (out .exit)) r) ⌝ }
 {
     if lexer::is_over_long(start, end) {
         return Step::Refused(limits::TOO_MANY, start);
@@ -269,6 +273,9 @@ fn rule(
     let Found::At(id) = found else {
         return Step::Refused(limits::WRONG_NAME, start);
     };
+    if first <= id {
+        return Step::Refused(limits::WRONG_RULE, start);
+    }
     if expressions::scope::is_known(names, id) {
         return Step::Refused(limits::WRONG_RULE, start);
     }
@@ -306,6 +313,9 @@ fn rules_in(
     starts: &[usize],
     ends: &[usize],
     names: Names,
+    watched: &[u8],
+    limits: &[u32],
+    first: usize,
     from: &mut [usize],
     upto: &mut [usize],
     at: usize,
@@ -315,8 +325,9 @@ fn rules_in(
     requires { ⌜ Declared (now starts) (now ends) names ⌝ }
     requires { ⌜ Room (now text) at to ⌝ }
     requires { ⌜ SpanRoom (now from) (now upto) ⌝ }
+    requires { ⌜ TimerTables (now watched) (now limits) (names .count) ⌝ }
     requires { ⌜ Named (scopeOf (now text) (now starts) (now ends) names .names) ⌝ }
-    ensures { λ r. ⌜ Writes codeOfRules (ruledTold (names .count)) ruledBehind (lookedAhead (now (text .entry)) (rulesFrom itemBound (scopeOf (now (text .entry)) (now (starts .entry)) (now (ends .entry)) names) [] at)) to (now (out .entry)) (now (out .exit)) r ⌝ }
+    ensures { λ r. ⌜ Writes (codeOfRules (timersIn (now (watched .entry)) (now (limits .entry)) first (names .count))) (ruledTold (names .count)) ruledBehind (lookedAhead (now (text .entry)) (rulesFrom itemBound (timersIn (now (watched .entry)) (now (limits .entry)) first (names .count)) (scopeOf (now (text .entry)) (now (starts .entry)) (now (ends .entry)) names) [] at)) to (now (out .entry)) (now (out .exit)) r ⌝ }
 {
     let count = names.count;
     let mut known = names.known;
@@ -343,6 +354,7 @@ fn rules_in(
             starts,
             ends,
             Names { count, known },
+            first,
             token.start,
             token.end,
             from,
@@ -354,9 +366,14 @@ fn rules_in(
             return one;
         };
         let more = expressions::scope::ruled(Names { count, known }, b.number);
-        known = more.known;
+        let names = Names {
+            count,
+            known: more.known,
+        };
+        let behind = timers::timers_of(watched, limits, first, names, b.number, out, b.to);
+        known = behind.known;
         a = b.at;
-        t = b.to;
+        t = behind.to;
     }
 }
 
@@ -365,16 +382,33 @@ pub fn rules(
     starts: &[usize],
     ends: &[usize],
     names: Names,
+    watched: &[u8],
+    limits: &[u32],
+    first: usize,
     at: usize,
     out: &mut [u8],
     to: usize,
 ) -> Step
     requires { ⌜ Declared (now starts) (now ends) names ⌝ }
     requires { ⌜ Room (now text) at to ⌝ }
+    requires { ⌜ TimerTables (now watched) (now limits) (names .count) ⌝ }
     requires { ⌜ Named (scopeOf (now text) (now starts) (now ends) names .names) ⌝ }
-    ensures { λ r. ⌜ Writes codeOfRules (ruledTold (names .count)) ruledBehind (lookedAhead (now (text .entry)) (rulesFrom itemBound (scopeOf (now (text .entry)) (now (starts .entry)) (now (ends .entry)) names) [] at)) to (now (out .entry)) (now (out .exit)) r ⌝ }
+    ensures { λ r. ⌜ Writes (codeOfRules (timersIn (now (watched .entry)) (now (limits .entry)) first (names .count))) (ruledTold (names .count)) ruledBehind (lookedAhead (now (text .entry)) (rulesFrom itemBound (timersIn (now (watched .entry)) (now (limits .entry)) first (names .count)) (scopeOf (now (text .entry)) (now (starts .entry)) (now (ends .entry)) names) [] at)) to (now (out .entry)) (now (out .exit)) r ⌝ }
 {
     let mut from = [0usize; limits::CASE_LIMIT];
     let mut upto = [0usize; limits::CASE_LIMIT];
-    rules_in(text, starts, ends, names, &mut from, &mut upto, at, out, to)
+    rules_in(
+        text,
+        starts,
+        ends,
+        names,
+        watched,
+        limits,
+        first,
+        &mut from,
+        &mut upto,
+        at,
+        out,
+        to,
+    )
 }

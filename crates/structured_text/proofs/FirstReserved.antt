@@ -1,37 +1,37 @@
--- 21 is answered at the first declared name that is a word of Structured Text. Assumes nothing.
+-- 21 is answered at the first declared name that is a word of Structured Text, or at the first timer. Assumes nothing.
 use Prim.Native.Nat.{ℕ, zero, suc, _+_, _-_, _≤_}
 use native.Mathlib.Omega.{arith}
 use mathlib.Core.Path.{_≡_, refl, sym, ap, _∙_, subst}
 use mathlib.Core.Bool.{Bool, true, false, not, _&&_, _||_, cond, false≢true}
-use mathlib.Core.List.{List, [], _∷_, _++_, map, append-assoc}
+use mathlib.Core.List.{List, [], _∷_, _++_, map, append-assoc, append-nil}
 use mathlib.Core.Logic.{_⊎_, inl, inr}
 use lib.IntN.{ℤ}
-use lib.ListN.{length, length-append}
+use lib.ListN.{length, take, length-append, length-map}
 use Rattle.limits.specs.Answer.{accepted}
 use Rattle.lexer.specs.Bytes.{bytes, part}
-use Rattle.lexer.specs.Token.{Kind, name, ending, inputWord, varWord, kindNumber, spellingOf, is, TokenRead, token}
+use Rattle.lexer.specs.Token.{Kind, name, ending, inputWord, varWord, timerWord, kindNumber, spellingOf, is, TokenRead, token}
 use Rattle.lexer.specs.Lexer.{isDigit, tokenAt}
 use Rattle.lexer.specs.Spelling.{Spelling, IsDigits, TokenFrom}
 use Rattle.lexer.proofs.Same.{same-kind}
 use Rattle.lexer.proofs.Spellings.{isFixed}
-use Rattle.semantics.specs.Program.{Name, Program, Timer}
+use Rattle.semantics.specs.Program.{Name, Timer, Program, firstTimer}
 use Rattle.grammar.specs.Derivation.{asWritten, Stands, Spells, IsName}
 use Rattle.grammar.specs.Spelled as S
-use Rattle.grammar.specs.Spelled.{SpellsZ, SpellsStart, Declares, DeclareAll, namesOf, Spelled}
+use Rattle.grammar.specs.Spelled.{SpellsZ, SpellsStart, Declares, DeclareAll, DeclaresTimer, DeclareTimers, namesOf, Spelled}
 use Rattle.grammar.specs.Parse.{programOf}
 use Rattle.grammar.proofs.Growth.{bytesOf, bytes-append, spells-bytes}
 use Rattle.grammar.proofs.Standing.{written, is-read, split, stands-in, spells-in}
 use Rattle.grammar.proofs.Phrases.{fixed-at, name-at}
 use Rattle.grammar.proofs.ConverseText.{accepted-exactly}
-use Rattle.st_program.specs.Written.{isStWord, noneStWord, noTimer, hasSt}
+use Rattle.st_program.specs.Written.{isStWord, noneStWord, hasSt}
 use Rattle.st_program.proofs.FirstStore.{spelled}
 use Rattle.structured_text.specs.Services.{declaresName, reservedFrom, reservedPlace}
-use Rattle.structured_text.specs.Place.{FirstReserved}
+use Rattle.structured_text.specs.Place.{FirstReserved, FirstTimer, FirstOutside, a-name, a-timer}
 
 -- ---- tokens that declare nothing
 
 abbrev Plain : List ℕ → Type 0
-Plain w = (w ≡ bytes "input" → ⊥) × (w ≡ bytes "var" → ⊥)
+Plain w = (w ≡ bytes "input" → ⊥) × (w ≡ bytes "var" → ⊥) × (w ≡ bytes "timer" → ⊥)
 
 abbrev AllPlain : List (List ℕ) → Type 0
 AllPlain [] = Unit {0}
@@ -43,7 +43,7 @@ plain-append (t ∷ ts) us h g = (h .0, plain-append ts us (h .1) g)
 
 -- of another length than 5 and 3
 length-plain : (w : List ℕ) (n : ℕ) → length w ≡ n → (n ≡ 5 → ⊥) → (n ≡ 3 → ⊥) → Plain w
-length-plain w n e f g = ((λ q. f (sym e ∙ ap {A = List ℕ} length q)), (λ q. g (sym e ∙ ap {A = List ℕ} length q)))
+length-plain w n e f g = ((λ q. f (sym e ∙ ap {A = List ℕ} length q)), (λ q. g (sym e ∙ ap {A = List ℕ} length q)), (λ q. f (sym e ∙ ap {A = List ℕ} length q)))
 
 heads : {x y : ℕ} {k l : List ℕ} → x ∷ k ≡ y ∷ l → x ≡ y
 heads e = cc
@@ -51,7 +51,7 @@ heads e = cc
 digits-plain : (w : List ℕ) → IsDigits w → Plain w
 unfolding isDigit
 digits-plain [] d = absurd d
-digits-plain (b ∷ l) d = ((λ q. false≢true (sym (ap isDigit (heads q)) ∙ d .0)), (λ q. false≢true (sym (ap isDigit (heads q)) ∙ d .0)))
+digits-plain (b ∷ l) d = ((λ q. false≢true (sym (ap isDigit (heads q)) ∙ d .0)), (λ q. false≢true (sym (ap isDigit (heads q)) ∙ d .0)), (λ q. false≢true (sym (ap isDigit (heads q)) ∙ d .0)))
 
 one-plain : (b : ℕ) → Plain (b ∷ [])
 one-plain b = length-plain (b ∷ []) 1 refl (λ e. omega arith) (λ e. omega arith)
@@ -78,9 +78,9 @@ module _ (text : List ℕ) where
   other-kind a n w st k f =
       never-is (st .kind) k (λ e. f (subst (Spelling k) (st .spelled) (subst (λ (j : Kind). Spelling j (part text (st .start) n)) e (st .is-token .spells))))
 
-  pass : (f : ℕ) (a s n : ℕ) (k : Kind) → tokenAt text a ≡ token k s n → is k ending ≡ false → is k inputWord ≡ false → is k varWord ≡ false → reservedFrom (suc f) text false a ≡ reservedFrom f text false n
+  pass : (f : ℕ) (a s n : ℕ) (k : Kind) → tokenAt text a ≡ token k s n → is k ending ≡ false → is k inputWord ≡ false → is k varWord ≡ false → is k timerWord ≡ false → reservedFrom (suc f) text false a ≡ reservedFrom f text false n
   unfolding reservedFrom
-  pass f a s n k t e i v = rw (t, e, i, v)
+  pass f a s n k t e i v x = rw (t, e, i, v, x)
 
   walk-plain : (ts : List (List ℕ)) → AllPlain ts → (a b : ℕ) → a ≤ length text → Spells asWritten text a b ts → (f : ℕ) → length ts ≤ f → reservedFrom f text false a ≡ reservedFrom (f - length ts) text false b
   walk-plain [] p a b h g f l = let e : f ≡ f - 0 = omega arith in ap (λ (n : ℕ). reservedFrom f text false n) g ∙ ap (λ (n : ℕ). reservedFrom n text false b) e
@@ -88,15 +88,15 @@ module _ (text : List ℕ) where
   walk-plain (w ∷ ts) p a b h g (suc f) l =
       let st = g .1 in
       let e : f - length ts ≡ suc f - length (w ∷ ts) = omega arith in
-      pass f a (st .start) (g .0) (st .kind) (is-read st) (other-kind a (g .0) w st ending (λ x. x)) (other-kind a (g .0) w st inputWord (λ x. p .0 .0 x)) (other-kind a (g .0) w st varWord (λ x. p .0 .1 x))
+      pass f a (st .start) (g .0) (st .kind) (is-read st) (other-kind a (g .0) w st ending (λ x. x)) (other-kind a (g .0) w st inputWord (λ x. p .0 .0 x)) (other-kind a (g .0) w st varWord (λ x. p .0 .1 x)) (other-kind a (g .0) w st timerWord (λ x. p .0 .2 x))
       ∙ walk-plain ts (p .1) (g .0) b (stands-in written text a (g .0) w h st .1) (g .2) f (omega arith)
       ∙ ap (λ (n : ℕ). reservedFrom n text false b) e
 
   -- a word that declares, then a name
-  two : (f : ℕ) (a s n t m : ℕ) (k : Kind) (w : List ℕ) → is k ending ≡ false → declaresName k ≡ true → tokenAt text a ≡ token k s n → tokenAt text n ≡ token name t m → part text t m ≡ w
+  two : (f : ℕ) (a s n t m : ℕ) (k : Kind) (w : List ℕ) → is k ending ≡ false → is k timerWord ≡ false → declaresName k ≡ true → tokenAt text a ≡ token k s n → tokenAt text n ≡ token name t m → part text t m ≡ w
       → reservedFrom (suc (suc f)) text false a ≡ cond (isStWord w) t (reservedFrom f text false m)
   unfolding reservedFrom is kindNumber
-  two f a s n t m k w e d q r p = rw (q, e, d, r, p)
+  two f a s n t m k w e y d q r p = rw (q, e, y, d, r, p)
 
   -- one declaration
   record Declared (x : Name) (ts : List (List ℕ)) (a b f : ℕ) : Type 0 where
@@ -109,11 +109,11 @@ module _ (text : List ℕ) where
   kind-name : (k : Kind) (s n : ℕ) → _≡_ {A = TokenRead} (token k s n) (token name s n) → k ≡ name
   kind-name k s n e = cc
 
-  declared : (k : Kind) → isFixed k ≡ true → is k ending ≡ false → declaresName k ≡ true → (ts : List (List ℕ)) (x : Name) → Declares (spellingOf k) ts x
+  declared : (k : Kind) → isFixed k ≡ true → is k ending ≡ false → is k timerWord ≡ false → declaresName k ≡ true → (ts : List (List ℕ)) (x : Name) → Declares (spellingOf k) ts x
       → (a b : ℕ) → a ≤ length text → Spells asWritten text a b ts → (f : ℕ) → length ts ≤ f → Declared x ts a b f
-  declared k fx e d ts x (S.Declares.declares w ls hs ss r nm dl dh ds fits) a b h g zero l = absurd (omega arith)
-  declared k fx e d ts x (S.Declares.declares w ls hs ss r nm dl dh ds fits) a b h g (suc zero) l = absurd (omega arith)
-  declared k fx e d ts x (S.Declares.declares w ls hs ss r nm dl dh ds fits) a b h g (suc (suc f)) l =
+  declared k fx e y d ts x (S.Declares.declares w ls hs ss r nm dl dh ds fits) a b h g zero l = absurd (omega arith)
+  declared k fx e y d ts x (S.Declares.declares w ls hs ss r nm dl dh ds fits) a b h g (suc zero) l = absurd (omega arith)
+  declared k fx e y d ts x (S.Declares.declares w ls hs ss r nm dl dh ds fits) a b h g (suc (suc f)) l =
       let rest = ((ls ++ bytes ".." ∷ hs) ++ ss) ++ bytes ";" ∷ [] in
       let plain = plain-append ((ls ++ bytes ".." ∷ hs) ++ ss) (bytes ";" ∷ []) (plain-append (ls ++ bytes ".." ∷ hs) ss
       (plain-append ls (bytes ".." ∷ hs) (number-plain ls (r .low) dl) (length-plain (bytes "..") 2 refl (λ q. omega arith) (λ q. omega arith), number-plain hs (r .high) dh)) (start-plain ss (r .start) ds)) (one-plain 59, tt) in
@@ -130,7 +130,7 @@ module _ (text : List ℕ) where
         end = n2;
         stands = subst (TokenFrom text (st2 .start) n2) (kind-name (st2 .kind) (st2 .start) n2 (sym (is-read st2) ∙ t2)) (st2 .is-token);
         spells = st2 .spelled;
-        walks = two f a (st1 .start) n1 (st2 .start) n2 k w e d (fixed-at written text k fx a n1 h st1) t2 (st2 .spelled)
+        walks = two f a (st1 .start) n1 (st2 .start) n2 k w e y d (fixed-at written text k fx a n1 h st1) t2 (st2 .spelled)
             ∙ ap (cond (isStWord w) (st2 .start)) (walk-plain rest plain n2 b h2 (g .2 .2) f (omega arith) ∙ ap (λ (n : ℕ). reservedFrom n text false b) fuel);
       }
 
@@ -148,15 +148,15 @@ module _ (text : List ℕ) where
   first-later w ws place e r =
       record { earlier = w ∷ r .earlier; word = r .word; later = r .later; in-order = ap (λ (l : List (List ℕ)). w ∷ l) (r .in-order); none-earlier = rw (e, r .none-earlier); reserved = r .reserved; end = r .end; stands = r .stands; spells = r .spells }
 
-  all-walked : (k : Kind) → isFixed k ≡ true → is k ending ≡ false → declaresName k ≡ true → (ts : List (List ℕ)) (ns : List Name) → DeclareAll (spellingOf k) ts ns
+  all-walked : (k : Kind) → isFixed k ≡ true → is k ending ≡ false → is k timerWord ≡ false → declaresName k ≡ true → (ts : List (List ℕ)) (ns : List Name) → DeclareAll (spellingOf k) ts ns
       → (a b : ℕ) → a ≤ length text → Spells asWritten text a b ts → (f : ℕ) → length ts ≤ f → Walked ns ts a b f
-  all-walked k fx e d ts ns S.DeclareAll.none a b h g f l = inr (refl, (let q : f ≡ f - 0 = omega arith in ap (λ (n : ℕ). reservedFrom f text false n) g ∙ ap (λ (n : ℕ). reservedFrom n text false b) q))
-  all-walked k fx e d ts ns (S.DeclareAll.more us vs x xs dx r) a b h g f l =
+  all-walked k fx e y d ts ns S.DeclareAll.none a b h g f l = inr (refl, (let q : f ≡ f - 0 = omega arith in ap (λ (n : ℕ). reservedFrom f text false n) g ∙ ap (λ (n : ℕ). reservedFrom n text false b) q))
+  all-walked k fx e y d ts ns (S.DeclareAll.more us vs x xs dx r) a b h g f l =
       let s = split written text a b us vs g in
       let m = length-append us vs in
-      let one = declared k fx e d us x dx a (s .place) h (s .first) f (omega arith) in
+      let one = declared k fx e y d us x dx a (s .place) h (s .first) f (omega arith) in
       let mid = spells-in written text a (s .place) us h (s .first) .1 in
-      by (isStWord (x .spelling)) refl (s .place) one (all-walked k fx e d vs xs r (s .place) b mid (s .second) (f - length us) (omega arith)) m where
+      by (isStWord (x .spelling)) refl (s .place) one (all-walked k fx e y d vs xs r (s .place) b mid (s .second) (f - length us) (omega arith)) m where
         by : (t : Bool) → isStWord (x .spelling) ≡ t → (c : ℕ) → Declared x us a c f → Walked xs vs c b (f - length us) → length (us ++ vs) ≡ length us + length vs → Walked (x ∷ xs) (us ++ vs) a b f
         by true q c one more m = inl (first-here x xs us a c f one q)
         by false q c one more m = go more where
@@ -203,32 +203,82 @@ tokens-few : (ts : List (List ℕ)) → length ts ≤ bytesOf ts
 tokens-few [] = omega arith
 tokens-few (t ∷ ts) = let i = tokens-few ts in omega arith
 
-input-facts : (isFixed inputWord ≡ true) × (is inputWord ending ≡ false) × (declaresName inputWord ≡ true)
+input-facts : (isFixed inputWord ≡ true) × (is inputWord ending ≡ false) × (is inputWord timerWord ≡ false) × (declaresName inputWord ≡ true)
 unfolding isFixed is kindNumber
-input-facts = (refl, refl, refl)
+input-facts = (refl, refl, refl, refl)
 
-var-facts : (isFixed varWord ≡ true) × (is varWord ending ≡ false) × (declaresName varWord ≡ true)
+var-facts : (isFixed varWord ≡ true) × (is varWord ending ≡ false) × (is varWord timerWord ≡ false) × (declaresName varWord ≡ true)
 unfolding isFixed is kindNumber
-var-facts = (refl, refl, refl)
+var-facts = (refl, refl, refl, refl)
 
--- the theorem: of an accepted text without Structured Text, the place is that of the first such name
-pub first-reserved : (text : List ℕ) (p : Program) → programOf text ≡ accepted p → hasSt p ≡ false → FirstReserved text (namesOf p) (reservedPlace text)
-unfolding hasSt reservedPlace
-first-reserved text p e lacks =
+-- the timers: none, or the first stands where they begin
+timers-walked : (text : List ℕ) (names : List (List ℕ)) (ts : List (List ℕ)) (ns : List Name) (xs : List Timer) → DeclareTimers names ts ns xs → (a b : ℕ) → a ≤ length text → Spells asWritten text a b ts → (f : ℕ)
+    → ((ns ≡ []) × (xs ≡ [])) ⊎ ((end : ℕ) × TokenFrom text (reservedFrom (suc f) text false a) end timerWord)
+unfolding reservedFrom is kindNumber isFixed
+timers-walked text names ts ns xs S.DeclareTimers.none a b h g f = inl (refl, refl)
+timers-walked text names ts ns xs (S.DeclareTimers.more us vs t l x ys (S.DeclaresTimer.declares-timer w v n y nt nw i d e) r) a b h g f =
+    let st = g .1 in
+    let q = fixed-at written text timerWord refl a (g .0) h st in
+    inr (g .0, rw q (subst (TokenFrom text (st .start) (g .0)) (kind-is (st .kind) (st .start) (g .0) (sym (is-read st) ∙ q)) (st .is-token)))
+  where
+    kind-is : (k : Kind) (s n : ℕ) → _≡_ {A = TokenRead} (token k s n) (token timerWord s n) → k ≡ timerWord
+    kind-is k s n z = cc
+
+timers-counted : {names : List (List ℕ)} {ts : List (List ℕ)} {ns : List Name} {xs : List Timer} → DeclareTimers names ts ns xs → length ns ≡ length xs
+timers-counted S.DeclareTimers.none = refl
+timers-counted (S.DeclareTimers.more us vs t l x ys d r) = ap suc (timers-counted r)
+
+spelled-front : (ns ms : List Name) (n : ℕ) → n ≡ length ns → take n (spelled (ns ++ ms)) ≡ spelled ns
+spelled-front ns ms n e = rw e (go ns) where
+  go : (k : List Name) → take (length k) (spelled (k ++ ms)) ≡ spelled k
+  go [] = refl
+  go (x ∷ k) = ap (λ (l : List (List ℕ)). x .spelling ∷ l) (go k)
+
+module _ (text : List ℕ) (p : Program) (s : Spelled text p) where
+  -- the names before the timers
+  names-before : take (firstTimer p) (namesOf p) ≡ spelled (s .inputs ++ s .variables)
+  names-before =
+      let all = length-append (s .inputs ++ s .variables) (s .timer-names) in
+      let n : length (p .names) ≡ length (s .inputs ++ s .variables ++ s .timer-names) = ap length (s .names) in
+      let m = length-map (p .names) (λ x. x .range) in
+      let c = timers-counted (s .declares-timers) in
+      ap (λ (ns : List Name). take (firstTimer p) (spelled ns)) (s .names) ∙ spelled-front (s .inputs ++ s .variables) (s .timer-names) (firstTimer p) (omega arith)
+
+  -- where no name is reserved, a timer stands
+  by-timer : hasSt p ≡ false → noneStWord (spelled (s .inputs ++ s .variables)) ≡ true → (place : ℕ) → ((s .timer-names ≡ []) × (p .timers ≡ [])) ⊎ ((end : ℕ) × TokenFrom text place end timerWord)
+      → FirstOutside text (spelled (s .inputs ++ s .variables)) place
+  unfolding hasSt
+  by-timer lacks none place (inr y) = a-timer (record { none-earlier = none; end = y .0; stands = y .1 })
+  by-timer lacks none place (inl z) =
+      let q : namesOf p ≡ spelled (s .inputs ++ s .variables) = ap (λ (ns : List Name). spelled ns) (s .names ∙ ap (λ (ns : List Name). s .inputs ++ s .variables ++ ns) (z .0) ∙ append-nil (s .inputs ++ s .variables)) in
+      absurd (false≢true (sym lacks ∙ rw (z .1, q, none)))
+
+  walked-outside : hasSt p ≡ false → (c d : ℕ) → Walked text (s .inputs) (s .input-tokens) 0 c (suc (length text)) → Walked text (s .variables) (s .variable-tokens) c d (suc (length text) - length (s .input-tokens))
+      → ((s .timer-names ≡ []) × (p .timers ≡ [])) ⊎ ((end : ℕ) × TokenFrom text (reservedFrom (suc (length text) - length (s .input-tokens) - length (s .variable-tokens)) text false d) end timerWord)
+      → FirstOutside text (spelled (s .inputs ++ s .variables)) (reservedFrom (suc (length text)) text false 0)
+  walked-outside lacks c d (inl r) w t = a-name (more-inputs text (s .inputs) (s .variables) (reservedFrom (suc (length text)) text false 0) r)
+  walked-outside lacks c d (inr z) (inl r) t =
+      a-name (both-walked text (s .inputs) (s .variables) (reservedFrom (suc (length text)) text false 0) (z .0) (subst (FirstReserved text (spelled (s .variables))) (sym (z .1)) r))
+  walked-outside lacks c d (inr z) (inr y) t =
+      subst (FirstOutside text (spelled (s .inputs ++ s .variables))) (sym (z .1 ∙ y .1)) (by-timer lacks (none-both text (s .inputs) (s .variables) (z .0) (y .0)) _ t)
+
+-- the theorem: of an accepted text without Structured Text, the place is that of the first such name, or of the first timer
+pub first-outside : (text : List ℕ) (p : Program) → programOf text ≡ accepted p → hasSt p ≡ false → FirstOutside text (take (firstTimer p) (namesOf p)) (reservedPlace text)
+unfolding reservedPlace
+first-outside text p e lacks =
     let s = accepted-exactly .accepted-spelled text p e in
-    let x = split written text 0 (s .rules-from) (s .input-tokens) (s .variable-tokens) (s .spells-declarations) in
+    let y = split written text 0 (s .rules-from) (s .input-tokens ++ s .variable-tokens) (s .timer-tokens) (s .spells-declarations) in
+    let x = split written text 0 (y .place) (s .input-tokens) (s .variable-tokens) (y .first) in
     let mid = spells-in written text 0 (x .place) (s .input-tokens) (omega arith) (x .first) .1 in
     let i = spells-bytes written text 0 (x .place) (s .input-tokens) (omega arith) (x .first) in
-    let j = spells-bytes written text (x .place) (s .rules-from) (s .variable-tokens) mid (x .second) in
-    let end = spells-in written text (x .place) (s .rules-from) (s .variable-tokens) mid (x .second) .1 in
+    let j = spells-bytes written text (x .place) (y .place) (s .variable-tokens) mid (x .second) in
+    let end = spells-in written text (x .place) (y .place) (s .variable-tokens) mid (x .second) .1 in
     let ti = tokens-few (s .input-tokens) in
     let tv = tokens-few (s .variable-tokens) in
-    by s (x .place) (all-walked text inputWord (input-facts .0) (input-facts .1) (input-facts .2) (s .input-tokens) (s .inputs) (s .declares-inputs) 0 (x .place) (omega arith) (x .first) (suc (length text)) (omega arith))
-    (all-walked text varWord (var-facts .0) (var-facts .1) (var-facts .2) (s .variable-tokens) (s .variables) (s .declares-variables) (x .place) (s .rules-from) mid (x .second) (suc (length text) - length (s .input-tokens)) (omega arith)) where
-      by : (s : Spelled text p) (c : ℕ) → Walked text (s .inputs) (s .input-tokens) 0 c (suc (length text)) → Walked text (s .variables) (s .variable-tokens) c (s .rules-from) (suc (length text) - length (s .input-tokens))
-          → FirstReserved text (namesOf p) (reservedFrom (suc (length text)) text false 0)
-      by s c (inl r) w = subst (λ (ns : List Name). FirstReserved text (spelled ns) (reservedFrom (suc (length text)) text false 0)) (sym (s .names)) (more-inputs text (s .inputs) (s .variables) (reservedFrom (suc (length text)) text false 0) r)
-      by s c (inr z) (inl r) =
-          subst (λ (ns : List Name). FirstReserved text (spelled ns) (reservedFrom (suc (length text)) text false 0)) (sym (s .names))
-          (both-walked text (s .inputs) (s .variables) (reservedFrom (suc (length text)) text false 0) (z .0) (subst (FirstReserved text (spelled (s .variables))) (sym (z .1)) r))
-      by s c (inr z) (inr y) = absurd (false≢true (sym (sym (ap (λ (ts : List Timer). noTimer ts && noneStWord (namesOf p)) (s .untimed)) ∙ lacks) ∙ ap (λ (ns : List Name). noneStWord (spelled ns)) (s .names) ∙ none-both text (s .inputs) (s .variables) (z .0) (y .0)))
+    let left : suc (length text - length (s .input-tokens) - length (s .variable-tokens)) ≡ suc (length text) - length (s .input-tokens) - length (s .variable-tokens) = omega arith in
+    let t = timers-walked text _ (s .timer-tokens) (s .timer-names) (p .timers) (s .declares-timers) (y .place) (s .rules-from) end (y .second) (length text - length (s .input-tokens) - length (s .variable-tokens)) in
+    subst (λ (ws : List (List ℕ)). FirstOutside text ws (reservedFrom (suc (length text)) text false 0)) (sym (names-before text p s))
+    (walked-outside text p s lacks (x .place) (y .place)
+    (all-walked text inputWord (input-facts .0) (input-facts .1) (input-facts .2) (input-facts .3) (s .input-tokens) (s .inputs) (s .declares-inputs) 0 (x .place) (omega arith) (x .first) (suc (length text)) (omega arith))
+    (all-walked text varWord (var-facts .0) (var-facts .1) (var-facts .2) (var-facts .3) (s .variable-tokens) (s .variables) (s .declares-variables) (x .place) (y .place) mid (x .second) (suc (length text) - length (s .input-tokens)) (omega arith))
+    (rw left at t))

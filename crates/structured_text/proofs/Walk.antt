@@ -9,7 +9,7 @@ use lib.ListN.{length, getD, drop, drop-of-length-le}
 use lib.Seq.{drop-cons}
 use Rattle.arith.proofs.Basics.{and-both}
 use Rattle.lexer.specs.Bytes.{part}
-use Rattle.lexer.specs.Token.{Kind, ending, is, TokenRead, token, fault}
+use Rattle.lexer.specs.Token.{Kind, ending, timerWord, is, TokenRead, token, fault}
 use Rattle.lexer.specs.Lexer.{tokenAt}
 use Rattle.lexer.specs.Names.{tableNames, Table}
 use Rattle.expressions.proofs.Scopes.{names-counted}
@@ -53,9 +53,14 @@ module _ {text : List ℕ} {named : Bool} {at : ℕ} (w : Walking text named at)
     walk-end e = rw (t, e) at step
 
     module _ (e : is k ending ≡ false) where
+      pub walk-timer : is k timerWord ≡ true → s ≡ reservedPlace text
+      unfolding reservedFrom
+      walk-timer x = rw (t, e, x) at step
+
+    module _ (e : is k ending ≡ false) (x : is k timerWord ≡ false) where
       pub walk-here : (named && isStWord (part text s n)) ≡ true → s ≡ reservedPlace text
       unfolding reservedFrom
-      walk-here h = let b = and-both named (isStWord (part text s n)) h in rw (t, e, b .0, b .1) at step
+      walk-here h = let b = and-both named (isStWord (part text s n)) h in rw (t, e, x, b .0, b .1) at step
 
       pub walk-next : (named && isStWord (part text s n)) ≡ false → at < n → n ≤ length text → Walking text (declaresName k) n
       unfolding reservedFrom
@@ -65,7 +70,7 @@ module _ {text : List ℕ} {named : Bool} {at : ℕ} (w : Walking text named at)
             fuel = w .fuel - 1;
             enough = omega (arith, w .enough, w .inside);
             inside = i;
-            whole = sym (passed named (isStWord (part text s n)) s more h) ∙ rw (t, e) at step;
+            whole = sym (passed named (isStWord (part text s n)) s more h) ∙ rw (t, e, x) at step;
           }
 
 -- ---- names

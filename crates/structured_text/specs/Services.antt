@@ -8,7 +8,7 @@ use lib.ListN.{length}
 use Rattle.limits.specs.Limits.{notInSt}
 use Rattle.limits.specs.Answer.{Answer, accepted, refused}
 use Rattle.lexer.specs.Bytes.{part}
-use Rattle.lexer.specs.Token.{Kind, ending, inputWord, varWord, is, TokenRead, token, fault}
+use Rattle.lexer.specs.Token.{Kind, ending, inputWord, varWord, timerWord, is, TokenRead, token, fault}
 use Rattle.lexer.specs.Lexer.{tokenAt}
 use Rattle.semantics.specs.Program.{Program}
 use Rattle.grammar.specs.Parse.{programOf}
@@ -21,16 +21,16 @@ use Rattle.st_program.specs.Written.{stBytes, isStWord, hasSt}
 abbrev pub declaresName : Kind → Bool
 declaresName k = is k inputWord || is k varWord
 
--- of a token: where it stands if it is a declared name and a word of Structured Text, else what the walk goes on to find
+-- of a token: where it stands if it is a declared name and a word of Structured Text, or `timer`, else what the walk goes on to find
 abbrev pub reservedAt : List ℕ → Bool → (Bool → ℕ → ℕ) → TokenRead → ℕ
 reservedAt text named more (fault s) = 0
 reservedAt text named more (token k s n) =
     let next = more (declaresName k) n in
     let here = cond (isStWord (part text s n)) s next in
-    cond (is k ending) 0 (cond named here next)
+    cond (is k ending) 0 (cond (is k timerWord) s (cond named here next))
 
--- 21 a declared name that is a word of Structured Text, at its declaration: the place of the first, token by token from `at` on. `named` says whether
--- a declared name stands next. (Each token has a byte.)
+-- 21 a declared name that is a word of Structured Text, at its declaration, or a timer, at its word (document 02, A.7): the place of the first, token by
+-- token from `at` on. `named` says whether a declared name stands next. (Each token has a byte.)
 unfoldable pub reservedFrom : ℕ → List ℕ → Bool → ℕ → ℕ
 reservedFrom zero text named at = 0
 reservedFrom (suc f) text named at = reservedAt text named (λ b n. reservedFrom f text b n) (tokenAt text at)

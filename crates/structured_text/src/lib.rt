@@ -16,7 +16,7 @@ ghost use Rattle.st_writer.specs.Inner.Fronts.{Fronts};
 ghost use Rattle.st_writer.specs.Inner.Mirrored.{mirrored};
 ghost use Rattle.structured_text.specs.Services.{structuredTextOf};
 ghost use Rattle.structured_text.specs.Results.{afterWriting, WrittenWithin};
-ghost use Rattle.structured_text.specs.Inner.Prepared.{wholePrinted, Compiled, ReadyToPrint};
+ghost use Rattle.structured_text.specs.Inner.Prepared.{wholePrinted, Compiled, Prepared};
 
 pub mod reserved;
 
@@ -63,7 +63,7 @@ fn write_mirrored(
     count: usize,
     code: &[u8],
 ) -> Written
-    requires { ⌜ ReadyToPrint (λ is. mirrored is []) (now text) (now starts) (now ends) (now values) inputs count (now code) ⌝ }
+    requires { ⌜ Prepared (λ is. mirrored is []) (now text) (now starts) (now ends) (now values) inputs count (now code) ⌝ }
     ensures { λ r. ⌜ afterWriting r (now (out .exit)) ≡ structuredTextOf (now (text .entry)) (now (out .entry)) ⌝ }
     ensures { λ r. ⌜ WrittenWithin r ⌝ }
 {
@@ -99,7 +99,7 @@ fn write_code(
     code: &[u8],
     mirror: &mut [u8],
 ) -> Written
-    requires { ⌜ ReadyToPrint encodeAll (now text) (now starts) (now ends) (now values) inputs count (now code) ⌝ }
+    requires { ⌜ Prepared encodeAll (now text) (now starts) (now ends) (now values) inputs count (now code) ⌝ }
     requires { ⌜ length (now code) ≤ length (now mirror) ⌝ }
     ensures { λ r. ⌜ afterWriting r (now (out .exit)) ≡ structuredTextOf (now (text .entry)) (now (out .entry)) ⌝ }
     ensures { λ r. ⌜ WrittenWithin r ⌝ }
@@ -139,7 +139,7 @@ fn write_image(
     let Headed::Header(inputs, count, place) = headed else {
         return Written::Refused(limits::BROKEN_IMAGE, 0);
     };
-    if !reserved::has_st(text, starts, ends, count) {
+    if !reserved::has_st(text, starts, ends, &image[place..], count) {
         return Written::Refused(limits::NOT_IN_ST, reserved::reserved_place(text));
     }
     write_code(

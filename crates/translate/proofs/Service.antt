@@ -18,7 +18,7 @@ use Rattle.grammar.specs.Inner.Bytes.{header, bytesR, image}
 use Rattle.grammar.specs.Parse.{program, parse, answerOf, programOf}
 use Rattle.grammar.proofs.Combine.{same-value}
 use Rattle.grammar.proofs.Image.{image-emitted}
-use Rattle.grammar.proofs.Accepted.{parse-translatable, parse-few, parse-growth, parse-short as accepted-short, parse-spelled}
+use Rattle.grammar.proofs.Accepted.{parse-translatable, parse-few, parse-growth, parse-short as accepted-short}
 use Rattle.grammar.proofs.PlacesText.{Placed, parse-limited}
 use Rattle.grammar.proofs.ConverseText.{short-parse}
 use Rattle.lexer.specs.declared.Place.{Place}
@@ -51,14 +51,14 @@ analyses-long text starts ends h =
 
 -- the two counts are the first bytes of the image
 two-counts : (q : Program) → q .inputs ≤ length (q .names) → length (q .names) ≤ nameLimit → sets (0 ∷ 0 ∷ []) 0 (image q) ≡ q .inputs ∷ (length (q .names) - q .inputs) ∷ []
-two-counts q h i = rw (image-bytes q (omega arith) (omega arith)) (sets-past (q .inputs ∷ (length (q .names) - q .inputs) ∷ []) 2 (header (q .names) ++ bytesR (q .rules)) (omega arith))
+two-counts q h i = rw (image-bytes q (omega arith) (omega arith)) (sets-past (q .inputs ∷ (length (q .names) - q .inputs) ∷ []) 2 (header (q .names) ++ bytesR (q .timers) (q .rules)) (omega arith))
 
 counted : (p : Parsed Program) (q : Program) (n t : ℕ) (last : List ℕ) → p ≡ accepted q n → t ≡ 0 + length (image q) → last ≡ q .inputs ∷ (length (q .names) - q .inputs) ∷ [] → q .inputs ≤ length (q .names)
-    → {i v : ℕ} → i ≡ getD last 0 0 → v ≡ getD last 1 0 → A.accepted (record { end = t; inputs = i; names = i + v }) ≡ measured p
-counted p q n t last e f g h ei ev =
+    → {i v o : ℕ} → i ≡ getD last 0 0 → v ≡ getD last 1 0 → o ≡ length (q .timers) → A.accepted (record { end = t; inputs = i; names = i + v; timers = o }) ≡ measured p
+counted p q n t last e f g h ei ev eo =
     let s : t ≡ length (image q) = omega (arith, f) in
     let all : q .inputs + (length (q .names) - q .inputs) ≡ length (q .names) = omega arith in
-    rw (e, s, ei, ev, g, all)
+    rw (e, s, ei, ev, g, all, eo)
 
 module _ (text last starts ends : List ℕ) {r : Step} (h : length text ≤ textLimit) (d : Descends text (program text) (0 ∷ 0 ∷ []) last starts ends r) where
   names-held : (q : Program) (n : ℕ) → parse text ≡ accepted q n → TableHolds text starts ends (length (q .names)) (q .names)
@@ -67,26 +67,26 @@ module _ (text last starts ends : List ℕ) {r : Step} (h : length text ≤ text
   pub analyses-refused : (k x : ℕ) → r ≡ Refused k x → Analyses text (parse text) starts ends (N.Refused k x)
   analyses-refused k x e = record { answer = rw (short-parse text h, refused-part (d .writes) e); named = names-held }
 
-  pub analyses-accepted : (x : Place) → r ≡ Done x → {i v : ℕ} → i ≡ getD last 0 0 → v ≡ getD last 1 0 → Analyses text (parse text) starts ends (N.Accepted (x .to) i (i + v))
+  pub analyses-accepted : (x : Place) → r ≡ Done x → {i v : ℕ} → i ≡ getD last 0 0 → v ≡ getD last 1 0 → Analyses text (parse text) starts ends (N.Accepted (x .to) i (i + v) (x .end))
   analyses-accepted x e ei ev =
       let g = got (d .writes) e in
       let p : parse text ≡ accepted (g .tree) (x .at) = short-parse text h ∙ g .is in
       let f = parse-few text (g .tree) (x .at) p in
       let few : g .tree .inputs ≤ length (g .tree .names) = subst (λ (n : ℕ). g .tree .inputs ≤ n) (length-map (g .tree .names) (λ n. n .range)) (parse-translatable text (g .tree) (x .at) p .well-formed .inputs-fit) in
-      record { answer = counted (parse text) (g .tree) (x .at) (x .to) last p (g .ended) (g .wrote ∙ two-counts (g .tree) few f) few ei ev; named = names-held }
+      record { answer = counted (parse text) (g .tree) (x .at) (x .to) last p (g .ended) (g .wrote ∙ two-counts (g .tree) few f) few ei ev (d .timed (g .tree) (x .at) x (g .is) e); named = names-held }
 
 -- ---- the survey
 
 pub surveys-long : (text starts ends : List ℕ) → textLimit < length text → Surveys text (parse text) starts ends (S.Refused 9 0)
 surveys-long text starts ends h =
     let e = parse-long text h in
-    record { answer = rw e; stand = λ q n names at count g i. never q n 9 0 (sym g ∙ e) }
+    record { answer = rw e; stand = λ q n names at count timers g i. never q n 9 0 (sym g ∙ e) }
 
 module _ (text last starts ends : List ℕ) {r : Step} (h : length text ≤ textLimit) (d : Descends text (program text) (0 ∷ 0 ∷ []) last starts ends r) where
   pub surveys-refused : (k x : ℕ) → r ≡ Refused k x → Surveys text (parse text) starts ends (S.Refused k x)
   surveys-refused k x e =
       let f : parse text ≡ refused k x = short-parse text h ∙ refused-part (d .writes) e in
-      record { answer = rw f; stand = λ q n names at count g i. never q n k x (sym g ∙ f) }
+      record { answer = rw f; stand = λ q n names at count timers g i. never q n k x (sym g ∙ f) }
 
   module _ (x : Place) (e : r ≡ Done x) {i v : ℕ} (ei : i ≡ getD last 0 0) (ev : v ≡ getD last 1 0) (hs : nameLimit ≤ length starts) (he : nameLimit ≤ length ends) where
     abbrev read : Program
@@ -122,10 +122,11 @@ module _ (text last starts ends : List ℕ) {r : Step} (h : length text ≤ text
           read = rw (total, t) (w .read);
         }
 
-    pub surveys-accepted : Surveys text (parse text) starts ends (S.Watches (i + v) (x .start) (x .number))
+    pub surveys-accepted : Surveys text (parse text) starts ends (S.Watches (i + v) (x .start) (x .number) (x .end))
     surveys-accepted = record {
-      answer = ap₂ (λ (n w : ℕ). A.accepted (record { names = n; watches = w })) total (d .watched read (x .at) x (got (d .writes) e .is) e .0) ∙ sym (ap watchCounts parsed);
-      stand = λ q n names at count g k.
+      answer = ap₂ (λ (n w : ℕ). A.accepted (record { names = n; watches = w; timers = x .end })) total (d .watched read (x .at) x (got (d .writes) e .is) e .0)
+          ∙ ap (λ (o : ℕ). A.accepted (record { names = length (read .names); watches = length (read .watches); timers = o })) (d .timed read (x .at) x (got (d .writes) e .is) e) ∙ sym (ap watchCounts parsed);
+      stand = λ q n names at count timers g k.
           let a : i + v ≡ names = cc in
           let b : x .start ≡ at = cc in
           subst (λ (o : ℕ). WatchesStand text starts ends o at (q .watches)) a (subst (λ (o : ℕ). WatchesStand text starts ends (i + v) o (q .watches)) b (subst (λ (p : Program). WatchesStand text starts ends (i + v) (x .start) (p .watches)) (same-value (sym parsed ∙ g)) standing));
@@ -151,11 +152,11 @@ module _ (text buffer : List ℕ) where
   module _ (q : Program) (n : ℕ) (e : parse text ≡ accepted q n) where
     pub translation-short : length buffer < length (image q) → afterTranslation (T.Refused 10 (length text)) buffer ≡ translationOf text buffer
     unfolding translationOf programOf
-    translation-short h = rw (e, ← image-emitted q (parse-spelled text q n e .untimed), lt-leb (length (image q)) (length buffer) h)
+    translation-short h = rw (e, ← image-emitted, lt-leb (length (image q)) (length buffer) h)
 
     pub translation-stored : (left : List ℕ) → length (image q) ≤ length buffer → left ≡ image q ++ drop (length (image q)) buffer → afterTranslation (T.Image (length (image q))) left ≡ translationOf text buffer
     unfolding translationOf programOf
-    translation-stored left h w = rw (e, ← image-emitted q (parse-spelled text q n e .untimed), le-leb (length (image q)) (length buffer) h, w)
+    translation-stored left h w = rw (e, ← image-emitted, le-leb (length (image q)) (length buffer) h, w)
 
 -- ---- how large the numbers of an answer are
 
@@ -209,7 +210,7 @@ module _ (text before after starts ends : List ℕ) {r : Step} (short : length t
   image-made x h e =
       let g = got (d .writes) e in
       let p : parse text ≡ accepted (g .tree) (x .at) = short-parse text short ∙ g .is in
-      let l : length (image (g .tree)) ≡ length (imageOf (g .tree)) = ap {A = List ℕ} length (image-emitted (g .tree) (parse-spelled text (g .tree) (x .at) p .untimed)) in
+      let l : length (image (g .tree)) ≡ length (imageOf (g .tree)) = ap {A = List ℕ} length (image-emitted (g .tree)) in
       let f : length (image (g .tree)) ≤ length before = omega (arith, parse-growth text (g .tree) (x .at) p) in
       let m : x .to ≡ length (image (g .tree)) = omega (arith, g .ended) in
       record {

@@ -16,20 +16,21 @@ ghost use Rattle.expressions.specs.Inner.Readers.{StandsAt};
 ghost use Rattle.phrases.specs.Inner.Steps.{numberTold, Writes};
 ghost use Rattle.watches.specs.Inner.Codes.{noCode};
 ghost use Rattle.declarations.specs.Inner.Tables.{TableRoom};
+ghost use Rattle.declarations.specs.Inner.Timers.{TimerRoom};
 ghost use Rattle.translate.specs.Services.{translationOf};
 ghost use Rattle.translate.specs.Results.{afterTranslation, TranslatedWithin};
-ghost use Rattle.translate.specs.Inner.Descent.{freeScope, tailFrom, Descends, Analyses};
+ghost use Rattle.translate.specs.Inner.Descent.{freeScope, tailFrom, ReadsHeading, Descends, Analyses};
 ghost use Rattle.translate.specs.Inner.Survey.{Surveys};
 
-// The image's length and the counts of inputs and of names; or a refusal's number and place.
+// The image's length and the counts of inputs, of names and of timers among them; or a refusal's number and place.
 pub enum Analysis {
-    Accepted(usize, usize, usize),
+    Accepted(usize, usize, usize, usize),
     Refused(u8, usize),
 }
 
-// The count of names, the place where the rules end and the count of the watches there; or a refusal's number and place.
+// The count of names, the place where the rules end, the count of the watches there and that of timers; or a refusal's number and place.
 pub enum Surveyed {
-    Watches(usize, usize, usize),
+    Watches(usize, usize, usize, usize),
     Refused(u8, usize),
 }
 
@@ -65,12 +66,20 @@ fn tail(text: &[u8], starts: &[usize], ends: &[usize], count: usize, behind: Pla
     )
 }
 
-// The whole text, into lent memory as far as there is room: all inputs, then all variables, into the table; the rules; the watches; and
-// last the header's two counts. Told are where the rules end and how many watches there are.
-pub fn descend(text: &[u8], starts: &mut [usize], ends: &mut [usize], out: &mut [u8]) -> Step
+// All inputs, then all variables, then all timers, into the tables. Told are how many inputs and how many names there are, and the id of
+// the first timer.
+fn heading(
+    text: &[u8],
+    starts: &mut [usize],
+    ends: &mut [usize],
+    watched: &mut [u8],
+    limits: &mut [u32],
+    out: &mut [u8],
+) -> Step
     requires { ⌜ length (now text) ≤ textLimit ⌝ }
     requires { ⌜ TableRoom (now starts) (now ends) 0 ⌝ }
-    ensures { λ r. ⌜ Descends (now (text .entry)) (program (now (text .entry))) (now (out .entry)) (now (out .exit)) (now (starts .exit)) (now (ends .exit)) r ⌝ }
+    requires { ⌜ TimerRoom (now watched) (now limits) ⌝ }
+    ensures { λ r. ⌜ ReadsHeading (now (text .entry)) (now (out .entry)) (now (out .exit)) (now (starts .exit)) (now (ends .exit)) (now (watched .exit)) (now (limits .exit)) r ⌝ }
 {
     let first = declarations::declarations(text, 0, lexer::INPUT, starts, ends, 0, out, 2);
     let Step::Done(inputs) = first else {
@@ -86,11 +95,66 @@ pub fn descend(text: &[u8], starts: &mut [usize], ends: &mut [usize], out: &mut 
         out,
         inputs.to,
     );
-    let Step::Done(all) = second else {
+    let Step::Done(variables) = second else {
         return second;
     };
-    let names = expressions::scope::first_names(inputs.number, all.number);
-    let read = rules::rules(text, starts, ends, names, all.at, out, all.to);
+    let third = declarations::timers::timers(
+        text,
+        variables.at,
+        starts,
+        ends,
+        variables.number,
+        inputs.number,
+        watched,
+        limits,
+        out,
+        variables.to,
+    );
+    let Step::Done(all) = third else {
+        return third;
+    };
+    Step::Done(Place {
+        at: all.at,
+        kind: lexer::UNKNOWN,
+        start: inputs.number,
+        end: variables.number,
+        to: all.to,
+        number: all.number,
+        value: 0,
+    })
+}
+
+// The whole text, into lent memory as far as there is room: the declarations; the rules; the watches; and last the header's two counts.
+fn descend_in(
+    text: &[u8],
+    starts: &mut [usize],
+    ends: &mut [usize],
+    watched: &mut [u8],
+    limits: &mut [u32],
+    out: &mut [u8],
+) -> Step
+    requires { ⌜ length (now text) ≤ textLimit ⌝ }
+    requires { ⌜ TableRoom (now starts) (now ends) 0 ⌝ }
+    requires { ⌜ TimerRoom (now watched) (now limits) ⌝ }
+    ensures { λ r. ⌜ Descends (now (text .entry)) (program (now (text .entry))) (now (out .entry)) (now (out .exit)) (now (starts .exit)) (now (ends .exit)) r ⌝ }
+{
+    let first = heading(text, starts, ends, watched, limits, out);
+    let Step::Done(all) = first else {
+        return first;
+    };
+    let names = expressions::scope::first_names(all.start, all.number);
+    let read = rules::rules(
+        text,
+        starts,
+        ends,
+        names,
+        watched,
+        limits,
+        all.end,
+        all.at,
+        out,
+        all.to,
+    );
     let Step::Done(behind) = read else {
         return read;
     };
@@ -98,10 +162,22 @@ pub fn descend(text: &[u8], starts: &mut [usize], ends: &mut [usize], out: &mut 
     let Step::Done(mut last) = ended else {
         return ended;
     };
-    leb128::put_byte(out, 0, inputs.number as u8);
-    leb128::put_byte(out, 1, (all.number - inputs.number) as u8);
+    leb128::put_byte(out, 0, all.start as u8);
+    leb128::put_byte(out, 1, (all.number - all.start) as u8);
     last.start = behind.at;
+    last.end = all.number - all.end;
     Step::Done(last)
+}
+
+// Told are where the rules end, how many timers and how many watches there are.
+pub fn descend(text: &[u8], starts: &mut [usize], ends: &mut [usize], out: &mut [u8]) -> Step
+    requires { ⌜ length (now text) ≤ textLimit ⌝ }
+    requires { ⌜ TableRoom (now starts) (now ends) 0 ⌝ }
+    ensures { λ r. ⌜ Descends (now (text .entry)) (program (now (text .entry))) (now (out .entry)) (now (out .exit)) (now (starts .exit)) (now (ends .exit)) r ⌝ }
+{
+    let mut watched = [0u8; limits::NAME_LIMIT];
+    let mut bounds = [0u32; limits::NAME_LIMIT];
+    descend_in(text, starts, ends, &mut watched, &mut bounds, out)
 }
 
 // A count of the header.
@@ -125,7 +201,7 @@ pub fn analyse(text: &[u8], starts: &mut [usize], ends: &mut [usize]) -> Analysi
     let inputs = count_of(counts[0]);
     let names = inputs + count_of(counts[1]);
     match read {
-        Step::Done(end) => Analysis::Accepted(end.to, inputs, names),
+        Step::Done(end) => Analysis::Accepted(end.to, inputs, names, end.end),
         Step::Refused(number, place) => Analysis::Refused(number, place),
     }
 }
@@ -143,7 +219,7 @@ pub fn survey(text: &[u8], starts: &mut [usize], ends: &mut [usize]) -> Surveyed
     let read = descend(text, starts, ends, &mut counts);
     let names = count_of(counts[0]) + count_of(counts[1]);
     match read {
-        Step::Done(end) => Surveyed::Watches(names, end.start, end.number),
+        Step::Done(end) => Surveyed::Watches(names, end.start, end.number, end.end),
         Step::Refused(number, place) => Surveyed::Refused(number, place),
     }
 }

@@ -21,7 +21,7 @@ loop-holds c = turning _ _ _ _ _ _ _ _ (c .before .before .before .before .pre .
 
 returns : tie.Need-returns Inv-loop μ-loop
 returns c =
-    (λ names held. stops-fault _ _ _ _ _ _ _ _ _ _ _ _ (c .before .before .before .loop .inv .going names held) (c .enum-told .given .1) (is-fault _ _ _ (c .before .before .token-at .ensures) _ _ (c .enum-told .given .1)), few-refused _ (c .enum-told .given .1))
+    (λ names held. stops-fault _ _ _ _ _ _ _ _ _ _ _ _ _ (c .before .before .before .loop .inv .going names held) (c .enum-told .given .1) (is-fault _ _ _ (c .before .before .token-at .ensures) _ _ (c .enum-told .given .1)), few-refused _ (c .enum-told .given .1))
 
 returns-2 : tie.Need-returns-2 Inv-loop μ-loop
 returns-2 c =
@@ -31,7 +31,7 @@ returns-2 c =
     let start = at-loop .before .before .before .before .before in (
       λ names held.
           let l = is-token _ _ _ (at-token-at .token-at .ensures) _ (at-read .read .given .1) .1 in
-          ends-all _ _ _ _ _ _ _ _ _ _ _ _ (at-loop .loop .inv .going names held) _ _ _ (is-token _ _ _ (at-token-at .token-at .ensures) _ (at-read .read .given .1) .0) (c .reached .ensures) (other-kinds _ _ (l .known-kind) (start .pre .0 .0) (c .before .if1 .taken)),
+          ends-all _ _ _ _ _ _ _ _ _ _ _ _ _ (at-loop .loop .inv .going names held) _ _ _ (is-token _ _ _ (at-token-at .token-at .ensures) _ (at-read .read .given .1) .0) (c .reached .ensures) (other-kinds _ _ (l .known-kind) (start .pre .0 .0) (c .before .if1 .taken)),
       few-reached _ (c .reached .ensures) (at-loop .loop .inv .few) (at-loop .loop .inv .bytes),
     )
 

@@ -43,8 +43,9 @@ codeOfPart code x = code (x .part)
 pub record Parses {A : Type 0} (text : List ℕ) (code : A → List ℕ) (p : Parsed A) (to : ℕ) (before after : List ℕ) (r : Step) : Type 0 where
   pub writes : Writes (codeOfPart code) tokenTold tokenBehind (lookedAhead text p) to before after r
 
--- a text within its limit, a place in it, and no more bytes written than two for each byte read, and the header's two counts
+-- a text within its limit, a place in it, and no more bytes written than 512 for each byte read, and the header's two counts: two for each byte, and
+-- after a rule the instructions of its timers, at most 63 of eight bytes
 pub record Room (text : List ℕ) (at to : ℕ) : Type 0 where
   pub short : length text ≤ textLimit
   pub within : at ≤ length text
-  pub room : to ≤ 2 * at + 2
+  pub room : to ≤ 512 * at + 2

@@ -3,6 +3,7 @@ use Prim.Native.Nat.{ℕ}
 use mathlib.Core.Bool.{Bool}
 use mathlib.Core.List.{List}
 use Rattle.arith.specs.Inner.Flags.{flagsOf}
+use Rattle.semantics.specs.Program.{Timer}
 use Rattle.lexer.specs.Token.{kindNumber}
 use Rattle.lexer.specs.declared.Place.{Place}
 use Rattle.grammar.specs.Rules.{Ruled}
@@ -10,8 +11,8 @@ use Rattle.grammar.specs.Inner.Bytes.{bytesR}
 use Rattle.expressions.specs.Inner.Steps.{Followed}
 
 -- the code of the rules
-abbrev pub codeOfRules : Followed Ruled → List ℕ
-codeOfRules x = bytesR (x .part .rules)
+abbrev pub codeOfRules : List Timer → Followed Ruled → List ℕ
+codeOfRules ts x = bytesR ts (x .part .rules)
 
 -- the number told has a bit for each of so many names
 abbrev pub ruledTold : ℕ → Place → List Bool × ℕ × ℕ × ℕ

@@ -13,9 +13,9 @@ use Rattle.lexer.specs.Results.{reachedAt}
 use Rattle.lexer.specs.declared.Step.{Step}
 use Rattle.lexer.specs.declared.Step.the-variants.{Refused}
 
--- the code of a rule
+-- the code of a rule, without its timers
 abbrev pub codeOfRule : Rule → List ℕ
-codeOfRule r = bytesR (r ∷ [])
+codeOfRule r = bytesR [] (r ∷ [])
 
 -- room for where as many conditions stand as a rule may have
 pub record SpanRoom (from upto : List ℕ) : Type 0 where

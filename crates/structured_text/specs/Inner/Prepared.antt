@@ -32,7 +32,7 @@ pub record Compiled (text starts ends image : List ℕ) : Type 0 where
   pub table : Table starts ends (length (program .names))
 
 -- a program that has Structured Text: its names in the table, the numbers they start with, and its code in a form
-pub record ReadyToPrint (form : List Instruction → List ℕ) (text starts ends : List ℕ) (values : List ℤ) (inputs count : ℕ) (code : List ℕ) : Type 0 where
+pub record Prepared (form : List Instruction → List ℕ) (text starts ends : List ℕ) (values : List ℤ) (inputs count : ℕ) (code : List ℕ) : Type 0 where
   pub program : Program
   pub parsed : programOf text ≡ accepted program
   pub has : hasSt program ≡ true

@@ -1,41 +1,63 @@
 -- The descent over a whole text in its parts, the declarations, the rules and the watches: auxiliary definitions for the contracts of the functions inside.
 -- Assumes nothing.
-use Prim.Native.Nat.{ℕ, _≤_}
+use Prim.Native.Nat.{ℕ, _+_, _≤_}
 use mathlib.Core.Path.{_≡_}
 use mathlib.Core.Bool.{Bool}
 use mathlib.Core.List.{List, []}
 use lib.ListN.{length}
+use lib.Seq.{sets}
 use Rattle.limits.specs.Limits.{watchLimit}
 use Rattle.limits.specs.Answer.{Answer}
 use Rattle.limits.specs.Answer as A
 use Rattle.lexer.specs.Token.{inputWord, varWord}
 use Rattle.lexer.specs.Names.{tableNames}
-use Rattle.semantics.specs.Program.{Name, Watch, Program, knownFirst, free}
-use Rattle.grammar.specs.Parsed.{Parsed, accepted, refused, andThen}
+use Rattle.semantics.specs.Program.{Name, Timer, Watch, Program, knownFirst, free}
+use Rattle.grammar.specs.Parsed.{Parsed, accepted, refused, andThen, itemBound}
 use Rattle.grammar.specs.Expressions.{Scope}
 use Rattle.grammar.specs.Declarations.{declarations, spellings}
+use Rattle.grammar.specs.Timers.{WithTimers, timersFrom}
 use Rattle.grammar.specs.Watches.{watchesFrom}
 use Rattle.grammar.specs.Parse.{endAt}
-use Rattle.grammar.specs.Inner.Bytes.{image}
+use Rattle.grammar.specs.Inner.Bytes.{header, image}
 use Rattle.lexer.specs.declared.Place.{Place}
 use Rattle.lexer.specs.declared.Step.{Step}
-use Rattle.lexer.specs.declared.Step.the-variants.{Done}
+use Rattle.lexer.specs.declared.Step.the-variants.{Done, Refused}
 use Rattle.phrases.specs.Inner.Steps.{nothing, Writes}
 use Rattle.declarations.specs.Inner.Tables.{TableHolds}
+use Rattle.rules.specs.Inner.Timers.{timersIn}
 use Rattle.translate.specs.declared.Analysis.{Analysis}
 use Rattle.translate.specs.declared.Analysis.the-variants as N
 
--- the names declared, and how many of them are inputs
+-- the names declared, how many of them are inputs, and the timers among them
 pub record Declarations : Type 0 where
   pub inputs : ℕ
   pub names : List Name
+  pub timers : List Timer
 
--- all inputs, then all variables
+-- all inputs, then all variables, then all timers
 unfoldable pub headingOf : List ℕ → Parsed Declarations
 headingOf text =
     andThen (declarations inputWord text [] 0) (λ inputs n1.
     andThen (declarations varWord text inputs n1) (λ names n2.
-    accepted (record { inputs = length inputs; names = names }) n2))
+    andThen (timersFrom itemBound text (length inputs) (length names) (record { names = names; timers = [] }) n2) (λ x n3.
+    accepted (record { inputs = length inputs; names = x .names; timers = x .timers }) n3)))
+
+-- the declarations that were read up to a: their bytes up to t, c inputs, m names, and the names from the id f on are timers
+pub record HeadingRead (text before mid starts ends watched limits : List ℕ) (a t c m f : ℕ) : Type 0 where
+  pub read : Declarations
+  pub is-read : headingOf text ≡ accepted read a
+  pub ended : t ≡ 2 + length (header (read .names))
+  pub counted : c ≡ read .inputs
+  pub named : m ≡ length (read .names)
+  pub wrote : mid ≡ sets before 2 (header (read .names))
+  pub held : TableHolds text starts ends m (read .names)
+  pub ordered : f ≤ m
+  pub timed : read .timers ≡ timersIn watched limits f m
+
+-- all declarations: their answer
+pub record ReadsHeading (text before after starts ends watched limits : List ℕ) (r : Step) : Type 0 where
+  pub refuses : (k q : ℕ) → r ≡ Refused k q → headingOf text ≡ refused k q
+  pub reads : (x : Place) → r ≡ Done x → HeadingRead text before after starts ends watched limits (x .at) (x .to) (x .start) (x .number) (x .end)
 
 -- the rules' scope at their start
 abbrev pub scopeAfter : List ℕ → Declarations → Scope
@@ -53,18 +75,19 @@ tailFrom sc known at = andThen (watchesFrom watchLimit sc [] at) (λ ws n. andTh
 abbrev pub scopeOfWatches : List ℕ → Declarations → Scope
 scopeOfWatches text d = record { text = text; names = spellings (d .names); known = free (length (d .names)) }
 
--- the image's length, and the counts of inputs and of names
+-- the image's length, and the counts of inputs, of names and of timers among them
 pub record HeaderCounts : Type 0 where
   pub end : ℕ
   pub inputs : ℕ
   pub names : ℕ
+  pub timers : ℕ
 
 -- the image's length and the counts of a program
 abbrev pub measuresOf : Program → HeaderCounts
-measuresOf p = record { end = length (image p); inputs = p .inputs; names = length (p .names) }
+measuresOf p = record { end = length (image p); inputs = p .inputs; names = length (p .names); timers = length (p .timers) }
 
 abbrev pub analysed : Analysis → Answer HeaderCounts
-analysed (N.Accepted size inputs names) = A.accepted (record { end = size; inputs = inputs; names = names })
+analysed (N.Accepted size inputs names timers) = A.accepted (record { end = size; inputs = inputs; names = names; timers = timers })
 analysed (N.Refused k p) = A.refused k p
 
 abbrev pub measured : Parsed Program → Answer HeaderCounts
@@ -77,11 +100,12 @@ pub record WatchesRead (text : List ℕ) (q : Program) (at : ℕ) : Type 0 where
   pub end : ℕ
   pub read : watchesFrom watchLimit (record { text = text; names = spellings (q .names); known = free (length (q .names)) }) [] at ≡ accepted (q .watches) end
 
--- the whole text: the answer, the image's bytes, the table with all names, and where its watches stand
+-- the whole text: the answer, the image's bytes, the table with all names, where its watches stand, and how many timers it has
 pub record Descends (text : List ℕ) (p : Parsed Program) (before after starts ends : List ℕ) (r : Step) : Type 0 where
   pub writes : Writes image nothing (λ q. tt) p 0 before after r
   pub named : (q : Program) (n : ℕ) → p ≡ accepted q n → TableHolds text starts ends (length (q .names)) (q .names)
   pub watched : (q : Program) (n : ℕ) (x : Place) → p ≡ accepted q n → r ≡ Done x → (x .number ≡ length (q .watches)) × WatchesRead text q (x .start)
+  pub timed : (q : Program) (n : ℕ) (x : Place) → p ≡ accepted q n → r ≡ Done x → x .end ≡ length (q .timers)
 
 -- the same without a buffer, its limit tested first
 pub record Analyses (text : List ℕ) (p : Parsed Program) (starts ends : List ℕ) (r : Analysis) : Type 0 where

@@ -1,4 +1,4 @@
--- What the contract of survey says: how many names and watches a text has, and where its watches stand. Assumes nothing.
+-- What the contract of survey says: how many names, watches and timers a text has, and where its watches stand. Assumes nothing.
 use Prim.Native.Nat.{ℕ, _≤_}
 use mathlib.Core.Path.{_≡_}
 use mathlib.Core.List.{List, []}
@@ -14,17 +14,18 @@ use Rattle.translate.specs.declared.Surveyed.{Surveyed}
 use Rattle.translate.specs.declared.Surveyed.the-variants as S
 use Rattle.translate.specs.Inner.Descent.{freeScope}
 
--- how many names and how many watches
+-- how many names, how many watches and how many timers
 pub record WatchCounts : Type 0 where
   pub names : ℕ
   pub watches : ℕ
+  pub timers : ℕ
 
 abbrev pub surveyed : Surveyed → Answer WatchCounts
-surveyed (S.Watches names at count) = A.accepted (record { names = names; watches = count })
+surveyed (S.Watches names at count timers) = A.accepted (record { names = names; watches = count; timers = timers })
 surveyed (S.Refused k p) = A.refused k p
 
 abbrev pub watchCounts : Parsed Program → Answer WatchCounts
-watchCounts (accepted p n) = A.accepted (record { names = length (p .names); watches = length (p .watches) })
+watchCounts (accepted p n) = A.accepted (record { names = length (p .names); watches = length (p .watches); timers = length (p .timers) })
 watchCounts (refused k q) = A.refused k q
 
 -- the watches ws stand from `at` on, and the table holds the names that they may use
@@ -39,4 +40,4 @@ pub record WatchesStand (text starts ends : List ℕ) (names at : ℕ) (ws : Lis
 -- the whole text, its limit tested first
 pub record Surveys (text : List ℕ) (p : Parsed Program) (starts ends : List ℕ) (r : Surveyed) : Type 0 where
   pub answer : surveyed r ≡ watchCounts p
-  pub stand : (q : Program) (n names at count : ℕ) → p ≡ accepted q n → r ≡ S.Watches names at count → WatchesStand text starts ends names at (q .watches)
+  pub stand : (q : Program) (n names at count timers : ℕ) → p ≡ accepted q n → r ≡ S.Watches names at count timers → WatchesStand text starts ends names at (q .watches)

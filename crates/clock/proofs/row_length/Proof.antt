@@ -1,0 +1,15 @@
+-- `clock::row_length` meets its contract. Assumes nothing.
+use native.Mathlib.Omega.{arith}
+use borrow.Author.Needs.{needs}
+use Rattle.clock.proofs.Service.{some-timer, no-timer}
+use Rattle.clock.proofs.row_length.Statement.{statement}
+use Rattle.clock.proofs.row_length.Tie as tie
+
+returns : tie.Need-returns
+returns c = some-timer _ _ (c .if1 .taken)
+
+returns-2 : tie.Need-returns-2
+returns-2 c = no-timer _ _ (c .if1 .left)
+
+pub row-length-spec : {M : Type 1} → statement M
+row-length-spec = tie.close (tie.spec (λ c. search needs) returns returns-2)
