@@ -15,7 +15,7 @@ use Rattle.grammar.specs.Parsed.{Parsed, accepted, refused, andThen, onToken, o
 use Rattle.faults.specs.Texts.{readEnd}
 use Rattle.faults.proofs.Reaching as Reach
 use Rattle.faults.proofs.Reaching.{Reaches, reaches-le, readStart, starts-after, token-after}
-use Rattle.faults.proofs.Readings.{RefusalOf, ReadsFrom, ends-at, past, step, here, watch-refused, then-reads, cond-reads, option-reads, token-reads}
+use Rattle.faults.proofs.Readings.{RefusalOf, ReadsFrom, ends-at, past, step, here, above-nine, then-reads, cond-reads, option-reads, token-reads}
 use Rattle.faults.proofs.Prefix.{part-same, some-byte, token-stays, read-stays}
 
 -- reading comes to b in the text; what it finds there stands from `place` up to `end` and is found in the twin too; up to `end` both are the same
@@ -134,8 +134,8 @@ past-alike {S = S} {k = k} {s = s} {n = n} a = record { reads = λ t e. past a e
 pub here-alike : {A : Type 0} {S : Setting} {at : ℕ} {k : Kind} {s n : ℕ} (number : ℕ) → 2 ≤ number → number ≤ 8 → Alike {A = A} S (TokenIn at k s n) at (λ t. refused number s)
 here-alike {S = S} {s = s} number g h = record { reads = λ t e. here number e g h; alike = λ e e' c. refuses number s (omega (arith, ap readStart e, on-way S c .early)) }
 
-pub watch-alike : {A : Type 0} {S : Setting} {at : ℕ} {k : Kind} {s n : ℕ} → Alike {A = A} S (TokenIn at k s n) at (λ t. refused 30 s)
-watch-alike {S = S} {s = s} = record { reads = λ t e. watch-refused e; alike = λ e e' c. refuses 30 s (omega (arith, ap readStart e, on-way S c .early)) }
+pub above-alike : {A : Type 0} {S : Setting} {at : ℕ} {k : Kind} {s n : ℕ} (number : ℕ) → 10 ≤ number → Alike {A = A} S (TokenIn at k s n) at (λ t. refused number s)
+above-alike {S = S} {s = s} number h = record { reads = λ t e. above-nine number e h; alike = λ e e' c. refuses number s (omega (arith, ap readStart e, on-way S c .early)) }
 
 pub not-allowed : {A : Type 0} {S : Setting} {at : ℕ} {k : Kind} {s n : ℕ} → Alike {A = A} S (TokenIn at k s n) at (λ t. refused 2 s)
 not-allowed = here-alike 2 (omega arith) (omega arith)

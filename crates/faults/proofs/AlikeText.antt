@@ -1,25 +1,27 @@
--- Declarations, rules and whole texts that are the same up to what the one is refused for. Assumes nothing.
+-- Declarations, timers, rules and whole texts that are the same up to what the one is refused for. Assumes nothing.
 use mathlib.Core.Path.{_≡_, sym, _∙_, subst}
-use mathlib.Core.List.{List, [], _∷_, _++_}
+use mathlib.Core.List.{List, [], _∷_, _++_, append-nil}
 use mathlib.Core.Bool.{Bool, true, false, cond, _&&_}
 use mathlib.Core.Logic.{inl}
 use Prim.Native.Nat.{ℕ, zero, suc, _-_, _≤_, _<_}
 use native.Mathlib.Nat.{le-refl}
 use native.Mathlib.Omega.{arith}
-use lib.ListN.{length, getD, set, length-set}
-use lib.Dec.{ltb}
+use lib.ListN.{length, set, length-set}
+use lib.Dec.{ltb, leb}
 use lib.IntN.{ℤ, pos, negℤ}
-use Rattle.limits.specs.Limits.{caseLimit, nameLimit, watchLimit}
+use Rattle.limits.specs.Limits.{caseLimit, nameLimit, timeLimit, watchLimit}
 use Rattle.arith.specs.Values.{isInt32}
-use Rattle.lexer.specs.Token.{Kind, name, ending, digits, openSquare, bar, tilde, plus, minus, arrow, initWord, semicolon, inputWord, varWord, watchWord, is}
+use Rattle.lexer.specs.Token.{Kind, name, ending, digits, openSquare, bar, tilde, plus, minus, arrow, initWord, semicolon, inputWord, varWord, timerWord, watchWord, is}
 use Rattle.lexer.specs.Lexer.{tokenAt, overLong, valueOf}
 use Rattle.lexer.specs.Names.{idOf}
 use Rattle.lexer.proofs.Laws.{cond-prop, token-at-moved}
-use Rattle.semantics.specs.Program.{Name, Condition, Rule, Watch, target, allTrue, knownFirst, free}
+use Rattle.semantics.specs.Program.{Name, Condition, Timer, Rule, Watch, target, allTrue, taken, timersKnown, knownFirst, free}
+use Rattle.semantics.proofs.Cells.{known-length}
 use Rattle.grammar.specs.Parsed.{Parsed, accepted, refused, onOption, phrase}
 use Rattle.grammar.specs.Expressions.{withId, wholeExpression}
 use Rattle.grammar.specs.Conditions.{listed}
 use Rattle.grammar.specs.Declarations.{inRange, signedDigits, boundAt, spellings, newName, startAt, declaration, declarationsFrom, declarations}
+use Rattle.grammar.specs.Timers.{WithTimers, isWatchable, watchedAt, limitAt, timerDeclaration, timersFrom}
 use Rattle.grammar.specs.Rules.{Spanned, caseAt, casesFrom, listFrom, plainList, partsFrom, agreeingList, functionAt, changeAt, pairAt, formulaAt, formulas, ruleAt, rulesFrom}
 use Rattle.grammar.specs.Forms.{changeOpening, noChangeOpening, ruleOpening}
 use Rattle.grammar.specs.Parsed.{followed}
@@ -28,15 +30,15 @@ use Rattle.grammar.proofs.Combine.{token-prop, then-prop}
 use Rattle.grammar.specs.Watches.{laterAt, afterFirst, watchAt, watchesFrom}
 use Rattle.grammar.specs.Parse.{endAt, program}
 use Rattle.grammar.proofs.Lists.{CasesIn, cases-in}
-use Rattle.grammar.proofs.Whole.{Ends, Names, First, rule-fits, declarations-fit, spellings-length, named}
-use Rattle.grammar.proofs.ConverseRules.{unruled, rule-counts, few-unruled}
+use Rattle.grammar.proofs.Whole.{Ends, Names, First, rule-fits, declarations-fit, timers-named, spellings-length, named}
+use Rattle.grammar.proofs.ConverseRules.{unruled, rule-leaves, few-unruled}
 use Rattle.semantics.proofs.Reference.{length-known}
 use Rattle.faults.proofs.Reaching.{reaches-le, token-after}
 use Rattle.faults.proofs.Readings.{read-within, phrase-reads, whole-expression-reads}
 use Rattle.faults.proofs.Closing.{plain-meets}
 use Rattle.faults.proofs.ReadingsText.{case-reads, agreeing-reads}
 use Rattle.faults.proofs.AlikeLists.{Before, parts-agree, first-same}
-use Rattle.faults.proofs.Alike.{Setting, Alike, Any, TokenIn, read-after, b-within, plain, only, late, done-alike, past-alike, here-alike, watch-alike, not-allowed, step-alike, step-in, cond-alike, option-alike, then-alike, then-known, word-alike, word-in, token-alike, token-in}
+use Rattle.faults.proofs.Alike.{Setting, Alike, Any, TokenIn, read-after, b-within, plain, only, late, done-alike, past-alike, here-alike, above-alike, not-allowed, step-alike, step-in, cond-alike, option-alike, then-alike, then-known, word-alike, word-in, token-alike, token-in}
 use Rattle.faults.proofs.AlikeParts.{scope, phrase-alike, followed-alike, whole-expression-alike, listed-alike}
 
 -- ---- declarations
@@ -88,6 +90,44 @@ module _ (S : Setting) where
   declarations-alike zero word names at = done-alike names
   declarations-alike (suc f) word names at =
       token-alike at (λ k s n. cond-alike (is k word) (step-alike (then-alike (declaration-alike names n) (λ x m. declarations-alike f word (names ++ (x ∷ [])) m))) (done-alike names))
+
+  -- ---- timers
+
+  watched-alike : (inputs first : ℕ) (names : List Name) (at : ℕ) → Alike S Any at (λ t. watchedAt t inputs first names at)
+  unfolding watchedAt withId
+  watched-alike inputs first names at =
+      token-alike at
+      (λ k s n.
+      cond-alike (is k name)
+      (cond-alike (overLong s n) (here-alike 8 (omega arith) (omega arith))
+      (word-alike {G = λ w t. onOption (idOf (spellings names) w) (refused 4 s) (λ i. cond (isWatchable inputs first names i) (accepted i n) (refused 23 s))} s
+      (λ w. option-alike (idOf (spellings names) w) (here-alike 4 (omega arith) (omega arith)) (λ i. cond-alike (isWatchable inputs first names i) (past-alike _) (above-alike 23 (omega arith))))))
+      not-allowed)
+
+  limit-alike : (at : ℕ) → Alike S Any at (λ t. limitAt t at)
+  unfolding limitAt
+  limit-alike at =
+      token-alike at
+      (λ k s n.
+      cond-alike (is k digits)
+      (word-alike {G = λ w t. cond (leb 1 (valueOf w) && leb (valueOf w) timeLimit) (accepted (valueOf w) n) (refused 3 s)} s
+      (λ w. cond-alike (leb 1 (valueOf w) && leb (valueOf w) timeLimit) (past-alike _) (here-alike 3 (omega arith) (omega arith))))
+      not-allowed)
+
+  timer-alike : (inputs first : ℕ) (x : WithTimers) (at : ℕ) → Alike S Any at (λ t. timerDeclaration t inputs first x at)
+  unfolding timerDeclaration
+  timer-alike inputs first x at =
+      then-alike (name-alike (x .names) at)
+      (λ t n1. then-alike (phrase-alike S _ n1)
+      (λ u n2. then-alike (watched-alike inputs first _ n2)
+      (λ w n3. then-alike (phrase-alike S _ n3)
+      (λ u n4. then-alike (limit-alike n4) (λ n n5. followed-alike S _ _ n5)))))
+
+  timers-alike : (f inputs first : ℕ) (x : WithTimers) (at : ℕ) → Alike S Any at (λ t. timersFrom f t inputs first x at)
+  unfolding timersFrom
+  timers-alike zero inputs first x at = done-alike x
+  timers-alike (suc f) inputs first x at =
+      token-alike at (λ k s n. cond-alike (is k timerWord) (step-alike (then-alike (timer-alike inputs first x n) (λ y m. timers-alike f inputs first y m))) (done-alike x))
 
 -- ---- rules, up to the comparison
 
@@ -233,31 +273,31 @@ module _ (S : Setting) (names : List (List ℕ)) (known : List Bool) where
     unfolding formulas
     formulas-alike w v at = token-in at (λ k s n. cond-alike (is k plus) (step-in {K = Any} (λ t h. h .1) (λ t h. tt) (pair-alike w v n)) (only (λ t h. h .0) (formula-alike w v at)))
 
-    rule-alike : (at : ℕ) (k : Kind) (s n : ℕ) → Alike S (λ t. In at t × TokenIn at k s n t) at (λ t. ruleAt (scope names known t) s n)
+    rule-alike : (xs : List Timer) (at : ℕ) (k : Kind) (s n : ℕ) → Alike S (λ t. In at t × TokenIn at k s n t) at (λ t. ruleAt xs (scope names known t) s n)
     unfolding ruleAt withId
-    rule-alike at k s n =
+    rule-alike xs at k s n =
         cond-alike (overLong s n) (only (λ t h. h .1) (here-alike 8 (omega arith) (omega arith)))
-        (word-in {G = λ w t. onOption (idOf names w) (refused 4 s) (λ v. cond (getD known v false) (refused 6 s) (formulas (scope names known t) w v n))} s (λ t h. h .1)
+        (word-in {G = λ w t. onOption (idOf names w) (refused 4 s) (λ v. cond (taken xs known v) (refused 6 s) (formulas (scope names known t) w v n))} s (λ t h. h .1)
         (λ w. option-alike (idOf names w) (only (λ t h. h .1) (here-alike 4 (omega arith) (omega arith)))
-        (λ v. cond-alike (getD known v false) (only (λ t h. h .1) (here-alike 6 (omega arith) (omega arith))) (step-in (λ t h. h .1) (λ t h. token-at-moved t at k s n (h .0) (h .1) .2) (formulas-alike w v n)))))
+        (λ v. cond-alike (taken xs known v) (only (λ t h. h .1) (here-alike 6 (omega arith) (omega arith))) (step-in (λ t h. h .1) (λ t h. token-at-moved t at k s n (h .0) (h .1) .2) (formulas-alike w v n)))))
 
 -- ---- the whole text
 
-rules-alike : (S : Setting) (f : ℕ) (names : List (List ℕ)) (known : List Bool) → length names ≤ 64 → length names ≡ length known → Named names → unruled known < f → (done : List Rule) (at : ℕ)
-    → Alike S (λ t. at ≤ length t) at (λ t. rulesFrom f (scope names known t) done at)
+rules-alike : (S : Setting) (f : ℕ) (xs : List Timer) (names : List (List ℕ)) (known : List Bool) → length names ≤ 64 → length names ≡ length known → Named names → unruled known < f → (done : List Rule) (at : ℕ)
+    → Alike S (λ t. at ≤ length t) at (λ t. rulesFrom f xs (scope names known t) done at)
 unfolding rulesFrom
-rules-alike S zero names known few lengths good fuel done at = absurd (omega arith)
-rules-alike S (suc f) names known few lengths good fuel done at =
+rules-alike S zero xs names known few lengths good fuel done at = absurd (omega arith)
+rules-alike S (suc f) xs names known few lengths good fuel done at =
     token-in at
     (λ k s n.
-    let rule = rule-alike S names known few lengths good at k s n in
+    let rule = rule-alike S names known few lengths good xs at k s n in
     cond-alike (is k name)
     (then-known rule
     (λ r m. late (λ t h.
-    let g = subst (Ends (length t) (First (scope names known t) few lengths good)) (h .1) (rule-fits (scope names known t) few lengths good s n (token-at-moved t at k s n (h .0 .0) (h .0 .1) .2)) in
-    let c = rule-counts known (target r) (g .0 .1) (g .0 .2) in
-    let l : length names ≡ length (set known (target r) true) = lengths ∙ sym (length-set known (target r) true) in
-    only (λ t h. read-within (rule .reads t (h .0)) (h .1) (h .0 .0)) (rules-alike S f names (set known (target r) true) few l good (omega arith) (done ++ (r ∷ [])) m))))
+    let g = subst (Ends (length t) (First (scope names known t) few lengths good xs)) (h .1) (rule-fits (scope names known t) few lengths xs good s n (token-at-moved t at k s n (h .0 .0) (h .0 .1) .2)) in
+    let c = rule-leaves xs known (target r) (g .0 .1) (g .0 .2) in
+    let l : length names ≡ length (timersKnown (target r) xs (set known (target r) true)) = lengths ∙ sym (known-length (target r) xs (set known (target r) true) ∙ length-set known (target r) true) in
+    only (λ t h. read-within (rule .reads t (h .0)) (h .1) (h .0 .0)) (rules-alike S f xs names (timersKnown (target r) xs (set known (target r) true)) few l good (omega arith) (done ++ (r ∷ [])) m))))
     (done-alike _))
 
 module _ (S : Setting) (names : List (List ℕ)) (known : List Bool) where
@@ -273,7 +313,7 @@ module _ (S : Setting) (names : List (List ℕ)) (known : List Bool) where
 
   watches-alike : (left : ℕ) (done : List Watch) (at : ℕ) → Alike S Any at (λ t. watchesFrom left (scope names known t) done at)
   unfolding watchesFrom
-  watches-alike zero done at = token-alike at (λ k s n. cond-alike (is k watchWord) watch-alike (done-alike _))
+  watches-alike zero done at = token-alike at (λ k s n. cond-alike (is k watchWord) (above-alike 30 (omega arith)) (done-alike _))
   watches-alike (suc left) done at =
       token-alike at (λ k s n. cond-alike (is k watchWord) (step-alike (then-alike (one-alike n) (λ w m. watches-alike left (done ++ (w ∷ [])) m))) (done-alike _))
 
@@ -287,12 +327,18 @@ unfolding program declarations
 program-alike S =
     then-known (declarations-alike S 65 inputWord [] 0)
     (λ inputs n1. then-known (plain (declarations-alike S 65 varWord inputs n1))
-    (λ names n2. late (λ t h.
-    let g1 = subst (Ends (length t) (Names t 0)) (h .0 .1) (declarations-fit t 65 inputWord [] 0 0 (omega arith) (tt, omega arith, omega arith, tt)) in
-    let g2 = subst (Ends (length t) (Names t (length inputs))) (h .1) (declarations-fit t 65 varWord inputs n1 (length inputs) (g1 .1) (g1 .0 .0, g1 .0 .1, le-refl (length inputs), g1 .0 .3)) in
+    (λ base n2.
+    let x0 : WithTimers = record { names = base; timers = [] } in
+    then-known (plain (timers-alike S 65 (length inputs) (length base) x0 n2))
+    (λ x n3. late (λ t h.
+    let names = x .names in
+    let g1 = subst (Ends (length t) (Names t 0)) (h .0 .0 .1) (declarations-fit t 65 inputWord [] 0 0 (omega arith) (tt, omega arith, omega arith, tt)) in
+    let g2 = subst (Ends (length t) (Names t (length inputs))) (h .0 .1) (declarations-fit t 65 varWord inputs n1 (length inputs) (g1 .1) (g1 .0 .0, g1 .0 .1, le-refl (length inputs), g1 .0 .3)) in
+    let g3 = subst (Ends (length t) (λ (y : WithTimers). Names t (length inputs) (y .names))) (h .1) (timers-named t (length inputs) base 65 x0 [] (sym (append-nil base)) n2 (length inputs) (g2 .1) (g2 .0)) in
     let l : length (spellings names) ≡ length (knownFirst (length inputs) (length names)) = spellings-length names ∙ sym (length-known (length inputs) (length names)) in
-    let few : length (spellings names) ≤ 64 = omega (arith, spellings-length names, g2 .0 .1) in
+    let few : length (spellings names) ≤ 64 = omega (arith, spellings-length names, g3 .0 .1) in
     then-alike
-    (only (λ t h. read-within (declarations-alike S 65 varWord inputs n1 .reads t tt) (h .1) (read-within (declarations-alike S 65 inputWord [] 0 .reads t tt) (h .0 .1) (omega arith)))
-    (rules-alike S 65 (spellings names) (knownFirst (length inputs) (length names)) few l (named names (g2 .0 .0) (g2 .0 .3)) (few-unruled (knownFirst (length inputs) (length names)) (omega (arith, l))) [] n2))
-    (λ ruled n3. then-alike (watches-alike S (spellings names) (free (length names)) watchLimit [] n3) (λ watches n4. then-alike (end-alike S (ruled .known) n4) (λ u n5. done-alike _))))))
+    (only
+    (λ t h. read-within (timers-alike S 65 (length inputs) (length base) x0 n2 .reads t tt) (h .1) (read-within (declarations-alike S 65 varWord inputs n1 .reads t tt) (h .0 .1) (read-within (declarations-alike S 65 inputWord [] 0 .reads t tt) (h .0 .0 .1) (omega arith))))
+    (rules-alike S 65 (x .timers) (spellings names) (knownFirst (length inputs) (length names)) few l (named names (g3 .0 .0) (g3 .0 .3)) (few-unruled (knownFirst (length inputs) (length names)) (omega (arith, l))) [] n3))
+    (λ ruled n4. then-alike (watches-alike S (spellings names) (free (length names)) watchLimit [] n4) (λ watches n5. then-alike (end-alike S (ruled .known) n5) (λ u n6. done-alike _)))))))

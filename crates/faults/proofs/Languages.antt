@@ -5,7 +5,7 @@ use Prim.Native.Nat.{ℕ}
 use lib.IntN.{ℤ}
 use Rattle.lexer.specs.Bytes.{bytes}
 use Rattle.lexer.specs.Token.{greater}
-use Rattle.lexer.specs.Spelling.{SpellsName}
+use Rattle.lexer.specs.Spelling.{SpellsName, IsDigits}
 use Rattle.grammar.specs.Forms.{changeOpening, noChangeOpening, valueOpening, functionClosing, formulaClosing, caseValueOpening, turnedOpening, fallingOpening, watchOpening, laterOpening}
 use Rattle.grammar.specs.Derivation as D
 use Rattle.grammar.specs.Derivation.{Tokens}
@@ -45,6 +45,23 @@ Low = Joins Bound Dots
 
 abbrev pub Declared : Tokens → Type 0
 Declared = Joins (OneOf SpellsName) Low
+
+-- ---- what follows `timer`
+
+abbrev pub LimitEnd : Tokens → Type 0
+LimitEnd = Joins (OneOf IsDigits) (These (bytes ";" ∷ []))
+
+abbrev pub LimitRest : Tokens → Type 0
+LimitRest = Joins (These (bytes "limit" ∷ [])) LimitEnd
+
+abbrev pub WatchedRest : Tokens → Type 0
+WatchedRest = Joins (OneOf SpellsName) LimitRest
+
+abbrev pub OfRest : Tokens → Type 0
+OfRest = Joins (These (bytes "of" ∷ [])) WatchedRest
+
+abbrev pub TimerRest : Tokens → Type 0
+TimerRest = Joins (OneOf SpellsName) OfRest
 
 -- ---- rules
 

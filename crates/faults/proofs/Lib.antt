@@ -15,6 +15,7 @@ pub mod Languages
 pub mod Viable
 pub mod ViableParts
 pub mod ViableDeclarations
+pub mod ViableTimers
 pub mod ViableRules
 pub mod ViableWatches
 pub mod ViableText
@@ -23,6 +24,7 @@ pub mod Sole
 pub mod SoleParts
 pub mod SoleConditions
 pub mod SoleForms
+pub mod SoleTimers
 pub mod SoleRules
 pub mod SoleWatches
 pub mod SoleText

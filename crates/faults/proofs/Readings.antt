@@ -1,5 +1,5 @@
 -- What a parser accepts ends where reading token by token comes to; what it refuses it refuses at what is read there: by 1 what is no
--- token, by 2 to 8, or 30, a token or the end. One law a combinator. Here: expressions and conditions. Assumes nothing.
+-- token, by 2 to 8, 23 or 30, a token or the end. One law a combinator. Here: expressions and conditions. Assumes nothing.
 use mathlib.Core.Path.{_≡_, refl}
 use mathlib.Core.List.{List, [], _∷_}
 use mathlib.Core.Bool.{Bool, true, false, cond}
@@ -59,9 +59,9 @@ step {k = k} {s = s} e h = behind (Reach.more k s _ e Reach.none) h
 pub here : {A : Type 0} {text : List ℕ} {at n : ℕ} {k : Kind} {s : ℕ} (number : ℕ) → tokenAt text at ≡ token k s n → 2 ≤ number → number ≤ 8 → ReadsFrom {A = A} text at (refused number s)
 here {at = at} number e h g = record { found = (at, Reach.none, rw e (h, λ z. omega (arith, g, z), refl)) }
 
--- a 17th watch
-pub watch-refused : {A : Type 0} {text : List ℕ} {at n : ℕ} {k : Kind} {s : ℕ} → tokenAt text at ≡ token k s n → ReadsFrom {A = A} text at (refused 30 s)
-watch-refused {at = at} e = record { found = (at, Reach.none, rw e (omega arith, λ z. omega (arith, z), refl)) }
+-- a wrong w of a timer, a 17th watch
+pub above-nine : {A : Type 0} {text : List ℕ} {at n : ℕ} {k : Kind} {s : ℕ} (number : ℕ) → tokenAt text at ≡ token k s n → 10 ≤ number → ReadsFrom {A = A} text at (refused number s)
+above-nine {at = at} number e h = record { found = (at, Reach.none, rw e (omega arith, λ z. omega (arith, z), refl)) }
 
 -- the refusals of a token
 pub not-allowed : {A : Type 0} {text : List ℕ} {at n : ℕ} {k : Kind} {s : ℕ} → tokenAt text at ≡ token k s n → ReadsFrom {A = A} text at (refused 2 s)

@@ -1,29 +1,31 @@
--- What a parser accepts ends where reading token by token comes to, and what it refuses it refuses at what is read there: declarations,
+-- What a parser accepts ends where reading token by token comes to, and what it refuses it refuses at what is read there: declarations, timers,
 -- rules and a whole text. Assumes nothing.
 use mathlib.Core.Path.{_≡_, refl, ap, sym, _∙_, subst}
-use mathlib.Core.List.{List, [], _∷_, _++_}
+use mathlib.Core.List.{List, [], _∷_, _++_, append-nil}
 use mathlib.Core.Bool.{Bool, true, false, _&&_}
 use mathlib.Core.Logic.{inl, inr}
 use mathlib.Core.Option.{none}
 use Prim.Native.Nat.{ℕ, zero, suc, _-_, _≤_, _<_}
 use native.Mathlib.Nat.{le-refl}
 use native.Mathlib.Omega.{arith}
-use lib.ListN.{length, getD, set, length-set}
+use lib.ListN.{length, set, length-set}
 use lib.Dec.{ltb, leb, eqb}
 use lib.IntN.{ℤ, pos, negℤ}
 use borrow.Author.Tests.{lt-ltb, le-ltb, ltb-false, eqb-false}
-use Rattle.limits.specs.Limits.{caseLimit, nameLimit, textLimit, watchLimit}
+use Rattle.limits.specs.Limits.{caseLimit, nameLimit, timeLimit, textLimit, watchLimit}
 use Rattle.arith.specs.Values.{isInt32}
 use Rattle.lexer.specs.Bytes.{part}
-use Rattle.lexer.specs.Token.{Kind, name, ending, digits, openSquare, closeRound, bar, tilde, plus, minus, arrow, initWord, semicolon, inputWord, varWord, watchWord, is, TokenRead, token, fault}
+use Rattle.lexer.specs.Token.{Kind, name, ending, digits, openSquare, closeRound, bar, tilde, plus, minus, arrow, initWord, semicolon, inputWord, varWord, timerWord, watchWord, is, TokenRead, token, fault}
 use Rattle.lexer.specs.Lexer.{tokenAt, sameToken, overLong, valueOf}
 use Rattle.lexer.specs.Names.{idOf}
 use Rattle.lexer.proofs.Laws.{cond-prop, token-at-moved}
-use Rattle.semantics.specs.Program.{Name, Condition, Rule, Watch, target, allTrue, knownFirst, free}
+use Rattle.semantics.specs.Program.{Name, Condition, Timer, Rule, Watch, target, allTrue, taken, timersKnown, knownFirst, free}
+use Rattle.semantics.proofs.Cells.{known-length}
 use Rattle.semantics.proofs.Reference.{length-known}
 use Rattle.grammar.specs.Parsed.{Parsed, accepted, refused}
 use Rattle.grammar.specs.Expressions.{Scope}
 use Rattle.grammar.specs.Declarations.{inRange, signedDigits, boundAt, spellings, newName, startAt, declaration, declarationsFrom, declarations}
+use Rattle.grammar.specs.Timers.{WithTimers, isWatchable, watchedAt, limitAt, timerDeclaration, timersFrom}
 use Rattle.grammar.specs.Rules.{Spanned, caseAt, casesFrom, listFrom, plainList, Compared, agrees, differs, onCompared, onFound, partFrom, kindAt, partsFrom, firstFound, agreeingList, functionAt, changeAt, pairAt, formulaAt, formulas, ruleAt, ruled, rulesFrom}
 use Rattle.grammar.specs.Watches.{laterAt, afterFirst, watchAt, watchesFrom}
 use Rattle.grammar.specs.Parse.{endAt, program, parse}
@@ -32,11 +34,11 @@ use Rattle.grammar.specs.Inner.Names.{Named}
 use Rattle.grammar.proofs.Standing.{stands-in, spells-in, is-read, normally}
 use Rattle.grammar.proofs.Listed.{Listed, last, next, parts-next}
 use Rattle.grammar.proofs.Lists.{CasesIn, cases-in}
-use Rattle.grammar.proofs.Whole.{Ends, Names, First, rule-fits, declarations-fit, spellings-length, named}
-use Rattle.grammar.proofs.ConverseRules.{unruled, rule-counts, few-unruled}
+use Rattle.grammar.proofs.Whole.{Ends, Names, First, rule-fits, declarations-fit, timers-named, spellings-length, named}
+use Rattle.grammar.proofs.ConverseRules.{unruled, rule-leaves, few-unruled}
 use Rattle.faults.proofs.Reaching as Reach
 use Rattle.faults.proofs.Reaching.{Reaches, joined, reaches-le, ordered, readStart, starts-after, token-after, token-again}
-use Rattle.faults.proofs.Readings.{RefusalOf, ReadsFrom, read-within, ends-at, past, step, here, watch-refused, not-allowed, then-reads, cond-reads, option-reads, token-reads, phrase-reads, followed-reads, id-reads, whole-expression-reads, listed-reads}
+use Rattle.faults.proofs.Readings.{RefusalOf, ReadsFrom, read-within, ends-at, past, step, here, above-nine, not-allowed, then-reads, cond-reads, option-reads, token-reads, phrase-reads, followed-reads, id-reads, whole-expression-reads, listed-reads}
 use Rattle.faults.proofs.Closing.{MeetsAt, plain-meets}
 
 -- ---- declarations
@@ -87,6 +89,40 @@ module _ (text : List ℕ) where
   declarations-reads (suc f) word names at =
       token-reads text at
       (λ k s n e. cond-reads (is k word) (step e (then-reads (declaration-reads names n) (λ x m q. declarations-reads f word (names ++ (x ∷ [])) m))) (ends-at names Reach.none))
+
+  -- ---- timers
+
+  watched-reads : (inputs first : ℕ) (names : List Name) (at : ℕ) → ReadsFrom text at (watchedAt text inputs first names at)
+  unfolding watchedAt
+  watched-reads inputs first names at =
+      token-reads text at
+      (λ k s n e.
+      cond-reads (is k name)
+      (id-reads (record { text = text; names = spellings names; known = [] }) at k s n e s (λ i. cond-reads (isWatchable inputs first names i) (past _ e) (above-nine 23 e (omega arith))))
+      (not-allowed e))
+
+  limit-reads : (at : ℕ) → ReadsFrom text at (limitAt text at)
+  unfolding limitAt
+  limit-reads at =
+      token-reads text at
+      (λ k s n e.
+      let v = valueOf (part text s n) in
+      cond-reads (is k digits) (cond-reads (leb 1 v && leb v timeLimit) (past _ e) (here 3 e (omega arith) (omega arith))) (not-allowed e))
+
+  timer-reads : (inputs first : ℕ) (x : WithTimers) (at : ℕ) → ReadsFrom text at (timerDeclaration text inputs first x at)
+  unfolding timerDeclaration
+  timer-reads inputs first x at =
+      then-reads (name-reads (x .names) at)
+      (λ t n1 q1. then-reads (phrase-reads text _ n1)
+      (λ u n2 q2. then-reads (watched-reads inputs first _ n2)
+      (λ w n3 q3. then-reads (phrase-reads text _ n3)
+      (λ u n4 q4. then-reads (limit-reads n4) (λ n n5 q5. followed-reads text _ _ n5)))))
+
+  timers-reads : (f inputs first : ℕ) (x : WithTimers) (at : ℕ) → ReadsFrom text at (timersFrom f text inputs first x at)
+  unfolding timersFrom
+  timers-reads zero inputs first x at = ends-at x Reach.none
+  timers-reads (suc f) inputs first x at =
+      token-reads text at (λ k s n e. cond-reads (is k timerWord) (step e (then-reads (timer-reads inputs first x n) (λ y m q. timers-reads f inputs first y m))) (ends-at x Reach.none))
 
   -- ---- the comparison of the two lists
 
@@ -251,25 +287,25 @@ module _ (sc : Scope) where
     unfolding formulas
     formulas-reads w v at h = token-reads (sc .text) at (λ k s n e. cond-reads (is k plus) (step e (pair-reads w v n)) (formula-reads w v at h))
 
-    rule-reads : (at : ℕ) (k : Kind) (s n : ℕ) → at ≤ length (sc .text) → tokenAt (sc .text) at ≡ token k s n → ReadsFrom (sc .text) at (ruleAt sc s n)
+    rule-reads : (xs : List Timer) (at : ℕ) (k : Kind) (s n : ℕ) → at ≤ length (sc .text) → tokenAt (sc .text) at ≡ token k s n → ReadsFrom (sc .text) at (ruleAt xs sc s n)
     unfolding ruleAt
-    rule-reads at k s n h e =
+    rule-reads xs at k s n h e =
         id-reads sc at k s n e s
-        (λ v. cond-reads (getD (sc .known) v false) (here 6 e (omega arith) (omega arith)) (step e (formulas-reads (part (sc .text) s n) v n (token-at-moved (sc .text) at k s n h e .2))))
+        (λ v. cond-reads (taken xs (sc .known) v) (here 6 e (omega arith) (omega arith)) (step e (formulas-reads (part (sc .text) s n) v n (token-at-moved (sc .text) at k s n h e .2))))
 
-rules-reads : (f : ℕ) (sc : Scope) → length (sc .names) ≤ 64 → length (sc .names) ≡ length (sc .known) → Named (sc .names) → unruled (sc .known) < f → (done : List Rule) (at : ℕ) → at ≤ length (sc .text) → ReadsFrom (sc .text) at (rulesFrom f sc done at)
+rules-reads : (f : ℕ) (xs : List Timer) (sc : Scope) → length (sc .names) ≤ 64 → length (sc .names) ≡ length (sc .known) → Named (sc .names) → unruled (sc .known) < f → (done : List Rule) (at : ℕ) → at ≤ length (sc .text) → ReadsFrom (sc .text) at (rulesFrom f xs sc done at)
 unfolding rulesFrom
-rules-reads zero sc few lengths good fuel done at h = absurd (omega arith)
-rules-reads (suc f) sc few lengths good fuel done at h =
+rules-reads zero xs sc few lengths good fuel done at h = absurd (omega arith)
+rules-reads (suc f) xs sc few lengths good fuel done at h =
     token-reads (sc .text) at
     (λ k s n e.
     cond-reads (is k name)
-    (then-reads (rule-reads sc few lengths good at k s n h e)
+    (then-reads (rule-reads sc few lengths good xs at k s n h e)
     (λ r m q.
-    let g = subst (Ends (length (sc .text)) (First sc few lengths good)) q (rule-fits sc few lengths good s n (token-at-moved (sc .text) at k s n h e .2)) in
-    let c = rule-counts (sc .known) (target r) (g .0 .1) (g .0 .2) in
-    let l : length (sc .names) ≡ length (set (sc .known) (target r) true) = lengths ∙ sym (length-set (sc .known) (target r) true) in
-    rules-reads f (ruled sc (target r)) few l good (omega arith) (done ++ (r ∷ [])) m (read-within (rule-reads sc few lengths good at k s n h e) q h)))
+    let g = subst (Ends (length (sc .text)) (First sc few lengths good xs)) q (rule-fits sc few lengths xs good s n (token-at-moved (sc .text) at k s n h e .2)) in
+    let c = rule-leaves xs (sc .known) (target r) (g .0 .1) (g .0 .2) in
+    let l : length (sc .names) ≡ length (timersKnown (target r) xs (set (sc .known) (target r) true)) = lengths ∙ sym (known-length (target r) xs (set (sc .known) (target r) true) ∙ length-set (sc .known) (target r) true) in
+    rules-reads f xs (ruled xs sc (target r)) few l good (omega arith) (done ++ (r ∷ [])) m (read-within (rule-reads sc few lengths good xs at k s n h e) q h)))
     (ends-at _ Reach.none))
 
 -- ---- watches
@@ -287,7 +323,7 @@ module _ (sc : Scope) where
 
   watches-reads : (left : ℕ) (done : List Watch) (at : ℕ) → ReadsFrom (sc .text) at (watchesFrom left sc done at)
   unfolding watchesFrom
-  watches-reads zero done at = token-reads (sc .text) at (λ k s n e. cond-reads (is k watchWord) (watch-refused e) (ends-at _ Reach.none))
+  watches-reads zero done at = token-reads (sc .text) at (λ k s n e. cond-reads (is k watchWord) (above-nine 30 e (omega arith)) (ends-at _ Reach.none))
   watches-reads (suc left) done at =
       token-reads (sc .text) at
       (λ k s n e. cond-reads (is k watchWord) (step e (then-reads (watch-reads n) (λ w m q. watches-reads left (done ++ (w ∷ [])) m))) (ends-at _ Reach.none))
@@ -305,14 +341,19 @@ program-reads text =
     (λ inputs n1 e1.
     let g1 = subst (Ends (length text) (Names text 0)) e1 (declarations-fit text 65 inputWord [] 0 0 (omega arith) (tt, omega arith, omega arith, tt)) in
     then-reads (declarations-reads text 65 varWord inputs n1)
-    (λ names n2 e2.
+    (λ base n2 e2.
     let g2 = subst (Ends (length text) (Names text (length inputs))) e2 (declarations-fit text 65 varWord inputs n1 (length inputs) (g1 .1) (g1 .0 .0, g1 .0 .1, le-refl (length inputs), g1 .0 .3)) in
+    let x0 : WithTimers = record { names = base; timers = [] } in
+    then-reads (timers-reads text 65 (length inputs) (length base) x0 n2)
+    (λ x n3 e3.
+    let g3 = subst (Ends (length text) (λ (y : WithTimers). Names text (length inputs) (y .names))) e3 (timers-named text (length inputs) base 65 x0 [] (sym (append-nil base)) n2 (length inputs) (g2 .1) (g2 .0)) in
+    let names = x .names in
     let sc : Scope = record { text = text; names = spellings names; known = knownFirst (length inputs) (length names) } in
     let l : length (spellings names) ≡ length (knownFirst (length inputs) (length names)) = spellings-length names ∙ sym (length-known (length inputs) (length names)) in
-    let few : length (spellings names) ≤ 64 = omega (arith, spellings-length names, g2 .0 .1) in
-    then-reads (rules-reads 65 sc few l (named names (g2 .0 .0) (g2 .0 .3)) (few-unruled (knownFirst (length inputs) (length names)) (omega (arith, l))) [] n2 (g2 .1))
-    (λ ruled n3 e3. then-reads (watches-reads (record { text = text; names = spellings names; known = free (length names) }) watchLimit [] n3)
-    (λ watches n4 e4. then-reads (end-reads text (ruled .known) n4) (λ u n5 e5. ends-at _ Reach.none)))))
+    let few : length (spellings names) ≤ 64 = omega (arith, spellings-length names, g3 .0 .1) in
+    then-reads (rules-reads 65 (x .timers) sc few l (named names (g3 .0 .0) (g3 .0 .3)) (few-unruled (knownFirst (length inputs) (length names)) (omega (arith, l))) [] n3 (g3 .1))
+    (λ ruled n4 e4. then-reads (watches-reads (record { text = text; names = spellings names; known = free (length names) }) watchLimit [] n4)
+    (λ watches n5 e5. then-reads (end-reads text (ruled .known) n5) (λ u n6 e6. ends-at _ Reach.none))))))
 
 -- a text within the limit reads token by token
 pub parse-reads : (text : List ℕ) → length text ≤ textLimit → ReadsFrom text 0 (parse text)

@@ -34,7 +34,7 @@ use Rattle.faults.proofs.Languages.{Joins, These, OneOf, Bound, Start, 
 use Rattle.faults.proofs.Sole.{Ahead, Sole, by-other, refused-sole, one-sole, nothing-sole, with-value, behind, narrow, then-sole, cond-sole, option-sole, token-sole, NoSign, not-sign, first-bytes, first-ahead}
 use Rattle.faults.proofs.SoleParts.{Anything, apart}
 
-one-of : {P : List ℕ → Type 0} (w : List ℕ) (us xs ys : Tokens) → w ∷ us ≡ xs ++ ys → OneOf P xs → xs ≡ w ∷ []
+pub one-of : {P : List ℕ → Type 0} (w : List ℕ) (us xs ys : Tokens) → w ∷ us ≡ xs ++ ys → OneOf P xs → xs ≡ w ∷ []
 one-of w us xs ys q l = l .1 ∙ ap (λ (x : List ℕ). x ∷ []) (sym (heads (q ∙ ap (λ (y : Tokens). y ++ ys) (l .1))))
 
 -- the word of a kind
@@ -96,7 +96,7 @@ module _ (text : List ℕ) where
       no-minus k s n e t us xs ys ah q (z, positive w d) = (w, refl, d)
       no-minus k s n e t us xs ys ah q (z, negative w d) = absurd (first-ahead text at k s n h e us (w ∷ ys) (bytes "-") ah q minus refl (apart k minus refl t))
 
-  name-sole : (names : List Name) (at : ℕ) → at ≤ length text → Sole (OneOf SpellsName) Anything text at (newName text names at)
+  pub name-sole : (names : List Name) (at : ℕ) → at ≤ length text → Sole (OneOf SpellsName) Anything text at (newName text names at)
   unfolding newName is kindNumber
   name-sole names at h =
       token-sole text at
@@ -149,9 +149,18 @@ module _ (text : List ℕ) where
       let b = ls ++ (bytes ".." ∷ c) in
       (w ∷ b, simp append-assoc, (w ∷ [], b, refl, (w, refl, nw), (ls, bytes ".." ∷ c, refl, (l, sl), (bytes ".." ∷ [], c, refl, refl, (hs, d, refl, (h, sh), (ss, z, refl, sz))))))
 
-  -- a declaration is one of at most 64
+  -- a new name is one of at most 64
+  pub name-fits : (names : List Name) (at : ℕ) → Holds (λ (w : List ℕ). length names < 64) (newName text names at)
+  unfolding newName
+  name-fits names at =
+      let Q : Parsed (List ℕ) → Type 0 = Holds (λ (w : List ℕ). length names < 64) in
+      token-prop Q (tokenAt text at) _ (λ k q. tt)
+      (λ k s n e. cond-prop Q (is k name) _ _
+      (λ t. option-prop Q (idOf (spellings names) (part text s n)) _ _ (λ z. cond-prop Q (overLong s n) _ _ (λ x. tt) (λ x. cond-prop Q (ltb (length names) nameLimit) _ _ (λ y. ltb-true (length names) 64 y) (λ y. tt))) (λ i z. tt))
+      (λ t. tt))
+
   declaration-fits : (names : List Name) (at : ℕ) → Holds (λ (x : Name). length names < 64) (declaration text names at)
-  unfolding declaration newName
+  unfolding declaration
   declaration-fits names at =
       let P : Parsed Name → Type 0 = Holds (λ (x : Name). length names < 64) in
       then-prop P (newName text names at) _ (λ k q. tt)
@@ -159,14 +168,6 @@ module _ (text : List ℕ) where
       let l : length names < 64 = fits (newName text names at) (name-fits names at) w n1 e1 in
       then-prop P (boundAt _ text n1) _ (λ k q. tt) (λ low n2 e2. then-prop P (phrase text _ n2) _ (λ k q. tt) (λ u n3 e3. then-prop P (boundAt _ text n3) _ (λ k q. tt) (λ high n4 e4. then-prop P (startAt text low high n4) _ (λ k q. tt) (λ z n5 e5. l)))))
     where
-      name-fits : (names : List Name) (at : ℕ) → Holds (λ (w : List ℕ). length names < 64) (newName text names at)
-      name-fits names at =
-          let Q : Parsed (List ℕ) → Type 0 = Holds (λ (w : List ℕ). length names < 64) in
-          token-prop Q (tokenAt text at) _ (λ k q. tt)
-          (λ k s n e. cond-prop Q (is k name) _ _
-          (λ t. option-prop Q (idOf (spellings names) (part text s n)) _ _ (λ z. cond-prop Q (overLong s n) _ _ (λ x. tt) (λ x. cond-prop Q (ltb (length names) nameLimit) _ _ (λ y. ltb-true (length names) 64 y) (λ y. tt))) (λ i z. tt))
-          (λ t. tt))
-
       fits : (p : Parsed (List ℕ)) → Holds (λ (w : List ℕ). length names < 64) p → (w : List ℕ) (n : ℕ) → p ≡ accepted w n → length names < 64
       fits p g w n e = subst (Holds (λ (w : List ℕ). length names < 64)) e g
 

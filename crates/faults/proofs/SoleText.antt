@@ -3,19 +3,21 @@ use mathlib.Core.Path.{_≡_, refl, ap, ap₂, sym, _∙_, subst}
 use mathlib.Core.List.{List, [], _∷_, _++_, append-assoc, append-nil}
 use mathlib.Core.Bool.{Bool, cond, true, false}
 use Prim.Native.Nat.{ℕ, zero, suc, _-_, _≤_, _<_}
+use native.Mathlib.Nat.{le-refl}
 use native.Mathlib.Omega.{arith}
-use lib.ListN.{length, getD}
+use lib.ListN.{length}
 use lib.Dec.{ltb}
 use borrow.Author.Tests.{ltb-false}
 use Rattle.limits.specs.Limits.{textLimit, watchLimit}
 use Rattle.lexer.specs.Bytes.{bytes, part}
-use Rattle.lexer.specs.Token.{Kind, kindNumber, ending, name, inputWord, varWord, watchWord, is, TokenRead, token, fault, spellingOf}
+use Rattle.lexer.specs.Token.{Kind, kindNumber, ending, name, inputWord, varWord, timerWord, watchWord, is, TokenRead, token, fault, spellingOf}
 use Rattle.lexer.specs.Lexer.{overLong, tokenAt}
 use Rattle.lexer.proofs.Laws.{cond-prop, token-at-moved}
-use Rattle.semantics.specs.Program.{Rule, target, allTrue, knownFirst, free}
+use Rattle.semantics.specs.Program.{Timer, Rule, target, allTrue, taken, knownFirst, free}
 use Rattle.grammar.specs.Parsed.{Parsed, accepted, refused, andThen, onToken}
 use Rattle.grammar.specs.Expressions.{Scope}
 use Rattle.grammar.specs.Declarations.{spellings, declarations}
+use Rattle.grammar.specs.Timers.{WithTimers, timersFrom}
 use Rattle.grammar.specs.Rules.{ruleAt, ruled, rulesFrom}
 use Rattle.grammar.specs.Watches.{watchesFrom}
 use Rattle.grammar.specs.Parse.{endAt, program, parse}
@@ -29,7 +31,7 @@ use Rattle.grammar.proofs.Whole.{Ends, Names, declarations-fit}
 use Rattle.grammar.proofs.Normal.{name-seen, normal-twice, normal-length}
 use Rattle.grammar.proofs.SameRule.{formulas-same}
 use Rattle.faults.specs.Grammar as G
-use Rattle.faults.specs.Grammar.{AreNames, AreDeclarations, IsRule, AreRules, AreWatches, IsText, BeginsNone, NoneGoOn}
+use Rattle.faults.specs.Grammar.{AreNames, AreDeclarations, AreTimers, IsRule, AreRules, AreWatches, IsText, BeginsNone, NoneGoOn}
 use Rattle.faults.proofs.TextPlaces.{refused-parse}
 use Rattle.faults.proofs.ViableText.{allowed-before}
 use Rattle.faults.proofs.Languages.{Joins}
@@ -37,6 +39,7 @@ use Rattle.faults.proofs.Sole.{Ahead, BlockedAt, Sole, by-other, nothin
 use Rattle.faults.proofs.SoleParts.{Anything, apart, id-sole, whole-expression-sole}
 use Rattle.faults.proofs.SoleConditions.{whole-condition-sole}
 use Rattle.faults.proofs.SoleForms.{Word, declared-of, declarations-sole}
+use Rattle.faults.proofs.SoleTimers.{timer-of, timers-sole}
 use Rattle.faults.proofs.SoleRules.{RuleRest, rule-of, formulas-sole}
 use Rattle.faults.proofs.SoleWatches.{watches-ends, watches-sole}
 
@@ -65,16 +68,16 @@ same-failing L S text at (refused k q) f x = x
 -- ---- rules
 
 module _ (names : List (List ℕ)) (good : AreNames names) where
-  rule-sole : (sc : Scope) (at : ℕ) (k : Kind) (s n : ℕ) → at ≤ length (sc .text) → tokenAt (sc .text) at ≡ token k s n → is k name ≡ true → Sole (IsRule names) Anything (sc .text) at (ruleAt sc s n)
+  rule-sole : (xs : List Timer) (sc : Scope) (at : ℕ) (k : Kind) (s n : ℕ) → at ≤ length (sc .text) → tokenAt (sc .text) at ≡ token k s n → is k name ≡ true → Sole (IsRule names) Anything (sc .text) at (ruleAt xs sc s n)
   unfolding ruleAt overLong is kindNumber
-  rule-sole sc at k s n h e t =
+  rule-sole xs sc at k s n h e t =
       let u = part (sc .text) s n in
       let nm = sign-stands written (sc .text) name refl at k s n h e t .1 in
       let r = sign-stands normally (sc .text) name refl at k s n h e t in
       let mv = token-at-moved (sc .text) at k s n h e in
       let seen = subst (Seen normally) (sym (name-seen u nm)) (seen-capitals u) in
       id-sole names good sc at s s n _
-      (λ v o. cond-sole (getD (sc .known) v false) (λ x. by-other 6 (λ q. omega (arith, q)))
+      (λ v o. cond-sole (taken xs (sc .known) v) (λ x. by-other 6 (λ q. omega (arith, q)))
       (λ x.
       let short = ltb-false 16 (n - s) o in
       let l = normal-length u ∙ part-length (sc .text) s n (mv .1) (mv .2) in
@@ -87,17 +90,17 @@ module _ (names : List (List ℕ)) (good : AreNames names) where
           (x .1, x .2 ∙ ap (λ (v : List ℕ). v ∷ x .1) (sym i), subst (λ (v : List ℕ). RuleRest names good v (x .1)) (sym i) (x .4))
 
   -- what follows the rules begins with no name
-  rules-sole : (f : ℕ) (sc : Scope) (done : List Rule) (at : ℕ) → at ≤ length (sc .text) → Sole (AreRules names) (NoSign SpellsName) (sc .text) at (rulesFrom f sc done at)
+  rules-sole : (f : ℕ) (os : List Timer) (sc : Scope) (done : List Rule) (at : ℕ) → at ≤ length (sc .text) → Sole (AreRules names) (NoSign SpellsName) (sc .text) at (rulesFrom f os sc done at)
   unfolding rulesFrom is kindNumber
-  rules-sole zero sc done at h = by-other 6 (λ e. omega (arith, e))
-  rules-sole (suc f) sc done at h =
+  rules-sole zero os sc done at h = by-other 6 (λ e. omega (arith, e))
+  rules-sole (suc f) os sc done at h =
       token-sole (sc .text) at
       (λ k s n e. cond-sole (is k name)
       (λ t.
       let st = sign-stands normally (sc .text) name refl at k s n h e t in
       narrow h (λ us xs ys ah q l z. some-rules k s n e (name-end k t) us xs ys (ah k s n e) q l z (st .1))
-      (then-sole {L = IsRule names} {M = AreRules names} {N = Joins (IsRule names) (AreRules names)} {S = Anything} {S2 = NoSign SpellsName} h (λ zs j. j) (λ xs ys l z. tt) (rule-sole sc at k s n h e t)
-      (λ r m i j q. rules-sole f (ruled sc (target r)) (done ++ (r ∷ [])) m j)))
+      (then-sole {L = IsRule names} {M = AreRules names} {N = Joins (IsRule names) (AreRules names)} {S = Anything} {S2 = NoSign SpellsName} h (λ zs j. j) (λ xs ys l z. tt) (rule-sole os sc at k s n h e t)
+      (λ r m i j q. rules-sole f os (ruled os sc (target r)) (done ++ (r ∷ [])) m j)))
       (λ t. nothing-sole _ (λ us xs ys ah q l z. none-left k s n e t us xs ys (ah k s n e) q l)))
     where
       name-end : (k : Kind) → is k name ≡ true → k ≡ ending → ⊥
@@ -141,8 +144,11 @@ module _ (names : List (List ℕ)) (good : AreNames names) where
   abbrev Rules : Tokens → Type 0
   Rules = Joins (AreRules names) (AreWatches names)
 
+  abbrev Timed : Tokens → Type 0
+  Timed = Joins AreTimers Rules
+
   abbrev Variables : Tokens → Type 0
-  Variables = Joins (AreDeclarations (bytes "var")) Rules
+  Variables = Joins (AreDeclarations (bytes "var")) Timed
 
   abbrev TextOf : Tokens → Type 0
   TextOf = Joins (AreDeclarations (bytes "input")) Variables
@@ -160,9 +166,16 @@ module _ (names : List (List ℕ)) (good : AreNames names) where
   unfolding is kindNumber
   no-name nm = not-sign name watchWord (bytes "watch") (bytes "watch") nm refl (apart name watchWord refl refl) refl
 
+  -- timers begin with `timer`
+  timed-ends : (k : Kind) → Spelling k (spellingOf k) → (name ≡ k → ⊥) → (watchWord ≡ k → ⊥) → (timerWord ≡ k → ⊥) → (xs ys : Tokens) → Timed xs → Empty ys → NoSign (Word k) (xs ++ ys)
+  timed-ends k sp un wn tn xs ys (os, rs, q, G.AreTimers.none, r) z = subst (λ (l : Tokens). NoSign (Word k) (l ++ ys)) (sym q) (rules-ends k sp un wn rs ys r z)
+  timed-ends k sp un wn tn xs ys (os, rs, q, G.AreTimers.more ts us d m, r) z =
+      let y = timer-of ts d in
+      subst (λ (l : Tokens). NoSign (Word k) (l ++ ys)) (sym (q ∙ ap (λ (l : Tokens). (l ++ us) ++ rs) (y .1))) (λ e. not-sign timerWord k (bytes "timer") (spellingOf k) refl sp tn e)
+
   variables-end : (xs ys : Tokens) → Variables xs → Empty ys → NoSign (Word inputWord) (xs ++ ys)
   unfolding is kindNumber
-  variables-end xs ys (vs, rs, q, G.AreDeclarations.none, r) z = subst (λ (l : Tokens). NoSign (Word inputWord) (l ++ ys)) (sym q) (rules-ends inputWord refl (apart name inputWord refl refl) (apart watchWord inputWord refl refl) rs ys r z)
+  variables-end xs ys (vs, rs, q, G.AreDeclarations.none, r) z = subst (λ (l : Tokens). NoSign (Word inputWord) (l ++ ys)) (sym q) (timed-ends inputWord refl (apart name inputWord refl refl) (apart watchWord inputWord refl refl) (apart timerWord inputWord refl refl) rs ys r z)
   variables-end xs ys (vs, rs, q, G.AreDeclarations.more ts us d m, r) z =
       let y = declared-of [] (bytes "var") ts d in
       subst (λ (l : Tokens). NoSign (Word inputWord) (l ++ ys)) (sym (q ∙ ap (λ (l : Tokens). (l ++ us) ++ rs) (y .1))) (λ e. not-sign varWord inputWord (bytes "var") (bytes "input") refl refl (apart varWord inputWord refl refl) e)
@@ -173,14 +186,20 @@ module _ (names : List (List ℕ)) (good : AreNames names) where
       then-failing (AreDeclarations (bytes "input")) Variables TextOf (NoSign (Word inputWord)) Empty text 0 (omega arith) (λ zs j. j) variables-end (declarations inputWord text [] 0) _ (declarations-sole text 65 inputWord refl refl [] (omega arith) (omega arith) 0 (omega arith))
       (λ inputs n1 h1 e1.
       let g1 = subst (Ends (length text) (Names text 0)) e1 (declarations-fit text 65 inputWord [] 0 0 (omega arith) (tt, omega arith, omega arith, tt)) in
-      then-failing (AreDeclarations (bytes "var")) Rules Variables (NoSign (Word varWord)) Empty text n1 h1 (λ zs j. j) (rules-ends varWord refl (apart name varWord refl refl) (apart watchWord varWord refl refl)) (declarations varWord text inputs n1) _
+      then-failing (AreDeclarations (bytes "var")) Timed Variables (NoSign (Word varWord)) Empty text n1 h1 (λ zs j. j) (timed-ends varWord refl (apart name varWord refl refl) (apart watchWord varWord refl refl) (apart timerWord varWord refl refl)) (declarations varWord text inputs n1) _
       (declarations-sole text 65 varWord refl refl inputs (g1 .0 .1) (omega arith) n1 h1)
-      (λ declared n2 h2 e2.
+      (λ base n2 h2 e2.
+      let g2 = subst (Ends (length text) (Names text (length inputs))) e2 (declarations-fit text 65 varWord inputs n1 (length inputs) h1 (g1 .0 .0, g1 .0 .1, le-refl (length inputs), g1 .0 .3)) in
+      let x0 : WithTimers = record { names = base; timers = [] } in
+      then-failing AreTimers Rules Timed (NoSign (Word timerWord)) Empty text n2 h2 (λ zs j. j) (rules-ends timerWord refl (apart name timerWord refl refl) (apart watchWord timerWord refl refl)) (timersFrom 65 text (length inputs) (length base) x0 n2) _
+      (timers-sole text (length inputs) (length base) 65 x0 (g2 .0 .1) (omega arith) n2 h2)
+      (λ x n3 h3 e3.
+      let declared = x .names in
       let sc : Scope = record { text = text; names = spellings declared; known = knownFirst (length inputs) (length declared) } in
       let sw : Scope = record { text = text; names = spellings declared; known = free (length declared) } in
-      then-failing (AreRules names) (AreWatches names) Rules (NoSign SpellsName) Empty text n2 h2 (λ zs j. j) (watches-ends names good SpellsName no-name) (rulesFrom 65 sc [] n2) _ (rules-sole 65 sc [] n2 h2)
-      (λ ruled n3 h3 e3. then-failing (AreWatches names) Empty (AreWatches names) (NoSign (Word watchWord)) Empty text n3 h3 (λ zs l. (zs, [], sym (append-nil zs), l, refl)) (λ xs ys l z. subst (NoSign (Word watchWord)) (ap₂ (λ (u v : Tokens). u ++ v) (sym l) (sym z)) tt) (watchesFrom watchLimit sw [] n3) _ (watches-sole names good sw watchLimit [] n3 h3)
-      (λ watches n4 h4 e4. same-failing Empty Empty text n4 (endAt text (ruled .known) n4) _ (end-failing text (ruled .known) n4)))))
+      then-failing (AreRules names) (AreWatches names) Rules (NoSign SpellsName) Empty text n3 h3 (λ zs j. j) (watches-ends names good SpellsName no-name) (rulesFrom 65 (x .timers) sc [] n3) _ (rules-sole 65 (x .timers) sc [] n3 h3)
+      (λ ruled n4 h4 e4. then-failing (AreWatches names) Empty (AreWatches names) (NoSign (Word watchWord)) Empty text n4 h4 (λ zs l. (zs, [], sym (append-nil zs), l, refl)) (λ xs ys l z. subst (NoSign (Word watchWord)) (ap₂ (λ (u v : Tokens). u ++ v) (sym l) (sym z)) tt) (watchesFrom watchLimit sw [] n4) _ (watches-sole names good sw watchLimit [] n4 h4)
+      (λ watches n5 h5 e5. same-failing Empty Empty text n5 (endAt text (ruled .known) n5) _ (end-failing text (ruled .known) n5))))))
 
   parse-failing : (text : List ℕ) → Failing TextOf Empty text 0 (parse text)
   unfolding parse
@@ -234,7 +253,9 @@ begins-none L S text at place s b =
 text-of : (ts : Tokens) (x : IsText ts) → TextOf (x .names) (x .are-names) ts
 text-of ts x =
     let rest = x .rules ++ x .watches in
-    (x .inputs, x .variables ++ rest, x .in-order ∙ (append-assoc (x .inputs ++ x .variables) (x .rules) (x .watches) ∙ append-assoc (x .inputs) (x .variables) rest), x .are-inputs, (x .variables, rest, refl, x .are-variables, (x .rules, x .watches, refl, x .are-rules, x .are-watches)))
+    let timed = x .timers ++ rest in
+    let order : ts ≡ x .inputs ++ (x .variables ++ timed) = x .in-order ∙ (append-assoc (x .inputs ++ x .variables ++ x .timers) (x .rules) (x .watches) ∙ (append-assoc (x .inputs ++ x .variables) (x .timers) rest ∙ append-assoc (x .inputs) (x .variables) timed)) in
+    (x .inputs, x .variables ++ timed, order, x .are-inputs, (x .variables, timed, refl, x .are-variables, (x .timers, rest, refl, x .are-timers, (x .rules, x .watches, refl, x .are-rules, x .are-watches))))
 
 texts : (text : List ℕ) (place : ℕ) → parse text ≡ refused 2 place → (before : Tokens) (end : ℕ) → Spells normal text 0 end before → (kind : Kind) (next : ℕ) → tokenAt text end ≡ token kind place next → (us : Tokens) → Ahead kind (normal (part text place next)) us → IsText (before ++ us) → ⊥
 texts text place e before end sp kind next st us ah x =

@@ -55,7 +55,7 @@ module _ (text : List ℕ) where
 
   -- ---- declarations
 
-  zero-digits : (OneOf IsDigits) (bytes "0" ∷ [])
+  pub zero-digits : (OneOf IsDigits) (bytes "0" ∷ [])
   unfolding isDigit
   zero-digits = (bytes "0", refl, (refl, tt))
 
@@ -63,7 +63,7 @@ module _ (text : List ℕ) where
   unfolding isDigit
   zero-bound = (pos (valueOf (bytes "0")), positive (bytes "0") (refl, tt))
 
-  a-name : (OneOf SpellsName) (bytes "a" ∷ [])
+  pub a-name : (OneOf SpellsName) (bytes "a" ∷ [])
   unfolding isLetter wordOf grammarWord sameName capitals capital sameBytes
   a-name = (bytes "a", refl, record { is-word = (refl, tt); no-word = name-word (bytes "a") refl })
 
@@ -88,7 +88,7 @@ module _ (text : List ℕ) where
       (token-viable text n (λ k2 s2 n2 e2. signed-viable test negℤ n k2 s2 n2 i e2)))
       (λ t. wider (λ us g. (pos (valueOf (g .0)), subst (λ (x : Tokens). SpellsZ x (pos (valueOf (g .0)))) (sym (g .1)) (positive (g .0) (g .2)))) (signed-viable test (λ z. z) at k s n h e)))
 
-  name-viable : (names : List Name) (at : ℕ) → at ≤ length text → Viable (OneOf SpellsName) text at (newName text names at)
+  pub name-viable : (names : List Name) (at : ℕ) → at ≤ length text → Viable (OneOf SpellsName) text at (newName text names at)
   unfolding newName is kindNumber
   name-viable names at h =
       token-viable text at

@@ -4,14 +4,14 @@ use mathlib.Core.List.{List, [], _∷_, _++_, append-assoc, append-nil}
 use mathlib.Core.Bool.{true, false}
 use Prim.Native.Nat.{ℕ, zero, suc, _+_, _-_, _≤_}
 use native.Mathlib.Omega.{arith}
-use lib.ListN.{length, getD}
+use lib.ListN.{length}
 use lib.Dec.{ltb, leb, eqb}
 use Rattle.limits.specs.Limits.{caseLimit}
 use Rattle.lexer.specs.Bytes.{bytes, part}
 use Rattle.lexer.specs.Token.{Kind, kindNumber, name, openSquare, closeRound, closeSquare, bar, tilde, greater, plus, is, token}
 use Rattle.lexer.specs.Lexer.{tokenAt}
 use Rattle.lexer.proofs.Laws.{token-at-moved}
-use Rattle.semantics.specs.Program.{Condition}
+use Rattle.semantics.specs.Program.{Condition, Timer, taken}
 use Rattle.lexer.specs.Spelling.{SpellsName}
 use Rattle.grammar.specs.Parsed.{Parsed, accepted, refused, sign}
 use Rattle.grammar.specs.Expressions.{Scope}
@@ -201,13 +201,13 @@ module _ (sc : Scope) where
         (λ t. behind (bytes "+" ∷ []) (n, fixed-stands normally (sc .text) plus refl at k s n h e t, refl) pair-in (pair-viable v n (token-at-moved (sc .text) at k s n h e .2)))
         (λ t. formula-viable v at h))
 
-  pub rule-viable : (at : ℕ) (k : Kind) (s n : ℕ) → at ≤ length (sc .text) → tokenAt (sc .text) at ≡ token k s n → is k name ≡ true → Viable (IsRule (normals (sc .names))) (sc .text) at (ruleAt sc s n)
+  pub rule-viable : (xs : List Timer) (at : ℕ) (k : Kind) (s n : ℕ) → at ≤ length (sc .text) → tokenAt (sc .text) at ≡ token k s n → is k name ≡ true → Viable (IsRule (normals (sc .names))) (sc .text) at (ruleAt xs sc s n)
   unfolding ruleAt is kindNumber
-  rule-viable at k s n h e t =
+  rule-viable xs at k s n h e t =
       let u = part (sc .text) s n in
       let nm = sign-stands written (sc .text) name refl at k s n h e t .1 in
       let r = sign-stands normally (sc .text) name refl at k s n h e t in
       let seen = subst (Seen normally) (sym (name-seen u nm)) (seen-capitals u) in
       id-viable sc at s s n _ nm
-      (λ v ev. cond-viable (getD (sc .known) v false) (λ x. by-other 6 (λ q. omega (arith, q)))
+      (λ v ev. cond-viable (taken xs (sc .known) v) (λ x. by-other 6 (λ q. omega (arith, q)))
       (λ x. behind (normal u ∷ []) (n, r .0, refl) (λ us g. g) (rw (formulas-same sc u (normal u) (sym (normal-twice u nm)) v n) (formulas-viable (normal u) (r .1) seen v n (token-at-moved (sc .text) at k s n h e .2)))))

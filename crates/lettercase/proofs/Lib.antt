@@ -1,1 +1,2 @@
+pub mod RecasedNames
 pub mod Recased
