@@ -263,6 +263,10 @@ fn other_services() {
             clock(text, &[0, 60], 1439, &mut row[..1]),
             Err(Refusal::new(12, 0))
         );
+        let text =
+            b"input minute 0..1439; var day 0..1; timer t of day limit 5; day: GX(day = (1));";
+        assert_eq!(clock(text, &[0, 60], 1439, &mut row), Ok(()));
+        assert_eq!(row, [59, 7]);
         let image = image(TON);
         assert_eq!(
             closed(&image).expect_err("a timer").refusal,

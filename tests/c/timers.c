@@ -147,6 +147,7 @@ static void elsewhere(void) {
     structured_text("var w 0..1; timer t of w limit 5; w:GX(w=(1));", 21, 12);
     structured_text("var w 0..1; timer IF of w limit 5; w:GX(w=(1));", 21, 12);
     structured_text("input IF 0..1; var w 0..1; timer t of w limit 5; w:GX(w=(1));", 21, 6);
+    structured_text("var w 0..1; var iF 0..1; timer t of w limit 5; w:GX(w=(1)); iF:GX(iF=(1));", 21, 16);
     structured_text("var w 0..1; timer t of w limit 5; w:GX(w=(1)); $", 1, 47);
 
     /* The milliseconds are counted in the row and stay; a timer named `minute` is no input. */
@@ -156,6 +157,11 @@ static void elsewhere(void) {
     expect("a row without milliseconds", rolvenko_clock((const uint8_t *)clock, sizeof clock - 1, table, 2, 1439, row, 1), 12, 0, 0);
     expect("the clock", rolvenko_clock((const uint8_t *)clock, sizeof clock - 1, table, 2, 1439, row, 2), 0, 0, 0);
     holds("the row", row[0] == 1 && row[1] == 7);
+    /* nor is a variable `day`, whose id is the place of the milliseconds */
+    static const char day[] = "input minute 0..1439; var day 0..1; timer t of day limit 5; day: GX(day = (1));";
+    row[0] = 7;
+    expect("a variable `day`", rolvenko_clock((const uint8_t *)day, sizeof day - 1, table, 2, 1439, row, 2), 0, 0, 0);
+    holds("its row", row[0] == 59 && row[1] == 7);
 
     static const char watched[] = "var w 0..1; timer t of w limit 5; w: GX(w = (1)); watch: G([t = 0]); watch: G([_w = 1] -> X([t = 1]));";
     static const int32_t trace[12] = {0, 0, 0, 1, 0, 0, 1, 0, 3, 1, 1, 5};
