@@ -269,7 +269,13 @@ fn rule(
     if lexer::is_over_long(start, end) {
         return Step::Refused(limits::TOO_MANY, start);
     }
-    let found = lexer::find(text, starts, ends, names.count, start, end);
+    let found = lexer::find(
+        text,
+        starts,
+        ends,
+        names.count,
+        lexer::name(text, start, end),
+    );
     let Found::At(id) = found else {
         return Step::Refused(limits::WRONG_NAME, start);
     };

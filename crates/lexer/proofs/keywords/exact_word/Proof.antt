@@ -1,10 +1,10 @@
--- `lexer::exact_word` meets its contract. Assumes nothing.
+-- `lexer::keywords::exact_word` meets its contract. Assumes nothing.
 use borrow.Author.Needs.{needs}
 use mathlib.Core.Path.{sym, _∙_}
 use Rattle.lexer.specs.Token.{kindNumber}
 use Rattle.lexer.specs.Lexer.{exactWord}
-use Rattle.lexer.proofs.exact_word.Statement.{statement}
-use Rattle.lexer.proofs.exact_word.Tie as tie
+use Rattle.lexer.proofs.keywords.exact_word.Statement.{statement}
+use Rattle.lexer.proofs.keywords.exact_word.Tie as tie
 
 returns : tie.Need-returns
 unfolding exactWord kindNumber

@@ -1,10 +1,10 @@
--- `lexer::word` meets its contract. Assumes nothing.
+-- `lexer::keywords::word` meets its contract. Assumes nothing.
 use borrow.Author.Needs.{needs}
 use mathlib.Core.Path.{sym, _∙_}
 use Rattle.lexer.specs.Token.{kindNumber}
 use Rattle.lexer.specs.Lexer.{wordOf}
-use Rattle.lexer.proofs.word.Statement.{statement}
-use Rattle.lexer.proofs.word.Tie as tie
+use Rattle.lexer.proofs.keywords.word.Statement.{statement}
+use Rattle.lexer.proofs.keywords.word.Tie as tie
 
 returns : tie.Need-returns
 unfolding wordOf

@@ -1,9 +1,9 @@
--- `lexer::grammar_word` meets its contract. Assumes nothing.
+-- `lexer::keywords::grammar_word` meets its contract. Assumes nothing.
 use borrow.Author.Needs.{needs}
 use mathlib.Core.Path.{sym, _∙_}
 use Rattle.lexer.proofs.Words.{words-1, words-2, words-3, words-4, words-5, words-none}
-use Rattle.lexer.proofs.grammar_word.Statement.{statement}
-use Rattle.lexer.proofs.grammar_word.Tie as tie
+use Rattle.lexer.proofs.keywords.grammar_word.Statement.{statement}
+use Rattle.lexer.proofs.keywords.grammar_word.Tie as tie
 
 returns : tie.Need-returns
 returns c = rw (words-5 _ (c .before .before .before .if1 .taken), sym (c .before .same-name .ensures) ∙ c .if2 .taken)
