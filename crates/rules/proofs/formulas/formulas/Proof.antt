@@ -1,4 +1,4 @@
--- `rules::formulas` meets its contract. Assumes nothing.
+-- `rules::formulas::formulas` meets its contract. Assumes nothing.
 use mathlib.Core.Path.{refl}
 use native.Mathlib.Omega.{arith}
 use Rattle.lexer.specs.Results.{kindOf}
@@ -8,8 +8,8 @@ use Rattle.phrases.proofs.Writing.{refuses, reads-as}
 use Rattle.cases.proofs.Listing.{found-token, room-token}
 use Rattle.rules.proofs.Ways.{formulas-fault, formulas-pair, formulas-formula}
 use borrow.Author.Needs.{needs}
-use Rattle.rules.proofs.formulas.Statement.{statement}
-use Rattle.rules.proofs.formulas.Tie as tie
+use Rattle.rules.proofs.formulas.formulas.Statement.{statement}
+use Rattle.rules.proofs.formulas.formulas.Tie as tie
 
 returns : tie.Need-returns
 returns c = refuses (c .enum-told .given .1) (formulas-fault _ _ _ _ (is-fault _ _ _ (c .before .before .token-at .ensures) _ _ (c .enum-told .given .1)))

@@ -1,4 +1,4 @@
--- `rules::change` meets its contract. Assumes nothing.
+-- `rules::formulas::change` meets its contract. Assumes nothing.
 use mathlib.Core.Path.{refl, _∙_}
 use native.Mathlib.Omega.{arith}
 use Rattle.lexer.specs.Token.{is, kindNumber}
@@ -11,8 +11,8 @@ use Rattle.cases.proofs.Parts.{placed}
 use Rattle.cases.proofs.Ways.{room-phrase, place-refused}
 use Rattle.rules.proofs.Ways.{change-unopened, cases-refused, no-change-unopened, list-refused, change-unclosed, change-accepted, level-code, change-bytes, change-length, room-cases, room-list, told-spans, told-listed, told-kept}
 use borrow.Author.Needs.{needs}
-use Rattle.rules.proofs.change.Statement.{statement}
-use Rattle.rules.proofs.change.Tie as tie
+use Rattle.rules.proofs.formulas.change.Statement.{statement}
+use Rattle.rules.proofs.formulas.change.Tie as tie
 
 returns : tie.Need-returns
 returns c = not-expected (c .before .before .change-opening .ensures) (c .enum-told .given .1) (change-unopened _ _ _ _)

@@ -1,4 +1,4 @@
--- `rules::formula` meets its contract. Assumes nothing.
+-- `rules::formulas::formula` meets its contract. Assumes nothing.
 use mathlib.Core.Path.{refl}
 use native.Mathlib.Omega.{arith}
 use Rattle.lexer.specs.Token.{is, kindNumber}
@@ -11,8 +11,8 @@ use Rattle.cases.proofs.Ways.{room-phrase}
 use Rattle.cases.proofs.Listing.{found-token, room-token}
 use Rattle.rules.proofs.Ways.{formula-unopened, formula-fault, formula-change, formula-function}
 use borrow.Author.Needs.{needs}
-use Rattle.rules.proofs.formula.Statement.{statement}
-use Rattle.rules.proofs.formula.Tie as tie
+use Rattle.rules.proofs.formulas.formula.Statement.{statement}
+use Rattle.rules.proofs.formulas.formula.Tie as tie
 
 returns : tie.Need-returns
 returns c = not-expected (c .before .before .rule-opening .ensures) (c .enum-told .given .1) (formula-unopened _ _ _ _)

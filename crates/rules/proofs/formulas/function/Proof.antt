@@ -1,4 +1,4 @@
--- `rules::function` meets its contract. Assumes nothing.
+-- `rules::formulas::function` meets its contract. Assumes nothing.
 use mathlib.Core.Path.{refl}
 use native.Mathlib.Omega.{arith}
 use Rattle.lexer.specs.Token.{is, kindNumber}
@@ -12,8 +12,8 @@ use Rattle.cases.proofs.Parts.{not-read}
 use Rattle.cases.proofs.Ways.{room-phrase}
 use Rattle.rules.proofs.Ways.{value-unopened, value-refused, value-unclosed, function-accepted, function-bytes, function-length}
 use borrow.Author.Needs.{needs}
-use Rattle.rules.proofs.function.Statement.{statement}
-use Rattle.rules.proofs.function.Tie as tie
+use Rattle.rules.proofs.formulas.function.Statement.{statement}
+use Rattle.rules.proofs.formulas.function.Tie as tie
 
 returns : tie.Need-returns
 returns c = not-expected (c .before .before .value-opening .ensures) (c .enum-told .given .1) (value-unopened _ _ _ _)

@@ -1,4 +1,4 @@
--- `rules::pair` meets its contract. Assumes nothing.
+-- `rules::formulas::pair` meets its contract. Assumes nothing.
 use mathlib.Core.Path.{refl, _∙_}
 use native.Mathlib.Omega.{arith}
 use Rattle.limits.specs.Limits.{caseLimit}
@@ -12,8 +12,8 @@ use Rattle.phrases.proofs.Writing.{got, writes, not-expected, not-part, found}
 use Rattle.cases.proofs.Ways.{room-phrase}
 use Rattle.rules.proofs.Ways.{pair-unopened, ups-refused, falling-unopened, downs-refused, pair-unclosed, pair-accepted, few-cases, pair-written, pair-ended, room-cases}
 use borrow.Author.Needs.{needs}
-use Rattle.rules.proofs.pair.Statement.{statement}
-use Rattle.rules.proofs.pair.Tie as tie
+use Rattle.rules.proofs.formulas.pair.Statement.{statement}
+use Rattle.rules.proofs.formulas.pair.Tie as tie
 
 returns : tie.Need-returns
 unfolding kindOf
