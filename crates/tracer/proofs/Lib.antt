@@ -1,4 +1,5 @@
 pub mod Feeding
+pub mod States
 pub mod Begun
 pub mod Lines
 pub mod Taking
