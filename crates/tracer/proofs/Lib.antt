@@ -3,5 +3,6 @@ pub mod States
 pub mod Begun
 pub mod Lines
 pub mod Taking
+pub mod HandedRows
 pub mod Whole
 pub mod Examples

@@ -10,27 +10,28 @@ use Rattle.semantics.specs.Program.{Program, Timer, rangesOf, firstTimer, EachT
 use Rattle.semantics.specs.Shape.{shapeOf, isLimit, timersOf, countTrue, stateLength}
 use Rattle.semantics.proofs.Counted.{state-length}
 
-abbrev limitsOf : List Timer → List ℕ
-limitsOf ts = map (λ (x : Timer). x .limit) ts
+abbrev pub timerLimits : List Timer → List ℕ
+timerLimits ts = map (λ (x : Timer). x .limit) ts
+
+-- each of some timers fits the program
+abbrev pub EachFits : Program → List Timer → Type 0
+EachFits p ts = EachTimer (TimerFits (rangesOf p) (p .inputs) (firstTimer p)) ts
 
 after-zeros : (n : ℕ) (l : List ℕ) → countTrue (map isLimit (replicate n 0 ++ l)) ≡ countTrue (map isLimit l)
 after-zeros zero l = refl
 after-zeros (suc n) l = after-zeros n l
 
 module _ (p : Program) (w : WellFormed p) where
-  abbrev Fit : List Timer → Type 0
-  Fit ts = EachTimer (TimerFits (rangesOf p) (p .inputs) (firstTimer p)) ts
-
   timers-counted : countTrue (timersOf (shapeOf p)) ≡ length (p .timers)
-  timers-counted = after-zeros (firstTimer p) (limitsOf (p .timers)) ∙ go (p .timers) (w .timed .each)
+  timers-counted = after-zeros (firstTimer p) (timerLimits (p .timers)) ∙ go (p .timers) (w .timed .each)
     where
       one : (n : ℕ) (bs : List Bool) → 1 ≤ n → countTrue (isLimit n ∷ bs) ≡ suc (countTrue bs)
       one zero bs h = absurd (omega (arith, h))
       one (suc n) bs h = refl
 
-      go : (ts : List Timer) → Fit ts → countTrue (map isLimit (limitsOf ts)) ≡ length ts
+      go : (ts : List Timer) → EachFits p ts → countTrue (map isLimit (timerLimits ts)) ≡ length ts
       go [] h = refl
-      go (x ∷ xs) h = one (x .limit) (map isLimit (limitsOf xs)) (h .0 .least) ∙ ap suc (go xs (h .1))
+      go (x ∷ xs) h = one (x .limit) (map isLimit (timerLimits xs)) (h .0 .least) ∙ ap suc (go xs (h .1))
 
   pub state-counted : stateLength (shapeOf p) ≡ length (p .names) + length (p .timers)
   state-counted = state-length (shapeOf p) ∙ ap₂ _+_ (length-map (p .names) (λ n. n .range)) timers-counted
@@ -39,6 +40,6 @@ module _ (p : Program) (w : WellFormed p) where
   pub state-few : length (p .names) ≤ nameLimit → length (p .names) + length (p .timers) ≤ stateLimit
   state-few few = go (p .timers) refl (w .timed .each)
     where
-      go : (ts : List Timer) → length (p .timers) ≡ length ts → Fit ts → length (p .names) + length (p .timers) ≤ stateLimit
+      go : (ts : List Timer) → length (p .timers) ≡ length ts → EachFits p ts → length (p .names) + length (p .timers) ≤ stateLimit
       go [] e h = omega (arith, e, few)
       go (x ∷ xs) e h = omega (arith, few, h .0 .no-timer, length-map (p .names) (λ n. n .range))
