@@ -8,13 +8,13 @@ use mathlib.Core.Logic.{_⊎_, inl, inr}
 use lib.IntN.{ℤ}
 use lib.ListN.{length, take, length-append, length-map}
 use Rattle.limits.specs.Answer.{accepted}
-use Rattle.lexer.specs.Bytes.{bytes, part}
+use Rattle.lexer.specs.Bytes.{bytes, part, capitals}
 use Rattle.lexer.specs.Token.{Kind, name, ending, inputWord, varWord, timerWord, kindNumber, spellingOf, is, TokenRead, token}
 use Rattle.lexer.specs.Lexer.{isDigit, tokenAt}
-use Rattle.lexer.specs.Spelling.{Spelling, IsDigits, TokenFrom}
+use Rattle.lexer.specs.Spelling.{Spelling, IsDigits, Separated, TokenFrom}
 use Rattle.lexer.proofs.Same.{same-kind}
 use Rattle.lexer.proofs.Spellings.{isFixed}
-use Rattle.semantics.specs.Program.{Name, Timer, Program, firstTimer}
+use Rattle.semantics.specs.Program.{Range, Name, Timer, Program, firstTimer}
 use Rattle.grammar.specs.Derivation.{asWritten, Stands, Spells, IsName}
 use Rattle.grammar.specs.Spelled as S
 use Rattle.grammar.specs.Spelled.{SpellsZ, SpellsStart, Declares, DeclareAll, DeclaresTimer, DeclareTimers, namesOf, Spelled}
@@ -26,7 +26,7 @@ use Rattle.grammar.proofs.ConverseText.{accepted-exactly}
 use Rattle.st_program.specs.Written.{isStWord, noneStWord, hasSt}
 use Rattle.st_program.proofs.FirstStore.{spelled}
 use Rattle.structured_text.specs.Services.{declaresName, reservedFrom, reservedPlace}
-use Rattle.structured_text.specs.Place.{FirstReserved, FirstTimer, FirstOutside, a-name, a-timer}
+use Rattle.structured_text.specs.Place.{FirstReserved, NoneTimer, FirstTimer, FirstOutside, a-name, a-timer}
 
 -- ---- tokens that declare nothing
 
@@ -63,6 +63,12 @@ number-plain ts z (S.SpellsZ.negative w d) = (one-plain 45, (digits-plain w d, t
 start-plain : (ts : List (List ℕ)) (z : ℤ) → SpellsStart ts z → AllPlain ts
 start-plain ts z S.SpellsStart.absent = tt
 start-plain ts z (S.SpellsStart.given us y d) = (length-plain (bytes "init") 4 refl (λ e. omega arith) (λ e. omega arith), number-plain us y d)
+
+-- what stands behind a declared name
+bounds-plain : (ls hs ss : List (List ℕ)) (r : Range) → SpellsZ ls (r .low) → SpellsZ hs (r .high) → SpellsStart ss (r .start) → AllPlain (((ls ++ bytes ".." ∷ hs) ++ ss) ++ bytes ";" ∷ [])
+bounds-plain ls hs ss r dl dh ds =
+    plain-append ((ls ++ bytes ".." ∷ hs) ++ ss) (bytes ";" ∷ []) (plain-append (ls ++ bytes ".." ∷ hs) ss
+    (plain-append ls (bytes ".." ∷ hs) (number-plain ls (r .low) dl) (length-plain (bytes "..") 2 refl (λ q. omega arith) (λ q. omega arith), number-plain hs (r .high) dh)) (start-plain ss (r .start) ds)) (one-plain 59, tt)
 
 -- ---- the walk
 
@@ -115,8 +121,7 @@ module _ (text : List ℕ) where
   declared k fx e y d ts x (S.Declares.declares w ls hs ss r nm dl dh ds fits) a b h g (suc zero) l = absurd (omega arith)
   declared k fx e y d ts x (S.Declares.declares w ls hs ss r nm dl dh ds fits) a b h g (suc (suc f)) l =
       let rest = ((ls ++ bytes ".." ∷ hs) ++ ss) ++ bytes ";" ∷ [] in
-      let plain = plain-append ((ls ++ bytes ".." ∷ hs) ++ ss) (bytes ";" ∷ []) (plain-append (ls ++ bytes ".." ∷ hs) ss
-      (plain-append ls (bytes ".." ∷ hs) (number-plain ls (r .low) dl) (length-plain (bytes "..") 2 refl (λ q. omega arith) (λ q. omega arith), number-plain hs (r .high) dh)) (start-plain ss (r .start) ds)) (one-plain 59, tt) in
+      let plain = bounds-plain ls hs ss r dl dh ds in
       let n1 = g .0 in
       let st1 = g .1 in
       let h1 = stands-in written text a n1 (spellingOf k) h st1 .1 in
@@ -211,15 +216,21 @@ var-facts : (isFixed varWord ≡ true) × (is varWord ending ≡ false) × (is v
 unfolding isFixed is kindNumber
 var-facts = (refl, refl, refl, refl)
 
+-- `timer` stands at the place, the first token from a on
+record TimerAt (text : List ℕ) (a place : ℕ) : Type 0 where
+  end : ℕ
+  separated : Separated text a place
+  stands : TokenFrom text place end timerWord
+
 -- the timers: none, or the first stands where they begin
 timers-walked : (text : List ℕ) (names : List (List ℕ)) (ts : List (List ℕ)) (ns : List Name) (xs : List Timer) → DeclareTimers names ts ns xs → (a b : ℕ) → a ≤ length text → Spells asWritten text a b ts → (f : ℕ)
-    → ((ns ≡ []) × (xs ≡ [])) ⊎ ((end : ℕ) × TokenFrom text (reservedFrom (suc f) text false a) end timerWord)
+    → ((ns ≡ []) × (xs ≡ [])) ⊎ TimerAt text a (reservedFrom (suc f) text false a)
 unfolding reservedFrom is kindNumber isFixed
 timers-walked text names ts ns xs S.DeclareTimers.none a b h g f = inl (refl, refl)
 timers-walked text names ts ns xs (S.DeclareTimers.more us vs t l x ys (S.DeclaresTimer.declares-timer w v n y nt nw i d e) r) a b h g f =
     let st = g .1 in
     let q = fixed-at written text timerWord refl a (g .0) h st in
-    inr (g .0, rw q (subst (TokenFrom text (st .start) (g .0)) (kind-is (st .kind) (st .start) (g .0) (sym (is-read st) ∙ q)) (st .is-token)))
+    inr (rw q (record { end = g .0; separated = st .separated; stands = subst (TokenFrom text (st .start) (g .0)) (kind-is (st .kind) (st .start) (g .0) (sym (is-read st) ∙ q)) (st .is-token) }))
   where
     kind-is : (k : Kind) (s n : ℕ) → _≡_ {A = TokenRead} (token k s n) (token timerWord s n) → k ≡ timerWord
     kind-is k s n z = cc
@@ -234,6 +245,24 @@ spelled-front ns ms n e = rw e (go ns) where
   go [] = refl
   go (x ∷ k) = ap (λ (l : List (List ℕ)). x .spelling ∷ l) (go k)
 
+none-append : (ts us : List (List ℕ)) → NoneTimer ts → NoneTimer us → NoneTimer (ts ++ us)
+none-append [] us h g = g
+none-append (t ∷ ts) us h g = (h .0, none-append ts us (h .1) g)
+
+plain-none : (ts : List (List ℕ)) → AllPlain ts → NoneTimer ts
+plain-none [] p = tt
+plain-none (t ∷ ts) p = (p .0 .2, plain-none ts (p .1))
+
+-- names are no words of the grammar
+name-other : (w : List ℕ) → IsName w → w ≡ bytes "timer" → ⊥
+name-other w n q = n .no-word .1 .1 .1 .1 .1 .1 .1 .1 .0 (ap capitals q)
+
+all-none : (k : Kind) → (spellingOf k ≡ bytes "timer" → ⊥) → (ts : List (List ℕ)) (ns : List Name) → DeclareAll (spellingOf k) ts ns → NoneTimer ts
+all-none k f ts ns S.DeclareAll.none = tt
+all-none k f ts ns (S.DeclareAll.more us vs x xs (S.Declares.declares w ls hs ss r nm dl dh ds fits) d) =
+    let rest = ((ls ++ bytes ".." ∷ hs) ++ ss) ++ bytes ";" ∷ [] in
+    none-append (spellingOf k ∷ w ∷ rest) vs (f, (name-other w nm, plain-none rest (bounds-plain ls hs ss r dl dh ds))) (all-none k f vs xs d)
+
 module _ (text : List ℕ) (p : Program) (s : Spelled text p) where
   -- the names before the timers
   names-before : take (firstTimer p) (namesOf p) ≡ spelled (s .inputs ++ s .variables)
@@ -244,23 +273,28 @@ module _ (text : List ℕ) (p : Program) (s : Spelled text p) where
       let c = timers-counted (s .declares-timers) in
       ap (λ (ns : List Name). take (firstTimer p) (spelled ns)) (s .names) ∙ spelled-front (s .inputs ++ s .variables) (s .timer-names) (firstTimer p) (omega arith)
 
+  -- `timer` is none of the tokens before
+  before-timers : NoneTimer (s .input-tokens ++ s .variable-tokens)
+  before-timers = none-append (s .input-tokens) (s .variable-tokens) (all-none inputWord (λ q. omega (arith, heads q)) (s .input-tokens) (s .inputs) (s .declares-inputs)) (all-none varWord (λ q. omega (arith, heads q)) (s .variable-tokens) (s .variables) (s .declares-variables))
+
   -- where no name is reserved, a timer stands
-  by-timer : hasSt p ≡ false → noneStWord (spelled (s .inputs ++ s .variables)) ≡ true → (place : ℕ) → ((s .timer-names ≡ []) × (p .timers ≡ [])) ⊎ ((end : ℕ) × TokenFrom text place end timerWord)
-      → FirstOutside text (spelled (s .inputs ++ s .variables)) place
+  by-timer : hasSt p ≡ false → noneStWord (spelled (s .inputs ++ s .variables)) ≡ true → (d : ℕ) → Spells asWritten text 0 d (s .input-tokens ++ s .variable-tokens)
+      → (place : ℕ) → ((s .timer-names ≡ []) × (p .timers ≡ [])) ⊎ TimerAt text d place → FirstOutside text (spelled (s .inputs ++ s .variables)) place
   unfolding hasSt
-  by-timer lacks none place (inr y) = a-timer (record { none-earlier = none; end = y .0; stands = y .1 })
-  by-timer lacks none place (inl z) =
+  by-timer lacks none d g place (inr y) =
+      a-timer (record { none-reserved = none; tokens = s .input-tokens ++ s .variable-tokens; behind = d; spells-tokens = g; none-timer = before-timers; separated = y .separated; end = y .end; stands = y .stands })
+  by-timer lacks none d g place (inl z) =
       let q : namesOf p ≡ spelled (s .inputs ++ s .variables) = ap (λ (ns : List Name). spelled ns) (s .names ∙ ap (λ (ns : List Name). s .inputs ++ s .variables ++ ns) (z .0) ∙ append-nil (s .inputs ++ s .variables)) in
       absurd (false≢true (sym lacks ∙ rw (z .1, q, none)))
 
-  walked-outside : hasSt p ≡ false → (c d : ℕ) → Walked text (s .inputs) (s .input-tokens) 0 c (suc (length text)) → Walked text (s .variables) (s .variable-tokens) c d (suc (length text) - length (s .input-tokens))
-      → ((s .timer-names ≡ []) × (p .timers ≡ [])) ⊎ ((end : ℕ) × TokenFrom text (reservedFrom (suc (length text) - length (s .input-tokens) - length (s .variable-tokens)) text false d) end timerWord)
+  walked-outside : hasSt p ≡ false → (c d : ℕ) → Spells asWritten text 0 d (s .input-tokens ++ s .variable-tokens) → Walked text (s .inputs) (s .input-tokens) 0 c (suc (length text)) → Walked text (s .variables) (s .variable-tokens) c d (suc (length text) - length (s .input-tokens))
+      → ((s .timer-names ≡ []) × (p .timers ≡ [])) ⊎ TimerAt text d (reservedFrom (suc (length text) - length (s .input-tokens) - length (s .variable-tokens)) text false d)
       → FirstOutside text (spelled (s .inputs ++ s .variables)) (reservedFrom (suc (length text)) text false 0)
-  walked-outside lacks c d (inl r) w t = a-name (more-inputs text (s .inputs) (s .variables) (reservedFrom (suc (length text)) text false 0) r)
-  walked-outside lacks c d (inr z) (inl r) t =
+  walked-outside lacks c d g (inl r) w t = a-name (more-inputs text (s .inputs) (s .variables) (reservedFrom (suc (length text)) text false 0) r)
+  walked-outside lacks c d g (inr z) (inl r) t =
       a-name (both-walked text (s .inputs) (s .variables) (reservedFrom (suc (length text)) text false 0) (z .0) (subst (FirstReserved text (spelled (s .variables))) (sym (z .1)) r))
-  walked-outside lacks c d (inr z) (inr y) t =
-      subst (FirstOutside text (spelled (s .inputs ++ s .variables))) (sym (z .1 ∙ y .1)) (by-timer lacks (none-both text (s .inputs) (s .variables) (z .0) (y .0)) _ t)
+  walked-outside lacks c d g (inr z) (inr y) t =
+      subst (FirstOutside text (spelled (s .inputs ++ s .variables))) (sym (z .1 ∙ y .1)) (by-timer lacks (none-both text (s .inputs) (s .variables) (z .0) (y .0)) d g _ t)
 
 -- the theorem: of an accepted text without Structured Text, the place is that of the first such name, or of the first timer
 pub first-outside : (text : List ℕ) (p : Program) → programOf text ≡ accepted p → hasSt p ≡ false → FirstOutside text (take (firstTimer p) (namesOf p)) (reservedPlace text)
@@ -278,7 +312,7 @@ first-outside text p e lacks =
     let left : suc (length text - length (s .input-tokens) - length (s .variable-tokens)) ≡ suc (length text) - length (s .input-tokens) - length (s .variable-tokens) = omega arith in
     let t = timers-walked text _ (s .timer-tokens) (s .timer-names) (p .timers) (s .declares-timers) (y .place) (s .rules-from) end (y .second) (length text - length (s .input-tokens) - length (s .variable-tokens)) in
     subst (λ (ws : List (List ℕ)). FirstOutside text ws (reservedFrom (suc (length text)) text false 0)) (sym (names-before text p s))
-    (walked-outside text p s lacks (x .place) (y .place)
+    (walked-outside text p s lacks (x .place) (y .place) (y .first)
     (all-walked text inputWord (input-facts .0) (input-facts .1) (input-facts .2) (input-facts .3) (s .input-tokens) (s .inputs) (s .declares-inputs) 0 (x .place) (omega arith) (x .first) (suc (length text)) (omega arith))
     (all-walked text varWord (var-facts .0) (var-facts .1) (var-facts .2) (var-facts .3) (s .variable-tokens) (s .variables) (s .declares-variables) (x .place) (y .place) mid (x .second) (suc (length text) - length (s .input-tokens)) (omega arith))
     (rw left at t))
