@@ -26,7 +26,7 @@ use Rattle.grammar.proofs.ConverseText.{accepted-exactly}
 use Rattle.st_program.specs.Written.{isStWord, noneStWord, hasSt}
 use Rattle.st_program.proofs.FirstStore.{spelled}
 use Rattle.structured_text.specs.Services.{declaresName, reservedFrom, reservedPlace}
-use Rattle.structured_text.specs.Place.{FirstReserved, NoneTimer, FirstTimer, FirstOutside, a-name, a-timer}
+use Rattle.structured_text.specs.Place.{DeclaredAt, FirstReserved, NoneTimer, FirstOutside, a-name, a-timer}
 
 -- ---- tokens that declare nothing
 
@@ -72,6 +72,9 @@ bounds-plain ls hs ss r dl dh ds =
 
 -- ---- the walk
 
+same-token : (j k : Kind) (s n : ℕ) → _≡_ {A = TokenRead} (token j s n) (token k s n) → j ≡ k
+same-token j k s n e = cc
+
 never-is : (k j : Kind) → (k ≡ j → ⊥) → is k j ≡ false
 never-is k j f = by (is k j) refl where
   by : (t : Bool) → is k j ≡ t → t ≡ false
@@ -110,16 +113,14 @@ module _ (text : List ℕ) where
     end : ℕ
     stands : TokenFrom text start end name
     spells : part text start end ≡ x .spelling
+    behind : DeclaredAt text start
     walks : reservedFrom f text false a ≡ cond (isStWord (x .spelling)) start (reservedFrom (f - length ts) text false b)
 
-  kind-name : (k : Kind) (s n : ℕ) → _≡_ {A = TokenRead} (token k s n) (token name s n) → k ≡ name
-  kind-name k s n e = cc
-
-  declared : (k : Kind) → isFixed k ≡ true → is k ending ≡ false → is k timerWord ≡ false → declaresName k ≡ true → (ts : List (List ℕ)) (x : Name) → Declares (spellingOf k) ts x
+  declared : (k : Kind) → (k ≡ inputWord) ⊎ (k ≡ varWord) → isFixed k ≡ true → is k ending ≡ false → is k timerWord ≡ false → declaresName k ≡ true → (ts : List (List ℕ)) (x : Name) → Declares (spellingOf k) ts x
       → (a b : ℕ) → a ≤ length text → Spells asWritten text a b ts → (f : ℕ) → length ts ≤ f → Declared x ts a b f
-  declared k fx e y d ts x (S.Declares.declares w ls hs ss r nm dl dh ds fits) a b h g zero l = absurd (omega arith)
-  declared k fx e y d ts x (S.Declares.declares w ls hs ss r nm dl dh ds fits) a b h g (suc zero) l = absurd (omega arith)
-  declared k fx e y d ts x (S.Declares.declares w ls hs ss r nm dl dh ds fits) a b h g (suc (suc f)) l =
+  declared k o fx e y d ts x (S.Declares.declares w ls hs ss r nm dl dh ds fits) a b h g zero l = absurd (omega arith)
+  declared k o fx e y d ts x (S.Declares.declares w ls hs ss r nm dl dh ds fits) a b h g (suc zero) l = absurd (omega arith)
+  declared k o fx e y d ts x (S.Declares.declares w ls hs ss r nm dl dh ds fits) a b h g (suc (suc f)) l =
       let rest = ((ls ++ bytes ".." ∷ hs) ++ ss) ++ bytes ";" ∷ [] in
       let plain = bounds-plain ls hs ss r dl dh ds in
       let n1 = g .0 in
@@ -133,8 +134,16 @@ module _ (text : List ℕ) where
       record {
         start = st2 .start;
         end = n2;
-        stands = subst (TokenFrom text (st2 .start) n2) (kind-name (st2 .kind) (st2 .start) n2 (sym (is-read st2) ∙ t2)) (st2 .is-token);
+        stands = subst (TokenFrom text (st2 .start) n2) (same-token (st2 .kind) name (st2 .start) n2 (sym (is-read st2) ∙ t2)) (st2 .is-token);
         spells = st2 .spelled;
+        behind = record {
+          kind = k;
+          declares = o;
+          start = st1 .start;
+          end = n1;
+          stands = subst (TokenFrom text (st1 .start) n1) (same-token (st1 .kind) k (st1 .start) n1 (sym (is-read st1) ∙ fixed-at written text k fx a n1 h st1)) (st1 .is-token);
+          separated = st2 .separated;
+        };
         walks = two f a (st1 .start) n1 (st2 .start) n2 k w e y d (fixed-at written text k fx a n1 h st1) t2 (st2 .spelled)
             ∙ ap (cond (isStWord w) (st2 .start)) (walk-plain rest plain n2 b h2 (g .2 .2) f (omega arith) ∙ ap (λ (n : ℕ). reservedFrom n text false b) fuel);
       }
@@ -147,21 +156,21 @@ module _ (text : List ℕ) where
   first-here x ns ts a b f d e =
       let q : reservedFrom f text false a ≡ d .start = d .walks ∙ ap (λ (t : Bool). cond t (d .start) (reservedFrom (f - length ts) text false b)) e in
       subst (FirstReserved text (spelled (x ∷ ns))) (sym q)
-      (record { earlier = []; word = x .spelling; later = spelled ns; in-order = refl; none-earlier = refl; reserved = e; end = d .end; stands = d .stands; spells = d .spells })
+      (record { earlier = []; word = x .spelling; later = spelled ns; in-order = refl; none-earlier = refl; reserved = e; end = d .end; stands = d .stands; spells = d .spells; declared = d .behind })
 
   first-later : (w : List ℕ) (ws : List (List ℕ)) (place : ℕ) → isStWord w ≡ false → FirstReserved text ws place → FirstReserved text (w ∷ ws) place
   first-later w ws place e r =
-      record { earlier = w ∷ r .earlier; word = r .word; later = r .later; in-order = ap (λ (l : List (List ℕ)). w ∷ l) (r .in-order); none-earlier = rw (e, r .none-earlier); reserved = r .reserved; end = r .end; stands = r .stands; spells = r .spells }
+      record { earlier = w ∷ r .earlier; word = r .word; later = r .later; in-order = ap (λ (l : List (List ℕ)). w ∷ l) (r .in-order); none-earlier = rw (e, r .none-earlier); reserved = r .reserved; end = r .end; stands = r .stands; spells = r .spells; declared = r .declared }
 
-  all-walked : (k : Kind) → isFixed k ≡ true → is k ending ≡ false → is k timerWord ≡ false → declaresName k ≡ true → (ts : List (List ℕ)) (ns : List Name) → DeclareAll (spellingOf k) ts ns
+  all-walked : (k : Kind) → (k ≡ inputWord) ⊎ (k ≡ varWord) → isFixed k ≡ true → is k ending ≡ false → is k timerWord ≡ false → declaresName k ≡ true → (ts : List (List ℕ)) (ns : List Name) → DeclareAll (spellingOf k) ts ns
       → (a b : ℕ) → a ≤ length text → Spells asWritten text a b ts → (f : ℕ) → length ts ≤ f → Walked ns ts a b f
-  all-walked k fx e y d ts ns S.DeclareAll.none a b h g f l = inr (refl, (let q : f ≡ f - 0 = omega arith in ap (λ (n : ℕ). reservedFrom f text false n) g ∙ ap (λ (n : ℕ). reservedFrom n text false b) q))
-  all-walked k fx e y d ts ns (S.DeclareAll.more us vs x xs dx r) a b h g f l =
+  all-walked k o fx e y d ts ns S.DeclareAll.none a b h g f l = inr (refl, (let q : f ≡ f - 0 = omega arith in ap (λ (n : ℕ). reservedFrom f text false n) g ∙ ap (λ (n : ℕ). reservedFrom n text false b) q))
+  all-walked k o fx e y d ts ns (S.DeclareAll.more us vs x xs dx r) a b h g f l =
       let s = split written text a b us vs g in
       let m = length-append us vs in
-      let one = declared k fx e y d us x dx a (s .place) h (s .first) f (omega arith) in
+      let one = declared k o fx e y d us x dx a (s .place) h (s .first) f (omega arith) in
       let mid = spells-in written text a (s .place) us h (s .first) .1 in
-      by (isStWord (x .spelling)) refl (s .place) one (all-walked k fx e y d vs xs r (s .place) b mid (s .second) (f - length us) (omega arith)) m where
+      by (isStWord (x .spelling)) refl (s .place) one (all-walked k o fx e y d vs xs r (s .place) b mid (s .second) (f - length us) (omega arith)) m where
         by : (t : Bool) → isStWord (x .spelling) ≡ t → (c : ℕ) → Declared x us a c f → Walked xs vs c b (f - length us) → length (us ++ vs) ≡ length us + length vs → Walked (x ∷ xs) (us ++ vs) a b f
         by true q c one more m = inl (first-here x xs us a c f one q)
         by false q c one more m = go more where
@@ -198,6 +207,7 @@ module _ (text : List ℕ) where
         end = r .end;
         stands = r .stands;
         spells = r .spells;
+        declared = r .declared;
         in-order = joined is ∙ ap (λ (l : List (List ℕ)). l ++ spelled vs) (r .in-order) ∙ append-assoc (r .earlier) (r .word ∷ r .later) (spelled vs);
       } where
         joined : (k : List Name) → spelled (k ++ vs) ≡ spelled k ++ spelled vs
@@ -230,10 +240,7 @@ timers-walked text names ts ns xs S.DeclareTimers.none a b h g f = inl (refl, re
 timers-walked text names ts ns xs (S.DeclareTimers.more us vs t l x ys (S.DeclaresTimer.declares-timer w v n y nt nw i d e) r) a b h g f =
     let st = g .1 in
     let q = fixed-at written text timerWord refl a (g .0) h st in
-    inr (rw q (record { end = g .0; separated = st .separated; stands = subst (TokenFrom text (st .start) (g .0)) (kind-is (st .kind) (st .start) (g .0) (sym (is-read st) ∙ q)) (st .is-token) }))
-  where
-    kind-is : (k : Kind) (s n : ℕ) → _≡_ {A = TokenRead} (token k s n) (token timerWord s n) → k ≡ timerWord
-    kind-is k s n z = cc
+    inr (rw q (record { end = g .0; separated = st .separated; stands = subst (TokenFrom text (st .start) (g .0)) (same-token (st .kind) timerWord (st .start) (g .0) (sym (is-read st) ∙ q)) (st .is-token) }))
 
 timers-counted : {names : List (List ℕ)} {ts : List (List ℕ)} {ns : List Name} {xs : List Timer} → DeclareTimers names ts ns xs → length ns ≡ length xs
 timers-counted S.DeclareTimers.none = refl
@@ -313,6 +320,6 @@ first-outside text p e lacks =
     let t = timers-walked text _ (s .timer-tokens) (s .timer-names) (p .timers) (s .declares-timers) (y .place) (s .rules-from) end (y .second) (length text - length (s .input-tokens) - length (s .variable-tokens)) in
     subst (λ (ws : List (List ℕ)). FirstOutside text ws (reservedFrom (suc (length text)) text false 0)) (sym (names-before text p s))
     (walked-outside text p s lacks (x .place) (y .place) (y .first)
-    (all-walked text inputWord (input-facts .0) (input-facts .1) (input-facts .2) (input-facts .3) (s .input-tokens) (s .inputs) (s .declares-inputs) 0 (x .place) (omega arith) (x .first) (suc (length text)) (omega arith))
-    (all-walked text varWord (var-facts .0) (var-facts .1) (var-facts .2) (var-facts .3) (s .variable-tokens) (s .variables) (s .declares-variables) (x .place) (y .place) mid (x .second) (suc (length text) - length (s .input-tokens)) (omega arith))
+    (all-walked text inputWord (inl refl) (input-facts .0) (input-facts .1) (input-facts .2) (input-facts .3) (s .input-tokens) (s .inputs) (s .declares-inputs) 0 (x .place) (omega arith) (x .first) (suc (length text)) (omega arith))
+    (all-walked text varWord (inr refl) (var-facts .0) (var-facts .1) (var-facts .2) (var-facts .3) (s .variable-tokens) (s .variables) (s .declares-variables) (x .place) (y .place) mid (x .second) (suc (length text) - length (s .input-tokens)) (omega arith))
     (rw left at t))

@@ -42,7 +42,7 @@ use Rattle.translate.specs.Inner.Descent.{Descends}
 use Rattle.translate.proofs.Service.{parse-long, Made, image-made}
 use Rattle.st.specs.Syntax.{Statement}
 use Rattle.st.specs.Printed.{statementsPrinted, sectionPrinted, programPrinted}
-use Rattle.st_program.specs.Written.{currentLine, previousLine, variableLines, savingLine, ruleInSt, programInSt, stBytes, isStWord, noneStWord, noTimer, hasSt}
+use Rattle.st_program.specs.Written.{currentLine, previousLine, variableLines, savingLine, ruleInSt, programInSt, stBytes, noneStWord, noTimer, hasSt}
 use Rattle.st_writer.specs.Inner.Fronts.{Fronts}
 use Rattle.st_writer.specs.Inner.Mirrored.{mirrored}
 use Rattle.st_writer.proofs.Listed.{statements-joined}

@@ -1,14 +1,14 @@
 -- The walk over tokens that finds 21's place, and the walk over the names declared, as the code goes them. Assumes nothing.
-use Prim.Native.Nat.{ℕ, zero, suc, _+_, _-_, _≤_, _<_}
+use Prim.Native.Nat.{ℕ, suc, _+_, _-_, _≤_, _<_}
 use native.Mathlib.Numerals.{add-one}
 use native.Mathlib.Omega.{arith}
-use mathlib.Core.Path.{_≡_, refl, sym, ap, subst, _∙_}
-use mathlib.Core.Bool.{Bool, true, false, not, _&&_, _||_, cond}
+use mathlib.Core.Path.{_≡_, refl, ap, _∙_}
+use mathlib.Core.Bool.{Bool, true, false, _&&_, _||_}
 use mathlib.Core.List.{List, [], _∷_}
 use lib.ListN.{length, getD, drop, drop-of-length-le}
 use lib.Seq.{drop-cons}
 use Rattle.lexer.specs.Bytes.{part}
-use Rattle.lexer.specs.Token.{Kind, ending, is, TokenRead, token, fault}
+use Rattle.lexer.specs.Token.{Kind, ending, is, token, fault}
 use Rattle.lexer.specs.Lexer.{tokenAt}
 use Rattle.lexer.specs.Names.{tableNames, Table}
 use Rattle.semantics.specs.Program.{Timer}
