@@ -39,7 +39,7 @@ extern "C" {
 #define ROLVENKO_IMAGE_LIMIT 65536 /* bytes of an image */
 #define ROLVENKO_IMAGE_ROOM 49154  /* bytes that the image of any accepted text fits in (law buffer-bound) */
 #define ROLVENKO_ST_ROOM 115998    /* bytes that the Structured Text of any accepted text fits in (law st-bound) */
-#define ROLVENKO_NAMES 64          /* inputs and variables together */
+#define ROLVENKO_NAMES 64          /* inputs, variables and timers together */
 #define ROLVENKO_STATE 127         /* numbers of a state at most: 64 names, and an elapsed time for each of 63 timers */
 #define ROLVENKO_ENTRIES 32        /* entries of a farm table */
 #define ROLVENKO_COMBINATIONS 65536 /* scans of a closed profile */

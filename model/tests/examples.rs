@@ -6,7 +6,9 @@ use std::path::{Path, PathBuf};
 
 /// Files of a folder below the repository with an extension.
 fn files(folder: &str, extension: &str) -> Vec<PathBuf> {
-    let folder = Path::new(env!("CARGO_MANIFEST_DIR")).join("..").join(folder);
+    let folder = Path::new(env!("CARGO_MANIFEST_DIR"))
+        .join("..")
+        .join(folder);
     let mut list: Vec<PathBuf> = fs::read_dir(&folder)
         .expect("folder of examples")
         .map(|entry| entry.expect("entry").path())
@@ -46,7 +48,13 @@ fn answers(output: &str) -> Vec<u8> {
     }
     let lines = output.lines().skip(1);
     lines
-        .map(|line| line.rsplit(' ').next().expect("a field").parse().expect("a number"))
+        .map(|line| {
+            line.rsplit(' ')
+                .next()
+                .expect("a field")
+                .parse()
+                .expect("a number")
+        })
         .collect()
 }
 
@@ -58,7 +66,11 @@ fn every_refusal_of_a_trace() {
     for input in inputs() {
         let output = fs::read_to_string(input.with_extension("out")).expect("output");
         let shown = answers(&output);
-        let stem = input.file_stem().expect("a name").to_string_lossy().into_owned();
+        let stem = input
+            .file_stem()
+            .expect("a name")
+            .to_string_lossy()
+            .into_owned();
         let named = |prefix| stem.strip_prefix(prefix)?.get(..2)?.parse::<u8>().ok();
         if let Some(number) = named("refused_") {
             assert_eq!(shown, [number], "{stem}");

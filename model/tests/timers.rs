@@ -5,6 +5,7 @@ mod common;
 use common::{expect, hex, image};
 use rolvenko_model::features::with;
 use rolvenko_model::formula::satisfies_timed;
+use rolvenko_model::generate::{mutated_text, row, text, Rng, Shape};
 use rolvenko_model::instalments::Paused;
 use rolvenko_model::{
     charge, clock, closed, combination, plain_scan, read_text, scan, start, structured_text, trace,
@@ -304,5 +305,35 @@ fn structured_text_of_a_timer() {
         let reserved = TON.replace("In", "or");
         assert_eq!(st(&reserved), Err(Refusal::new(21, 6)));
         assert_eq!(st(&format!("{TON} $")), Err(Refusal::new(1, TON.len() + 1)));
+    });
+}
+
+/// The generator's texts have up to 62 or 63 timers; of those with timers one in five has a
+/// timer that is due within twelve rows, and one edited text in a hundred is refused by 23.
+#[test]
+fn generated_texts() {
+    with(Features::ALL, || {
+        let (mut most, mut timed, mut due, mut refused) = (0, 0, 0, 0);
+        for seed in 0..4000 {
+            let mut rng = Rng::new(70_000 + seed);
+            let shape = Shape::any(&mut rng);
+            let text = text(&mut rng, shape);
+            let program = read_text(&text).expect("accepted text");
+            most = most.max(program.timers.len());
+            timed += usize::from(!program.timers.is_empty());
+            let mut state = program.starts();
+            let rows: Vec<_> = (0..12)
+                .map(|_| row(&mut rng, &program.row_ranges()))
+                .collect();
+            due += usize::from(rows.iter().any(|row| {
+                let accepted = plain_scan(&program, &mut state, row).is_ok();
+                accepted && program.timers.iter().any(|timer| state[timer.id] == 1)
+            }));
+            let edited = mutated_text(&mut rng, shape);
+            refused += usize::from(read_text(&edited).is_err_and(|r| r.number == 23));
+        }
+        assert!(most >= 60, "{most} timers");
+        assert!(5 * due > timed && timed > 1000, "{due} of {timed}");
+        assert!(refused > 40, "{refused} refused by 23");
     });
 }

@@ -7,13 +7,13 @@
 #define LONG "aaaaaaaaaaaaaaaaa"
 #define TON "input In 0..1; var W 0..1; timer Q of W limit 5000; W: GX(W = (In));"
 
-static uint8_t image[256];
+static uint8_t image[1024];
 
 static uint64_t translate(const char *text) { return rolvenko_translate((const uint8_t *)text, strlen(text), image, sizeof image); }
 
 /* A refused text; `@` marks the place and is not part of it. */
 static void marked(unsigned number, const char *text) {
-    static char rest[512];
+    static char rest[4096];
     size_t place = strcspn(text, "@");
     snprintf(rest, sizeof rest, "%.*s%s", (int)place, text, text + place + 1);
     expect(text, translate(rest), number, (uint32_t)place, 0);
@@ -88,6 +88,53 @@ static void images(void) {
     accepted("var limits 0..1; limits: GX(limits = (0));", order, 0);
 }
 
+/* "counted among the 64": a variable and 63 timers of it; a 64th is refused at its name, first as declared twice. */
+static void most(void) {
+    static char text[4096];
+    static int32_t state[ROLVENKO_STATE], row[1] = {40};
+    size_t end = (size_t)snprintf(text, sizeof text, "var w 0..1;");
+    for (int id = 1; id < 64; id++)
+        end += (size_t)snprintf(text + end, sizeof text - end, "timer t%d of w limit %d;", id, id);
+    snprintf(text + end, sizeof text - end, "timer @u of w limit 1;");
+    marked(8, text);
+    snprintf(text + end, sizeof text - end, "timer @T9 of w limit 1;");
+    marked(4, text);
+    snprintf(text + end, sizeof text - end, "w: GX(w = (1));");
+    uint64_t answer = translate(text);
+    expect("63 timers", answer, 0, 0, 2 + 3 * 64 + 4 + 4 * 63);
+    expect("their start", rolvenko_start(image, rolvenko_count(answer), state, ROLVENKO_STATE), 0, 0, 0);
+    expect("the rise", rolvenko_scan(image, rolvenko_count(answer), state, ROLVENKO_STATE, row, 1), 0, 0, 65);
+    expect("forty milliseconds", rolvenko_scan(image, rolvenko_count(answer), state, ROLVENKO_STATE, row, 1), 0, 0, 65);
+    for (int id = 1; id < 64; id++)
+        holds("a timer of 63", state[id] == (id <= 40) && state[63 + id] == (id <= 40 ? id : 40));
+}
+
+/* The worked rows, from the text on: what start and each scan leave. */
+static void rows(const char *text, size_t names, size_t times, const int32_t (*given)[2], const int32_t *left, size_t count, uint32_t steps) {
+    int32_t state[8], zeros[8] = {0};
+    size_t size = names + times;
+    uint32_t length = rolvenko_count(translate(text));
+    expect(text, rolvenko_start(image, length, state, size - 1), 12, 0, 0);
+    expect(text, rolvenko_start(image, length, state, size), 0, 0, 0);
+    same(text, state, zeros, size * sizeof *state);
+    for (size_t k = 0; k < count; k++) {
+        expect(text, rolvenko_scan(image, length, state, size, given[k], 1), 12, 0, 0);
+        expect(text, rolvenko_scan(image, length, state, size, given[k], 2), 0, 0, steps);
+        same(text, state, left + k * size, size * sizeof *state);
+    }
+}
+
+static void sequences(void) {
+    static const int32_t on[9][2] = {{0, 100}, {1, 100}, {1, 4999}, {1, 1}, {1, 100}, {0, 100}, {1, 9000}, {1, 5000}, {0, 0}};
+    static const int32_t delayed[36] = {0, 0, 0, 0, 1, 1, 0, 0, 1, 1, 0, 4999, 1, 1, 1, 5000, 1, 1, 1, 5000,
+                                        0, 0, 0, 0, 1, 1, 0, 0, 1, 1, 1, 5000, 0, 0, 0, 0};
+    static const int32_t in_turn[6][2] = {{1, 5}, {1, 1}, {1, 1}, {1, 1}, {1, 1}, {1, 1}};
+    static const int32_t both[42] = {1, 0, 1, 0, 0, 0, 0, 1, 0, 1, 0, 0, 0, 1, 1, 1, 1, 0, 1, 0, 2,
+                                     1, 1, 1, 0, 1, 1, 2, 1, 1, 1, 0, 1, 2, 2, 1, 1, 1, 1, 1, 3, 2};
+    rows(TON, 3, 1, on, delayed, 9, 3);
+    rows(D "var y 0..1; timer t of w limit 3; timer u of y limit 2; y: GX(y = (i)); w: GX(w = (y * u));", 5, 2, in_turn, both, 6, 8);
+}
+
 /* "The ST writer answers a timer with 21, at its word." */
 static void structured_text(const char *text, unsigned number, uint32_t place) {
     uint8_t out[4] = {7, 7, 7, 7};
@@ -141,6 +188,8 @@ int main(void) {
     declarations();
     rules();
     images();
+    most();
+    sequences();
     elsewhere();
     replayed();
     printf("%d failures\n", failures);

@@ -21,7 +21,7 @@ pub const IMAGE_LIMIT: usize = 65_536;
 pub const IMAGE_ROOM: usize = 49_154;
 /// Bytes that the Structured Text of any accepted text fits in.
 pub const ST_ROOM: usize = 115_998;
-/// Inputs and variables together.
+/// Inputs, variables and timers together.
 pub const NAMES: usize = 64;
 /// Numbers of a state at most: 64 names, and an elapsed time for each of 63 timers.
 pub const STATE: usize = 127;

@@ -6,6 +6,7 @@
 mod charge;
 mod clock;
 mod closed;
+mod delays;
 mod images;
 mod instalments;
 mod letter_case;

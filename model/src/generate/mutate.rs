@@ -1,5 +1,6 @@
 //! Texts that may have faults: edited texts, token lists and random bytes.
 
+use super::delays::mutate_timer;
 use super::letter_case::{mutate_case, some_word};
 use super::text::{render, text_tokens, Shape};
 use super::{timers, watches, Rng};
@@ -84,7 +85,7 @@ pub fn mutate_tokens(rng: &mut Rng, tokens: &mut Vec<Vec<u8>>) {
         tokens.push(any_token(rng, &[]));
         return;
     }
-    if mutate_case(rng, tokens) {
+    if mutate_case(rng, tokens) || mutate_timer(rng, tokens) {
         return;
     }
     let at = rng.below(tokens.len());

@@ -2,7 +2,7 @@
 
 use super::letter_case::{is_word, vary_names};
 use super::pairs::pair_wanted;
-use super::Rng;
+use super::{delays, timers, Rng};
 use crate::token::same_names;
 use crate::TEXT_LIMIT;
 
@@ -61,8 +61,21 @@ impl Shape {
         reach: 99,
     };
 
-    /// TINY, SMALL or WIDE.
+    /// Up to 63 timers.
+    pub const TIMED: Shape = Shape {
+        inputs: 3,
+        variables: 6,
+        timers: 63,
+        cases: 2,
+        brackets: 1,
+        reach: 99,
+    };
+
+    /// TINY, SMALL or WIDE; where texts have timers, now and then TIMED.
     pub fn any(rng: &mut Rng) -> Shape {
+        if timers::in_texts() && rng.chance(4) {
+            return Shape::TIMED;
+        }
         *rng.choose(&[Shape::TINY, Shape::SMALL, Shape::WIDE])
     }
 }
@@ -142,6 +155,8 @@ pub(super) struct Writer<'r> {
     pub(super) ruled: Vec<bool>,
     /// Each timer and its w, by id.
     pub(super) watched: Vec<(usize, usize)>,
+    /// All names have the range 0..1, and rules are such that time passes.
+    pub(super) delays: bool,
     /// Counted brackets open now.
     pub(super) open: usize,
 }
@@ -156,11 +171,13 @@ impl<'r> Writer<'r> {
             inputs: 0,
             ruled: Vec::new(),
             watched: Vec::new(),
+            delays: false,
             open: 0,
         }
     }
 
     pub(super) fn names_and_rules(&mut self) {
+        self.delays = delays::wanted(self.rng);
         self.inputs = self.rng.below(self.shape.inputs + 1);
         let variables = self.rng.below(self.shape.variables + 1);
         for id in 0..self.inputs + variables {
@@ -234,7 +251,7 @@ impl<'r> Writer<'r> {
     /// Low and high of a name.
     fn range(&mut self) -> (i64, i64) {
         let reach = self.shape.reach;
-        if self.rng.chance(40) {
+        if self.delays || self.rng.chance(40) {
             return (0, 1);
         }
         if reach > 1 << 30 && self.rng.chance(20) {
@@ -274,6 +291,9 @@ impl<'r> Writer<'r> {
     }
 
     fn rule(&mut self, variable: usize) {
+        if self.delays {
+            return self.delay_rule(variable);
+        }
         if pair_wanted(self.rng) {
             return self.pair(variable);
         }
