@@ -32,10 +32,10 @@ pub rest-of : (bytes : List ℕ) (place : ℕ) → take (length bytes - place) (
 rest-of bytes place = take-all (length bytes - place) (drop place bytes) (omega (arith, length-drop place bytes))
 
 -- numbers stored at the front of lent memory that has room for them
-pub stored : (f : Range → ℤ) (ns : List Range) (n : ℕ) (l left : List ℤ) → length ns ≡ n → n ≤ length l → left ≡ sets l 0 (map f ns) → take n left ≡ map f ns
+pub stored : (f : Range → ℤ) (ns : List Range) (n : ℕ) (l left : List ℤ) → length ns ≡ n → n ≤ length l → left ≡ sets l 0 (map f ns) → map f ns ≡ take n left
 stored f ns n l left e h s =
     let q : length (map f ns) ≡ n = length-map ns f ∙ e in
-    ap (λ (k : ℕ). take k left) (sym q) ∙ rw s (take-sets l (map f ns) (omega arith))
+    sym (ap (λ (k : ℕ). take k left) (sym q) ∙ rw s (take-sets l (map f ns) (omega arith)))
 
 module _ (bytes : List ℕ) where
   pub too-long : 65536 < length bytes → refused 9 0 ≡ checkOf bytes
@@ -93,9 +93,9 @@ module _ (bytes : List ℕ) {low₀ high₀ start₀ low high start : List ℤ} 
     ranges-stand =
         let few = x .extends .few in
         record {
-          lower = sym (stored (λ n. n .low) (x .ranges) names low₀ low (x .many) (omega arith) (x .lower));
-          upper = sym (stored (λ n. n .high) (x .ranges) names high₀ high (x .many) (omega arith) (x .upper));
-          starting = sym (stored (λ n. n .start) (x .ranges) names start₀ start (x .many) (omega arith) (x .starting));
+          lower = stored (λ n. n .low) (x .ranges) names low₀ low (x .many) (omega arith) (x .lower);
+          upper = stored (λ n. n .high) (x .ranges) names high₀ high (x .many) (omega arith) (x .upper);
+          starting = stored (λ n. n .start) (x .ranges) names start₀ start (x .many) (omega arith) (x .starting);
         }
 
     pub timed-walked : length bytes ≤ 65536 → (r : Checked)

@@ -1,4 +1,5 @@
 // The clock service: the inputs `day`, `minute` and `again` of a row, filled from a farm table and a UTC minute.
+use lexer::Found;
 use translate::Analysis;
 ghost use mathlib.Core.Path.{_≡_};
 ghost use Prim.Native.Nat.{_≤_, _<_, _^_};
@@ -33,15 +34,12 @@ fn fill_named(
     requires { ⌜ Table (now starts) (now ends) (length (now row)) ⌝ }
     ensures { λ _. ⌜ now (row .exit) ≡ filledAt (idOf (tableNames (now (text .entry)) (now (starts .entry)) (now (ends .entry)) (length (now (row .entry)))) (now (name .entry))) value (now (row .entry)) ⌝ }
 {
-    let mut i = 0;
-    while i < row.len() {
-        let s = starts[i];
-        let e = ends[i];
-        if lexer::same_name(name, lexer::name(text, s, e)) {
-            row[i] = value;
-            return;
+    let found = lexer::find(text, starts, ends, row.len(), name);
+    match found {
+        Found::At(id) => {
+            row[id] = value;
         }
-        i += 1;
+        Found::Nothing => {}
     }
 }
 

@@ -16,6 +16,7 @@ use Rattle.grammar.specs.Watches.{watchesFrom}
 use Rattle.grammar.specs.Parse.{endAt, program, parse, programOf}
 use Rattle.grammar.specs.Rules.{rulesFrom}
 use Rattle.grammar.specs.Declarations.{declarationsFrom, declarations}
+use Rattle.grammar.specs.Timers.{timersFrom}
 use Rattle.grammar.proofs.Accepted.{parse-growth, parse-short, program-parsed}
 use Rattle.grammar.proofs.PlacesText.{program-refused, not-ten}
 use Rattle.grammar.proofs.ConverseText.{accepted-exactly}
@@ -41,7 +42,7 @@ too-short text buffer fits place = go (translationOf text buffer) (way text buff
     go r (fault k q e) a = let i : k ≡ bufferTooShort = cc in not-ten k (program-refused text k q e .0) i
 
 empty-accepted : (p : Program) × (programOf [] ≡ accepted p) × (2 * length (imageOf p) ≡ 4)
-unfolding kindNumber is runOn runEnd tokenPast tokenAt number groups grouped program parse programOf rulesFrom watchesFrom endAt declarationsFrom declarations imageOf
+unfolding kindNumber is runOn runEnd tokenPast tokenAt number groups grouped program parse programOf rulesFrom watchesFrom endAt declarationsFrom declarations timersFrom imageOf
 empty-accepted = (_, refl, refl)
 
 pub buffer-bound : BufferBound

@@ -7,13 +7,14 @@ use lib.Dec.{T, eqb, eqb→eq}
 use lib.IntN.{ℤ, negsuc}
 use Rattle.limits.specs.Answer.{Answer, accepted, refused}
 use Rattle.arith.specs.Values.{eqZ, arithmetic, negation, compares}
-use Rattle.semantics.specs.Program.{within}
+use Rattle.semantics.specs.Program.{within, isBinary}
+use Rattle.semantics.specs.Shape.{elapsed, due, timed}
 use Rattle.semantics.specs.ReferenceScan.{moves, picked}
 use Rattle.arith.proofs.Basics.{and-left, and-right, eqZ→≡}
 use Rattle.leb128.specs.Numbers.{number, zigzag, unzigzag, numberAt, signedAt, groups, grouped, numberIn, below32}
 use Rattle.bytecode.specs.Instructions.{instructionOf, hasOperand, fetchOne, timerAt, fetch}
 use Rattle.bytecode.specs.Translation.{imageOf}
-use Rattle.bytecode.specs.Check.{checkCounts, checkRange, checkHeader, checkBody, checkOf}
+use Rattle.bytecode.specs.Check.{checkCounts, checkRange, checkHeader, isTimerRange, checkBody, checkOf}
 use Rattle.bytecode.specs.Parts.{headerOf, codeOf, limitsOf}
 use Rattle.machine.specs.Step.{bit, yes}
 use Rattle.scan.specs.Services.{AfterStart, AfterScan, startOf, scanCode, scanOf, scansOf}
@@ -21,6 +22,7 @@ use Rattle.translate.specs.Services.{translationOf}
 use Rattle.grammar.specs.Watches.{watchesFrom}
 use Rattle.grammar.specs.Parse.{endAt, program, parse, programOf}
 use Rattle.grammar.specs.Rules.{caseAt, casesFrom, listFrom, plainList, partFrom, kindAt, partsFrom, firstFound, agreeingList, functionAt, changeAt, pairAt, formulaAt, formulas, ruleAt, rulesFrom}
+use Rattle.grammar.specs.Timers.{isWatchable, watchedAt, limitAt, timerDeclaration, timersFrom}
 use Rattle.grammar.specs.Declarations.{inRange, signedDigits as signedLiteralAt, boundAt, newName, startAt, declaration, declarationsFrom, declarations}
 use Rattle.grammar.specs.Conditions.{comparisonBy, compared, comparisonAt, opposite, inverted, atom, connect, andOf, orOf, conjunction, condition, square, wholeCondition, listed}
 use Rattle.lexer.specs.Names.{idFrom, idOf}
@@ -154,7 +156,7 @@ all-hold [] h = tt
 all-hold (e ∷ es) h = (test-holds e (and-left (test e) _ h), all-hold es (and-right (test e) _ h))
 
 computed : T (testAll examples)
-unfolding sameBytesOf kindNumber is isSpace isDigit isLetter isAlphanumeric runOn runEnd capital capitals sameName grammarWord exactWord wordOf overLong pairOf signOf readOf signAt wordAt digitsAt previousAt tokenOf tokenPast tokenAt sameSpelling sameToken valueOn valueOf expected phrase followed rest chain idFrom idOf withId currentAt previousValueAt literalAt primary negative factor productOf sumOf term expression bracket wholeExpression comparisonBy compared comparisonAt opposite inverted atom connect andOf orOf conjunction condition square wholeCondition listed inRange signedLiteralAt boundAt newName startAt declaration declarationsFrom declarations caseAt casesFrom listFrom plainList partFrom kindAt partsFrom firstFound agreeingList functionAt changeAt pairAt formulaAt formulas ruleAt rulesFrom watchesFrom endAt program parse groups number zigzag unzigzag grouped numberIn below32 numberAt signedAt instructionOf hasOperand fetchOne timerAt fetch imageOf checkCounts checkRange checkHeader checkBody checkOf headerOf codeOf limitsOf bit yes within moves picked arithmetic negation compares programOf translationOf startOf scanCode scanOf
+unfolding sameBytesOf kindNumber is isSpace isDigit isLetter isAlphanumeric runOn runEnd capital capitals sameName grammarWord exactWord wordOf overLong pairOf signOf readOf signAt wordAt digitsAt previousAt tokenOf tokenPast tokenAt sameSpelling sameToken valueOn valueOf expected phrase followed rest chain idFrom idOf withId currentAt previousValueAt literalAt primary negative factor productOf sumOf term expression bracket wholeExpression comparisonBy compared comparisonAt opposite inverted atom connect andOf orOf conjunction condition square wholeCondition listed inRange signedLiteralAt boundAt newName startAt declaration declarationsFrom declarations isBinary isWatchable watchedAt limitAt timerDeclaration timersFrom caseAt casesFrom listFrom plainList partFrom kindAt partsFrom firstFound agreeingList functionAt changeAt pairAt formulaAt formulas ruleAt rulesFrom watchesFrom endAt program parse groups number zigzag unzigzag grouped numberIn below32 numberAt signedAt instructionOf hasOperand fetchOne timerAt fetch imageOf checkCounts checkRange checkHeader isTimerRange checkBody checkOf headerOf codeOf limitsOf bit yes elapsed due timed within moves picked arithmetic negation compares programOf translationOf startOf scanCode scanOf
 computed = tt
 
 pub examples-hold : AllHold examples

@@ -49,7 +49,7 @@ pub record Demand2Of (programOf : List ℕ → Answer Program) (translationOf : 
   pub translated-exactly : (text buffer : List ℕ) (n : ℕ) → (translationOf text buffer .answer ≡ accepted n) exactlyIf Translates text buffer n
   -- Else it is refused, by the text's first fault or by 10: every text has an image or a refusal.
   pub refused-exactly : (text buffer : List ℕ) (number place : ℕ) → (translationOf text buffer .answer ≡ refused number place) exactlyIf Declines programOf text buffer number place
-  -- A fault has one of the numbers 1 to 9, or 30; its place is in the text, or is the text's length.
+  -- A fault has one of the numbers 1 to 9, or 23, or 30; its place is in the text, or is the text's length.
   pub faults : (text : List ℕ) (number place : ℕ) → programOf text ≡ refused number place → IsFault number × (place ≤ length text)
   -- Success writes only the image's bytes: those of the program that the text spells, and what stood behind them stays.
   pub written : (text buffer : List ℕ) (n : ℕ) → translationOf text buffer .answer ≡ accepted n

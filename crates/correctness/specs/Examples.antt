@@ -1,4 +1,4 @@
--- The worked examples as one table under one statement. Document 01, "Latches to try"; document 02, A.2, A.5 and A.6. Assumes nothing.
+-- The worked examples as one table under one statement. Document 01, "Latches to try"; document 02, A.2, A.5 to A.7. Assumes nothing.
 use Prim.Native.Nat.{ℕ}
 use mathlib.Core.Path.{_≡_}
 use mathlib.Core.List.{List, [], _∷_, map}
@@ -226,5 +226,24 @@ climb = sound
     ((pos 1 ∷ []) ∷ (pos 1 ∷ []) ∷ (pos 0 ∷ []) ∷ (pos 0 ∷ []) ∷ [])
     (done 13 (pos 1 ∷ pos 5 ∷ []) ∷ stopped 22 6 (pos 1 ∷ pos 5 ∷ []) ∷ done 13 (pos 0 ∷ pos 0 ∷ []) ∷ stopped 22 12 (pos 0 ∷ pos 0 ∷ []) ∷ [])
 
+-- A.7 a delay of 5 s: from the edge of W on; the elapsed time is the state's last number, and a row ends with its milliseconds
+abbrev pub ton : Example
+ton = sound
+    (bytes "input In 0..1; var W 0..1; timer Q of W limit 5000; W: GX(W = (In));")
+    (0x01 ∷ 0x02 ∷ 0x00 ∷ 0x02 ∷ 0x00 ∷ 0x00 ∷ 0x02 ∷ 0x00 ∷ 0x00 ∷ 0x02 ∷ 0x00 ∷ 0x02 ∷ 0x00 ∷ 0x15 ∷ 0x01 ∷ 0x17 ∷ 0x02 ∷ 0x01 ∷ 0x88 ∷ 0x27 ∷ [])
+    (pos 0 ∷ pos 0 ∷ pos 0 ∷ pos 0 ∷ [])
+    ((pos 1 ∷ pos 100 ∷ []) ∷ (pos 1 ∷ pos 4999 ∷ []) ∷ (pos 1 ∷ pos 1 ∷ []) ∷ (pos 1 ∷ []) ∷ (pos 1 ∷ negsuc 0 ∷ []) ∷ (pos 0 ∷ pos 100 ∷ []) ∷ [])
+    (done 3 (pos 1 ∷ pos 1 ∷ pos 0 ∷ pos 0 ∷ [])
+    ∷ done 3 (pos 1 ∷ pos 1 ∷ pos 0 ∷ pos 4999 ∷ [])
+    ∷ done 3 (pos 1 ∷ pos 1 ∷ pos 1 ∷ pos 5000 ∷ [])
+    ∷ stopped 12 0 (pos 1 ∷ pos 1 ∷ pos 1 ∷ pos 5000 ∷ [])
+    ∷ stopped 13 0 (pos 1 ∷ pos 1 ∷ pos 1 ∷ pos 5000 ∷ [])
+    ∷ done 3 (pos 0 ∷ pos 0 ∷ pos 0 ∷ pos 0 ∷ [])
+    ∷ [])
+
+-- a timer of an input is 23
+abbrev pub otherTimer : Example
+otherTimer = record { given = text (bytes "input i 0..1; timer t of i limit 1;"); translation = refused 23 25; verdict = accepted tt; first = []; rows = []; results = [] }
+
 abbrev pub examples : List Example
-examples = L1 ∷ L2 ∷ L3 ∷ L4 ∷ L5 ∷ L5-deeper ∷ L6 ∷ L7 ∷ L8 ∷ L8-unsound ∷ launch ∷ rotation ∷ share ∷ recased ∷ otherWord ∷ climb ∷ []
+examples = L1 ∷ L2 ∷ L3 ∷ L4 ∷ L5 ∷ L5-deeper ∷ L6 ∷ L7 ∷ L8 ∷ L8-unsound ∷ launch ∷ rotation ∷ share ∷ recased ∷ otherWord ∷ climb ∷ ton ∷ otherTimer ∷ []

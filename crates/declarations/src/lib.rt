@@ -196,7 +196,13 @@ fn new_name(text: &[u8], at: usize, starts: &mut [usize], ends: &mut [usize], co
     if token.kind != lexer::NAME {
         return Step::Refused(limits::NOT_ALLOWED, token.start);
     }
-    let known = lexer::find(text, starts, ends, count, token.start, token.end);
+    let known = lexer::find(
+        text,
+        starts,
+        ends,
+        count,
+        lexer::name(text, token.start, token.end),
+    );
     if let Found::At(_) = known {
         return Step::Refused(limits::WRONG_NAME, token.start);
     }

@@ -81,7 +81,13 @@ fn watched_at(
     if lexer::is_over_long(token.start, token.end) {
         return Step::Refused(limits::TOO_MANY, token.start);
     }
-    let found = lexer::find(text, starts, ends, count, token.start, token.end);
+    let found = lexer::find(
+        text,
+        starts,
+        ends,
+        count,
+        lexer::name(text, token.start, token.end),
+    );
     let Found::At(id) = found else {
         return Step::Refused(limits::WRONG_NAME, token.start);
     };

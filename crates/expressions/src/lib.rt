@@ -153,7 +153,13 @@ fn current(
     if lexer::is_over_long(start, end) {
         return Step::Refused(limits::TOO_MANY, start);
     }
-    let found = lexer::find(text, starts, ends, names.count, start, end);
+    let found = lexer::find(
+        text,
+        starts,
+        ends,
+        names.count,
+        lexer::name(text, start, end),
+    );
     let Found::At(id) = found else {
         return Step::Refused(limits::WRONG_NAME, start);
     };
@@ -182,7 +188,13 @@ fn previous(
     if lexer::is_over_long(from, end) {
         return Step::Refused(limits::TOO_MANY, start);
     }
-    let found = lexer::find(text, starts, ends, names.count, from, end);
+    let found = lexer::find(
+        text,
+        starts,
+        ends,
+        names.count,
+        lexer::name(text, from, end),
+    );
     let Found::At(id) = found else {
         return Step::Refused(limits::WRONG_NAME, start);
     };

@@ -16,7 +16,7 @@ use Rattle.bytecode.specs.Check.{checkOf}
 use Rattle.bytecode.specs.Parts.{headerOf, limitsOf, shapeIn, starts}
 use Rattle.bytecode.proofs.Limits.{no-times, cells-untimed, timers-untimed}
 use Rattle.before.specs.Before.{beforeCode}
-use Rattle.before.proofs.Stored.{stored}
+use Rattle.checker.proofs.Checking.{stored}
 use Rattle.scan.specs.Services.{startOf, refusedScan, scanOf}
 use Rattle.scan.specs.Results.{afterStart, afterScan}
 use Rattle.scan.specs.Inner.Parts.{plainSetting}

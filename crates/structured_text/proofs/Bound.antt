@@ -14,15 +14,15 @@ use Rattle.lexer.specs.Bytes.{bytes}
 use Rattle.lexer.specs.Lexer.{valueOf}
 use Rattle.trace_text.specs.Output.{unsignedDecimal, decimalOf}
 use Rattle.trace_text.proofs.Printing.{decimal-small}
-use Rattle.semantics.specs.Program.{Name, Program}
-use Rattle.grammar.specs.Derivation.{normal, normals}
+use Rattle.semantics.specs.Program.{Name, Timer, Program}
+use Rattle.grammar.specs.Derivation.{normal, normals, IsName}
 use Rattle.grammar.specs.Spelled as S
-use Rattle.grammar.specs.Spelled.{SpellsZ, SpellsStart, Declares, DeclareAll, namesOf, Spelled}
+use Rattle.grammar.specs.Spelled.{SpellsZ, SpellsStart, Declares, DeclareAll, DeclaresTimer, DeclareTimers, namesOf, Spelled}
 use Rattle.grammar.specs.Parse.{programOf}
 use Rattle.grammar.proofs.Growth.{laterBytes, bytesOf, bytes-append, token-bytes, digits-some, spells-bytes}
 use Rattle.grammar.proofs.Normal.{normal-length}
 use Rattle.grammar.proofs.Standing.{written, normally, spells-in}
-use Rattle.grammar.proofs.Accepted.{name-length}
+use Rattle.grammar.proofs.Accepted.{name-length, program-parsed, parse-named}
 use Rattle.grammar.proofs.PlacesText.{program-refused, not-ten}
 use Rattle.grammar.proofs.ConverseText.{accepted-exactly}
 use Rattle.translate.specs.Services.{AfterTranslation}
@@ -30,8 +30,7 @@ use Rattle.translate.proofs.Kept.{never}
 use Rattle.st.specs.Syntax.{Identifier, Declaration}
 use Rattle.st.specs.Printed.{expressionPrinted, statementPrinted, statementsPrinted, declarationsPrinted, sectionPrinted, programPrinted}
 use Rattle.st_program.specs.Written.{nameAt, currentLine, previousLine, variableLines, savingLine, ruleInSt, programInSt, stBytes}
-use Rattle.st_program.proofs.FirstStore.{AllNames, spelled}
-use Rattle.st_program.proofs.Literals.{accepted-in-st}
+use Rattle.st_program.proofs.FirstStore.{spelled}
 use Rattle.structured_text.specs.Services.{structuredTextOf}
 use Rattle.structured_text.specs.Room.{stRoom, StBound}
 use Rattle.structured_text.proofs.Ways.{StWay, printed-whole, too-short, reserved, faulty, st-way}
@@ -46,6 +45,9 @@ total f (n ∷ ns) = f n + total f ns
 total-append : (f : Name → ℕ) (k l : List Name) → total f (k ++ l) ≡ total f k + total f l
 total-append f [] l = omega arith
 total-append f (n ∷ k) l = omega (arith, total-append f k l)
+
+total-three : (f : Name → ℕ) (k l m : List Name) → total f (k ++ l ++ m) ≡ total f k + total f l + total f m
+total-three f k l m = omega (arith, total-append f (k ++ l) m, total-append f k l)
 
 total-parts : (f : Name → ℕ) (k : ℕ) (ns : List Name) → total f (take k ns) + total f (drop k ns) ≡ total f ns
 total-parts f k ns = sym (total-append f (take k ns) (drop k ns)) ∙ ap (total f) (take-append-drop k ns)
@@ -135,12 +137,23 @@ declares-fit word h ts x (S.Declares.declares w ls hs ss r nm dl dh ds fits) =
       bytes-append (word ∷ w ∷ ls) (bytes ".." ∷ hs),
     )
 
+-- a timer starts at 0
+timer-fits : (names : List (List ℕ)) (ts : List (List ℕ)) (x : Name) (y : Timer) → DeclaresTimer names ts x y → 2 * (ownBytes x + previousBytes x + savingBytes x) ≤ 7 * bytesOf ts + 40
+unfolding laterBytes decimalOf
+timer-fits names ts x y (S.DeclaresTimer.declares-timer t w n z nt nw i d e) =
+    let l = name-length t nt in
+    omega (arith, l .0, l .1, token-bytes t (l .0), ap {A = List ℕ} length (decimal-small 0 (omega arith)))
+
 abbrev lineBytes : List Name → ℕ
 lineBytes ns = total ownBytes ns + total previousBytes ns + total savingBytes ns
 
 all-fit : (word : List ℕ) → 2 ≤ laterBytes word → (ts : List (List ℕ)) (l : List Name) → DeclareAll word ts l → 2 * lineBytes l ≤ 7 * bytesOf ts + 40 * length l
 all-fit word h ts l S.DeclareAll.none = omega arith
 all-fit word h ts l (S.DeclareAll.more us vs x k d r) = let f = declares-fit word h us x d in let g = all-fit word h vs k r in omega (arith, f, g, bytes-append us vs)
+
+timers-fit : (names : List (List ℕ)) (ts : List (List ℕ)) (l : List Name) (ys : List Timer) → DeclareTimers names ts l ys → 2 * lineBytes l ≤ 7 * bytesOf ts + 40 * length l
+timers-fit names ts l ys S.DeclareTimers.none = omega arith
+timers-fit names ts l ys (S.DeclareTimers.more us vs x k y zs d r) = let f = timer-fits names us x y d in let g = timers-fit names vs k zs r in omega (arith, f, g, bytes-append us vs)
 
 input-later : 2 ≤ laterBytes (bytes "input")
 unfolding laterBytes
@@ -155,10 +168,10 @@ var-later = omega arith
 no≢some : {X : Type 0} (w : List ℕ) → _≡_ {A = Option (List ℕ)} none (some w) → X
 no≢some w e = let z : _≡_ {A = ℕ} 0 1 = cc in let f : ⊥ = omega arith in absurd f
 
-sized : (ws : List Identifier) → AllNames ws → (i : ℕ) (w : List ℕ) → getElem? (normals ws) i ≡ some w → (length (nameAt ws i) ≡ length w) × (1 ≤ length w)
+sized : (ws : List Identifier) → ((i : ℕ) (w : List ℕ) → getElem? ws i ≡ some w → IsName w) → (i : ℕ) (w : List ℕ) → getElem? (normals ws) i ≡ some w → (length (nameAt ws i) ≡ length w) × (1 ≤ length w)
 sized [] h i w e = no≢some w e
-sized (x ∷ ws) h zero w e = let q : normal x ≡ w = cc in let a = ap length q in let b = normal-length x in let c = name-length x (h .0) .0 in (omega arith, omega arith)
-sized (x ∷ ws) h (suc i) w e = sized ws (h .1) i w e
+sized (x ∷ ws) h zero w e = let q : normal x ≡ w = cc in let a = ap length q in let b = normal-length x in let c = name-length x (h zero x refl) .0 in (omega arith, omega arith)
+sized (x ∷ ws) h (suc i) w e = sized ws (λ j v g. h (suc j) v g) i w e
 
 -- ---- the whole
 
@@ -170,14 +183,16 @@ st-growth text p e =
     let vs = drop (p .inputs) (p .names) in
     let body = statementsPrinted (map (ruleInSt (namesOf p)) (p .rules) ++ map savingLine (namesOf p)) [] in
     let second = sectionPrinted "VAR" (map previousLine is ++ variableLines vs) body in
-    let front = s .input-tokens ++ s .variable-tokens in
-    let rules = rules-fit (namesOf p) (normals (namesOf p)) (sized (namesOf p) (accepted-in-st text p e .named)) (s .rule-tokens) (p .rules) (s .spells-rules) (map savingLine (namesOf p)) in
+    let front = s .input-tokens ++ s .variable-tokens ++ s .timer-tokens in
+    let parsed = program-parsed text p e in
+    let rules = rules-fit (namesOf p) (normals (namesOf p)) (sized (namesOf p) (parse-named text p (parsed .0) (parsed .1) .each)) (s .rule-tokens) (p .rules) (s .spells-rules) (map savingLine (namesOf p)) in
     let inputs = all-fit (bytes "input") input-later (s .input-tokens) (s .inputs) (s .declares-inputs) in
     let variables = all-fit (bytes "var") var-later (s .variable-tokens) (s .variables) (s .declares-variables) in
-    let owns : total ownBytes (p .names) ≡ total ownBytes (s .inputs) + total ownBytes (s .variables) = ap (total ownBytes) (s .names) ∙ total-append ownBytes (s .inputs) (s .variables) in
-    let previouses : total previousBytes (p .names) ≡ total previousBytes (s .inputs) + total previousBytes (s .variables) = ap (total previousBytes) (s .names) ∙ total-append previousBytes (s .inputs) (s .variables) in
-    let savings : total savingBytes (p .names) ≡ total savingBytes (s .inputs) + total savingBytes (s .variables) = ap (total savingBytes) (s .names) ∙ total-append savingBytes (s .inputs) (s .variables) in
-    let count : length (p .names) ≡ length (s .inputs) + length (s .variables) = ap {A = List Name} length (s .names) ∙ length-append (s .inputs) (s .variables) in
+    let timers = timers-fit _ (s .timer-tokens) (s .timer-names) (p .timers) (s .declares-timers) in
+    let owns = ap (total ownBytes) (s .names) ∙ total-three ownBytes (s .inputs) (s .variables) (s .timer-names) in
+    let previouses = ap (total previousBytes) (s .names) ∙ total-three previousBytes (s .inputs) (s .variables) (s .timer-names) in
+    let savings = ap (total savingBytes) (s .names) ∙ total-three savingBytes (s .inputs) (s .variables) (s .timer-names) in
+    let count = ap {A = List Name} length (s .names) ∙ length-append (s .inputs ++ s .variables) (s .timer-names) in
     let declared = spells-bytes written text 0 (s .rules-from) front (omega arith) (s .spells-declarations) in
     let before = spells-in written text 0 (s .rules-from) front (omega arith) (s .spells-declarations) .1 in
     let back = s .rule-tokens ++ s .watch-tokens in
@@ -194,16 +209,19 @@ st-growth text p e =
       saving-length (p .names),
       inputs,
       variables,
+      timers,
       owns,
       previouses,
       savings,
       count,
+      length-append (s .inputs) (s .variables),
       s .few,
       total-parts ownBytes (p .inputs) (p .names),
       total-parts previousBytes (p .inputs) (p .names),
       declared,
       ruled,
       within,
+      bytes-append (s .input-tokens ++ s .variable-tokens) (s .timer-tokens),
       bytes-append (s .input-tokens) (s .variable-tokens),
       bytes-append (s .rule-tokens) (s .watch-tokens),
     )

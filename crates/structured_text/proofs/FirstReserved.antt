@@ -8,13 +8,13 @@ use mathlib.Core.Logic.{_⊎_, inl, inr}
 use lib.IntN.{ℤ}
 use lib.ListN.{length, take, length-append, length-map}
 use Rattle.limits.specs.Answer.{accepted}
-use Rattle.lexer.specs.Bytes.{bytes, part}
+use Rattle.lexer.specs.Bytes.{bytes, part, capitals}
 use Rattle.lexer.specs.Token.{Kind, name, ending, inputWord, varWord, timerWord, kindNumber, spellingOf, is, TokenRead, token}
 use Rattle.lexer.specs.Lexer.{isDigit, tokenAt}
-use Rattle.lexer.specs.Spelling.{Spelling, IsDigits, TokenFrom}
+use Rattle.lexer.specs.Spelling.{Spelling, IsDigits, Separated, TokenFrom}
 use Rattle.lexer.proofs.Same.{same-kind}
 use Rattle.lexer.proofs.Spellings.{isFixed}
-use Rattle.semantics.specs.Program.{Name, Timer, Program, firstTimer}
+use Rattle.semantics.specs.Program.{Range, Name, Timer, Program, firstTimer}
 use Rattle.grammar.specs.Derivation.{asWritten, Stands, Spells, IsName}
 use Rattle.grammar.specs.Spelled as S
 use Rattle.grammar.specs.Spelled.{SpellsZ, SpellsStart, Declares, DeclareAll, DeclaresTimer, DeclareTimers, namesOf, Spelled}
@@ -26,7 +26,7 @@ use Rattle.grammar.proofs.ConverseText.{accepted-exactly}
 use Rattle.st_program.specs.Written.{isStWord, noneStWord, hasSt}
 use Rattle.st_program.proofs.FirstStore.{spelled}
 use Rattle.structured_text.specs.Services.{declaresName, reservedFrom, reservedPlace}
-use Rattle.structured_text.specs.Place.{FirstReserved, FirstTimer, FirstOutside, a-name, a-timer}
+use Rattle.structured_text.specs.Place.{DeclaredAt, FirstReserved, NoneTimer, FirstOutside, a-name, a-timer}
 
 -- ---- tokens that declare nothing
 
@@ -64,7 +64,16 @@ start-plain : (ts : List (List ℕ)) (z : ℤ) → SpellsStart ts z → AllPlain
 start-plain ts z S.SpellsStart.absent = tt
 start-plain ts z (S.SpellsStart.given us y d) = (length-plain (bytes "init") 4 refl (λ e. omega arith) (λ e. omega arith), number-plain us y d)
 
+-- what stands behind a declared name
+bounds-plain : (ls hs ss : List (List ℕ)) (r : Range) → SpellsZ ls (r .low) → SpellsZ hs (r .high) → SpellsStart ss (r .start) → AllPlain (((ls ++ bytes ".." ∷ hs) ++ ss) ++ bytes ";" ∷ [])
+bounds-plain ls hs ss r dl dh ds =
+    plain-append ((ls ++ bytes ".." ∷ hs) ++ ss) (bytes ";" ∷ []) (plain-append (ls ++ bytes ".." ∷ hs) ss
+    (plain-append ls (bytes ".." ∷ hs) (number-plain ls (r .low) dl) (length-plain (bytes "..") 2 refl (λ q. omega arith) (λ q. omega arith), number-plain hs (r .high) dh)) (start-plain ss (r .start) ds)) (one-plain 59, tt)
+
 -- ---- the walk
+
+same-token : (j k : Kind) (s n : ℕ) → _≡_ {A = TokenRead} (token j s n) (token k s n) → j ≡ k
+same-token j k s n e = cc
 
 never-is : (k j : Kind) → (k ≡ j → ⊥) → is k j ≡ false
 never-is k j f = by (is k j) refl where
@@ -104,19 +113,16 @@ module _ (text : List ℕ) where
     end : ℕ
     stands : TokenFrom text start end name
     spells : part text start end ≡ x .spelling
+    behind : DeclaredAt text start
     walks : reservedFrom f text false a ≡ cond (isStWord (x .spelling)) start (reservedFrom (f - length ts) text false b)
 
-  kind-name : (k : Kind) (s n : ℕ) → _≡_ {A = TokenRead} (token k s n) (token name s n) → k ≡ name
-  kind-name k s n e = cc
-
-  declared : (k : Kind) → isFixed k ≡ true → is k ending ≡ false → is k timerWord ≡ false → declaresName k ≡ true → (ts : List (List ℕ)) (x : Name) → Declares (spellingOf k) ts x
+  declared : (k : Kind) → (k ≡ inputWord) ⊎ (k ≡ varWord) → isFixed k ≡ true → is k ending ≡ false → is k timerWord ≡ false → declaresName k ≡ true → (ts : List (List ℕ)) (x : Name) → Declares (spellingOf k) ts x
       → (a b : ℕ) → a ≤ length text → Spells asWritten text a b ts → (f : ℕ) → length ts ≤ f → Declared x ts a b f
-  declared k fx e y d ts x (S.Declares.declares w ls hs ss r nm dl dh ds fits) a b h g zero l = absurd (omega arith)
-  declared k fx e y d ts x (S.Declares.declares w ls hs ss r nm dl dh ds fits) a b h g (suc zero) l = absurd (omega arith)
-  declared k fx e y d ts x (S.Declares.declares w ls hs ss r nm dl dh ds fits) a b h g (suc (suc f)) l =
+  declared k o fx e y d ts x (S.Declares.declares w ls hs ss r nm dl dh ds fits) a b h g zero l = absurd (omega arith)
+  declared k o fx e y d ts x (S.Declares.declares w ls hs ss r nm dl dh ds fits) a b h g (suc zero) l = absurd (omega arith)
+  declared k o fx e y d ts x (S.Declares.declares w ls hs ss r nm dl dh ds fits) a b h g (suc (suc f)) l =
       let rest = ((ls ++ bytes ".." ∷ hs) ++ ss) ++ bytes ";" ∷ [] in
-      let plain = plain-append ((ls ++ bytes ".." ∷ hs) ++ ss) (bytes ";" ∷ []) (plain-append (ls ++ bytes ".." ∷ hs) ss
-      (plain-append ls (bytes ".." ∷ hs) (number-plain ls (r .low) dl) (length-plain (bytes "..") 2 refl (λ q. omega arith) (λ q. omega arith), number-plain hs (r .high) dh)) (start-plain ss (r .start) ds)) (one-plain 59, tt) in
+      let plain = bounds-plain ls hs ss r dl dh ds in
       let n1 = g .0 in
       let st1 = g .1 in
       let h1 = stands-in written text a n1 (spellingOf k) h st1 .1 in
@@ -128,8 +134,16 @@ module _ (text : List ℕ) where
       record {
         start = st2 .start;
         end = n2;
-        stands = subst (TokenFrom text (st2 .start) n2) (kind-name (st2 .kind) (st2 .start) n2 (sym (is-read st2) ∙ t2)) (st2 .is-token);
+        stands = subst (TokenFrom text (st2 .start) n2) (same-token (st2 .kind) name (st2 .start) n2 (sym (is-read st2) ∙ t2)) (st2 .is-token);
         spells = st2 .spelled;
+        behind = record {
+          kind = k;
+          declares = o;
+          start = st1 .start;
+          end = n1;
+          stands = subst (TokenFrom text (st1 .start) n1) (same-token (st1 .kind) k (st1 .start) n1 (sym (is-read st1) ∙ fixed-at written text k fx a n1 h st1)) (st1 .is-token);
+          separated = st2 .separated;
+        };
         walks = two f a (st1 .start) n1 (st2 .start) n2 k w e y d (fixed-at written text k fx a n1 h st1) t2 (st2 .spelled)
             ∙ ap (cond (isStWord w) (st2 .start)) (walk-plain rest plain n2 b h2 (g .2 .2) f (omega arith) ∙ ap (λ (n : ℕ). reservedFrom n text false b) fuel);
       }
@@ -142,21 +156,21 @@ module _ (text : List ℕ) where
   first-here x ns ts a b f d e =
       let q : reservedFrom f text false a ≡ d .start = d .walks ∙ ap (λ (t : Bool). cond t (d .start) (reservedFrom (f - length ts) text false b)) e in
       subst (FirstReserved text (spelled (x ∷ ns))) (sym q)
-      (record { earlier = []; word = x .spelling; later = spelled ns; in-order = refl; none-earlier = refl; reserved = e; end = d .end; stands = d .stands; spells = d .spells })
+      (record { earlier = []; word = x .spelling; later = spelled ns; in-order = refl; none-earlier = refl; reserved = e; end = d .end; stands = d .stands; spells = d .spells; declared = d .behind })
 
   first-later : (w : List ℕ) (ws : List (List ℕ)) (place : ℕ) → isStWord w ≡ false → FirstReserved text ws place → FirstReserved text (w ∷ ws) place
   first-later w ws place e r =
-      record { earlier = w ∷ r .earlier; word = r .word; later = r .later; in-order = ap (λ (l : List (List ℕ)). w ∷ l) (r .in-order); none-earlier = rw (e, r .none-earlier); reserved = r .reserved; end = r .end; stands = r .stands; spells = r .spells }
+      record { earlier = w ∷ r .earlier; word = r .word; later = r .later; in-order = ap (λ (l : List (List ℕ)). w ∷ l) (r .in-order); none-earlier = rw (e, r .none-earlier); reserved = r .reserved; end = r .end; stands = r .stands; spells = r .spells; declared = r .declared }
 
-  all-walked : (k : Kind) → isFixed k ≡ true → is k ending ≡ false → is k timerWord ≡ false → declaresName k ≡ true → (ts : List (List ℕ)) (ns : List Name) → DeclareAll (spellingOf k) ts ns
+  all-walked : (k : Kind) → (k ≡ inputWord) ⊎ (k ≡ varWord) → isFixed k ≡ true → is k ending ≡ false → is k timerWord ≡ false → declaresName k ≡ true → (ts : List (List ℕ)) (ns : List Name) → DeclareAll (spellingOf k) ts ns
       → (a b : ℕ) → a ≤ length text → Spells asWritten text a b ts → (f : ℕ) → length ts ≤ f → Walked ns ts a b f
-  all-walked k fx e y d ts ns S.DeclareAll.none a b h g f l = inr (refl, (let q : f ≡ f - 0 = omega arith in ap (λ (n : ℕ). reservedFrom f text false n) g ∙ ap (λ (n : ℕ). reservedFrom n text false b) q))
-  all-walked k fx e y d ts ns (S.DeclareAll.more us vs x xs dx r) a b h g f l =
+  all-walked k o fx e y d ts ns S.DeclareAll.none a b h g f l = inr (refl, (let q : f ≡ f - 0 = omega arith in ap (λ (n : ℕ). reservedFrom f text false n) g ∙ ap (λ (n : ℕ). reservedFrom n text false b) q))
+  all-walked k o fx e y d ts ns (S.DeclareAll.more us vs x xs dx r) a b h g f l =
       let s = split written text a b us vs g in
       let m = length-append us vs in
-      let one = declared k fx e y d us x dx a (s .place) h (s .first) f (omega arith) in
+      let one = declared k o fx e y d us x dx a (s .place) h (s .first) f (omega arith) in
       let mid = spells-in written text a (s .place) us h (s .first) .1 in
-      by (isStWord (x .spelling)) refl (s .place) one (all-walked k fx e y d vs xs r (s .place) b mid (s .second) (f - length us) (omega arith)) m where
+      by (isStWord (x .spelling)) refl (s .place) one (all-walked k o fx e y d vs xs r (s .place) b mid (s .second) (f - length us) (omega arith)) m where
         by : (t : Bool) → isStWord (x .spelling) ≡ t → (c : ℕ) → Declared x us a c f → Walked xs vs c b (f - length us) → length (us ++ vs) ≡ length us + length vs → Walked (x ∷ xs) (us ++ vs) a b f
         by true q c one more m = inl (first-here x xs us a c f one q)
         by false q c one more m = go more where
@@ -193,6 +207,7 @@ module _ (text : List ℕ) where
         end = r .end;
         stands = r .stands;
         spells = r .spells;
+        declared = r .declared;
         in-order = joined is ∙ ap (λ (l : List (List ℕ)). l ++ spelled vs) (r .in-order) ∙ append-assoc (r .earlier) (r .word ∷ r .later) (spelled vs);
       } where
         joined : (k : List Name) → spelled (k ++ vs) ≡ spelled k ++ spelled vs
@@ -211,18 +226,21 @@ var-facts : (isFixed varWord ≡ true) × (is varWord ending ≡ false) × (is v
 unfolding isFixed is kindNumber
 var-facts = (refl, refl, refl, refl)
 
+-- `timer` stands at the place, the first token from a on
+record TimerAt (text : List ℕ) (a place : ℕ) : Type 0 where
+  end : ℕ
+  separated : Separated text a place
+  stands : TokenFrom text place end timerWord
+
 -- the timers: none, or the first stands where they begin
 timers-walked : (text : List ℕ) (names : List (List ℕ)) (ts : List (List ℕ)) (ns : List Name) (xs : List Timer) → DeclareTimers names ts ns xs → (a b : ℕ) → a ≤ length text → Spells asWritten text a b ts → (f : ℕ)
-    → ((ns ≡ []) × (xs ≡ [])) ⊎ ((end : ℕ) × TokenFrom text (reservedFrom (suc f) text false a) end timerWord)
+    → ((ns ≡ []) × (xs ≡ [])) ⊎ TimerAt text a (reservedFrom (suc f) text false a)
 unfolding reservedFrom is kindNumber isFixed
 timers-walked text names ts ns xs S.DeclareTimers.none a b h g f = inl (refl, refl)
 timers-walked text names ts ns xs (S.DeclareTimers.more us vs t l x ys (S.DeclaresTimer.declares-timer w v n y nt nw i d e) r) a b h g f =
     let st = g .1 in
     let q = fixed-at written text timerWord refl a (g .0) h st in
-    inr (g .0, rw q (subst (TokenFrom text (st .start) (g .0)) (kind-is (st .kind) (st .start) (g .0) (sym (is-read st) ∙ q)) (st .is-token)))
-  where
-    kind-is : (k : Kind) (s n : ℕ) → _≡_ {A = TokenRead} (token k s n) (token timerWord s n) → k ≡ timerWord
-    kind-is k s n z = cc
+    inr (rw q (record { end = g .0; separated = st .separated; stands = subst (TokenFrom text (st .start) (g .0)) (same-token (st .kind) timerWord (st .start) (g .0) (sym (is-read st) ∙ q)) (st .is-token) }))
 
 timers-counted : {names : List (List ℕ)} {ts : List (List ℕ)} {ns : List Name} {xs : List Timer} → DeclareTimers names ts ns xs → length ns ≡ length xs
 timers-counted S.DeclareTimers.none = refl
@@ -234,6 +252,24 @@ spelled-front ns ms n e = rw e (go ns) where
   go [] = refl
   go (x ∷ k) = ap (λ (l : List (List ℕ)). x .spelling ∷ l) (go k)
 
+none-append : (ts us : List (List ℕ)) → NoneTimer ts → NoneTimer us → NoneTimer (ts ++ us)
+none-append [] us h g = g
+none-append (t ∷ ts) us h g = (h .0, none-append ts us (h .1) g)
+
+plain-none : (ts : List (List ℕ)) → AllPlain ts → NoneTimer ts
+plain-none [] p = tt
+plain-none (t ∷ ts) p = (p .0 .2, plain-none ts (p .1))
+
+-- names are no words of the grammar
+name-other : (w : List ℕ) → IsName w → w ≡ bytes "timer" → ⊥
+name-other w n q = n .no-word .1 .1 .1 .1 .1 .1 .1 .1 .0 (ap capitals q)
+
+all-none : (k : Kind) → (spellingOf k ≡ bytes "timer" → ⊥) → (ts : List (List ℕ)) (ns : List Name) → DeclareAll (spellingOf k) ts ns → NoneTimer ts
+all-none k f ts ns S.DeclareAll.none = tt
+all-none k f ts ns (S.DeclareAll.more us vs x xs (S.Declares.declares w ls hs ss r nm dl dh ds fits) d) =
+    let rest = ((ls ++ bytes ".." ∷ hs) ++ ss) ++ bytes ";" ∷ [] in
+    none-append (spellingOf k ∷ w ∷ rest) vs (f, (name-other w nm, plain-none rest (bounds-plain ls hs ss r dl dh ds))) (all-none k f vs xs d)
+
 module _ (text : List ℕ) (p : Program) (s : Spelled text p) where
   -- the names before the timers
   names-before : take (firstTimer p) (namesOf p) ≡ spelled (s .inputs ++ s .variables)
@@ -244,23 +280,28 @@ module _ (text : List ℕ) (p : Program) (s : Spelled text p) where
       let c = timers-counted (s .declares-timers) in
       ap (λ (ns : List Name). take (firstTimer p) (spelled ns)) (s .names) ∙ spelled-front (s .inputs ++ s .variables) (s .timer-names) (firstTimer p) (omega arith)
 
+  -- `timer` is none of the tokens before
+  before-timers : NoneTimer (s .input-tokens ++ s .variable-tokens)
+  before-timers = none-append (s .input-tokens) (s .variable-tokens) (all-none inputWord (λ q. omega (arith, heads q)) (s .input-tokens) (s .inputs) (s .declares-inputs)) (all-none varWord (λ q. omega (arith, heads q)) (s .variable-tokens) (s .variables) (s .declares-variables))
+
   -- where no name is reserved, a timer stands
-  by-timer : hasSt p ≡ false → noneStWord (spelled (s .inputs ++ s .variables)) ≡ true → (place : ℕ) → ((s .timer-names ≡ []) × (p .timers ≡ [])) ⊎ ((end : ℕ) × TokenFrom text place end timerWord)
-      → FirstOutside text (spelled (s .inputs ++ s .variables)) place
+  by-timer : hasSt p ≡ false → noneStWord (spelled (s .inputs ++ s .variables)) ≡ true → (d : ℕ) → Spells asWritten text 0 d (s .input-tokens ++ s .variable-tokens)
+      → (place : ℕ) → ((s .timer-names ≡ []) × (p .timers ≡ [])) ⊎ TimerAt text d place → FirstOutside text (spelled (s .inputs ++ s .variables)) place
   unfolding hasSt
-  by-timer lacks none place (inr y) = a-timer (record { none-earlier = none; end = y .0; stands = y .1 })
-  by-timer lacks none place (inl z) =
+  by-timer lacks none d g place (inr y) =
+      a-timer (record { none-reserved = none; tokens = s .input-tokens ++ s .variable-tokens; behind = d; spells-tokens = g; none-timer = before-timers; separated = y .separated; end = y .end; stands = y .stands })
+  by-timer lacks none d g place (inl z) =
       let q : namesOf p ≡ spelled (s .inputs ++ s .variables) = ap (λ (ns : List Name). spelled ns) (s .names ∙ ap (λ (ns : List Name). s .inputs ++ s .variables ++ ns) (z .0) ∙ append-nil (s .inputs ++ s .variables)) in
       absurd (false≢true (sym lacks ∙ rw (z .1, q, none)))
 
-  walked-outside : hasSt p ≡ false → (c d : ℕ) → Walked text (s .inputs) (s .input-tokens) 0 c (suc (length text)) → Walked text (s .variables) (s .variable-tokens) c d (suc (length text) - length (s .input-tokens))
-      → ((s .timer-names ≡ []) × (p .timers ≡ [])) ⊎ ((end : ℕ) × TokenFrom text (reservedFrom (suc (length text) - length (s .input-tokens) - length (s .variable-tokens)) text false d) end timerWord)
+  walked-outside : hasSt p ≡ false → (c d : ℕ) → Spells asWritten text 0 d (s .input-tokens ++ s .variable-tokens) → Walked text (s .inputs) (s .input-tokens) 0 c (suc (length text)) → Walked text (s .variables) (s .variable-tokens) c d (suc (length text) - length (s .input-tokens))
+      → ((s .timer-names ≡ []) × (p .timers ≡ [])) ⊎ TimerAt text d (reservedFrom (suc (length text) - length (s .input-tokens) - length (s .variable-tokens)) text false d)
       → FirstOutside text (spelled (s .inputs ++ s .variables)) (reservedFrom (suc (length text)) text false 0)
-  walked-outside lacks c d (inl r) w t = a-name (more-inputs text (s .inputs) (s .variables) (reservedFrom (suc (length text)) text false 0) r)
-  walked-outside lacks c d (inr z) (inl r) t =
+  walked-outside lacks c d g (inl r) w t = a-name (more-inputs text (s .inputs) (s .variables) (reservedFrom (suc (length text)) text false 0) r)
+  walked-outside lacks c d g (inr z) (inl r) t =
       a-name (both-walked text (s .inputs) (s .variables) (reservedFrom (suc (length text)) text false 0) (z .0) (subst (FirstReserved text (spelled (s .variables))) (sym (z .1)) r))
-  walked-outside lacks c d (inr z) (inr y) t =
-      subst (FirstOutside text (spelled (s .inputs ++ s .variables))) (sym (z .1 ∙ y .1)) (by-timer lacks (none-both text (s .inputs) (s .variables) (z .0) (y .0)) _ t)
+  walked-outside lacks c d g (inr z) (inr y) t =
+      subst (FirstOutside text (spelled (s .inputs ++ s .variables))) (sym (z .1 ∙ y .1)) (by-timer lacks (none-both text (s .inputs) (s .variables) (z .0) (y .0)) d g _ t)
 
 -- the theorem: of an accepted text without Structured Text, the place is that of the first such name, or of the first timer
 pub first-outside : (text : List ℕ) (p : Program) → programOf text ≡ accepted p → hasSt p ≡ false → FirstOutside text (take (firstTimer p) (namesOf p)) (reservedPlace text)
@@ -278,7 +319,7 @@ first-outside text p e lacks =
     let left : suc (length text - length (s .input-tokens) - length (s .variable-tokens)) ≡ suc (length text) - length (s .input-tokens) - length (s .variable-tokens) = omega arith in
     let t = timers-walked text _ (s .timer-tokens) (s .timer-names) (p .timers) (s .declares-timers) (y .place) (s .rules-from) end (y .second) (length text - length (s .input-tokens) - length (s .variable-tokens)) in
     subst (λ (ws : List (List ℕ)). FirstOutside text ws (reservedFrom (suc (length text)) text false 0)) (sym (names-before text p s))
-    (walked-outside text p s lacks (x .place) (y .place)
-    (all-walked text inputWord (input-facts .0) (input-facts .1) (input-facts .2) (input-facts .3) (s .input-tokens) (s .inputs) (s .declares-inputs) 0 (x .place) (omega arith) (x .first) (suc (length text)) (omega arith))
-    (all-walked text varWord (var-facts .0) (var-facts .1) (var-facts .2) (var-facts .3) (s .variable-tokens) (s .variables) (s .declares-variables) (x .place) (y .place) mid (x .second) (suc (length text) - length (s .input-tokens)) (omega arith))
+    (walked-outside text p s lacks (x .place) (y .place) (y .first)
+    (all-walked text inputWord (inl refl) (input-facts .0) (input-facts .1) (input-facts .2) (input-facts .3) (s .input-tokens) (s .inputs) (s .declares-inputs) 0 (x .place) (omega arith) (x .first) (suc (length text)) (omega arith))
+    (all-walked text varWord (inr refl) (var-facts .0) (var-facts .1) (var-facts .2) (var-facts .3) (s .variable-tokens) (s .variables) (s .declares-variables) (x .place) (y .place) mid (x .second) (suc (length text) - length (s .input-tokens)) (omega arith))
     (rw left at t))

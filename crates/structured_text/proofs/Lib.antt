@@ -3,6 +3,5 @@ pub mod Table
 pub mod Growth
 pub mod Bound
 pub mod FirstReserved
-pub mod Timed
 pub mod Walk
 pub mod Service

@@ -1,11 +1,11 @@
 -- From the descent, the header and the prints to the service's definition. Assumes nothing.
 use Prim.Native.Nat.{ℕ, zero, suc, _+_, _-_, _*_, _≤_, _<_}
 use native.Mathlib.Omega.{arith}
-use mathlib.Core.Path.{_≡_, refl, sym, ap, ap₂, subst, _∙_}
-use mathlib.Core.Bool.{Bool, true, false, not, _&&_, cond}
+use mathlib.Core.Path.{_≡_, refl, sym, ap, subst, _∙_}
+use mathlib.Core.Bool.{Bool, true, false, _&&_, cond}
 use mathlib.Core.List.{List, [], _∷_, _++_, map}
 use lib.IntN.{ℤ}
-use lib.ListN.{length, take, drop, replicate, length-map, length-drop}
+use lib.ListN.{length, take, drop, length-map, length-drop}
 use lib.Seq.{sets, length-sets, take-all}
 use borrow.Author.Tests.{le-leb, lt-leb}
 use Rattle.limits.specs.Limits.{textLimit, nameLimit}
@@ -19,13 +19,12 @@ use Rattle.lexer.specs.declared.Place.{Place}
 use Rattle.lexer.specs.declared.Step.{Step}
 use Rattle.lexer.specs.declared.Step.the-variants.{Done, Refused}
 use Rattle.lexer.proofs.Laws.{cond-prop, Moved, token-moved}
-use Rattle.semantics.specs.Program.{Name, Timer, Program, rangesOf}
-use Rattle.semantics.specs.Shape.{hasTimer}
+use Rattle.semantics.specs.Program.{Name, Program, rangesOf, Timer}
 use Rattle.bytecode.specs.Instructions.{Instruction, encodeAll}
 use Rattle.bytecode.specs.Translation.{imageOf, Translatable, codeRules}
 use Rattle.bytecode.specs.Check.{Header, checkHeader}
 use Rattle.bytecode.specs.Parts as Parts
-use Rattle.bytecode.specs.Parts.{headerOf, codeOf, limitsFrom, limitsOf}
+use Rattle.bytecode.specs.Parts.{headerOf, codeOf}
 use Rattle.bytecode.specs.Results.{HeaderStands}
 use Rattle.bytecode.proofs.Soundness.{programHeader, check-header, header-of, code-of}
 use Rattle.bytecode.proofs.SoundHeader.{header-counts, header-place, starts-stored}
@@ -33,6 +32,7 @@ use Rattle.grammar.specs.Parsed.{Parsed, accepted, refused}
 use Rattle.grammar.specs.Parse.{program, parse, programOf}
 use Rattle.grammar.specs.Spelled.{namesOf}
 use Rattle.grammar.proofs.Image.{image-emitted}
+use Rattle.st_program.proofs.Literals.{st-untimed}
 use Rattle.grammar.proofs.Accepted.{parse-few, parse-short, program-parsed, program-translatable}
 use Rattle.grammar.proofs.PlacesText.{Placed, parse-limited}
 use Rattle.grammar.proofs.ConverseText.{short-parse}
@@ -42,19 +42,17 @@ use Rattle.translate.specs.Inner.Descent.{Descends}
 use Rattle.translate.proofs.Service.{parse-long, Made, image-made}
 use Rattle.st.specs.Syntax.{Statement}
 use Rattle.st.specs.Printed.{statementsPrinted, sectionPrinted, programPrinted}
-use Rattle.st_program.specs.Written.{currentLine, previousLine, variableLines, savingLine, ruleInSt, programInSt, stBytes, isStWord, noneStWord, noTimer, hasSt}
+use Rattle.st_program.specs.Written.{currentLine, previousLine, variableLines, savingLine, ruleInSt, programInSt, stBytes, noneStWord, noTimer, hasSt}
 use Rattle.st_writer.specs.Inner.Fronts.{Fronts}
 use Rattle.st_writer.specs.Inner.Mirrored.{mirrored}
 use Rattle.st_writer.proofs.Listed.{statements-joined}
 use Rattle.st_sections.proofs.Lines.{sections-program}
 use Rattle.structured_text.specs.declared.Written.{Written}
 use Rattle.structured_text.specs.declared.Written.the-variants as W
-use Rattle.structured_text.specs.Services.{declaresName, reservedFrom, reservedPlace, structuredTextOf}
+use Rattle.structured_text.specs.Services.{declaresName, isOutside, reservedFrom, reservedPlace, structuredTextOf}
 use Rattle.structured_text.specs.Room.{stRoom}
 use Rattle.structured_text.specs.Results.{afterWriting, WrittenWithin}
-use Rattle.structured_text.specs.Inner.Prepared.{wholePrinted, Compiled, Prepared}
-use Rattle.st_program.proofs.Literals.{st-untimed}
-use Rattle.structured_text.proofs.Timed.{image-timed}
+use Rattle.structured_text.specs.Inner.Prepared.{wholePrinted, Compiled, ReadyToPrint}
 use Rattle.structured_text.proofs.Bound.{st-growth}
 
 -- ---- 21's place stands in the text
@@ -70,7 +68,7 @@ module _ (text : List ℕ) where
       go (token k s n) e m more =
           let on = more (declaresName k) n (m .2) in
           rw e (cond-prop (λ (x : ℕ). x ≤ length text) (is k ending) _ _ (λ u. omega arith)
-          (λ u. cond-prop (λ (x : ℕ). x ≤ length text) named _ _ (λ v. cond-prop (λ (x : ℕ). x ≤ length text) (isStWord (part text s n)) _ _ (λ w. omega (arith, m .1, m .2)) (λ w. on)) (λ v. on)))
+          (λ u. cond-prop (λ (x : ℕ). x ≤ length text) (isOutside k named (part text s n)) _ _ (λ v. omega (arith, m .1, m .2)) (λ v. on)))
 
   pub reserved-within : reservedPlace text ≤ length text
   unfolding reservedPlace
@@ -118,7 +116,7 @@ module _ (text before after starts ends : List ℕ) {r : Step} (short : length t
   pub fault-passed : (k x : ℕ) (buffer : List ℕ) → r ≡ Refused k x → Served text buffer (W.Refused k x) buffer
   fault-passed k x buffer e = text-refused text buffer k x (short-parse text short ∙ refused-part (d .writes) e)
 
-  pub compiled : (x : Place) → 3 * length text + 4 ≤ 2 * length before → r ≡ Done x → nameLimit ≤ length starts → nameLimit ≤ length ends → Compiled text starts ends (take (x .to) after)
+  pub compiled : (x : Place) → 3 * length text + 4 ≤ 2 * length before → r ≡ Done x → nameLimit ≤ length starts → nameLimit ≤ length ends → Compiled text starts ends (x .end) (take (x .to) after)
   unfolding programOf
   compiled x h e ls le =
       let m = image-made text before after starts ends short d x h e in
@@ -127,6 +125,7 @@ module _ (text before after starts ends : List ℕ) {r : Step} (short : length t
         program = m .read;
         parsed = rw (m .parsed);
         made = m .there ∙ image-emitted (m .read);
+        timed = d .timed (m .read) (m .end) x (sym (short-parse text short) ∙ m .parsed) e;
         held = d .named (m .read) (m .end) (sym (short-parse text short) ∙ m .parsed);
         table = record { in-starts = omega arith; in-ends = omega arith };
       }
@@ -144,7 +143,7 @@ starts-of (n ∷ ns) = ap (λ (l : List ℤ). n .range .start ∷ l) (starts-of 
 pub code-rest : (image : List ℕ) (place : ℕ) → take (length image - place) (drop place image) ≡ drop place image
 code-rest image place = take-all (length image - place) (drop place image) (omega (arith, length-drop place image))
 
-module _ {text starts ends image : List ℕ} (c : Compiled text starts ends image) where
+module _ {text starts ends : List ℕ} {timers : ℕ} {image : List ℕ} (c : Compiled text starts ends timers image) where
   translatable : Translatable (c .program)
   translatable = program-translatable text (c .program) (c .parsed)
 
@@ -166,21 +165,9 @@ module _ {text starts ends image : List ℕ} (c : Compiled text starts ends imag
     pub count-held : Table starts ends count
     count-held = subst (Table starts ends) (sym count-is) (c .table)
 
-    -- the limits that its code gives are those of the image
-    table-is : limitsFrom (drop place image) (length (drop place image)) 0 (replicate count 0) ≡ limitsOf image
-    unfolding limitsOf codeOf
-    table-is = ap₂ (λ (k m : ℕ). limitsFrom (drop k image) (length (drop k image)) 0 (replicate m 0)) (header-place image h) (sym (header-counts image h .names-are))
-
-    timed-is : hasTimer (limitsFrom (drop place image) (length (drop place image)) 0 (replicate count 0)) ≡ not (noTimer (c .program .timers))
-    timed-is = ap hasTimer table-is ∙ ap (λ (l : List ℕ). hasTimer (limitsOf l)) (c .made) ∙ image-timed (c .program) translatable
-
-    pub none-reserved : {t : Bool} → t ≡ (not (hasTimer (limitsFrom (drop place image) (length (drop place image)) 0 (replicate count 0))) && noneStWord (tableNames text starts ends count)) → hasSt (c .program) ≡ t
+    pub none-outside : {t : Bool} → ((ts : List Timer) → timers ≡ length ts → t ≡ (noTimer ts && noneStWord (tableNames text starts ends count))) → hasSt (c .program) ≡ t
     unfolding hasSt
-    none-reserved e = sym (e ∙ ap₂ (λ (a b : Bool). not a && b) timed-is (ap noneStWord names-held) ∙ ap (λ (a : Bool). a && noneStWord (namesOf (c .program))) (twice (noTimer (c .program .timers))))
-      where
-        twice : (b : Bool) → not (not b) ≡ b
-        twice true = refl
-        twice false = refl
+    none-outside e = sym (e (c .program .timers) (c .timed) ∙ ap (λ (ws : List (List ℕ)). noTimer (c .program .timers) && noneStWord ws) names-held)
 
     values-are : nameLimit ≤ length start₀ → start ≡ map (λ n. n .range .start) (c .program .names) ++ drop (length (map (λ n. n .range .start) (c .program .names))) start₀
     values-are long =
@@ -188,7 +175,7 @@ module _ {text starts ends image : List ℕ} (c : Compiled text starts ends imag
         let fits : length zs ≤ length start₀ = omega (arith, length-map (c .program .names) (λ n. n .range .start), count-is, h .extends .few) in
         starts-stored image h ∙ ap (λ (x : Header). sets start₀ 0 (Parts.starts (x .ranges))) its-header ∙ ap (sets start₀ 0) (starts-of (c .program .names)) ∙ sets-front start₀ zs fits
 
-    pub prepared : hasSt (c .program) ≡ true → nameLimit ≤ length start₀ → Prepared encodeAll text starts ends start inputs count (drop place image)
+    pub prepared : hasSt (c .program) ≡ true → nameLimit ≤ length start₀ → ReadyToPrint encodeAll text starts ends start inputs count (drop place image)
     unfolding codeOf
     prepared has long =
         record {
@@ -208,9 +195,9 @@ module _ {text starts ends image : List ℕ} (c : Compiled text starts ends imag
 -- ---- its print
 
 module _ {text starts ends : List ℕ} {values : List ℤ} {inputs count : ℕ} {code : List ℕ} where
-  pub mirror-prepared : (q : Prepared encodeAll text starts ends values inputs count code) (mirror : List ℕ)
+  pub mirror-prepared : (q : ReadyToPrint encodeAll text starts ends values inputs count code) (mirror : List ℕ)
       → ((p : Program) → Translatable p → p .timers ≡ [] → code ≡ encodeAll (codeRules [] (p .rules)) → take (length code) mirror ≡ mirrored (codeRules [] (p .rules)) [])
-      → Prepared (λ is. mirrored is []) text starts ends values inputs count (take (length code) mirror)
+      → ReadyToPrint (λ is. mirrored is []) text starts ends values inputs count (take (length code) mirror)
   mirror-prepared q mirror m =
       record {
         program = q .program;
@@ -226,12 +213,12 @@ module _ {text starts ends : List ℕ} {values : List ℤ} {inputs count : ℕ} 
         coded = m (q .program) (program-translatable text (q .program) (q .parsed)) (st-untimed (q .program) (q .has)) (q .coded);
       }
 
-  module _ (q : Prepared (λ is. mirrored is []) text starts ends values inputs count code) where
-    pub st-without : q .program .timers ≡ []
-    st-without = st-untimed (q .program) (q .has)
-
+  module _ (q : ReadyToPrint (λ is. mirrored is []) text starts ends values inputs count code) where
     pub st-translatable : Translatable (q .program)
     st-translatable = program-translatable text (q .program) (q .parsed)
+
+    pub st-plain : q .program .timers ≡ []
+    st-plain = st-untimed (q .program) (q .has)
 
     abbrev front : List ℕ → List ℕ
     front = wholePrinted inputs (tableNames text starts ends count) values (q .program .rules)

@@ -53,4 +53,7 @@ outputExamples =
     (bytes "VAR_INPUT\n  Run : DINT := 0;\nEND_VAR\nVAR\n  _Run : DINT := 0;\n  v : DINT := 0;\n  _v : DINT := 0;\nEND_VAR\nv := Run;\n_Run := Run;\n_v := v;\n")
     -- 21 before 10, after the faults of the text; at the first name
     ∷ refuses (bytes "input a 0..1; input elsif 0..1; input If 0..1;") 0 21 20 ∷ refuses (bytes "input IF 0..1; !") 0 1 15 ∷ refuses (bytes "input Mod 0..1;") 0 2 6
-    ∷ refuses (bytes "input ELSE 0..1; input DINT1 0..1; input END 0..1;") 0 10 50 ∷ []
+    ∷ refuses (bytes "input ELSE 0..1; input DINT1 0..1; input END 0..1;") 0 10 50
+    -- 21 at the word of a timer, whatever its name; at a name before it; after the faults of the text
+    ∷ refuses (bytes "var w 0..1; timer t of w limit 5; w:GX(w=(1));") 9 21 12 ∷ refuses (bytes "var w 0..1; timer IF of w limit 5; timer u of w limit 5; w:GX(w=(1));") 0 21 12
+    ∷ refuses (bytes "input IF 0..1; var w 0..1; timer t of w limit 5; w:GX(w=(1));") 0 21 6 ∷ refuses (bytes "var w 0..1; timer IF of w limit 5;") 0 6 34 ∷ []

@@ -1,7 +1,8 @@
--- The service that writes Structured Text: what it answers and leaves in the buffer lent to it, for every text and every buffer. Document 02, A.4.
+-- The service that writes Structured Text: what it answers and leaves in the buffer lent to it, for every text and every buffer. Document 02, A.4,
+-- A.7.
 -- Assumes nothing.
 use Prim.Native.Nat.{ℕ, zero, suc}
-use mathlib.Core.Bool.{Bool, true, false, _||_, cond}
+use mathlib.Core.Bool.{Bool, true, false, _&&_, _||_, cond}
 use mathlib.Core.List.{List}
 use mathlib.Core.Option.{Option, none, some}
 use lib.ListN.{length}
@@ -21,16 +22,20 @@ use Rattle.st_program.specs.Written.{stBytes, isStWord, hasSt}
 abbrev pub declaresName : Kind → Bool
 declaresName k = is k inputWord || is k varWord
 
--- of a token: where it stands if it is a declared name and a word of Structured Text, or `timer`, else what the walk goes on to find
+-- what is not in Structured Text: a declared name that is a word of it, and `timer`
+abbrev pub isOutside : Kind → Bool → List ℕ → Bool
+isOutside k named w = is k timerWord || (named && isStWord w)
+
+-- of a token: where it stands if it is such, else what the walk goes on to find
 abbrev pub reservedAt : List ℕ → Bool → (Bool → ℕ → ℕ) → TokenRead → ℕ
 reservedAt text named more (fault s) = 0
 reservedAt text named more (token k s n) =
     let next = more (declaresName k) n in
-    let here = cond (isStWord (part text s n)) s next in
-    cond (is k ending) 0 (cond (is k timerWord) s (cond named here next))
+    let here = cond (isOutside k named (part text s n)) s next in
+    cond (is k ending) 0 here
 
--- 21 a declared name that is a word of Structured Text, at its declaration, or a timer, at its word (document 02, A.7): the place of the first, token by
--- token from `at` on. `named` says whether a declared name stands next. (Each token has a byte.)
+-- 21 a declared name that is a word of Structured Text, at its declaration; a timer, at its word (document 02, A.7): the place of the first, token
+-- by token from `at` on. `named` says whether a declared name stands next. (Each token has a byte.)
 unfoldable pub reservedFrom : ℕ → List ℕ → Bool → ℕ → ℕ
 reservedFrom zero text named at = 0
 reservedFrom (suc f) text named at = reservedAt text named (λ b n. reservedFrom f text b n) (tokenAt text at)

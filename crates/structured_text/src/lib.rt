@@ -16,7 +16,7 @@ ghost use Rattle.st_writer.specs.Inner.Fronts.{Fronts};
 ghost use Rattle.st_writer.specs.Inner.Mirrored.{mirrored};
 ghost use Rattle.structured_text.specs.Services.{structuredTextOf};
 ghost use Rattle.structured_text.specs.Results.{afterWriting, WrittenWithin};
-ghost use Rattle.structured_text.specs.Inner.Prepared.{wholePrinted, Compiled, Prepared};
+ghost use Rattle.structured_text.specs.Inner.Prepared.{wholePrinted, Compiled, ReadyToPrint};
 
 pub mod reserved;
 
@@ -63,7 +63,7 @@ fn write_mirrored(
     count: usize,
     code: &[u8],
 ) -> Written
-    requires { ⌜ Prepared (λ is. mirrored is []) (now text) (now starts) (now ends) (now values) inputs count (now code) ⌝ }
+    requires { ⌜ ReadyToPrint (λ is. mirrored is []) (now text) (now starts) (now ends) (now values) inputs count (now code) ⌝ }
     ensures { λ r. ⌜ afterWriting r (now (out .exit)) ≡ structuredTextOf (now (text .entry)) (now (out .entry)) ⌝ }
     ensures { λ r. ⌜ WrittenWithin r ⌝ }
 {
@@ -99,7 +99,7 @@ fn write_code(
     code: &[u8],
     mirror: &mut [u8],
 ) -> Written
-    requires { ⌜ Prepared encodeAll (now text) (now starts) (now ends) (now values) inputs count (now code) ⌝ }
+    requires { ⌜ ReadyToPrint encodeAll (now text) (now starts) (now ends) (now values) inputs count (now code) ⌝ }
     requires { ⌜ length (now code) ≤ length (now mirror) ⌝ }
     ensures { λ r. ⌜ afterWriting r (now (out .exit)) ≡ structuredTextOf (now (text .entry)) (now (out .entry)) ⌝ }
     ensures { λ r. ⌜ WrittenWithin r ⌝ }
@@ -127,10 +127,11 @@ fn write_image(
     low: &mut [i32],
     high: &mut [i32],
     values: &mut [i32],
+    timers: usize,
     image: &[u8],
     mirror: &mut [u8],
 ) -> Written
-    requires { ⌜ Compiled (now text) (now starts) (now ends) (now image) ⌝ }
+    requires { ⌜ Compiled (now text) (now starts) (now ends) timers (now image) ⌝ }
     requires { ⌜ (nameLimit ≤ length (now values)) × (length (now image) ≤ length (now mirror)) ⌝ }
     ensures { λ r. ⌜ afterWriting r (now (out .exit)) ≡ structuredTextOf (now (text .entry)) (now (out .entry)) ⌝ }
     ensures { λ r. ⌜ WrittenWithin r ⌝ }
@@ -139,7 +140,7 @@ fn write_image(
     let Headed::Header(inputs, count, place) = headed else {
         return Written::Refused(limits::BROKEN_IMAGE, 0);
     };
-    if !reserved::has_st(text, starts, ends, &image[place..], count) {
+    if !reserved::has_st(text, starts, ends, count, timers) {
         return Written::Refused(limits::NOT_IN_ST, reserved::reserved_place(text));
     }
     write_code(
@@ -185,6 +186,7 @@ fn write_in(
                 low,
                 high,
                 values,
+                end.end,
                 &scratch[..size],
                 mirror,
             )

@@ -30,7 +30,7 @@ fn flush(out: &[u8], end: usize) -> bool
 fn trace_part(
     text: &mut [u8; tracer::TEXT_ROOM],
     image: &mut [u8; limits::IMAGE_ROOM],
-    state: &mut [i32; limits::NAME_LIMIT],
+    state: &mut [i32; limits::STATE_LIMIT],
     cells: &mut [i32; trace_text::LONG_ROW],
     first: Tracer,
     part: &[u8],
@@ -63,7 +63,7 @@ fn trace_part(
 fn trace_input(
     text: &mut [u8; tracer::TEXT_ROOM],
     image: &mut [u8; limits::IMAGE_ROOM],
-    state: &mut [i32; limits::NAME_LIMIT],
+    state: &mut [i32; limits::STATE_LIMIT],
     cells: &mut [i32; trace_text::LONG_ROW],
     chunk: &mut [u8],
     out: &mut [u8; tracer::OUTPUT_ROOM],
@@ -94,7 +94,7 @@ fn trace_input(
 fn main() {
     let mut text = [0u8; tracer::TEXT_ROOM];
     let mut image = [0u8; limits::IMAGE_ROOM];
-    let mut state = [0i32; limits::NAME_LIMIT];
+    let mut state = [0i32; limits::STATE_LIMIT];
     let mut cells = [0i32; trace_text::LONG_ROW];
     let mut chunk = io::large_buffer();
     let mut out = io::large_buffer();

@@ -1,25 +1,24 @@
 -- The text is whole: its refusal, or its image, its start and their lines. Assumes nothing.
-use mathlib.Core.Path.{_≡_, refl, sym, ap, subst, _∙_}
+use mathlib.Core.Path.{_≡_, refl, sym, ap, ap₂, subst, _∙_}
 use mathlib.Core.List.{List, [], _∷_, _++_}
 use mathlib.Core.Option.{some}
 use Prim.Native.Nat.{ℕ, zero, suc, _+_, _*_, _≤_}
 use native.Mathlib.Omega.{arith}
 use lib.IntN.{ℤ}
-use lib.ListN.{length, take, drop, getElem?, length-map}
-use lib.Seq.{take-append-seam}
+use lib.ListN.{length, take, drop, getElem?, length-map, length-take}
+use lib.Seq.{take-append-seam, length-take-le}
 use borrow.Author.Tests.{le-leb}
+use Rattle.limits.specs.Limits.{stateLimit}
 use Rattle.limits.specs.Answer as A
 use Rattle.semantics.specs.Program.{Program}
 use Rattle.semantics.specs.Formula.{State}
-use Rattle.semantics.specs.Shape.{shapeOf, cells, stateLength}
 use Rattle.semantics.specs.Rows.{startsOf}
-use Rattle.semantics.proofs.Untimed.{plain-states}
 use Rattle.bytecode.specs.Translation.{imageOf}
 use Rattle.lexer.specs.Names.{tableNames}
 use Rattle.grammar.specs.Parsed.{Parsed, accepted, refused}
 use Rattle.grammar.specs.Parse.{parse, answerOf, programOf}
 use Rattle.grammar.specs.Declarations.{spellings}
-use Rattle.grammar.proofs.Accepted.{name-length, parse-short, parse-named, parse-few, parse-growth, parse-translatable, parse-spelled}
+use Rattle.grammar.proofs.Accepted.{name-length, parse-short, parse-named, parse-few, parse-growth, parse-translatable}
 use Rattle.grammar.proofs.Image.{image-emitted}
 use Rattle.translate.specs.declared.Translated.{Translated}
 use Rattle.translate.specs.declared.Analysis.{Analysis}
@@ -37,30 +36,32 @@ use Rattle.trace_text.proofs.Lengths.{AllShort, head-length, put-all}
 use Rattle.trace_text.specs.declared.Stage.the-variants.{Rows}
 use Rattle.trace_text.specs.declared.Line.the-variants.{Start}
 use Rattle.tracer.specs.declared.Tracer.the-variants as T
-use Rattle.tracer.specs.Printed.{opening}
+use Rattle.tracer.specs.Printed.{printedValues, opening}
 use Rattle.tracer.specs.Session.{lineRoom, inRows}
 use Rattle.tracer.specs.Inner.Contracts.{PutWhole, AcceptedText, Begins, Opens}
+use Rattle.tracer.proofs.States.{state-counted, state-few}
 
 -- ---- what analyse says
 
-pub text-accepted : (text : List ℕ) {starts ends : List ℕ} (r : Analysis) {size inputs names : ℕ} → Analyses text (parse text) starts ends r → r ≡ N.Accepted size inputs names → AcceptedText text starts ends size names
-text-accepted text {starts} {ends} r {size} {inputs} {names} h a = by (parse text) refl (ap analysed (sym a) ∙ h .answer)
+pub text-accepted : (text : List ℕ) {starts ends : List ℕ} (r : Analysis) {size inputs names timers : ℕ} → Analyses text (parse text) starts ends r → r ≡ N.Accepted size inputs names timers → AcceptedText text starts ends size names (names + timers)
+text-accepted text {starts} {ends} r {size} {inputs} {names} {timers} h a = by (parse text) refl (ap analysed (sym a) ∙ h .answer)
   where
     counts : A.Answer HeaderCounts → HeaderCounts → HeaderCounts
     counts (A.accepted m) d = m
     counts (A.refused k n) d = d
 
-    by : (q : Parsed Program) → parse text ≡ q → analysed (N.Accepted size inputs names) ≡ measured q → AcceptedText text starts ends size names
+    by : (q : Parsed Program) → parse text ≡ q → analysed (N.Accepted size inputs names timers) ≡ measured q → AcceptedText text starts ends size names (names + timers)
     by (accepted p n) q e =
-        let m : record { end = size; inputs = inputs; names = names } ≡ measuresOf p = ap (λ (x : A.Answer HeaderCounts). counts x (measuresOf p)) e in
+        let m : record { end = size; inputs = inputs; names = names; timers = timers } ≡ measuresOf p = ap (λ (x : A.Answer HeaderCounts). counts x (measuresOf p)) e in
         let c : names ≡ length (p .names) = ap {A = HeaderCounts} (λ x. x .names) m in
         record {
           program = p;
           place = n;
           parsed = q;
-          sized = ap {A = HeaderCounts} (λ x. x .end) m ∙ ap length (image-emitted p (parse-spelled text p n q .untimed));
+          sized = ap {A = HeaderCounts} (λ x. x .end) m ∙ ap length (image-emitted p);
           counted = c;
           spelled = rw c (h .named p n q .spelled);
+          states = ap₂ _+_ c (ap {A = HeaderCounts} (λ x. x .timers) m) ∙ sym (state-counted p (parse-translatable text p n q .well-formed));
         }
     by (refused k n) q e = let z : _≡_ {A = ℕ} 0 1 = cc in let f : ⊥ = omega arith in absurd f
 
@@ -81,17 +82,24 @@ pub program-one : (text : List ℕ) (p q : Program) (n : ℕ) → parse text ≡
 program-one text p q n e f = let g = program-is text p n e in cc
 
 -- image, state and bytes put out, of whatever program the text has
-pub begins : {text starts ends : List ℕ} {size names : ℕ} (a : AcceptedText text starts ends size names) {image : List ℕ} {t : State} {out : List ℕ}
+pub begins : {text starts ends : List ℕ} {size names width : ℕ} (a : AcceptedText text starts ends size names width) {image : List ℕ} {t : State} {out : List ℕ}
     → image ≡ imageOf (a .program) → t ≡ startsOf (a .program) → out ≡ opening (A.accepted (a .program)) → (p : Program) → programOf text ≡ A.accepted p → Begins image t out p
 begins {text} a {image} {t} {out} i s o p e =
     subst (Begins image t out) (program-one text (a .program) p (a .place) (a .parsed) e) (record { image-is = i; state-is = s; printed-is = o })
 
-pub names-fit : {text starts ends : List ℕ} {size names : ℕ} → AcceptedText text starts ends size names → names ≤ 64
-names-fit {text} a = omega (arith, a .counted, parse-few text (a .program) (a .place) (a .parsed))
+-- the names are the first numbers of the state, which has room
+pub names-fit : {text starts ends : List ℕ} {size names width : ℕ} → AcceptedText text starts ends size names width → (names ≤ width) × (width ≤ stateLimit)
+names-fit {text} a =
+    let w = parse-translatable text (a .program) (a .place) (a .parsed) .well-formed in
+    let k = a .states ∙ state-counted (a .program) w in
+    (omega (arith, k, a .counted), omega (arith, k, state-few (a .program) w (parse-few text (a .program) (a .place) (a .parsed))))
 
--- the names as they are counted
-pub accepts-part : {text starts ends : List ℕ} {size names n : ℕ} → AcceptedText text starts ends size names → n ≡ names → AcceptedText text starts ends size n
-accepts-part {text} {starts} {ends} {size} {names} {n} a e = subst (AcceptedText text starts ends size) (sym e) a
+pub state-part : {text starts ends : List ℕ} {size names width : ℕ} → AcceptedText text starts ends size names width → (s : State) → length s ≡ stateLimit → length (take width s) ≡ width
+state-part {width = width} a s e = length-take-le width s (omega (arith, names-fit a .1, e))
+
+-- the numbers of the state as they are counted
+pub accepts-part : {text starts ends : List ℕ} {size names width n : ℕ} → AcceptedText text starts ends size names width → n ≡ width → AcceptedText text starts ends size names n
+accepts-part {text} {starts} {ends} {size} {names} {width} {n} a e = subst (AcceptedText text starts ends size names) (sym e) a
 
 -- ---- bytes put whole
 
@@ -109,7 +117,7 @@ all-short : (l : List (List ℕ)) → ((i : ℕ) (w : List ℕ) → getElem? l i
 all-short [] h = tt
 all-short (x ∷ l) h = (h zero x refl, all-short l (λ i w e. h (suc i) w e))
 
-module _ {text starts ends : List ℕ} {size : ℕ} (s : State) (a : AcceptedText text starts ends size (length s)) where
+module _ {text starts ends : List ℕ} {size names : ℕ} (s : State) (a : AcceptedText text starts ends size names (length s)) where
   abbrev p : Program
   p = a .program
 
@@ -130,8 +138,7 @@ module _ {text starts ends : List ℕ} {size : ℕ} (s : State) (a : AcceptedTex
   pub start-is : (image : List ℕ) → image ≡ imageOf p → (r : Started) {t : State} → afterStart r t ≡ startOf image s → t ≡ startsOf p
   start-is image i r e =
       let t = parse-translatable text p (a .place) (a .parsed) in
-      let l : length s ≡ stateLength (shapeOf p) = a .counted ∙ sym (plain-states p (parse-spelled text p (a .place) (a .parsed) .untimed) ∙ length-map (p .names) (λ n. n .range)) in
-      ap {A = AfterStart} (λ x. x .state) (e ∙ ap (λ (x : List ℕ). startOf x s) i ∙ start-translated p t s l)
+      ap {A = AfterStart} (λ x. x .state) (e ∙ ap (λ (x : List ℕ). startOf x s) i ∙ start-translated p t s (a .states))
 
   head-short : length (headLine (spellings (p .names))) ≤ 1100
   head-short =
@@ -140,17 +147,18 @@ module _ {text starts ends : List ℕ} {size : ℕ} (s : State) (a : AcceptedTex
       head-length (spellings (p .names)) (all-short (spellings (p .names)) (λ i w e. name-length w (n .each i w e) .1)) (rw (length-map (p .names) (λ x. x .spelling)) (omega arith))
 
   pub opening-put : {out first second : List ℕ} {at put : ℕ} {t : State} → t ≡ startsOf p → lineRoom ≤ length out
-      → Put out 0 (headLine (tableNames text starts ends (length s))) first at → Put first at (rowLine 0 t 0) second put → length (rowLine 0 t 0) ≤ 12 * length t + 42
+      → Put out 0 (headLine (tableNames text starts ends names)) first at → Put first at (rowLine 0 (take names t) 0) second put → length (rowLine 0 (take names t) 0) ≤ 12 * length (take names t) + 42
       → (take put second ≡ opening (A.accepted p)) × (put ≤ length second)
   opening-put {out} {first} {second} {at} {put} {t} i r h g l =
       let few = parse-few text p (a .place) (a .parsed) in
-      let n : length t ≡ length (p .names) = ap length i ∙ length-map (cells (shapeOf p)) (λ x. x .start) ∙ plain-states p (parse-spelled text p (a .place) (a .parsed) .untimed) ∙ length-map (p .names) (λ x. x .range) in
+      let n : length (take names t) ≤ 64 = rw length-take (omega (arith, a .counted, few)) in
+      let v : take names t ≡ printedValues (length (p .names)) (startsOf p) = ap (λ (k : ℕ). take k t) (a .counted) ∙ ap (take (length (p .names))) i in
       let k = head-short in
       let f : Put out 0 (headLine (spellings (p .names))) first at = rw (a .spelled) at h in
       let z : at ≡ length (headLine (spellings (p .names))) = put-whole f (omega arith) .place ∙ omega arith in
       let u : take at first ≡ headLine (spellings (p .names)) = put-all f (omega arith) in
       let w = put-whole g (omega (arith, put-length f)) in
-      (w .bytes ∙ ap (λ (x : List ℕ). x ++ rowLine 0 t 0) u ∙ ap (λ (x : State). headLine (spellings (p .names)) ++ rowLine 0 x 0) i, w .inside)
+      (w .bytes ∙ ap (λ (x : List ℕ). x ++ rowLine 0 (take names t) 0) u ∙ ap (λ (x : State). headLine (spellings (p .names)) ++ rowLine 0 x 0) v, w .inside)
 
 -- ---- behind the text
 
@@ -160,14 +168,14 @@ opens-refused text image s e r h l =
     let w = put-whole h (omega arith) in
     record { session = λ buffer cells. rw e; output = rw e (w .bytes); inside = w .inside }
 
-pub opens-accepted : {text starts ends : List ℕ} {size names : ℕ} (a : AcceptedText text starts ends size names) (image : List ℕ) (s t : State) (out : List ℕ) (put : ℕ)
-    → ((p : Program) → programOf text ≡ A.accepted p → Begins (take size image) t (take put out) p) → take names s ≡ t → put ≤ length out
-    → Opens text image s out (T.Rows size names Start 0) put
-opens-accepted {text} {starts} {ends} {size} {names} a image s t out put b e i =
+pub opens-accepted : {text starts ends : List ℕ} {size names width : ℕ} (a : AcceptedText text starts ends size names width) (image : List ℕ) (s t : State) (out : List ℕ) (put : ℕ)
+    → ((p : Program) → programOf text ≡ A.accepted p → Begins (take size image) t (take put out) p) → take width s ≡ t → put ≤ length out
+    → Opens text image s out (T.Rows size names width Start 0) put
+opens-accepted {text} {starts} {ends} {size} {names} {width} a image s t out put b e i =
     let q = program-is text (a .program) (a .place) (a .parsed) in
     let g = b (a .program) q in
     record {
-      session = λ buffer cells. rw (q, e, g .image-is, g .state-is);
+      session = λ buffer cells. rw (q, e, a .counted, g .image-is, g .state-is);
       output = rw q (g .printed-is);
       inside = i;
     }

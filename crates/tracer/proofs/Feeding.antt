@@ -54,46 +54,46 @@ calls-total (call {s} taken {left} {out} h) =
 -- ---- rows
 
 -- the lines of rows that are scanned one after the other, behind row number n
-unfoldable pub scanLines : List ℕ → State → ℕ → List (List ℤ) → List ℕ
-scanLines image s n [] = []
-scanLines image s n (row ∷ rows) =
+unfoldable pub scanLines : List ℕ → ℕ → State → ℕ → List (List ℤ) → List ℕ
+scanLines image names s n [] = []
+scanLines image names s n (row ∷ rows) =
     let a = scanOf image s row in
-    scanLine (nextNumber n) a ++ scanLines image (a .state) (nextNumber n) rows
+    scanLine names (nextNumber n) a ++ scanLines image names (a .state) (nextNumber n) rows
 
-pub rows-total : (l : List ℕ) (image : List ℕ) (s : State) (line : Line) (cells : List ℤ) (n : ℕ) → total (inRows image s line cells n) l ≡ scanLines image s n (rowsRead line cells l)
+pub rows-total : (l : List ℕ) (image : List ℕ) (names : ℕ) (s : State) (line : Line) (cells : List ℤ) (n : ℕ) → total (inRows image names s line cells n) l ≡ scanLines image names s n (rowsRead line cells l)
 unfolding fedOver putOver atEnd after putBy rowsRead scanLines
-rows-total [] image s line cells n = by (isBegun line) where
-  by : (t : Bool) → cond t (scanLine (nextNumber n) (scanOf image s (handedRow line cells))) [] ≡ scanLines image s n (cond t (handedRow line cells ∷ []) [])
+rows-total [] image names s line cells n = by (isBegun line) where
+  by : (t : Bool) → cond t (scanLine names (nextNumber n) (scanOf image s (handedRow line cells))) [] ≡ scanLines image names s n (cond t (handedRow line cells ∷ []) [])
   by true = sym (append-nil _)
   by false = refl
-rows-total (b ∷ l) image s line cells n = by (eqb b 10) (rows-total l) where
+rows-total (b ∷ l) image names s line cells n = by (eqb b 10) (rows-total l) where
   a : AfterScan
   a = scanOf image s (handedRow line cells)
 
   next : Bool → Session
-  next t = cond t (inRows image (a .state) Start (cellsOf line cells) (nextNumber n)) (inRows image s (lineAfter line b) (cellsAfter line cells b) n)
+  next t = cond t (inRows image names (a .state) Start (cellsOf line cells) (nextNumber n)) (inRows image names s (lineAfter line b) (cellsAfter line cells b) n)
 
   by : (t : Bool)
-      → ((image : List ℕ) (s : State) (line : Line) (cells : List ℤ) (n : ℕ) → total (inRows image s line cells n) l ≡ scanLines image s n (rowsRead line cells l))
-      → (cond t (scanLine (nextNumber n) a) [] ++ putOver (next t) l) ++ atEnd (fedOver (next t) l)
-      ≡ scanLines image s n (cond t (handedRow line cells ∷ rowsRead Start (cellsOf line cells) l) (rowsRead (lineAfter line b) (cellsAfter line cells b) l))
+      → ((image : List ℕ) (names : ℕ) (s : State) (line : Line) (cells : List ℤ) (n : ℕ) → total (inRows image names s line cells n) l ≡ scanLines image names s n (rowsRead line cells l))
+      → (cond t (scanLine names (nextNumber n) a) [] ++ putOver (next t) l) ++ atEnd (fedOver (next t) l)
+      ≡ scanLines image names s n (cond t (handedRow line cells ∷ rowsRead Start (cellsOf line cells) l) (rowsRead (lineAfter line b) (cellsAfter line cells b) l))
   by true h =
-      append-assoc (scanLine (nextNumber n) a) (putOver (next true) l) (atEnd (fedOver (next true) l))
-      ∙ ap (λ (x : List ℕ). scanLine (nextNumber n) a ++ x) (h image (a .state) Start (cellsOf line cells) (nextNumber n))
-  by false h = h image s (lineAfter line b) (cellsAfter line cells b) n
+      append-assoc (scanLine names (nextNumber n) a) (putOver (next true) l) (atEnd (fedOver (next true) l))
+      ∙ ap (λ (x : List ℕ). scanLine names (nextNumber n) a ++ x) (h image names (a .state) Start (cellsOf line cells) (nextNumber n))
+  by false h = h image names s (lineAfter line b) (cellsAfter line cells b) n
 
 next-number : (n : ℕ) → n + 1 ≤ 18446744073709551615 → nextNumber n ≡ n + 1
 unfolding nextNumber
 next-number n h = rw (lt-ltb n 18446744073709551615 (omega arith))
 
 -- their numbers count every row, as long as 64 bits hold the last
-pub lines-replies : (rows : List (List ℤ)) (image : List ℕ) (s : State) (n : ℕ) → n + length rows ≤ 18446744073709551615
-    → scanLines image s n rows ≡ replyLines (n + 1) (repliesOf image s rows)
+pub lines-replies : (rows : List (List ℤ)) (image : List ℕ) (names : ℕ) (s : State) (n : ℕ) → n + length rows ≤ 18446744073709551615
+    → scanLines image names s n rows ≡ replyLines names (n + 1) (repliesOf image s rows)
 unfolding scanLines
-lines-replies [] image s n h = refl
-lines-replies (row ∷ rows) image s n h =
+lines-replies [] image names s n h = refl
+lines-replies (row ∷ rows) image names s n h =
     let e = next-number n (omega arith) in
-    rw e (ap (λ (x : List ℕ). scanLine (n + 1) (scanOf image s row) ++ x) (lines-replies rows image (scanOf image s row .state) (n + 1) (omega arith)))
+    rw e (ap (λ (x : List ℕ). scanLine names (n + 1) (scanOf image s row) ++ x) (lines-replies rows image names (scanOf image s row .state) (n + 1) (omega arith)))
 
 -- ---- a refused text
 

@@ -10,6 +10,7 @@ use lib.IntN.{ℤ}
 use lib.ListN.{length, getD, take, drop, length-take, drop-of-length-le}
 use lib.Seq.{take-suc, drop-cons, take-at, take-all, take-length}
 use borrow.Author.Tests.{leb-true, leb-false, lt-ltb, le-ltb}
+use Rattle.limits.specs.Limits.{stateLimit}
 use Rattle.limits.specs.Answer.{Answer, accepted, refused}
 use Rattle.semantics.specs.Program.{Program}
 use Rattle.semantics.specs.Formula.{State}
@@ -98,16 +99,16 @@ unfolding takenWith
 some-taken room s [] h l = l
 some-taken room s (b ∷ part) h l = rw (le-ltb room lineRoom h) (omega arith)
 
-module _ (image : List ℕ) {s₀ : State} {begun : Line} {cells₀ : List ℤ} {last room : ℕ} {part : List ℕ} {taken : ℕ} {s : State} {line : Line} {cells : List ℤ} {number : ℕ} {out : List ℕ} {put : ℕ}
-    (h : Taking room (inRows image s₀ begun cells₀ last) part taken (inRows image s line cells number) out put) where
-  pub rows-taken : lineRoom ≤ room → taken ≡ takenWith room (inRows image s₀ begun cells₀ last) part
-      → Takes room (inRows image s₀ begun cells₀ last) part taken (inRows image s line cells number) out put
+module _ (image : List ℕ) (names : ℕ) {s₀ : State} {begun : Line} {cells₀ : List ℤ} {last room : ℕ} {part : List ℕ} {taken : ℕ} {s : State} {line : Line} {cells : List ℤ} {number : ℕ} {out : List ℕ} {put : ℕ}
+    (h : Taking room (inRows image names s₀ begun cells₀ last) part taken (inRows image names s line cells number) out put) where
+  pub rows-taken : lineRoom ≤ room → taken ≡ takenWith room (inRows image names s₀ begun cells₀ last) part
+      → Takes room (inRows image names s₀ begun cells₀ last) part taken (inRows image names s line cells number) out put
   unfolding takenOf
   rows-taken r e = record {
     count = e;
     session = h .session;
     output = h .output;
-    some = λ l. rw e (some-taken room (inRows image s₀ begun cells₀ last) part r l);
+    some = λ l. rw e (some-taken room (inRows image names s₀ begun cells₀ last) part r l);
     within = h .within;
     inside = h .inside;
   }
@@ -247,7 +248,7 @@ refused-session stage t cells e = rw (rows-of stage e)
 
 -- ---- a call, by where the program stands
 
-pub part-within : {A : Type 0} (n : ℕ) (l : List A) → length l ≡ 64 → length (take n l) ≤ 64
+pub part-within : {A : Type 0} (n : ℕ) (l : List A) → length l ≡ stateLimit → length (take n l) ≤ stateLimit
 part-within n l e = rw length-take (omega arith)
 
 module _ (tracer : Tracer) (text image : List ℕ) (s : State) (cells : List ℤ) where
@@ -272,28 +273,28 @@ module _ (tracer : Tracer) (text image : List ℕ) (s : State) (cells : List ℤ
       unfolding atEnd
       end-text o = (o .output ∙ ap atEnd text-is, o .inside)
 
-  module _ {size names : ℕ} {line : Line} {number : ℕ} (e : tracer ≡ T.Rows size names line number) where
+  module _ {size names width : ℕ} {line : Line} {number : ℕ} (e : tracer ≡ T.Rows size names width line number) where
     pub end-no-line : isBegun line ≡ false → [] ≡ atEnd (sessionOf tracer text image s cells)
     unfolding atEnd
     end-no-line r = rw (e, r)
 
-    module _ {end n : ℕ} (c : end ≡ min size (length image)) (d : n ≡ min names (length s)) where
-      rows-are : inRows (take end image) (take n s) line cells number ≡ sessionOf tracer text image s cells
+    module _ {end n : ℕ} (c : end ≡ min size (length image)) (d : n ≡ min width (length s)) where
+      rows-are : inRows (take end image) names (take n s) line cells number ≡ sessionOf tracer text image s cells
       rows-are =
-          ap (λ (x : ℕ). inRows (take x image) (take n s) line cells number) c ∙ ap (λ (x : List ℕ). inRows x (take n s) line cells number) (take-clip size image)
-          ∙ ap (λ (x : ℕ). inRows (take size image) (take x s) line cells number) d ∙ ap (λ (x : State). inRows (take size image) x line cells number) (take-clip names s)
+          ap (λ (x : ℕ). inRows (take x image) names (take n s) line cells number) c ∙ ap (λ (x : List ℕ). inRows x names (take n s) line cells number) (take-clip size image)
+          ∙ ap (λ (x : ℕ). inRows (take size image) names (take x s) line cells number) d ∙ ap (λ (x : State). inRows (take size image) names x line cells number) (take-clip width s)
           ∙ ap (λ (x : Tracer). sessionOf x text image s cells) (sym e)
 
       pub fed-rows : {room taken put : ℕ} {part out : List ℕ} {begun : Line} {all : List ℤ} {last : ℕ} (t : State) → length t ≡ n
-          → Takes room (inRows (take end image) (take n s) line cells number) part taken (inRows (take end image) t begun all last) out put
-          → Takes room (sessionOf tracer text image s cells) part taken (sessionOf (T.Rows end n begun last) text image (t ++ drop n s) all) out put
+          → Takes room (inRows (take end image) names (take n s) line cells number) part taken (inRows (take end image) names t begun all last) out put
+          → Takes room (sessionOf tracer text image s cells) part taken (sessionOf (T.Rows end names n begun last) text image (t ++ drop n s) all) out put
       fed-rows {room} {taken} {put} {part} {out} {begun} {all} {last} t l h =
-          subst (λ (x : Session). Takes room x part taken (inRows (take end image) (take n (t ++ drop n s)) begun all last) out put) rows-are
-          (subst (λ (x : State). Takes room (inRows (take end image) (take n s) line cells number) part taken (inRows (take end image) x begun all last) out put) (sym (take-at t (drop n s) n l)) h)
+          subst (λ (x : Session). Takes room x part taken (inRows (take end image) names (take n (t ++ drop n s)) begun all last) out put) rows-are
+          (subst (λ (x : State). Takes room (inRows (take end image) names (take n s) line cells number) part taken (inRows (take end image) names x begun all last) out put) (sym (take-at t (drop n s) n l)) h)
 
       pub end-line : isBegun line ≡ true → {k : ℕ} → k ≡ nextNumber number → {out more : List ℕ} {put : ℕ}
-          → PutWhole out 0 (scanLine k (scanOf (take end image) (take n s) (handedRow line cells))) more put → (take put more ≡ atEnd (sessionOf tracer text image s cells)) × (put ≤ length more)
+          → PutWhole out 0 (scanLine names k (scanOf (take end image) (take n s) (handedRow line cells))) more put → (take put more ≡ atEnd (sessionOf tracer text image s cells)) × (put ≤ length more)
       unfolding atEnd
       end-line r {k} f w =
-          let line-is : scanLine (nextNumber number) (scanOf (take end image) (take n s) (handedRow line cells)) ≡ atEnd (inRows (take end image) (take n s) line cells number) = rw r in
-          (w .bytes ∙ ap (λ (x : ℕ). scanLine x (scanOf (take end image) (take n s) (handedRow line cells))) f ∙ line-is ∙ ap atEnd rows-are, w .inside)
+          let line-is : scanLine names (nextNumber number) (scanOf (take end image) (take n s) (handedRow line cells)) ≡ atEnd (inRows (take end image) names (take n s) line cells number) = rw r in
+          (w .bytes ∙ ap (λ (x : ℕ). scanLine names x (scanOf (take end image) (take n s) (handedRow line cells))) f ∙ line-is ∙ ap atEnd rows-are, w .inside)

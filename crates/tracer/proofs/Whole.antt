@@ -65,10 +65,10 @@ module _ (input : List ℕ) (cells : List ℤ) (room : 65 ≤ length cells) (few
   behind-total (refused number place) e = passed-total rest
   behind-total (accepted p) e =
       let t = program-translatable (textOf input) p e in
-      rows-total rest (imageOf p) (startsOf p) Start cells 0
-      ∙ ap (scanLines (imageOf p) (startsOf p) 0) (rows-handed input cells room)
-      ∙ lines-replies rows (imageOf p) (startsOf p) 0 (rw (length-map (rowLines input) handedOf) (omega arith))
-      ∙ ap (replyLines 1) (scans-agree p t rows (startsOf p) (starts-in-range p (t .well-formed)))
+      rows-total rest (imageOf p) (length (p .names)) (startsOf p) Start cells 0
+      ∙ ap (scanLines (imageOf p) (length (p .names)) (startsOf p) 0) (rows-handed input cells room)
+      ∙ lines-replies rows (imageOf p) (length (p .names)) (startsOf p) 0 (rw (length-map (rowLines input) handedOf) (omega arith))
+      ∙ ap (replyLines (length (p .names)) 1) (scans-agree p t rows (startsOf p) (starts-in-range p (t .well-formed)))
 
   -- However an input of fewer than 2^64 rows is divided into parts and calls, the bytes put out, joined, are those of `printed`.
   pub whole : {out : List ℕ} → Calls (inText LineStart [] cells) input out → out ≡ printed input

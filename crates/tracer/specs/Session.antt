@@ -22,7 +22,7 @@ use Rattle.trace_text.specs.declared.Line.the-variants as L
 use Rattle.trace_text.specs.Inner.Stages.{stageAfter, textAfter, bytesBefore, lineAfter, cellsAfter, cellsOf, handedRow, isBegun}
 use Rattle.tracer.specs.declared.Tracer.{Tracer}
 use Rattle.tracer.specs.declared.Tracer.the-variants as T
-use Rattle.tracer.specs.Printed.{refusalOf, opening}
+use Rattle.tracer.specs.Printed.{refusalOf, printedValues, opening}
 
 -- one byte more than a text may have, so that a longer one is seen to be
 abbrev pub textRoom : ℕ
@@ -37,8 +37,8 @@ lineRoom = 2048
 pub data Session : Type 0 where
   -- in the text: the bytes known to belong to it, as far as there is room
   inText : Stage → List ℕ → List ℤ → Session
-  -- in the rows: the image, the state, the line begun with the cells for its numbers, and the number of the last row
-  inRows : List ℕ → State → Line → List ℤ → ℕ → Session
+  -- in the rows: the image, the count of names, the state, the line begun with the cells for its numbers, and the number of the last row
+  inRows : List ℕ → ℕ → State → Line → List ℤ → ℕ → Session
   -- the text was refused: what follows is passed over
   passedOver : Session
 
@@ -51,14 +51,14 @@ ifText G.Rows text cells s = s
 -- of the memory that the program keeps
 abbrev pub sessionOf : Tracer → List ℕ → List ℕ → State → List ℤ → Session
 sessionOf (T.Text stage n) text image s cells = ifText stage (take n text) cells passedOver
-sessionOf (T.Rows size names line number) text image s cells = inRows (take size image) (take names s) line cells number
+sessionOf (T.Rows size names width line number) text image s cells = inRows (take size image) names (take width s) line cells number
 
 -- ---- one byte
 
 -- behind the line `#`
 abbrev pub behindText : Answer Program → List ℤ → Session
 behindText (refused number place) cells = passedOver
-behindText (accepted p) cells = inRows (imageOf p) (startsOf p) L.Start cells 0
+behindText (accepted p) cells = inRows (imageOf p) (length (p .names)) (startsOf p) L.Start cells 0
 
 abbrev pub ifRows : Stage → List ℕ → List ℕ
 ifRows G.LineStart out = []
@@ -70,9 +70,9 @@ ifRows G.Rows out = out
 unfoldable pub nextNumber : ℕ → ℕ
 nextNumber n = cond (ltb n 18446744073709551615) (n + 1) n
 
--- the line of a row that was scanned
-abbrev pub scanLine : ℕ → AfterScan → List ℕ
-scanLine number a = rowLine number (a .state) (refusalOf (verdictOf (a .answer)))
+-- the line of a row that was scanned, for so many names
+abbrev pub scanLine : ℕ → ℕ → AfterScan → List ℕ
+scanLine names number a = rowLine number (printedValues names (a .state)) (refusalOf (verdictOf (a .answer)))
 
 -- the text with what a byte adds to it
 abbrev pub longerText : Stage → List ℕ → ℕ → List ℕ
@@ -82,15 +82,15 @@ unfoldable pub after : Session → ℕ → Session
 after (inText stage text cells) b =
     let all = longerText stage text b in
     ifText (stageAfter stage b) all cells (behindText (programOf all) cells)
-after (inRows image s line cells n) b =
+after (inRows image names s line cells n) b =
     let a = scanOf image s (handedRow line cells) in
-    cond (eqb b 10) (inRows image (a .state) L.Start (cellsOf line cells) (nextNumber n)) (inRows image s (lineAfter line b) (cellsAfter line cells b) n)
+    cond (eqb b 10) (inRows image names (a .state) L.Start (cellsOf line cells) (nextNumber n)) (inRows image names s (lineAfter line b) (cellsAfter line cells b) n)
 after passedOver b = passedOver
 
 -- the bytes put out
 unfoldable pub putBy : Session → ℕ → List ℕ
 putBy (inText stage text cells) b = ifRows (stageAfter stage b) (opening (programOf (longerText stage text b)))
-putBy (inRows image s line cells n) b = cond (eqb b 10) (scanLine (nextNumber n) (scanOf image s (handedRow line cells))) []
+putBy (inRows image names s line cells n) b = cond (eqb b 10) (scanLine names (nextNumber n) (scanOf image s (handedRow line cells))) []
 putBy passedOver b = []
 
 -- ---- bytes, and the end of the input
@@ -106,7 +106,7 @@ putOver s (b ∷ bytes) = putBy s b ++ putOver (after s b) bytes
 -- a text without the line `#` is printed without rows; a last line without LF is a row
 unfoldable pub atEnd : Session → List ℕ
 atEnd (inText stage text cells) = opening (programOf text)
-atEnd (inRows image s line cells n) = cond (isBegun line) (scanLine (nextNumber n) (scanOf image s (handedRow line cells))) []
+atEnd (inRows image names s line cells n) = cond (isBegun line) (scanLine names (nextNumber n) (scanOf image s (handedRow line cells))) []
 atEnd passedOver = []
 
 -- ---- how many bytes a call takes: in the text, as far as the rows; in the rows, as far as there is room for another line
@@ -117,5 +117,5 @@ takenWith room s (b ∷ bytes) = let more = suc (takenWith (room - length (putBy
 
 unfoldable pub takenOf : ℕ → Session → List ℕ → ℕ
 takenOf room (inText stage text cells) bytes = bytesBefore stage bytes
-takenOf room (inRows image s line cells n) bytes = takenWith room (inRows image s line cells n) bytes
+takenOf room (inRows image names s line cells n) bytes = takenWith room (inRows image names s line cells n) bytes
 takenOf room passedOver bytes = length bytes

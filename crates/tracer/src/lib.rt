@@ -9,6 +9,7 @@ ghost use mathlib.Core.Bool.{false};
 ghost use mathlib.Core.List.{List};
 ghost use lib.IntN.{ℤ};
 ghost use lib.ListN.{length, take};
+ghost use Rattle.limits.specs.Limits.{stateLimit};
 ghost use Rattle.limits.specs.Answer.{accepted};
 ghost use Rattle.declarations.specs.Inner.Tables.{TableRoom};
 ghost use Rattle.semantics.specs.Program.{Program};
@@ -28,8 +29,8 @@ pub const OUTPUT_ROOM: usize = 65536;
 pub enum Tracer {
     // In the text: how many of its bytes are stored. With the stage `Rows`, the text was refused.
     Text(Stage, usize),
-    // In the rows: the lengths of image and state, the line begun, and the number of the last row.
-    Rows(usize, usize, Line, u64),
+    // In the rows: the length of the image, the count of names, the length of the state, the line begun, and the number of the last row.
+    Rows(usize, usize, usize, Line, u64),
 }
 
 // The bytes taken of a part, and the end of the bytes put out.
@@ -45,7 +46,7 @@ struct Opened {
     put: usize,
 }
 
-// An accepted text: its image, the start, and their lines put out.
+// An accepted text: its image, the start, and their lines put out. Elapsed times stand in the state, but are not printed.
 fn begin_trace(
     text: &[u8],
     image: &mut [u8],
@@ -53,17 +54,18 @@ fn begin_trace(
     starts: &[usize],
     ends: &[usize],
     size: usize,
+    names: usize,
     out: &mut [u8],
 ) -> usize
-    requires { ⌜ AcceptedText (now text) (now starts) (now ends) size (length (now state)) ⌝ }
+    requires { ⌜ AcceptedText (now text) (now starts) (now ends) size names (length (now state)) ⌝ }
     requires { ⌜ (49154 ≤ length (now image)) × (lineRoom ≤ length (now out)) ⌝ }
     ensures { λ r. ⌜ ((p : Program) → programOf (now (text .entry)) ≡ accepted p → Begins (take size (now (image .exit))) (now (state .exit)) (take r (now (out .exit))) p) ⌝ }
     ensures { λ r. ⌜ r ≤ length (now (out .exit)) ⌝ }
 {
     translate::translate(text, image);
-    let at = trace_text::print::put_head(out, 0, text, starts, ends, state.len());
+    let at = trace_text::print::put_head(out, 0, text, starts, ends, names);
     scan::start(&image[..size], state);
-    trace_text::print::put_row(out, at, 0, state, 0)
+    trace_text::print::put_row(out, at, 0, &state[..names], 0)
 }
 
 // The text is whole: its refusal, or its trace so far, put out.
@@ -76,7 +78,7 @@ fn open_in(
     out: &mut [u8],
 ) -> Opened
     requires { ⌜ TableRoom (now starts) (now ends) 0 ⌝ }
-    requires { ⌜ (49154 ≤ length (now image)) × (length (now state) ≡ 64) × (lineRoom ≤ length (now out)) ⌝ }
+    requires { ⌜ (49154 ≤ length (now image)) × (length (now state) ≡ stateLimit) × (lineRoom ≤ length (now out)) ⌝ }
     ensures { λ r. ⌜ Opens (now (text .entry)) (now (image .exit)) (now (state .exit)) (now (out .exit)) (r .tracer) (r .put) ⌝ }
 {
     let analysis = translate::analyse(text, starts, ends);
@@ -88,10 +90,20 @@ fn open_in(
                 put,
             }
         }
-        Analysis::Accepted(size, _, names) => {
-            let put = begin_trace(text, image, &mut state[..names], starts, ends, size, out);
+        Analysis::Accepted(size, _, names, timers) => {
+            let width = names + timers;
+            let put = begin_trace(
+                text,
+                image,
+                &mut state[..width],
+                starts,
+                ends,
+                size,
+                names,
+                out,
+            );
             Opened {
-                tracer: Tracer::Rows(size, names, Line::Start, 0),
+                tracer: Tracer::Rows(size, names, width, Line::Start, 0),
                 put,
             }
         }
@@ -99,7 +111,7 @@ fn open_in(
 }
 
 fn open_trace(text: &[u8], image: &mut [u8], state: &mut [i32], out: &mut [u8]) -> Opened
-    requires { ⌜ (49154 ≤ length (now image)) × (length (now state) ≡ 64) × (lineRoom ≤ length (now out)) ⌝ }
+    requires { ⌜ (49154 ≤ length (now image)) × (length (now state) ≡ stateLimit) × (lineRoom ≤ length (now out)) ⌝ }
     ensures { λ r. ⌜ Opens (now (text .entry)) (now (image .exit)) (now (state .exit)) (now (out .exit)) (r .tracer) (r .put) ⌝ }
 {
     let mut starts = [0usize; limits::NAME_LIMIT];
@@ -118,7 +130,7 @@ fn feed_text(
     out: &mut [u8],
 ) -> Fed
     requires { ⌜ (stored ≤ length (now text)) × (length (now text) ≡ textRoom) × (isRows stage ≡ false) ⌝ }
-    requires { ⌜ (49154 ≤ length (now image)) × (length (now state) ≡ 64) × (lineRoom ≤ length (now out)) ⌝ }
+    requires { ⌜ (49154 ≤ length (now image)) × (length (now state) ≡ stateLimit) × (lineRoom ≤ length (now out)) ⌝ }
     ensures { λ r. ⌜ ((cells : List ℤ) → Takes (length (now (out .entry))) (Session.inText stage (take stored (now (text .entry))) cells) (now (part .entry)) (r .taken)
         (sessionOf (r .tracer) (now (text .exit)) (now (image .exit)) (now (state .exit)) cells) (now (out .exit)) (r .put)) ⌝ }
 {
@@ -171,12 +183,13 @@ fn feed_in(
             let n = trace_text::print::clip(text.len(), stored);
             feed_text(text, image, state, stage, n, part, out)
         }
-        Tracer::Rows(size, names, line, number) => {
+        Tracer::Rows(size, names, width, line, number) => {
             let end = trace_text::print::clip(image.len(), size);
-            let n = trace_text::print::clip(state.len(), names);
+            let n = trace_text::print::clip(state.len(), width);
             let fed = rows::feed_rows(
                 &image[..end],
                 &mut state[..n],
+                names,
                 cells,
                 line,
                 number,
@@ -185,7 +198,7 @@ fn feed_in(
             );
             let begun = fed.line;
             Fed {
-                tracer: Tracer::Rows(end, n, begun, fed.number),
+                tracer: Tracer::Rows(end, names, n, begun, fed.number),
                 taken: fed.taken,
                 put: fed.put,
             }
@@ -214,14 +227,23 @@ fn finish_in(
             let opened = open_trace(&text[..n], image, state, out);
             opened.put
         }
-        Tracer::Rows(size, names, line, number) => {
+        Tracer::Rows(size, names, width, line, number) => {
             if !trace_text::is_begun(line) {
                 return 0;
             }
             let end = trace_text::print::clip(image.len(), size);
-            let n = trace_text::print::clip(state.len(), names);
+            let n = trace_text::print::clip(state.len(), width);
             let next = rows::next_number(number);
-            rows::trace_row(&image[..end], &mut state[..n], cells, line, next, out, 0)
+            rows::trace_row(
+                &image[..end],
+                &mut state[..n],
+                names,
+                cells,
+                line,
+                next,
+                out,
+                0,
+            )
         }
     }
 }
@@ -237,7 +259,7 @@ pub fn begin() -> Tracer
 pub fn feed(
     text: &mut [u8; TEXT_ROOM],
     image: &mut [u8; limits::IMAGE_ROOM],
-    state: &mut [i32; limits::NAME_LIMIT],
+    state: &mut [i32; limits::STATE_LIMIT],
     cells: &mut [i32; trace_text::LONG_ROW],
     tracer: Tracer,
     part: &[u8],
@@ -253,7 +275,7 @@ pub fn feed(
 pub fn finish(
     text: &[u8; TEXT_ROOM],
     image: &mut [u8; limits::IMAGE_ROOM],
-    state: &mut [i32; limits::NAME_LIMIT],
+    state: &mut [i32; limits::STATE_LIMIT],
     cells: &mut [i32; trace_text::LONG_ROW],
     tracer: Tracer,
     out: &mut [u8; OUTPUT_ROOM],

@@ -4,6 +4,7 @@ use trace_text::Line;
 ghost use Prim.Native.Nat.{_+_, _≤_};
 ghost use mathlib.Core.Path.{_≡_};
 ghost use lib.ListN.{length};
+ghost use Rattle.limits.specs.Limits.{stateLimit};
 ghost use Rattle.scan.specs.Services.{scanOf};
 ghost use Rattle.scan.specs.Results.{scanAnswer};
 ghost use Rattle.correctness.specs.TraceCorrect.{verdictOf};
@@ -49,30 +50,33 @@ pub fn next_number(number: u64) -> u64
     number
 }
 
-// A line that has ended: its row is scanned, and the state it leaves printed.
+// A line that has ended: its row is scanned, and the values of the names in the state it leaves printed, not the elapsed times.
 pub fn trace_row(
     image: &[u8],
     state: &mut [i32],
+    names: usize,
     cells: &mut [i32],
     line: Line,
     number: u64,
     out: &mut [u8],
     at: usize,
 ) -> usize
-    requires { ⌜ (65 ≤ length (now cells)) × (length (now state) ≤ 64) × (at + lineRoom ≤ length (now out)) ⌝ }
+    requires { ⌜ (65 ≤ length (now cells)) × (length (now state) ≤ stateLimit) × (at + lineRoom ≤ length (now out)) ⌝ }
     ensures { λ r. ⌜ now (state .exit) ≡ scanOf (now (image .entry)) (now (state .entry)) (handedRow line (now (cells .entry))) .state ⌝ }
     ensures { λ r. ⌜ now (cells .exit) ≡ cellsOf line (now (cells .entry)) ⌝ }
-    ensures { λ r. ⌜ PutWhole (now (out .entry)) at (scanLine number (scanOf (now (image .entry)) (now (state .entry)) (handedRow line (now (cells .entry))))) (now (out .exit)) r ⌝ }
+    ensures { λ r. ⌜ PutWhole (now (out .entry)) at (scanLine names number (scanOf (now (image .entry)) (now (state .entry)) (handedRow line (now (cells .entry))))) (now (out .exit)) r ⌝ }
 {
     let count = trace_text::line_end(cells, line);
     let scanned = scan::scan(image, state, &cells[..count]);
-    trace_text::print::put_row(out, at, number, state, scan_number(scanned))
+    let shown = trace_text::print::clip(state.len(), names);
+    trace_text::print::put_row(out, at, number, &state[..shown], scan_number(scanned))
 }
 
 // One byte of the rows.
 fn trace_byte(
     image: &[u8],
     state: &mut [i32],
+    names: usize,
     cells: &mut [i32],
     line: Line,
     number: u64,
@@ -80,10 +84,10 @@ fn trace_byte(
     out: &mut [u8],
     at: usize,
 ) -> Traced
-    requires { ⌜ (65 ≤ length (now cells)) × (length (now state) ≤ 64) × (at + lineRoom ≤ length (now out)) ⌝ }
-    ensures { λ r. ⌜ Session.inRows (now (image .entry)) (now (state .exit)) (r .line) (now (cells .exit)) (r .number)
-        ≡ after (Session.inRows (now (image .entry)) (now (state .entry)) line (now (cells .entry)) number) b ⌝ }
-    ensures { λ r. ⌜ PutWhole (now (out .entry)) at (putBy (Session.inRows (now (image .entry)) (now (state .entry)) line (now (cells .entry)) number) b) (now (out .exit)) (r .put) ⌝ }
+    requires { ⌜ (65 ≤ length (now cells)) × (length (now state) ≤ stateLimit) × (at + lineRoom ≤ length (now out)) ⌝ }
+    ensures { λ r. ⌜ Session.inRows (now (image .entry)) names (now (state .exit)) (r .line) (now (cells .exit)) (r .number)
+        ≡ after (Session.inRows (now (image .entry)) names (now (state .entry)) line (now (cells .entry)) number) b ⌝ }
+    ensures { λ r. ⌜ PutWhole (now (out .entry)) at (putBy (Session.inRows (now (image .entry)) names (now (state .entry)) line (now (cells .entry)) number) b) (now (out .exit)) (r .put) ⌝ }
 {
     if b != 10 {
         let more = trace_text::line_byte(cells, line, b);
@@ -94,7 +98,7 @@ fn trace_byte(
         };
     }
     let next = next_number(number);
-    let put = trace_row(image, state, cells, line, next, out, at);
+    let put = trace_row(image, state, names, cells, line, next, out, at);
     Traced {
         line: Line::Start,
         number: next,
@@ -106,16 +110,17 @@ fn trace_byte(
 pub fn feed_rows(
     image: &[u8],
     state: &mut [i32],
+    names: usize,
     cells: &mut [i32],
     begun: Line,
     last: u64,
     part: &[u8],
     out: &mut [u8],
 ) -> FedRows
-    requires { ⌜ (65 ≤ length (now cells)) × (length (now state) ≤ 64) × (lineRoom ≤ length (now out)) ⌝ }
+    requires { ⌜ (65 ≤ length (now cells)) × (length (now state) ≤ stateLimit) × (lineRoom ≤ length (now out)) ⌝ }
     ensures { λ r. ⌜ Takes (length (now (out .entry)))
-        (Session.inRows (now (image .entry)) (now (state .entry)) begun (now (cells .entry)) last) (now (part .entry)) (r .taken)
-        (Session.inRows (now (image .entry)) (now (state .exit)) (r .line) (now (cells .exit)) (r .number)) (now (out .exit)) (r .put) ⌝ }
+        (Session.inRows (now (image .entry)) names (now (state .entry)) begun (now (cells .entry)) last) (now (part .entry)) (r .taken)
+        (Session.inRows (now (image .entry)) names (now (state .exit)) (r .line) (now (cells .exit)) (r .number)) (now (out .exit)) (r .put) ⌝ }
 {
     let mut line = begun;
     let mut number = last;
@@ -130,7 +135,17 @@ pub fn feed_rows(
                 put,
             };
         }
-        let traced = trace_byte(image, state, cells, line, number, part[taken], out, put);
+        let traced = trace_byte(
+            image,
+            state,
+            names,
+            cells,
+            line,
+            number,
+            part[taken],
+            out,
+            put,
+        );
         line = traced.line;
         number = traced.number;
         put = traced.put;

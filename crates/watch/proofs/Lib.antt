@@ -5,3 +5,4 @@ pub mod Walks
 pub mod Reporting
 pub mod Service
 pub mod Traces
+pub mod Examples

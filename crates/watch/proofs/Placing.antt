@@ -32,28 +32,28 @@ fails-in c none trace n f = place-of trace n (f .current) (f .is-current)
 fails-in c (some d) trace zero f = absurd f
 fails-in c (some d) trace (suc n) f = place-of trace (suc n) (f .next) (f .is-next)
 
-states-counted : (places names : ℕ) (cells : List ℤ) → length (statesOf places names cells) ≡ places
-states-counted zero names cells = refl
-states-counted (suc n) names cells = ap suc (states-counted n names (drop names cells))
+states-counted : (places size : ℕ) (cells : List ℤ) → length (statesOf places size cells) ≡ places
+states-counted zero size cells = refl
+states-counted (suc n) size cells = ap suc (states-counted n size (drop size cells))
 
 le-mul : (p n : ℕ) → p ≤ p * suc n
 le-mul zero n = omega arith
 le-mul (suc p) n = omega (arith, le-mul p n, suc-mul p (suc n))
 
 -- as many places as numbers are lent, or one
-places-few : (names places size : ℕ) → places * names ≡ size → (names ≡ 0 → places ≤ 1) → places ≤ size + 1
-places-few zero places size e h = omega (arith, h refl)
-places-few (suc names) places size e h = omega (arith, e, le-mul places names)
+places-few : (size places lent : ℕ) → places * size ≡ lent → (size ≡ 0 → places ≤ 1) → places ≤ lent + 1
+places-few zero places lent e h = omega (arith, h refl)
+places-few (suc size) places lent e h = omega (arith, e, le-mul places size)
 
-one-place : (names : ℕ) (cells : List ℤ) → names ≡ 0 → placesIn names cells ≤ 1
+one-place : (size : ℕ) (cells : List ℤ) → size ≡ 0 → placesIn size cells ≤ 1
 unfolding placesIn
-one-place names cells z = rw (eq-eqb names 0 z) (omega arith)
+one-place size cells z = rw (eq-eqb size 0 z) (omega arith)
 
-pub places-small : (names : ℕ) (cells : List ℤ) → isTrace names cells ≡ true → placesIn names cells ≤ length cells + 1
-places-small names cells e = places-few names (placesIn names cells) (length cells) (trace-whole names cells e .all) (one-place names cells)
+pub places-small : (size : ℕ) (cells : List ℤ) → isTrace size cells ≡ true → placesIn size cells ≤ length cells + 1
+places-small size cells e = places-few size (placesIn size cells) (length cells) (trace-whole size cells e .all) (one-place size cells)
 
-pub failed-within : (w : Watch) (places names : ℕ) (cells : List ℤ) (r : Failed) → places < 2 ^ 63 → failedAt r ≡ firstFailure w (placesOf (statesOf places names cells)) → FailedWithin r
-failed-within w places names cells (At n) h e =
-    let f = reported-first w (statesOf places names cells) n (sym e) .fails in
-    omega (arith, h, fails-in (w .first) (w .later) (statesOf places names cells) n f, states-counted places names cells)
-failed-within w places names cells Never h e = tt
+pub failed-within : (w : Watch) (places size : ℕ) (cells : List ℤ) (r : Failed) → places < 2 ^ 63 → failedAt r ≡ firstFailure w (placesOf (statesOf places size cells)) → FailedWithin r
+failed-within w places size cells (At n) h e =
+    let f = reported-first w (statesOf places size cells) n (sym e) .fails in
+    omega (arith, h, fails-in (w .first) (w .later) (statesOf places size cells) n f, states-counted places size cells)
+failed-within w places size cells Never h e = tt

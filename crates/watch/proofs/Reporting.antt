@@ -101,7 +101,7 @@ module _ {text starts ends : List ℕ} {names at count : ℕ} {trace : Trace} {r
       pub reports-read : {A : Type 0} {l q : ℕ} → watchAt (freeScope text starts ends names) n ≡ refused l q → A
       reports-read e = next-read (freeScope text starts ends names) (watchLimit - i) (x .done) a (x .watches) (x .end) (x .same) some-more (f .read) e
 
-      module _ {code code′ : List ℕ} {b : Place} (g : Got codeOfWatch numberTold (endOfFirst 0) (watchAt (freeScope text starts ends names) n) 0 code code′ b) (large : imageRoom ≤ length code) where
+      module _ {size : ℕ} (longer : names ≤ size) (few-cells : size < 2 ^ 32) {code code′ : List ℕ} {b : Place} (g : Got codeOfWatch numberTold (endOfFirst 0) (watchAt (freeScope text starts ends names) n) 0 code code′ b) (large : imageRoom ≤ length code) where
         counted-names : length (freeScope text starts ends names .names) ≡ names
         counted-names = names-counted text starts ends names (x .table)
 
@@ -112,15 +112,15 @@ module _ {text starts ends : List ℕ} {names at count : ℕ} {trace : Trace} {r
         fits = omega (arith, paid .0, paid .1, x .room .short, large)
 
         -- its code stands in the memory lent
-        pub reports-code : WatchCode (g .tree) names (b .number) (b .to) code′
+        pub reports-code : WatchCode (g .tree) size (b .number) (b .to) code′
         reports-code =
             let y = watch-fit (freeScope text starts ends names) (omega (arith, counted-names, x .few-names)) (counted-names ∙ sym (length-known names names)) n (reports-room .within) (g .tree) (b .at) (g .is) in
-            watch-code (g .tree) names (b .number) (b .to) code code′ (x .few-names) (y .0) (y .1) (g .tells-it) (g .ended) fits (g .wrote)
+            watch-code (g .tree) names size (b .number) (b .to) code code′ longer few-cells (y .0) (y .1) (g .tells-it) (g .ended) fits (g .wrote)
 
         pub reports-inside : b .to ≤ length code′
         reports-inside =
             let y = watch-fit (freeScope text starts ends names) (omega (arith, counted-names, x .few-names)) (counted-names ∙ sym (length-known names names)) n (reports-room .within) (g .tree) (b .at) (g .is) in
-            code-inside (g .tree) names (b .number) (b .to) code code′ (x .few-names) (y .0) (y .1) (g .tells-it) (g .ended) fits (g .wrote)
+            code-inside (g .tree) names size (b .number) (b .to) code code′ longer few-cells (y .0) (y .1) (g .tells-it) (g .ended) fits (g .wrote)
 
         pub reports-more : (z : ℤ) → z ≡ reported (firstFailure (g .tree) (placesOf trace)) → Reports text starts ends names at count trace report₀ (set report i z) (b .at) (i + 1)
         reports-more z e = record {

@@ -46,34 +46,35 @@ fn reported(failed: Failed) -> i64
     }
 }
 
-// One watch, whose code ends at `end`, that of its first condition at `middle`.
+// One watch, whose code ends at `end`, that of its first condition at `middle`, over states of `size` numbers.
 fn walk(
     code: &[u8],
     middle: usize,
     end: usize,
     trace: &[i32],
-    names: usize,
+    size: usize,
     places: usize,
     vals: &mut [i32],
 ) -> Failed
     requires { ⌜ (middle ≤ end) × (end ≤ length (now code)) ⌝ }
-    requires { ⌜ (stackLimit ≤ length (now vals)) × (places * names ≡ length (now trace)) ⌝ }
-    ensures { λ r. ⌜ ((w : Watch) → WatchCode w names middle end (now (code .entry)) → failedAt r ≡ firstFailure w (placesOf (statesOf places names (now (trace .entry))))) ⌝ }
+    requires { ⌜ (stackLimit ≤ length (now vals)) × (places * size ≡ length (now trace)) ⌝ }
+    ensures { λ r. ⌜ ((w : Watch) → WatchCode w size middle end (now (code .entry)) → failedAt r ≡ firstFailure w (placesOf (statesOf places size (now (trace .entry))))) ⌝ }
 {
     if middle == end {
-        return evaluation::walk_alone(&code[..middle], trace, names, places, vals);
+        return evaluation::walk_alone(&code[..middle], trace, size, places, vals);
     }
     evaluation::walk_paired(
         &code[..middle],
         &code[middle..end],
         trace,
-        names,
+        size,
         places,
         vals,
     )
 }
 
-// The report of each of the watches, of which there are `count` from `at` on. They were read before, so that nothing is refused.
+// The report of each of the watches, of which there are `count` from `at` on, over states of `size` numbers, the names' values first.
+// They were read before, so that nothing is refused.
 fn reports(
     text: &[u8],
     starts: &[usize],
@@ -82,17 +83,18 @@ fn reports(
     at: usize,
     count: usize,
     trace: &[i32],
+    size: usize,
     report: &mut [i64],
     code: &mut [u8],
     vals: &mut [i32],
 )
     requires { ⌜ CountedWatches (now text) (now starts) (now ends) names at count ⌝ }
-    requires { ⌜ isTrace names (now trace) ≡ true ⌝ }
+    requires { ⌜ (names ≤ size) × (size < 2 ^ 32) × (isTrace size (now trace) ≡ true) ⌝ }
     requires { ⌜ (count ≤ length (now report)) × (imageRoom ≤ length (now code)) × (stackLimit ≤ length (now vals)) ⌝ }
     ensures { λ _. ⌜ ((ws : List Watch) (m : ℕ) → watchesFrom watchLimit (freeScope (now (text .entry)) (now (starts .entry)) (now (ends .entry)) names) [] at ≡ accepted ws m
-        → now (report .exit) ≡ sets (now (report .entry)) 0 (reportOf ws (tracedStates names (now (trace .entry))))) ⌝ }
+        → now (report .exit) ≡ sets (now (report .entry)) 0 (reportOf ws (tracedStates size (now (trace .entry))))) ⌝ }
 {
-    let places = lent::places(trace, names);
+    let places = lent::places(trace, size);
     let free = expressions::scope::first_names(names, names);
     let mut a = at;
     let mut i = 0;
@@ -105,7 +107,7 @@ fn reports(
         let Step::Done(b) = read else {
             return;
         };
-        let failed = walk(code, b.number, b.to, trace, names, places, vals);
+        let failed = walk(code, b.number, b.to, trace, size, places, vals);
         report[i] = reported(failed);
         a = b.at;
         i += 1;
@@ -128,8 +130,10 @@ fn watch_in(
     ensures { λ r. ⌜ WatchedWithin r ⌝ }
 {
     match translate::survey(text, starts, ends) {
-        Surveyed::Watches(names, at, count) => {
-            if !lent::is_trace(trace, names) {
+        Surveyed::Watches(names, at, count, timers) => {
+            // a state: the value of each name, then the elapsed time of each timer
+            let size = names + timers;
+            if !lent::is_trace(trace, size) {
                 return Watched::Refused(limits::WRONG_LENGTH, 0);
             }
             if report.len() != limits::REPORT_LENGTH {
@@ -143,6 +147,7 @@ fn watch_in(
                 at,
                 count,
                 trace,
+                size,
                 report,
                 code,
                 vals,

@@ -2,6 +2,7 @@
 use mathlib.Core.Path.{sym, ap, _∙_}
 use native.Mathlib.Omega.{arith}
 use borrow.Author.Needs.{needs}
+use Rattle.lexer.specs.Names.{idOf}
 use Rattle.lexer.specs.Results.{foundId}
 use Rattle.semantics.specs.Program.{current}
 use Rattle.expressions.proofs.Steps.{refuses, refused-now, same-part, recoded}
@@ -15,22 +16,22 @@ returns c = refuses (refused-now (current-long _ _ _ (sym (c .before .is-over-lo
 
 returns-2 : tie.Need-returns-2
 returns-2 c =
-    let at-if1 = c .before .before .before in
+    let at-if1 = c .before .before .before .before in
     let at-is-over-long = at-if1 .before in
-    refuses (refused-now (current-unknown _ _ _ (sym (at-is-over-long .is-over-long .ensures) ∙ at-if1 .if1 .left) (sym (c .before .before .find .ensures) ∙ ap foundId (c .enum-told .given .1))))
+    refuses (refused-now (current-unknown _ _ _ (sym (at-is-over-long .is-over-long .ensures) ∙ at-if1 .if1 .left) (sym (c .before .before .find .ensures ∙ ap (idOf _) (c .before .before .before .name .ensures)) ∙ ap foundId (c .enum-told .given .1))))
 
 is-known-requires : tie.Need-is-known-requires
 is-known-requires c κs =
     let at-find = c .before .before .before in
-    let start = at-find .before .before .before .before .before .before .before in
-    (id-below _ (start .pre .0) _ (sym (at-find .find .ensures) ∙ ap foundId (c .before .found .given .1)), start .pre .0 .few)
+    let start = at-find .before .before .before .before .before .before .before .before in
+    (id-below _ (start .pre .0) _ (sym (at-find .find .ensures ∙ ap (idOf _) (at-find .before .name .ensures)) ∙ ap foundId (c .before .found .given .1)), start .pre .0 .few)
 
 instruction-requires : tie.Need-instruction-requires
 instruction-requires c κs =
     let at-found = c .before .before .before .before in
     let at-find = at-found .before .before in
-    let start = at-find .before .before .before .before .before .before .before in
-    (start .pre .1, omega (arith, id-few _ (start .pre .0) _ (sym (at-find .find .ensures) ∙ ap foundId (at-found .found .given .1))))
+    let start = at-find .before .before .before .before .before .before .before .before in
+    (start .pre .1, omega (arith, id-few _ (start .pre .0) _ (sym (at-find .find .ensures ∙ ap (idOf _) (at-find .before .name .ensures)) ∙ ap foundId (at-found .found .given .1))))
 
 returns-3 : tie.Need-returns-3
 returns-3 c =
@@ -38,10 +39,10 @@ returns-3 c =
     let at-is-known = at-if2 .before in
     let at-found = at-is-known .before .before in
     let at-find = at-found .before .before in
-    let at-if1 = at-find .before in
+    let at-if1 = at-find .before .before in
     let at-is-over-long = at-if1 .before in
     let start = at-is-over-long .before .before .before .before .before in
-    let e = sym (at-find .find .ensures) ∙ ap foundId (at-found .found .given .1) in
+    let e = sym (at-find .find .ensures ∙ ap (idOf _) (at-find .before .name .ensures)) ∙ ap foundId (at-found .found .given .1) in
     same-part (current-known _ _ _ (sym (at-is-over-long .is-over-long .ensures) ∙ at-if1 .if1 .left) _ e (sym (at-is-known .is-known .ensures) ∙ at-if2 .if2 .taken))
     (recoded (current _) (c .before .before .instruction .ensures) (current-code _))
 
@@ -49,10 +50,10 @@ returns-4 : tie.Need-returns-4
 returns-4 c =
     let at-found = c .before .before .before in
     let at-find = at-found .before .before in
-    let at-if1 = at-find .before in
+    let at-if1 = at-find .before .before in
     let at-is-over-long = at-if1 .before in
     let start = at-is-over-long .before .before .before .before .before in
-    let e = sym (at-find .find .ensures) ∙ ap foundId (at-found .found .given .1) in
+    let e = sym (at-find .find .ensures ∙ ap (idOf _) (at-find .before .name .ensures)) ∙ ap foundId (at-found .found .given .1) in
     refuses (refused-now (current-early _ _ _ (sym (at-is-over-long .is-over-long .ensures) ∙ at-if1 .if1 .left) _ e (sym (c .before .is-known .ensures) ∙ c .if2 .left)))
 
 pub current-spec : {M : Type 1} → statement M
@@ -61,6 +62,7 @@ current-spec =
     (tie.spec
     (λ c κs. search needs)
     returns
+    (λ c κs. search needs)
     (λ c κs. search needs)
     (λ c. search needs)
     (λ c. search needs)

@@ -5,7 +5,7 @@ use lib.ListN.{length, drop, length-drop}
 use borrow.Author.Tests.{not-true, not-false}
 use borrow.Author.Needs.{needs}
 use Rattle.bytecode.proofs.SoundHeader.{headed-stands, headed-broken}
-use Rattle.structured_text.proofs.Service.{name-refused, header-unbroken, count-held, none-reserved, code-rest, prepared}
+use Rattle.structured_text.proofs.Service.{name-refused, header-unbroken, count-held, none-outside, code-rest, prepared}
 use Rattle.structured_text.proofs.write_image.Statement.{statement}
 use Rattle.structured_text.proofs.write_image.Tie as tie
 
@@ -22,7 +22,7 @@ returns-2 : tie.Need-returns-2
 returns-2 c =
     let k = c .before .before .before .before .before .before .before .before .before .before .before .before .before .before .before .before .before .before .before .pre .0 in
     let h = headed-stands (c .before .before .before .before .before .before .before .before .before .header .ensures) (c .before .before .before .before .headed .given .1) in
-    rw (c .reserved-place .ensures) (name-refused _ _ (k .program) (k .parsed) (none-reserved k h (c .before .before .has-st .ensures) ∙ not-true _ (c .before .if1 .taken)))
+    rw (c .reserved-place .ensures) (name-refused _ _ (k .program) (k .parsed) (none-outside k h (c .before .before .has-st .ensures) ∙ not-true _ (c .before .if1 .taken)))
 
 sub-write-code : tie.Need-sub-write-code
 sub-write-code c =
@@ -43,7 +43,7 @@ write-code-requires c κs =
     let image = c .before .before .before .before .before .before .before .before .before .before .before .before .before .before .before .before .before .before .before .before .before .before .args .image .now in
     let place = c .before .before .before .before .before .before .before .headed .given .0 .1 .1 .0 in
     rw (code-rest image place)
-    (prepared k h (none-reserved k h (c .before .before .before .before .before .has-st .ensures) ∙ not-false _ (c .before .before .before .before .if1 .left)) (c .before .before .before .before .before .before .before .before .before .before .before .before .before .before .before .before .before .before .before .before .before .before .pre .1 .0), omega (arith, length-drop place image, c .before .before .before .before .before .before .before .before .before .before .before .before .before .before .before .before .before .before .before .before .before .before .pre .1 .1))
+    (prepared k h (none-outside k h (c .before .before .before .before .before .has-st .ensures) ∙ not-false _ (c .before .before .before .before .if1 .left)) (c .before .before .before .before .before .before .before .before .before .before .before .before .before .before .before .before .before .before .before .before .before .before .pre .1 .0), omega (arith, length-drop place image, c .before .before .before .before .before .before .before .before .before .before .before .before .before .before .before .before .before .before .before .before .before .before .pre .1 .1))
 
 pub write-image-spec : {M : Type 1} → statement M
 write-image-spec =

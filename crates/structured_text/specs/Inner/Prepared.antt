@@ -23,16 +23,17 @@ abbrev pub wholePrinted : ℕ → List Identifier → List ℤ → List Rule →
 wholePrinted inputs names values rules l =
     sectionsPrinted inputs (declarationsOf names values) (statementsPrinted (map (ruleInSt names) rules) (statementsPrinted (map savingLine names) l))
 
--- the image of an accepted text, and the table that holds its names
-pub record Compiled (text starts ends image : List ℕ) : Type 0 where
+-- the image of an accepted text, how many timers it has, and the table that holds its names
+pub record Compiled (text starts ends : List ℕ) (timers : ℕ) (image : List ℕ) : Type 0 where
   pub program : Program
   pub parsed : programOf text ≡ accepted program
   pub made : image ≡ imageOf program
+  pub timed : timers ≡ length (program .timers)
   pub held : TableHolds text starts ends (length (program .names)) (program .names)
   pub table : Table starts ends (length (program .names))
 
 -- a program that has Structured Text: its names in the table, the numbers they start with, and its code in a form
-pub record Prepared (form : List Instruction → List ℕ) (text starts ends : List ℕ) (values : List ℤ) (inputs count : ℕ) (code : List ℕ) : Type 0 where
+pub record ReadyToPrint (form : List Instruction → List ℕ) (text starts ends : List ℕ) (values : List ℤ) (inputs count : ℕ) (code : List ℕ) : Type 0 where
   pub program : Program
   pub parsed : programOf text ≡ accepted program
   pub has : hasSt program ≡ true

@@ -4,10 +4,11 @@ use mathlib.Core.Path.{_≡_}
 use mathlib.Core.List.{List, _++_}
 use lib.IntN.{ℤ}
 use lib.ListN.{length, take}
-use Rattle.limits.specs.Limits.{nameLimit}
+use Rattle.limits.specs.Limits.{stateLimit}
 use Rattle.limits.specs.Answer as A
 use Rattle.semantics.specs.Program.{Program}
 use Rattle.semantics.specs.Formula.{State}
+use Rattle.semantics.specs.Shape.{shapeOf, stateLength}
 use Rattle.semantics.specs.Rows.{startsOf}
 use Rattle.bytecode.specs.Translation.{imageOf}
 use Rattle.lexer.specs.Names.{tableNames}
@@ -23,7 +24,7 @@ use Rattle.tracer.specs.Session.{textRoom, lineRoom, Session, sessionOf,
 pub record Memory (text image : List ℕ) (s cells : List ℤ) : Type 0 where
   pub in-text : length text ≡ textRoom
   pub in-image : 49154 ≤ length image
-  pub in-state : length s ≡ nameLimit
+  pub in-state : length s ≡ stateLimit
   pub in-cells : 65 ≤ length cells
 
 -- bytes put whole behind the first `at` of a buffer, up to `behind`
@@ -32,14 +33,15 @@ pub record PutWhole (before : List ℕ) (at : ℕ) (put after : List ℕ) (behin
   pub place : behind ≡ at + length put
   pub inside : behind ≤ length after
 
--- a text that was accepted, its image's length, and the table with its names
-pub record AcceptedText (text starts ends : List ℕ) (size names : ℕ) : Type 0 where
+-- a text that was accepted, its image's length, the table with its names, and its state's length
+pub record AcceptedText (text starts ends : List ℕ) (size names width : ℕ) : Type 0 where
   pub program : Program
   pub place : ℕ
   pub parsed : parse text ≡ accepted program place
   pub sized : size ≡ length (imageOf program)
   pub counted : names ≡ length (program .names)
   pub spelled : tableNames text starts ends names ≡ spellings (program .names)
+  pub states : width ≡ stateLength (shapeOf program)
 
 -- image and state of a text that was accepted, and the bytes put out
 pub record Begins (image : List ℕ) (s : State) (out : List ℕ) (p : Program) : Type 0 where

@@ -23,12 +23,12 @@ use Rattle.watch.proofs.reports.Statement.{statement}
 use Rattle.watch.proofs.reports.Tie as tie
 
 abbrev Inv-loop : tie.InvT-loop
-Inv-loop text starts ends names at count trace report₀ code₀ vals₀ places free a₀ i₀ report code vals a i =
-    Reports text starts ends names at count (tracedStates names trace) report₀ report a i
+Inv-loop text starts ends names at count trace size report₀ code₀ vals₀ places free a₀ i₀ report code vals a i =
+    Reports text starts ends names at count (tracedStates size trace) report₀ report a i
     × (length report ≡ length report₀) × (length code ≡ length code₀) × (length vals ≡ length vals₀)
 
 abbrev μ-loop : tie.MeasureT-loop
-μ-loop text starts ends names at count trace report₀ code₀ vals₀ places free a₀ i₀ report code vals a i = count - i
+μ-loop text starts ends names at count trace size report₀ code₀ vals₀ places free a₀ i₀ report code vals a i = count - i
 
 first-names-requires : tie.Need-first-names-requires Inv-loop μ-loop
 first-names-requires c κs = c .before .before .before .before .before .pre .0 .stand .few
@@ -58,18 +58,18 @@ walk-requires c κs =
     let large : imageRoom ≤ length (c .before .before .before .before .before .before .before .before .before .before .before .before .before .before .loop .code) = omega (arith, c .before .before .before .before .before .before .before .before .before .before .before .before .before .before .loop .inv .2, c .before .before .before .before .before .before .before .before .before .before .before .before .before .before .before .before .before .before .before .before .before .pre .1 .1 .1) in
     let x = c .before .before .before .before .before .before .before .before .before .before .before .before .before .before .loop .inv .0 in
     let h = c .before .before .before .before .before .before .before .before .before .before .before .before .before .loop-test .taken in
-    ((reports-code x h f g large .ordered, reports-inside x h f g large), (omega (arith, c .before .before .before .before .before .before .before .before .before .before .before .before .before .before .loop .inv .3, c .before .before .before .before .before .before .before .before .before .before .before .before .before .before .before .before .before .before .before .before .before .pre .1 .1 .2), rw (c .before .before .before .before .before .before .before .before .before .before .before .before .before .before .before .before .places .ensures) (trace-whole _ _ (c .before .before .before .before .before .before .before .before .before .before .before .before .before .before .before .before .before .before .before .before .before .pre .1 .0) .all)))
+    ((reports-code x h f (c .before .before .before .before .before .before .before .before .before .before .before .before .before .before .before .before .before .before .before .before .before .pre .1 .0 .0) (c .before .before .before .before .before .before .before .before .before .before .before .before .before .before .before .before .before .before .before .before .before .pre .1 .0 .1) g large .ordered, reports-inside x h f (c .before .before .before .before .before .before .before .before .before .before .before .before .before .before .before .before .before .before .before .before .before .pre .1 .0 .0) (c .before .before .before .before .before .before .before .before .before .before .before .before .before .before .before .before .before .before .before .before .before .pre .1 .0 .1) g large), (omega (arith, c .before .before .before .before .before .before .before .before .before .before .before .before .before .before .loop .inv .3, c .before .before .before .before .before .before .before .before .before .before .before .before .before .before .before .before .before .before .before .before .before .pre .1 .1 .2), rw (c .before .before .before .before .before .before .before .before .before .before .before .before .before .before .before .before .places .ensures) (trace-whole _ _ (c .before .before .before .before .before .before .before .before .before .before .before .before .before .before .before .before .before .before .before .before .before .pre .1 .0 .2) .all)))
 
 reported-requires : tie.Need-reported-requires Inv-loop μ-loop
 reported-requires c κs =
     let f = found-token _ _ (c .before .before .before .before .before .before .before .before .before .before .before .before .before .before .token-at .ensures) (c .before .before .before .before .before .before .before .before .before .before .before .before .word .given .1) in
     let g = got (free-writes _ _ _ _ _ _ (c .before .before .before .before .before .before .before .before .before .before .before .before .before .before .before .before .before .first-names .ensures) (c .before .before .before .before .before .before .before .before .before .watch .ensures)) (c .before .before .before .before .before .read .given .1) in
     let large : imageRoom ≤ length (c .before .before .before .before .before .before .before .before .before .before .before .before .before .before .before .before .loop .code) = omega (arith, c .before .before .before .before .before .before .before .before .before .before .before .before .before .before .before .before .loop .inv .2, c .before .before .before .before .before .before .before .before .before .before .before .before .before .before .before .before .before .before .before .before .before .before .before .pre .1 .1 .1) in
-    let small : c .before .before .before .before .before .before .before .before .before .before .before .before .before .before .before .before .before .before .places .result < 2 ^ 63 = omega (arith, c .before .before .before .before .before .before .before .before .before .before .before .before .before .before .before .before .before .before .places .ensures, places-small _ _ (c .before .before .before .before .before .before .before .before .before .before .before .before .before .before .before .before .before .before .before .before .before .before .before .pre .1 .0), c .before .before .before .before .before .before .before .before .before .before .before .before .before .before .before .before .before .before .before .before .before .before .before .good) in
-    failed-within (g .tree) _ _ _ (c .before .walk .result) small (c .before .walk .ensures (g .tree) (reports-code (c .before .before .before .before .before .before .before .before .before .before .before .before .before .before .before .before .loop .inv .0) (c .before .before .before .before .before .before .before .before .before .before .before .before .before .before .before .loop-test .taken) f g large))
+    let small : c .before .before .before .before .before .before .before .before .before .before .before .before .before .before .before .before .before .before .places .result < 2 ^ 63 = omega (arith, c .before .before .before .before .before .before .before .before .before .before .before .before .before .before .before .before .before .before .places .ensures, places-small _ _ (c .before .before .before .before .before .before .before .before .before .before .before .before .before .before .before .before .before .before .before .before .before .before .before .pre .1 .0 .2), c .before .before .before .before .before .before .before .before .before .before .before .before .before .before .before .before .before .before .before .before .before .before .before .good) in
+    failed-within (g .tree) _ _ _ (c .before .walk .result) small (c .before .walk .ensures (g .tree) (reports-code (c .before .before .before .before .before .before .before .before .before .before .before .before .before .before .before .before .loop .inv .0) (c .before .before .before .before .before .before .before .before .before .before .before .before .before .before .before .loop-test .taken) f (c .before .before .before .before .before .before .before .before .before .before .before .before .before .before .before .before .before .before .before .before .before .before .before .pre .1 .0 .0) (c .before .before .before .before .before .before .before .before .before .before .before .before .before .before .before .before .before .before .before .before .before .before .before .pre .1 .0 .1) g large))
 
-mul-t28 : tie.Need-mul-t28 Inv-loop μ-loop
-mul-t28 c = record { fits = omega (arith, c .before .before .before .before .before .before .before .before .before .before .before .before .before .before .before .before .loop-test .taken, c .before .before .before .before .before .before .before .before .before .before .before .before .before .before .before .before .before .before .before .before .before .before .before .before .pre .1 .1 .0, c .before .before .before .before .before .before .before .before .before .before .before .before .before .before .before .before .before .before .before .before .before .before .before .before .good) }
+mul-t29 : tie.Need-mul-t29 Inv-loop μ-loop
+mul-t29 c = record { fits = omega (arith, c .before .before .before .before .before .before .before .before .before .before .before .before .before .before .before .before .loop-test .taken, c .before .before .before .before .before .before .before .before .before .before .before .before .before .before .before .before .before .before .before .before .before .before .before .before .pre .1 .1 .0, c .before .before .before .before .before .before .before .before .before .before .before .before .before .before .before .before .before .before .before .before .before .before .before .before .good) }
 
 slice-set-from-report : tie.Need-slice-set-from-report Inv-loop μ-loop
 slice-set-from-report c = omega (arith, c .before .before .before .before .before .before .before .before .before .before .before .before .before .before .before .before .loop-test .taken, c .before .before .before .before .before .before .before .before .before .before .before .before .before .before .before .before .before .loop .inv .1, c .before .before .before .before .before .before .before .before .before .before .before .before .before .before .before .before .before .before .before .before .before .before .before .before .pre .1 .1 .0)
@@ -85,10 +85,10 @@ loop-again c =
     let f = found-token _ _ (c .before .before .before .before .before .before .before .before .before .before .before .before .before .before .before .token-at .ensures) (c .before .before .before .before .before .before .before .before .before .before .before .before .before .word .given .1) in
     let g = got (free-writes _ _ _ _ _ _ (c .before .before .before .before .before .before .before .before .before .before .before .before .before .before .before .before .before .before .first-names .ensures) (c .before .before .before .before .before .before .before .before .before .before .watch .ensures)) (c .before .before .before .before .before .before .read .given .1) in
     let large : imageRoom ≤ length (c .before .before .before .before .before .before .before .before .before .before .before .before .before .before .before .before .before .loop .code) = omega (arith, c .before .before .before .before .before .before .before .before .before .before .before .before .before .before .before .before .before .loop .inv .2, c .before .before .before .before .before .before .before .before .before .before .before .before .before .before .before .before .before .before .before .before .before .before .before .before .pre .1 .1 .1) in
-    let told = c .before .before .walk .ensures (g .tree) (reports-code (c .before .before .before .before .before .before .before .before .before .before .before .before .before .before .before .before .before .loop .inv .0) (c .before .before .before .before .before .before .before .before .before .before .before .before .before .before .before .before .loop-test .taken) f g large) in
-    let e = c .reported .ensures ∙ ap reported (told ∙ ap (λ (k : ℕ). firstFailure (g .tree) (placesOf (statesOf k (c .before .before .before .before .before .before .before .before .before .before .before .before .before .before .before .before .before .before .before .before .before .before .before .before .args .names) (c .before .before .before .before .before .before .before .before .before .before .before .before .before .before .before .before .before .before .before .before .before .before .before .before .args .trace .now)))) (c .before .before .before .before .before .before .before .before .before .before .before .before .before .before .before .before .before .before .before .places .ensures)) in
+    let told = c .before .before .walk .ensures (g .tree) (reports-code (c .before .before .before .before .before .before .before .before .before .before .before .before .before .before .before .before .before .loop .inv .0) (c .before .before .before .before .before .before .before .before .before .before .before .before .before .before .before .before .loop-test .taken) f (c .before .before .before .before .before .before .before .before .before .before .before .before .before .before .before .before .before .before .before .before .before .before .before .before .pre .1 .0 .0) (c .before .before .before .before .before .before .before .before .before .before .before .before .before .before .before .before .before .before .before .before .before .before .before .before .pre .1 .0 .1) g large) in
+    let e = c .reported .ensures ∙ ap reported (told ∙ ap (λ (k : ℕ). firstFailure (g .tree) (placesOf (statesOf k (c .before .before .before .before .before .before .before .before .before .before .before .before .before .before .before .before .before .before .before .before .before .before .before .before .args .size) (c .before .before .before .before .before .before .before .before .before .before .before .before .before .before .before .before .before .before .before .before .before .before .before .before .args .trace .now)))) (c .before .before .before .before .before .before .before .before .before .before .before .before .before .before .before .before .before .before .before .places .ensures)) in
     let s : SFits w64 (c .reported .result) = search needs in
-    rw (toZ-ofZ {w = w64} s) (reports-more (c .before .before .before .before .before .before .before .before .before .before .before .before .before .before .before .before .before .loop .inv .0) (c .before .before .before .before .before .before .before .before .before .before .before .before .before .before .before .before .loop-test .taken) f g large _ e, length-set {A = ℤ} (c .before .before .before .before .before .before .before .before .before .before .before .before .before .before .before .before .before .loop .report) (c .before .before .before .before .before .before .before .before .before .before .before .before .before .before .before .before .before .loop .i) (c .reported .result) ∙ c .before .before .before .before .before .before .before .before .before .before .before .before .before .before .before .before .before .loop .inv .1, c .before .before .before .before .before .before .before .before .before .before .watch .kept .1 .1 .1 .1 .1 .0 ∙ c .before .before .before .before .before .before .before .before .before .before .before .before .before .before .before .before .before .loop .inv .2, c .before .before .walk .kept .1 .1 .1 .1 .1 .1 .0 ∙ c .before .before .before .before .before .before .before .before .before .before .before .before .before .before .before .before .before .loop .inv .3)
+    rw (toZ-ofZ {w = w64} s) (reports-more (c .before .before .before .before .before .before .before .before .before .before .before .before .before .before .before .before .before .loop .inv .0) (c .before .before .before .before .before .before .before .before .before .before .before .before .before .before .before .before .loop-test .taken) f (c .before .before .before .before .before .before .before .before .before .before .before .before .before .before .before .before .before .before .before .before .before .before .before .before .pre .1 .0 .0) (c .before .before .before .before .before .before .before .before .before .before .before .before .before .before .before .before .before .before .before .before .before .before .before .before .pre .1 .0 .1) g large _ e, length-set {A = ℤ} (c .before .before .before .before .before .before .before .before .before .before .before .before .before .before .before .before .before .loop .report) (c .before .before .before .before .before .before .before .before .before .before .before .before .before .before .before .before .before .loop .i) (c .reported .result) ∙ c .before .before .before .before .before .before .before .before .before .before .before .before .before .before .before .before .before .loop .inv .1, c .before .before .before .before .before .before .before .before .before .before .watch .kept .1 .1 .1 .1 .1 .0 ∙ c .before .before .before .before .before .before .before .before .before .before .before .before .before .before .before .before .before .loop .inv .2, c .before .before .walk .kept .1 .1 .1 .1 .1 .1 .0 ∙ c .before .before .before .before .before .before .before .before .before .before .before .before .before .before .before .before .before .loop .inv .3)
 
 returns-3 : tie.Need-returns-3 Inv-loop μ-loop
 returns-3 c = reports-end (c .before .loop .inv .0) (c .loop-test .left)
@@ -96,4 +96,4 @@ returns-3 c = reports-end (c .before .loop .inv .0) (c .loop-test .left)
 pub reports-spec : {M : Type 1} → statement M
 reports-spec =
     tie.close
-    (tie.spec Inv-loop μ-loop (λ c κs. search needs) first-names-requires loop-holds (λ c κs. search needs) (λ c. search needs) (λ c. search needs) (λ c. search needs) (λ c. search needs) (λ c. search needs) returns watch-requires (λ c. search needs) (λ c. search needs) (λ c. search needs) (λ c. search needs) (λ c. search needs) returns-2 walk-requires reported-requires mul-t28 slice-set-from-report add-i loop-less loop-again (λ c. search needs) (λ c. search needs) (λ c. search needs) returns-3)
+    (tie.spec Inv-loop μ-loop (λ c κs. search needs) first-names-requires loop-holds (λ c κs. search needs) (λ c. search needs) (λ c. search needs) (λ c. search needs) (λ c. search needs) (λ c. search needs) returns watch-requires (λ c. search needs) (λ c. search needs) (λ c. search needs) (λ c. search needs) (λ c. search needs) returns-2 walk-requires reported-requires mul-t29 slice-set-from-report add-i loop-less loop-again (λ c. search needs) (λ c. search needs) (λ c. search needs) returns-3)

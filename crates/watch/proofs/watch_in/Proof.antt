@@ -3,9 +3,12 @@ use mathlib.Core.Path.{_≡_, sym, _∙_}
 use native.Mathlib.Omega.{arith}
 use borrow.Author.Tests.{not-true, not-false}
 use borrow.Author.Needs.{needs}
-use Rattle.watch.proofs.Service.{survey-read, survey-refused, watch-refused, watch-cut, watch-misfit, watch-counted, count-inside, watch-reported}
+use Rattle.watch.proofs.Service.{survey-read, survey-refused, few-cells, watch-refused, watch-cut, watch-misfit, watch-counted, count-inside, watch-reported}
 use Rattle.watch.proofs.watch_in.Statement.{statement}
 use Rattle.watch.proofs.watch_in.Tie as tie
+
+add-size : tie.Need-add-size
+add-size c = record { fits = omega (arith, few-cells (survey-read (c .before .before .before .before .before .before .before .survey .ensures) (c .before .names .given .1))) }
 
 returns : tie.Need-returns
 returns c = watch-cut _ _ _ (survey-read (c .before .before .before .before .before .before .before .before .before .survey .ensures) (c .before .before .before .names .given .1)) (sym (c .before .is-trace .ensures) ∙ not-true _ (c .if1 .taken))
@@ -17,7 +20,7 @@ reports-requires : tie.Need-reports-requires
 reports-requires c κs =
     let x = survey-read (c .before .before .before .before .before .before .before .before .before .before .before .before .before .before .before .survey .ensures) (c .before .before .before .before .before .before .before .before .before .names .given .1) in
     let e = sym (c .before .before .before .before .before .before .before .is-trace .ensures) ∙ not-false _ (c .before .before .before .before .before .before .if1 .left) in
-    (watch-counted (c .before .before .before .before .before .before .before .before .before .before .before .before .before .before .before .before .before .before .before .before .before .before .args .text .now) (c .before .before .before .before .before .before .before .before .before .before .before .before .before .before .before .before .before .before .before .before .before .before .args .trace .now) (c .before .before .before .before .before .before .before .before .before .before .before .before .before .before .before .before .before .before .before .before .before .before .args .report .now) x e (c .before .before .before .before .before .if2 .left), (e, (count-inside (c .before .before .before .before .before .before .before .before .before .before .before .before .before .before .before .before .before .before .before .before .before .before .args .text .now) (c .before .before .before .before .before .before .before .before .before .before .before .before .before .before .before .before .before .before .before .before .before .before .args .trace .now) (c .before .before .before .before .before .before .before .before .before .before .before .before .before .before .before .before .before .before .before .before .before .before .args .report .now) x e (c .before .before .before .before .before .if2 .left), c .before .before .before .before .before .before .before .before .before .before .before .before .before .before .before .before .before .before .before .before .before .before .pre .1 .0, c .before .before .before .before .before .before .before .before .before .before .before .before .before .before .before .before .before .before .before .before .before .before .pre .1 .1)))
+    (watch-counted (c .before .before .before .before .before .before .before .before .before .before .before .before .before .before .before .before .before .before .before .before .before .before .args .text .now) (c .before .before .before .before .before .before .before .before .before .before .before .before .before .before .before .before .before .before .before .before .before .before .args .trace .now) (c .before .before .before .before .before .before .before .before .before .before .before .before .before .before .before .before .before .before .before .before .before .before .args .report .now) x e (c .before .before .before .before .before .if2 .left), ((omega arith, omega (arith, few-cells x), e), (count-inside (c .before .before .before .before .before .before .before .before .before .before .before .before .before .before .before .before .before .before .before .before .before .before .args .text .now) (c .before .before .before .before .before .before .before .before .before .before .before .before .before .before .before .before .before .before .before .before .before .before .args .trace .now) (c .before .before .before .before .before .before .before .before .before .before .before .before .before .before .before .before .before .before .before .before .before .before .args .report .now) x e (c .before .before .before .before .before .if2 .left), c .before .before .before .before .before .before .before .before .before .before .before .before .before .before .before .before .before .before .before .before .before .before .pre .1 .0, c .before .before .before .before .before .before .before .before .before .before .before .before .before .before .before .before .before .before .before .before .before .before .pre .1 .1)))
 
 returns-3 : tie.Need-returns-3
 returns-3 c =
@@ -29,5 +32,6 @@ returns-4 : tie.Need-returns-4
 returns-4 c = watch-refused _ _ _ _ _ (survey-refused (c .before .before .before .before .before .before .before .survey .ensures) (c .before .number .given .1))
 
 pub watch-in-spec : {M : Type 1} → statement M
-watch-in-spec = tie.close
-    (tie.spec (λ c κs. search needs) (λ c. search needs) (λ c κs. search needs) (λ c. search needs) (λ c. search needs) returns (λ c. search needs) (λ c. search needs) returns-2 reports-requires (λ c. search needs) (λ c. search needs) (λ c. search needs) (λ c. search needs) (λ c. search needs) (λ c. search needs) returns-3 (λ c. search needs) (λ c. search needs) returns-4)
+watch-in-spec =
+    tie.close
+    (tie.spec (λ c κs. search needs) (λ c. search needs) add-size (λ c κs. search needs) (λ c. search needs) (λ c. search needs) returns (λ c. search needs) (λ c. search needs) returns-2 reports-requires (λ c. search needs) (λ c. search needs) (λ c. search needs) (λ c. search needs) (λ c. search needs) (λ c. search needs) returns-3 (λ c. search needs) (λ c. search needs) returns-4)

@@ -17,14 +17,14 @@ FailedWithin Never = Unit {0}
 
 -- the code of a second condition; where there is none, no code
 abbrev pub LaterCode : Option Condition → ℕ → List ℕ → Type 0
-LaterCode none names code = length code ≡ 0
-LaterCode (some d) names code = ConditionCode d names code × (length code ≡ 0 → ⊥)
+LaterCode none size code = length code ≡ 0
+LaterCode (some d) size code = ConditionCode d size code × (length code ≡ 0 → ⊥)
 
--- the code of a watch stands up to `end`, that of its first condition up to `middle`
-pub record WatchCode (w : Watch) (names middle end : ℕ) (code : List ℕ) : Type 0 where
+-- the code of a watch over states of `size` numbers stands up to `end`, that of its first condition up to `middle`
+pub record WatchCode (w : Watch) (size middle end : ℕ) (code : List ℕ) : Type 0 where
   pub ordered : middle ≤ end
-  pub first : ConditionCode (w .first) names (take middle code)
-  pub later : LaterCode (w .later) names (take (end - middle) (drop middle code))
+  pub first : ConditionCode (w .first) size (take middle code)
+  pub later : LaterCode (w .later) size (take (end - middle) (drop middle code))
 
 -- so many watches stand from `at` on
 pub record CountedWatches (text starts ends : List ℕ) (names at count : ℕ) : Type 0 where

@@ -11,12 +11,12 @@ use Rattle.tracer.proofs.rows.feed_rows.Statement.{statement}
 use Rattle.tracer.proofs.rows.feed_rows.Tie as tie
 
 abbrev Inv-loop : tie.InvT-loop
-Inv-loop image state₀ cells₀ last part out₀ line₀ number₀ taken₀ put₀ state cells out line number taken put =
-    Taking (length out₀) (inRows image state₀ line₀ cells₀ number₀) part taken (inRows image state line cells number) out put
+Inv-loop image state₀ names cells₀ last part out₀ line₀ number₀ taken₀ put₀ state cells out line number taken put =
+    Taking (length out₀) (inRows image names state₀ line₀ cells₀ number₀) part taken (inRows image names state line cells number) out put
     × (length state ≡ length state₀) × (length cells ≡ length cells₀)
 
 abbrev μ-loop : tie.MeasureT-loop
-μ-loop image state₀ cells₀ last part out₀ line₀ number₀ taken₀ put₀ state cells out line number taken put = length part - taken
+μ-loop image state₀ names cells₀ last part out₀ line₀ number₀ taken₀ put₀ state cells out line number taken put = length part - taken
 
 loop-holds : tie.Need-loop-holds Inv-loop μ-loop
 loop-holds c = (taking _ _ _, refl, refl)
@@ -34,7 +34,7 @@ same-length-3 : tie.Need-same-length-3 Inv-loop μ-loop
 same-length-3 c = c .before .before .loop .inv .0 .size
 
 returns : tie.Need-returns Inv-loop μ-loop
-returns c = rows-taken _ (c .before .before .loop .inv .0) (c .before .before .before .before .before .before .pre .2) (taking-full (c .before .before .loop .inv .0) (c .before .loop-test .taken) (c .if1 .taken))
+returns c = rows-taken _ _ (c .before .before .loop .inv .0) (c .before .before .before .before .before .before .pre .2) (taking-full (c .before .before .loop .inv .0) (c .before .loop-test .taken) (c .if1 .taken))
 
 shared-slice-read-trace-byte : tie.Need-shared-slice-read-trace-byte Inv-loop μ-loop
 shared-slice-read-trace-byte c = c .before .before .before .before .loop-test .taken
@@ -61,7 +61,7 @@ same-length-6 : tie.Need-same-length-6 Inv-loop μ-loop
 same-length-6 c = c .before .loop .inv .0 .size
 
 returns-2 : tie.Need-returns-2 Inv-loop μ-loop
-returns-2 c = rows-taken _ (c .before .loop .inv .0) (c .before .before .before .before .before .pre .2) (taking-all (c .before .loop .inv .0) (c .loop-test .left))
+returns-2 c = rows-taken _ _ (c .before .loop .inv .0) (c .before .before .before .before .before .pre .2) (taking-all (c .before .loop .inv .0) (c .loop-test .left))
 
 pub feed-rows-spec : {M : Type 1} → statement M
 feed-rows-spec = tie.close (tie.spec Inv-loop μ-loop loop-holds sub-if1 same-length same-length-2 same-length-3 returns shared-slice-read-trace-byte trace-byte-requires add-taken loop-less loop-again same-length-4 same-length-5 same-length-6 returns-2)
