@@ -50,15 +50,15 @@ module _ (text : List ℕ) (p : Program) (e : programOf text ≡ accepted p) whe
   handed-refused s = long-refused s longRow (omega arith)
 
   -- a line that is a row
-  pub row-handed : (s : State) (line : List ℕ) (row : List ℤ) → rowOf line ≡ some row → referenceScan p s (handedOf line) ≡ referenceScan p s row
+  pub scan-as-row : (s : State) (line : List ℕ) (row : List ℤ) → rowOf line ≡ some row → referenceScan p s (handedOf line) ≡ referenceScan p s row
   unfolding handedOf
-  row-handed s line row r = rw r (by (leb (length row) nameLimit) refl)
+  scan-as-row s line row r = rw r (by (leb (length row) nameLimit) refl)
     where
       by : (t : Bool) → leb (length row) nameLimit ≡ t → referenceScan p s (cond t row longRow) ≡ referenceScan p s row
       by true q = refl
       by false q = handed-refused s ∙ sym (long-refused s row (leb-false _ _ q))
 
   -- any other
-  pub none-handed : (s : State) (line : List ℕ) → rowOf line ≡ none → referenceScan p s (handedOf line) ≡ refusal wrongLength
+  pub scan-no-row : (s : State) (line : List ℕ) → rowOf line ≡ none → referenceScan p s (handedOf line) ≡ refusal wrongLength
   unfolding handedOf
-  none-handed s line r = rw r (handed-refused s)
+  scan-no-row s line r = rw r (handed-refused s)
