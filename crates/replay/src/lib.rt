@@ -1,7 +1,6 @@
 // Translation, start and a list of rows in one call, with records of each scan.
 use machine::lists;
 use scan::Scanned;
-use scan::Started;
 use shapes::Measured;
 use shapes::Shaped;
 use translate::Translated;
@@ -14,7 +13,7 @@ ghost use Rattle.scan.specs.Services.{startOf};
 ghost use Rattle.before.specs.Inner.Memory.{Scratch};
 ghost use Rattle.replay.specs.Replay.{rowsOf, replayRows, replayOf};
 ghost use Rattle.replay.specs.Results.{lent, afterReplay, ShownBy, ReplayedWithin};
-ghost use Rattle.replay.specs.Inner.Records.{records, scanRows, KnownBy, StartedImage, RecordWithin, RowScanned};
+ghost use Rattle.replay.specs.Inner.Records.{records, scanRows, KnownBy, RecordWithin, RowScanned};
 
 // The image's length; or the number and place of the refusal of translation or start.
 pub enum Replayed {
@@ -143,83 +142,55 @@ fn scan_rows(
     cursor.place
 }
 
-// The shape of an image that was started, read once for all rows; then the rows.
-fn scan_started(
+// A whole image: it is checked and its shape is read once; then start and the rows.
+fn replay_in(
     image: &[u8],
     state: &mut [i32],
     cells: &[i32],
     lengths: &[usize],
-    at: usize,
     numbers: &mut [u8],
     steps: &mut [usize],
     trace: &mut [i32],
     low: &mut [i32],
     high: &mut [i32],
     work: &mut [i32],
-) -> usize
-    requires { ⌜ at ≤ length (now trace) ⌝ }
-    requires { ⌜ StartedImage (now image) (now state) ⌝ }
+) -> Replayed
     requires { ⌜ Scratch stateLimit (now state) (now low) (now high) (now work) ⌝ }
-    ensures { λ r. ⌜ records (now (state .exit)) (now (numbers .exit)) (now (steps .exit)) (now (trace .exit)) r
-        ≡ scanRows (now (image .entry)) 0 (rowsOf (now (cells .entry)) (now (lengths .entry)))
-        (records (now (state .entry)) (now (numbers .entry)) (now (steps .entry)) (now (trace .entry)) at) ⌝ }
+    ensures { λ r. ⌜ ((buffer : List ℕ) → afterReplay r (lent buffer (now (state .exit)) (now (numbers .exit)) (now (steps .exit)) (now (trace .exit)))
+        ≡ replayRows (startOf (now (image .entry)) (now (state .entry))) (length (now (image .entry))) (now (image .entry)) (rowsOf (now (cells .entry)) (now (lengths .entry)))
+        (lent buffer (now (state .entry)) (now (numbers .entry)) (now (steps .entry)) (now (trace .entry)))) ⌝ }
+    ensures { λ r. ⌜ ReplayedWithin r ⌝ }
 {
-    let Shaped::Shape(m) = shapes::shape(image, low, high) else {
-        return at;
-    };
-    let size = m.size;
-    scan_rows(
-        image,
-        m,
-        &low[..size],
-        &high[..size],
-        &mut work[..size],
-        state,
-        cells,
-        lengths,
-        at,
-        numbers,
-        steps,
-        trace,
-    )
+    let shaped = shapes::shape(image, low, high);
+    match shaped {
+        Shaped::Refused(number, place) => Replayed::Refused(number, place),
+        Shaped::Shape(m) => {
+            let size = m.size;
+            if state.len() != size {
+                return Replayed::Refused(limits::WRONG_LENGTH, 0);
+            }
+            scan::start_known(image, m.names, state);
+            let at = lists::store(trace, 0, state);
+            scan_rows(
+                image,
+                m,
+                &low[..size],
+                &high[..size],
+                &mut work[..size],
+                state,
+                cells,
+                lengths,
+                at,
+                numbers,
+                steps,
+                trace,
+            );
+            Replayed::Done(image.len())
+        }
+    }
 }
 
 // The same, with memory of its own for the ranges and the current values.
-fn scan_all(
-    image: &[u8],
-    state: &mut [i32],
-    cells: &[i32],
-    lengths: &[usize],
-    at: usize,
-    numbers: &mut [u8],
-    steps: &mut [usize],
-    trace: &mut [i32],
-) -> usize
-    requires { ⌜ at ≤ length (now trace) ⌝ }
-    requires { ⌜ StartedImage (now image) (now state) ⌝ }
-    ensures { λ r. ⌜ records (now (state .exit)) (now (numbers .exit)) (now (steps .exit)) (now (trace .exit)) r
-        ≡ scanRows (now (image .entry)) 0 (rowsOf (now (cells .entry)) (now (lengths .entry)))
-        (records (now (state .entry)) (now (numbers .entry)) (now (steps .entry)) (now (trace .entry)) at) ⌝ }
-{
-    let mut low = [0i32; limits::STATE_LIMIT];
-    let mut high = [0i32; limits::STATE_LIMIT];
-    let mut work = [0i32; limits::STATE_LIMIT];
-    scan_started(
-        image,
-        state,
-        cells,
-        lengths,
-        at,
-        numbers,
-        steps,
-        trace,
-        &mut low,
-        &mut high,
-        &mut work,
-    )
-}
-
-// A whole image: start, then the rows.
 fn replay_image(
     image: &[u8],
     state: &mut [i32],
@@ -234,15 +205,21 @@ fn replay_image(
         (lent buffer (now (state .entry)) (now (numbers .entry)) (now (steps .entry)) (now (trace .entry)))) ⌝ }
     ensures { λ r. ⌜ ReplayedWithin r ⌝ }
 {
-    let started = scan::start(image, state);
-    match started {
-        Started::Refused(number, place) => Replayed::Refused(number, place),
-        Started::Done => {
-            let at = lists::store(trace, 0, state);
-            scan_all(image, state, cells, lengths, at, numbers, steps, trace);
-            Replayed::Done(image.len())
-        }
-    }
+    let mut low = [0i32; limits::STATE_LIMIT];
+    let mut high = [0i32; limits::STATE_LIMIT];
+    let mut work = [0i32; limits::STATE_LIMIT];
+    replay_in(
+        image,
+        state,
+        cells,
+        lengths,
+        numbers,
+        steps,
+        trace,
+        &mut low,
+        &mut high,
+        &mut work,
+    )
 }
 
 pub fn replay(

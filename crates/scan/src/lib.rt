@@ -25,7 +25,7 @@ ghost use Rattle.machine.specs.Inner.Memory.{RangesIn, TimingIn};
 ghost use Rattle.before.specs.Inner.Memory.{FittingMemory, Scratch};
 ghost use Rattle.scan.specs.Services.{startOf, refusedScan, scanOf};
 ghost use Rattle.scan.specs.Results.{afterStart, StartedWithin, afterScan, ScannedWithin};
-ghost use Rattle.scan.specs.Inner.Parts.{scannedOver, scannedCode, KnownHeader, KnownImage};
+ghost use Rattle.scan.specs.Inner.Parts.{scannedOver, scannedCode, KnownHeader, KnownImage, Startable, startedWith};
 
 // Done, or the number of a refusal and its place.
 pub enum Started {
@@ -326,7 +326,29 @@ fn clear(state: &mut [i32], from: usize)
     }
 }
 
-// Lows and highs are stored as far as there is room for them; a start needs neither. Elapsed times start at 0.
+// The start of an image known to be sound, whose names were counted, on a state of its length: the declared starts, then elapsed times of 0.
+// Lows and highs are stored as far as there is room for them; a start needs neither.
+fn start_over(image: &[u8], names: usize, state: &mut [i32], low: &mut [i32], high: &mut [i32])
+    requires { ⌜ Startable (now image) names (now state) ⌝ }
+    ensures { λ _. ⌜ startedWith (now (state .exit)) ≡ startOf (now (image .entry)) (now (state .entry)) ⌝ }
+{
+    let Headed::Header(_, _, _) = bytecode::header(image, low, high, state) else {
+        return;
+    };
+    clear(state, names);
+}
+
+// The same, with memory of its own.
+pub fn start_known(image: &[u8], names: usize, state: &mut [i32])
+    requires { ⌜ Startable (now image) names (now state) ⌝ }
+    ensures { λ _. ⌜ startedWith (now (state .exit)) ≡ startOf (now (image .entry)) (now (state .entry)) ⌝ }
+{
+    let mut low = [0i32; 1];
+    let mut high = [0i32; 1];
+    start_over(image, names, state, &mut low, &mut high);
+}
+
+// After 9, 11 and 12.
 fn start_in(image: &[u8], state: &mut [i32], low: &mut [i32], high: &mut [i32]) -> Started
     ensures { λ r. ⌜ afterStart r (now (state .exit)) ≡ startOf (now (image .entry)) (now (state .entry)) ⌝ }
     ensures { λ r. ⌜ StartedWithin imageLimit r ⌝ }
@@ -338,10 +360,7 @@ fn start_in(image: &[u8], state: &mut [i32], low: &mut [i32], high: &mut [i32]) 
             if state.len() != m.size {
                 return Started::Refused(limits::WRONG_LENGTH, 0);
             }
-            let Headed::Header(_, _, _) = bytecode::header(image, low, high, state) else {
-                return Started::Refused(limits::BROKEN_IMAGE, 0);
-            };
-            clear(state, m.names);
+            start_known(image, m.names, state);
             Started::Done
         }
     }

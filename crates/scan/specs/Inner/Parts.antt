@@ -18,7 +18,7 @@ use Rattle.machine.specs.Step.{machine}
 use Rattle.machine.specs.Runs.{Ran, run}
 use Rattle.shapes.specs.declared.Measured.{Measured}
 use Rattle.before.specs.Inner.Known.{KnownShape}
-use Rattle.scan.specs.Services.{AfterScan, refusedScan, finished}
+use Rattle.scan.specs.Services.{AfterStart, AfterScan, refusedScan, finished}
 
 -- ---- the code
 
@@ -61,3 +61,15 @@ pub record KnownImage (image : List ℕ) (m : Measured) (state low high : List �
   pub inside : m .place ≤ length image
   pub shape : KnownShape (shapeIn image) m low high
   pub numbers : length state ≡ stateLength (shapeIn image)
+
+-- ---- start
+
+-- an image known to be sound, how many names it has, and a state of its length
+pub record Startable (image : List ℕ) (names : ℕ) (state : State) : Type 0 where
+  pub sound : checkOf image ≡ accepted tt
+  pub counted : length (headerOf image .ranges) ≡ names
+  pub numbers : length state ≡ stateLength (shapeIn image)
+
+-- a start that is not refused
+abbrev pub startedWith : State → AfterStart
+startedWith left = record { answer = accepted tt; state = left }
