@@ -1,6 +1,6 @@
--- What a start that was accepted says of its image, and what the shape of that image has at hand for its rows. Assumes nothing.
+-- What a start that was accepted says of its image, and what the shape of an image has at hand for its rows. Assumes nothing.
 use Prim.Native.Nat.{ℕ, _≤_}
-use mathlib.Core.Path.{_≡_, refl, sym, ap, _∙_}
+use mathlib.Core.Path.{_≡_, refl, sym, _∙_}
 use mathlib.Core.Bool.{Bool, true, false, cond}
 use mathlib.Core.List.{List}
 use native.Mathlib.Omega.{arith}
@@ -12,15 +12,12 @@ use Rattle.limits.specs.Answer.{Answer, accepted, refused}
 use Rattle.semantics.specs.Formula.{State}
 use Rattle.bytecode.specs.Check.{checkOf}
 use Rattle.bytecode.specs.Parts.{shapeIn}
-use Rattle.bytecode.proofs.Walk.{check-sound}
 use Rattle.shapes.specs.declared.Measured.{Measured}
 use Rattle.shapes.specs.Results.{Measures}
 use Rattle.semantics.specs.Shape.{cells, stateLength, startingState}
 use Rattle.scan.specs.Services.{AfterStart, started, startOf}
-use Rattle.scan.specs.Results.{afterStart}
-use Rattle.scan.specs.declared.Started.the-variants as S
 use Rattle.before.proofs.Stored.{ranges-stored}
-use Rattle.replay.specs.Inner.Records.{KnownBy, StartedImage}
+use Rattle.replay.specs.Inner.Records.{KnownBy}
 
 -- a start is accepted for a sound image and a state of one length only
 module _ (image : List ℕ) (s : State) where
@@ -38,14 +35,6 @@ module _ (image : List ℕ) (s : State) where
   unfolding startOf
   start-sized e = accepted-sized (checkOf image) e
 
-pub started-image : (image : List ℕ) (s s₁ : State) → afterStart S.Done s₁ ≡ startOf image s → length s₁ ≡ length s → StartedImage image s₁
-started-image image s s₁ e l =
-    let x = start-sized image s (sym (ap {A = AfterStart} (λ r. r .answer) e)) in
-    record { sound = x .0; sized = l ∙ x .1 }
-
-pub started-short : (image : List ℕ) (s s₁ : State) → afterStart S.Done s₁ ≡ startOf image s → length image ≤ 65536
-started-short image s s₁ e = check-sound image (start-sized image s (sym (ap {A = AfterStart} (λ r. r .answer) e)) .0) .short
-
 -- ---- what the rows need
 
 pub known-kept : {image : List ℕ} {m : Measured} {low high work₀ state₀ : List ℤ} → KnownBy image m low high work₀ state₀ → (work state : List ℤ) → length work ≡ length work₀ → length state ≡ length state₀
@@ -58,14 +47,14 @@ known-kept x work state a b =
     }
 
 -- the shape that was read, at the front of lent memory
-pub known-by : (image : List ℕ) (s work : List ℤ) {low₀ high₀ low high : List ℤ} {m : Measured} → StartedImage image s → Measures image low₀ high₀ low high m
+pub known-by : (image : List ℕ) (s work : List ℤ) {low₀ high₀ low high : List ℤ} {m : Measured} → Measures image low₀ high₀ low high m → length s ≡ m .size
     → m .size ≤ length low₀ → m .size ≤ length high₀ → length work ≡ m .size → KnownBy image m (take (m .size) low) (take (m .size) high) work s
-known-by image s work {m = m} x h l u w =
+known-by image s work {m = m} h e l u w =
     let n : length (cells (shapeIn image)) ≡ m .size = sym (h .size-is) in
     record {
       image-known =
           record {
-            sound = x .sound;
+            sound = h .sound;
             code = h .place-is;
             inside = h .inside;
             shape =
@@ -76,7 +65,7 @@ known-by image s work {m = m} x h l u w =
                   flags = sym (h .timers-are);
                   ranges = ranges-stored (cells (shapeIn image)) (m .size) _ _ _ _ n l u (h .lower) (h .upper);
                 };
-            numbers = x .sized;
+            numbers = e ∙ h .size-is;
           };
-      copies = w ∙ h .size-is ∙ sym (x .sized);
+      copies = w ∙ sym e;
     }

@@ -7,10 +7,7 @@ use lib.ListN.{length, getD, take, drop, set}
 use lib.Seq.{sets}
 use Rattle.limits.specs.Answer.{Answer, accepted, refused}
 use Rattle.semantics.specs.Formula.{State}
-use Rattle.semantics.specs.Shape.{stateLength}
 use Rattle.scan.specs.Services.{AfterScan, scanOf}
-use Rattle.bytecode.specs.Check.{checkOf}
-use Rattle.bytecode.specs.Parts.{shapeIn}
 use Rattle.shapes.specs.declared.Measured.{Measured}
 use Rattle.scan.specs.Inner.Parts.{KnownImage}
 use Rattle.replay.specs.declared.Cursor.{Cursor}
@@ -60,14 +57,9 @@ pub record RowScanned (image : List ℕ) (cells : List ℤ) (lengths : List ℕ)
   pub cell : next .cell ≡ min (c .cell + getD lengths (c .row) 0) (length cells)
   pub so : after ≡ recordScan (c .row) (scanOf image (before .state) (take (getD lengths (c .row) 0) (drop (c .cell) cells))) before
 
--- ---- an image that was started
+-- ---- an image whose shape was read
 
 -- it is sound, and what was read of it is at hand; as many current values as the state has numbers
 pub record KnownBy (image : List ℕ) (m : Measured) (low high work state : List ℤ) : Type 0 where
   pub image-known : KnownImage image m state low high
   pub copies : length work ≡ length state
-
--- it is sound, and the state is of its length
-pub record StartedImage (image : List ℕ) (state : List ℤ) : Type 0 where
-  pub sound : checkOf image ≡ accepted tt
-  pub sized : length state ≡ stateLength (shapeIn image)
