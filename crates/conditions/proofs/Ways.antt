@@ -1,19 +1,20 @@
 -- The ways through the parts of a condition: what each part comes to, by the token at hand. Assumes nothing.
 use mathlib.Core.Path.{_≡_, refl, ap, sym, _∙_, subst}
 use mathlib.Core.List.{List, [], _∷_, _++_}
+use mathlib.Core.Bool.{false}
 use mathlib.Core.Option.{some}
-use Prim.Native.Nat.{ℕ, zero, suc, _+_, _-_, _^_, _<_}
+use Prim.Native.Nat.{ℕ, zero, suc, _+_, _-_, _^_, _≤_, _<_}
 use native.Mathlib.Omega.{arith}
-use lib.ListN.{length, set, length-append}
+use lib.ListN.{length, getD, set, length-append}
 use Rattle.limits.specs.Limits.{noToken, notAllowed, tooMany}
-use Rattle.lexer.specs.Token.{kindNumber, ending, openSquare, closeSquare, tilde, is, fault}
-use Rattle.lexer.specs.Lexer.{tokenAt}
+use Rattle.lexer.specs.Token.{Kind, kindNumber, ending, openSquare, closeSquare, tilde, is, TokenRead, token, fault}
+use Rattle.lexer.specs.Lexer.{isSpace, runEnd, tokenAt}
 use Rattle.lexer.proofs.Laws.{token-at-moved}
 use Rattle.arith.specs.Values.{Comparison, equal, notEqual, less, lessEqual, greater, greaterEqual}
 use Rattle.bytecode.specs.Instructions.{comparisonCode}
 use Rattle.semantics.specs.Program.{Expression, Condition, comparison, negated}
-use Rattle.grammar.specs.Parsed.{Parsed, accepted, refused, andThen, sign, followed}
-use Rattle.grammar.specs.Expressions.{Scope, expression}
+use Rattle.grammar.specs.Parsed.{Parsed, accepted, refused, andThen, sign, followed, chain}
+use Rattle.grammar.specs.Expressions.{Scope, factor, term, expression}
 use Rattle.grammar.specs.Conditions.{comparisonBy, compared, comparisonAt, opposite, inverted, atom, Connective, andAlso, orElse, connect, connectiveCode, andOf, orOf, square, wholeCondition, listed}
 use Rattle.grammar.specs.Inner.Bytes.{bytesE, bytesC}
 use Rattle.grammar.proofs.Growth.{Grown, not-end, connect-code, ands-end, ors-end, comparisons-end, atom-grown, conjunction-grown, square-grown}
@@ -28,6 +29,7 @@ use Rattle.expressions.proofs.Steps.{Refuses, refused-now, told, untold, upTo, 
 use Rattle.expressions.proofs.Scopes.{few-names}
 use Rattle.expressions.proofs.Chain.{Operators, Operator, operator-some, operator-none}
 use Rattle.leb128.proofs.Stores.{sets-append}
+use Rattle.conditions.proofs.Opened.{tilde-at, square-at, no-tilde, no-square}
 use Rattle.conditions.specs.Inner.Readers.{comparisonIn, invertedIn, atomIn, conjunctionIn, conditionIn}
 
 -- ---- operators
@@ -126,31 +128,43 @@ module _ (text starts ends : List ℕ) (names : Names) (left at : ℕ) where
   abbrev sc : Scope
   sc = scopeOf text starts ends names
 
-  pub atom-fault : (q : ℕ) → tokenAt text at ≡ fault q → atomIn left sc at ≡ refused noToken q
+  atom-fault : (q : ℕ) → tokenAt text at ≡ fault q → atomIn left sc at ≡ refused noToken q
   unfolding atom
   atom-fault q e = rw e
+
+  comparison-fault : (q : ℕ) → tokenAt text at ≡ fault q → comparisonIn left sc at ≡ refused noToken q
+  unfolding comparisonAt expression term factor chain
+  comparison-fault q e = rw e
+
+  compares : (k : Kind) (m n : ℕ) → tokenAt text at ≡ token k m n → is k tilde ≡ false → is k openSquare ≡ false → atomIn left sc at ≡ comparisonIn left sc at
+  unfolding atom
+  compares k m n e f g = rw (e, f, g)
 
   pub inverted-fault : (q : ℕ) → tokenAt text at ≡ fault q → invertedIn left sc at ≡ refused noToken q
   unfolding inverted
   inverted-fault q e = rw e
 
+  -- its first byte, b, is at s
+  module _ (s b : ℕ) (hs : s ≡ runEnd isSpace text at) (hb : b ≡ getD text s 0) where
+    pub atom-inverted : b ≡ 126 → atomIn left sc at ≡ invertedIn left sc (s + 1)
+    unfolding atom is kindNumber
+    atom-inverted e = rw (tilde-at text at s hs b hb e)
+
+    pub atom-square : b ≡ 91 → atomIn left sc at ≡ square left sc s (s + 1)
+    unfolding atom is kindNumber
+    atom-square e = rw (square-at text at s hs b hb e)
+
+    pub atom-comparison : at ≤ length text → (b ≡ 126 → ⊥) → (b ≡ 91 → ⊥) → atomIn left sc at ≡ comparisonIn left sc at
+    atom-comparison h f g = go (tokenAt text at) refl
+      where
+        go : (r : TokenRead) → tokenAt text at ≡ r → atomIn left sc at ≡ comparisonIn left sc at
+        go (token k m n) e = compares k m n e (no-tilde text at s hs b hb h k m n e f) (no-square text at s hs b hb h k m n e g)
+        go (fault q) e = atom-fault q e ∙ sym (comparison-fault q e)
+
   -- `ahead` read the token h there
   module _ (to : ℕ) {r : Step} {h : Place} (d : r ≡ Done h) (e : r ≡ stepAt (tokenAt text at) at to) where
     first : StandsAt text h
     first = ahead-stands text at to d e
-
-    pub atom-inverted : h .kind ≡ kindNumber tilde → atomIn left sc at ≡ invertedIn left sc (h .end)
-    unfolding atom
-    atom-inverted m = rw (← ahead-at text at to d e, first .read, told first tilde m)
-
-    module _ (n : h .kind ≡ kindNumber tilde → ⊥) where
-      pub atom-square : h .kind ≡ kindNumber openSquare → atomIn left sc at ≡ square left sc (h .start) (h .end)
-      unfolding atom
-      atom-square m = rw (← ahead-at text at to d e, first .read, untold first tilde n, told first openSquare m)
-
-      pub atom-comparison : (h .kind ≡ kindNumber openSquare → ⊥) → atomIn left sc at ≡ comparisonIn left sc at
-      unfolding atom
-      atom-comparison m = rw (← ahead-at text at to d e, first .read, untold first tilde n, untold first openSquare m)
 
     pub inverted-none : (h .kind ≡ kindNumber openSquare → ⊥) → invertedIn left sc at ≡ refused notAllowed (h .start)
     unfolding inverted

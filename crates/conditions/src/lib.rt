@@ -11,6 +11,11 @@ ghost use Rattle.expressions.specs.Inner.Steps.{Parses, Room};
 ghost use Rattle.expressions.specs.Inner.Readers.{Codes};
 ghost use Rattle.conditions.specs.Inner.Readers.{comparisonIn, invertedIn, atomIn, conjunctionIn, conditionIn};
 
+// The bytes of `~` and `[`.
+const TILDE_BYTE: u8 = 126;
+
+const SQUARE_BYTE: u8 = 91;
+
 // The code of a comparison sign, of `&` and of `|`; 0 for any other token.
 fn comparison_code(kind: u32) -> u8
     ensures { λ r. ⌜ Codes comparisonCode comparisonBy kind r ⌝ }
@@ -153,7 +158,7 @@ fn conjunction(
     }
 }
 
-// `~[c]`, `[c]` or a comparison.
+// `~[c]`, `[c]` or a comparison, whose first token is not read twice: no other token begins with the byte of `~` or of `[`.
 fn atom(
     text: &[u8],
     starts: &[usize],
@@ -168,25 +173,13 @@ fn atom(
     requires { ⌜ Room (now text) at to ⌝ }
     ensures { λ r. ⌜ Parses (now (text .entry)) bytesC (atomIn left (scopeOf (now (text .entry)) (now (starts .entry)) (now (ends .entry)) names) at) to (now (out .entry)) (now (out .exit)) r ⌝ }
 {
-    let read = expressions::ahead(text, at, to);
-    let Step::Done(here) = read else {
-        return read;
-    };
-    if here.kind == lexer::TILDE {
-        return inverted(text, starts, ends, names, here.end, left, out, to);
+    let s = lexer::classes::run(text, at, lexer::classes::SPACE);
+    let first = lexer::classes::byte_at(text, s);
+    if first == TILDE_BYTE {
+        return inverted(text, starts, ends, names, s + 1, left, out, to);
     }
-    if here.kind == lexer::OPEN_SQUARE {
-        return square(
-            text,
-            starts,
-            ends,
-            names,
-            here.start,
-            here.end,
-            left,
-            out,
-            to,
-        );
+    if first == SQUARE_BYTE {
+        return square(text, starts, ends, names, s, s + 1, left, out, to);
     }
     comparison(text, starts, ends, names, at, left, out, to)
 }

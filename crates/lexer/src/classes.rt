@@ -141,16 +141,18 @@ fn same_letter(x: u8, y: u8) -> bool
     false
 }
 
+// From the last byte back: names that are numbered differ there.
 pub fn same_capitals(a: &[u8], b: &[u8]) -> bool
     ensures { λ r. ⌜ r ≡ sameName (now (a .entry)) (now (b .entry)) ⌝ }
 {
     if a.len() != b.len() {
         return false;
     }
-    let mut i = 0;
-    while i < a.len() {
-        if same_letter(a[i], b[i]) {
-            i += 1;
+    let mut i = a.len();
+    while 0 < i {
+        let last = i - 1;
+        if same_letter(a[last], b[last]) {
+            i = last;
         } else {
             return false;
         }

@@ -1,25 +1,29 @@
--- `lexer::classes::same_capitals` meets its contract. The loop's invariant: what is left decides. Assumes nothing.
+-- `lexer::classes::same_capitals` meets its contract. The loop's invariant: from `i` on the names are the same. Assumes nothing.
 use borrow.Author.Needs.{needs}
-use mathlib.Core.Path.{_≡_, refl, sym, _∙_}
-use Prim.Native.Nat.{_≤_, _-_}
+use mathlib.Core.Path.{_≡_, sym, _∙_}
+use mathlib.Core.Bool.{true}
+use Prim.Native.Nat.{_≤_}
 use native.Mathlib.Omega.{arith}
 use lib.ListN.{length, drop}
 use Rattle.lexer.specs.Lexer.{sameName}
-use Rattle.lexer.proofs.Same.{name-step, name-stop, name-end, name-length}
+use Rattle.lexer.proofs.Same.{name-begin, name-back, name-whole, name-apart, name-length}
 use Rattle.lexer.proofs.classes.same_capitals.Statement.{statement}
 use Rattle.lexer.proofs.classes.same_capitals.Tie as tie
 
 abbrev Inv-loop : tie.InvT-loop
-Inv-loop a b i₀ i = (i ≤ length a) × (sameName (drop i a) (drop i b) ≡ sameName a b)
+Inv-loop a b i₀ i = (i ≤ length a) × (sameName (drop i a) (drop i b) ≡ true)
 
 abbrev μ-loop : tie.MeasureT-loop
-μ-loop a b i₀ i = length a - i
+μ-loop a b i₀ i = i
 
 returns : tie.Need-returns Inv-loop μ-loop
 returns c = sym (name-length _ _ (c .if1 .taken))
 
 loop-holds : tie.Need-loop-holds Inv-loop μ-loop
-loop-holds c = (omega arith, refl)
+loop-holds c = (omega arith, search (name-begin, arith))
+
+sub-last : tie.Need-sub-last Inv-loop μ-loop
+sub-last c = omega arith
 
 shared-slice-read-same-letter : tie.Need-shared-slice-read-same-letter Inv-loop μ-loop
 shared-slice-read-same-letter c = omega arith
@@ -27,23 +31,22 @@ shared-slice-read-same-letter c = omega arith
 shared-slice-read-same-letter-2 : tie.Need-shared-slice-read-same-letter-2 Inv-loop μ-loop
 shared-slice-read-same-letter-2 c = omega arith
 
-add-i : tie.Need-add-i Inv-loop μ-loop
-add-i c = omega arith
-
 loop-less : tie.Need-loop-less Inv-loop μ-loop
 loop-less c = omega arith
 
 loop-again : tie.Need-loop-again Inv-loop μ-loop
-loop-again c = (omega arith, sym (name-step _ _ _ (c .before .before .before .before .loop-test .taken) (omega arith) (sym (c .before .same-letter .ensures) ∙ c .if2 .taken)) ∙ c .before .before .before .before .before .loop .inv .1)
+loop-again c =
+    let at-loop = c .before .before .before .before .before in
+    (omega arith, name-back _ _ (at-loop .before .if1 .left) _ (c .before .before .before .before .loop-test .taken) (at-loop .loop .inv .0) (sym (c .before .same-letter .ensures) ∙ c .if2 .taken) (at-loop .loop .inv .1))
 
 returns-2 : tie.Need-returns-2 Inv-loop μ-loop
-returns-2 c = sym (name-stop _ _ _ (c .before .before .before .before .loop-test .taken) (omega arith) (sym (c .before .same-letter .ensures) ∙ c .if2 .left)) ∙ c .before .before .before .before .before .loop .inv .1
+returns-2 c = sym (name-apart _ _ _ (omega arith) (omega arith) (sym (c .before .same-letter .ensures) ∙ c .if2 .left))
 
 returns-3 : tie.Need-returns-3 Inv-loop μ-loop
-returns-3 c = sym (name-end _ _ _ (c .loop-test .left) (omega arith)) ∙ c .before .loop .inv .1
+returns-3 c = name-whole _ _ (c .before .before .if1 .left) _ (c .loop-test .left) (c .before .loop .inv .1)
 
 pub same-capitals-spec : {M : Type 1} → statement M
 same-capitals-spec =
     tie.close
-    (tie.spec Inv-loop μ-loop returns loop-holds shared-slice-read-same-letter shared-slice-read-same-letter-2 (λ c κs. search needs) add-i loop-less loop-again
+    (tie.spec Inv-loop μ-loop returns loop-holds sub-last shared-slice-read-same-letter shared-slice-read-same-letter-2 (λ c κs. search needs) loop-less loop-again
     returns-2 returns-3)
