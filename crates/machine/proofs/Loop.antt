@@ -1,26 +1,30 @@
 -- What holds at each turn of a run's loop. Assumes nothing.
-use mathlib.Core.Path.{_≡_, sym, subst, _∙_}
-use mathlib.Core.Bool.{Bool}
+use mathlib.Core.Path.{_≡_, refl, sym, ap, subst, _∙_}
+use mathlib.Core.Bool.{Bool, false}
 use mathlib.Core.List.{List}
 use mathlib.Core.Option.{Option, none, some}
 use Prim.Native.Nat.{ℕ, zero, suc, _+_, _-_, _≤_, _<_}
 use native.Mathlib.Omega.{arith}
 use borrow.Author.Tests.{lt-ltb}
 use lib.IntN.{ℤ}
-use lib.ListN.{length}
+use lib.ListN.{length, getD}
 use Rattle.arith.specs.Values.{ok, refusal}
+use Rattle.arith.proofs.Flags.{length-flags}
 use Rattle.semantics.specs.Formula.{State}
 use Rattle.semantics.specs.Shape.{Setting}
 use Rattle.bytecode.specs.Instructions.{Instruction, decoded, fetch}
 use Rattle.machine.specs.declared.Registers.{Registers}
 use Rattle.machine.specs.Step.{Machine}
 use Rattle.machine.specs.Runs.{ran, afterStep, run}
-use Rattle.machine.specs.Inner.Memory.{machineOf, stepOutcome, stepped, Stack, Few, OneEach}
+use Rattle.machine.specs.Inner.Memory.{machineOf, stepOutcome, stepped, SettingIn, NamedIn, Stack, Few, OneEach}
 use Rattle.machine.specs.declared.Executed.{Executed}
 use Rattle.machine.specs.declared.Stepped.the-variants as S
+use Rattle.machine.specs.declared.Timing.{Timing}
+use Rattle.machine.specs.declared.timer.Worked.{Worked}
+use Rattle.machine.specs.declared.timer.Worked.the-variants as W
 use Rattle.machine.specs.declared.dispatch.Dispatched.{Dispatched}
 use Rattle.machine.specs.declared.dispatch.Dispatched.the-variants as D
-use Rattle.machine.specs.Inner.Dispatch.{registers, Continues, Stops, AtTimer, DispatchedBy, RestsAt, RanTo}
+use Rattle.machine.specs.Inner.Dispatch.{registers, Continues, Stops, AtTimer, DispatchedBy, WorkedBy, RestsAt, RanTo}
 use Rattle.machine.proofs.Laws.{run-end, run-broken}
 
 -- the memory fits, and what is left to do makes the whole run
@@ -81,6 +85,22 @@ module _ {code : List ℕ} {settings : Setting → Type 0} {low high prev cur₀
               g .goes ns start q ∙ c .goes ns (budget - done) (start + done) q (c .no-more) ∙ rw (e, f);
         }
 
+  -- a timer at work
+  module _ (acting : k .passing ≡ false) (h : done < budget) (cs : List ℤ) (w : Worked) (by : WorkedBy code settings prev at (registers (k .held) (k .picked) false) vals cur cs w) where
+    pub timer-on : (next : ℕ) → w ≡ W.Behind next → length cs ≡ length cur → Going code settings low high prev cur₀ vals₀ from budget m cs vals k next (done + 1)
+    timer-on next is wider =
+        let b : Continues code settings prev at (registers (k .held) (k .picked) false) vals cur vals cs 1 (registers (k .held) (k .picked) false) next 1
+        = subst (λ x. WorkedBy code settings prev at (registers (k .held) (k .picked) false) vals cur cs x) is by in
+        again h vals cs k next 1
+        (record { few = b .few; some-done = omega arith; no-more = omega arith; goes = λ ns left start q l. rw acting (b .goes ns left start q l) })
+        refl wider
+
+    pub timer-refused : w ≡ W.Broken → (ns : Setting) → settings ns → ran (done + 1) at (refusal 11) ≡ run ns prev code budget from 0 (machineOf m vals₀ cur₀)
+    timer-refused is ns q =
+        let s : Stops code settings prev at (registers (k .held) (k .picked) false) vals cur 11
+        = subst (λ x. WorkedBy code settings prev at (registers (k .held) (k .picked) false) vals cur cs x) is by in
+        sym (rw acting (s ns (budget - done) done q (omega arith))) ∙ whole ns q
+
   -- ---- a run up to a timer, of settings that have some of these
 
   module _ (names : ℕ) (narrow : Setting → Type 0) (sub : (ns : Setting) → narrow ns → settings ns) where
@@ -118,6 +138,10 @@ module _ {code : List ℕ} {settings : Setting → Type 0} {low high prev cur₀
 
 -- ---- a run that stood at a timer goes on
 
+-- a setting has as many flags as names
+pub named-in : (low high : List ℤ) (timing : Timing) (ns : Setting) → SettingIn low high timing ns → NamedIn low high (timing .names) ns
+named-in low high timing ns q = record { ranged = q .ranged; named = ap length (q .timed .flags) ∙ length-flags (timing .names) (timing .timers) }
+
 module _ {code : List ℕ} {settings : Setting → Type 0} {low high prev cur₀ vals₀ : List ℤ} {from budget : ℕ} {m : Registers} {cur vals : List ℤ} {k : Registers} {at done : ℕ}
     (g : Going code settings low high prev cur₀ vals₀ from budget m cur vals k at done)
     {narrow : Setting → Type 0} (sub : (ns : Setting) → settings ns → narrow ns) {names : ℕ} {r : Executed} {vs cs : List ℤ}
@@ -140,6 +164,13 @@ module _ {code : List ℕ} {settings : Setting → Type 0} {low high prev cur₀
             let f : start + done + r .steps ≡ start + (done + r .steps) = omega arith in
             g .goes ns start q ∙ t .goes ns (start + done) (sub ns q) ∙ rw (is, left-over, f);
       }
+
+  -- inside the budget and the code it is a timer at work
+  pub at-timer : (h : Registers) → r .last ≡ S.Next h → done + r .steps < budget → r .place < length code → (getD code (r .place) 0 ≡ 23) × (h .passing ≡ false) × (names < length prev)
+  at-timer h is less inside = subst (λ x. RestsAt code prev names (budget - done - r .steps) (r .place) x) is (t .rests) (omega (arith, g .within)) inside
+
+  pub steps-within : done + r .steps ≤ budget
+  steps-within = omega (arith, g .within, t .within)
 
   pub refused-on : (number : ℕ) → r .last ≡ S.Refused number → (ns : Setting) → settings ns
       → ran (done + r .steps) (r .place) (stepOutcome (r .last) vs cs) ≡ run ns prev code budget from 0 (machineOf m vals₀ cur₀)
