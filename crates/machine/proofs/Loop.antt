@@ -70,6 +70,9 @@ module _ {code : List ℕ} {settings : Setting → Type 0} {low high prev cur₀
     timer-at is = subst (λ x. DispatchedBy code settings prev at k vals cur vs cs (budget - done) x) is by
 
   module _ (h : done < budget) where
+    pub stopped : (number : ℕ) → Stops code settings prev at k vals cur number → (ns : Setting) → settings ns → ran (done + 1) at (refusal number) ≡ run ns prev code budget from 0 (machineOf m vals₀ cur₀)
+    stopped number s ns r = sym (s ns (budget - done) done r (omega arith)) ∙ whole ns r
+
     pub again : (vs cs : List ℤ) (t : Registers) (next n : ℕ) → Continues code settings prev at k vals cur vs cs (budget - done) t next n → length vs ≡ length vals → length cs ≡ length cur
         → Going code settings low high prev cur₀ vals₀ from budget m cs vs t next (done + n)
     again vs cs t next n c deeper wider =
