@@ -62,7 +62,7 @@ fusing-begins code low high prev inputs cur vals named l m room =
     record {
       ready = record { small = initial-small inputs (length low) l m; sized = refl; room = room; named = named; opened = λ t. absurd (false≢true t) };
       walks = walks-here code 0 _;
-      going = record { stack = record { few = omega arith; room = room }; named = named; wide = refl; deep = refl; within = omega arith; goes = λ ns r. rw e };
+      going = record { stack = record { few = omega arith; room = room }; named = named; wide = refl; deep = refl; within = omega arith; goes = λ ns start r. let f : start + 0 ≡ start = omega arith in rw (e, f) };
       few = omega arith;
     }
 

@@ -14,7 +14,7 @@ use Rattle.semantics.specs.Formula.{State, at as valueAt}
 use Rattle.semantics.specs.Shape.{Setting}
 use Rattle.leb128.specs.Numbers.{Read, got, nothing, numberAt, unzigzag}
 use Rattle.bytecode.specs.Instructions.{Instruction, constant, current, previous, comparison, timer, comparisonOf, instructionOf, hasOperand, decoded, fetch}
-use Rattle.bytecode.proofs.Fetching.{one-fetched}
+use Rattle.bytecode.proofs.Fetching.{one-fetched, timer-first, timer-second, timer-third, timer-read, timer-fetched}
 use Rattle.machine.specs.declared.Registers.{Registers}
 use Rattle.machine.specs.declared.Stepped.{Stepped}
 use Rattle.machine.specs.declared.Stepped.the-variants as S
@@ -29,6 +29,7 @@ use Rattle.machine.proofs.Laws.{run-broken}
 use Rattle.machine.proofs.Codes.{act-stepped, truth-comparison}
 use Rattle.machine.proofs.Stack.{held-put, push-put}
 use Rattle.machine.proofs.Loop.{run-fetched}
+use Rattle.machine.proofs.Timers.{untimed}
 use Rattle.machine.proofs.Fetches.{read-alone, read-with, read-malformed, short-fetch, second-is, third-is}
 
 module _ (code : List ℕ) (settings : Setting → Type 0) (prev : List ℤ) (at : ℕ) where
@@ -118,12 +119,33 @@ module _ (code : List ℕ) (settings : Setting → Type 0) (prev : List ℤ) (at
           one-done (registers held picked false) vals cur l (some (timer t w n)) next f vals cur₁ (S.Refused 11) tt
           (λ ns q. rw is at (e ns q)) (D.Refused 11) refl
 
+  -- a 23 where states have no elapsed times, well formed or not
+  module _ (m : Registers) (vals cur : List ℤ) (l : at < length code) (is : getD code at 0 ≡ 23) (acting : m .passing ≡ false)
+      (none : (ns : Setting) → settings ns → length (ns .ranges) ≤ length (ns .timers)) where
+    third-read : (t second w third : ℕ) → numberAt code (at + 1) ≡ got t second → numberAt code second ≡ got w third → (r : Read ℕ) → numberAt code third ≡ r → Stops code settings prev at m vals cur 11
+    third-read t second w third e f nothing g = none-stops m vals cur l (timer-fetched code at is ∙ timer-third code (at + 1) t second e w third f g)
+    third-read t second w third e f (got n next) g =
+        one-done m vals cur l (some (timer t w n)) next (timer-fetched code at is ∙ timer-read code (at + 1) t second e w third f n next g) vals cur (S.Refused 11) tt
+        (λ ns q. rw acting (untimed ns prev t w n (m .picked) (heldOf vals (m .held)) cur (none ns q))) (D.Refused 11) refl
+
+    second-read : (t second : ℕ) → numberAt code (at + 1) ≡ got t second → (r : Read ℕ) → numberAt code second ≡ r → Stops code settings prev at m vals cur 11
+    second-read t second e nothing f = none-stops m vals cur l (timer-fetched code at is ∙ timer-second code (at + 1) t second e f)
+    second-read t second e (got w third) f = third-read t second w third e f (numberAt code third) refl
+
+    first-read : (r : Read ℕ) → numberAt code (at + 1) ≡ r → Stops code settings prev at m vals cur 11
+    first-read nothing e = none-stops m vals cur l (timer-fetched code at is ∙ timer-first code (at + 1) e)
+    first-read (got t second) e = second-read t second e (numberAt code second) refl
+
+    pub timer-stops : Stops code settings prev at m vals cur 11
+    timer-stops = first-read (numberAt code (at + 1)) refl
+
   -- ---- more may be done
 
   pub with-more : (m : Registers) (vals cur vals₁ cur₁ : List ℤ) (left : ℕ) → 0 < left → (d : Dispatched) → DispatchedBy code settings prev at m vals cur vals₁ cur₁ 1 d
       → DispatchedBy code settings prev at m vals cur vals₁ cur₁ left d
   with-more m vals cur vals₁ cur₁ left h (D.On held c p next n) e = record { few = e .few; some-done = e .some-done; no-more = omega (arith, e .no-more); goes = e .goes }
   with-more m vals cur vals₁ cur₁ left h (D.Refused k) e = e
+  with-more m vals cur vals₁ cur₁ left h D.Timed e = e
 
 -- ---- a value, a constant and their comparison
 

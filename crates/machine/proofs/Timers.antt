@@ -4,6 +4,7 @@ use native.Mathlib.Omega.{arith}
 use mathlib.Core.Path.{_≡_, refl, _∙_}
 use mathlib.Core.Bool.{Bool, true, false}
 use mathlib.Core.List.{List}
+use lib.Dec.{ltb}
 use lib.IntN.{ℤ, pos, negsuc}
 use lib.ListN.{length, set}
 use borrow.Author.Tests.{lt-ltb, le-ltb, le-leb, lt-leb}
@@ -87,3 +88,12 @@ module _ (ns : Setting) (s : State) (t w n : ℕ) (c : Bool) (vs : List ℤ) (u 
         unfolding timed
         timer-worked h place e d is time value =
             rw (value, time, is, sized, lt-ltb t size id, lt-ltb w size watched, k .flags, k .time, lt-ltb cell size declared, le-leb n 2147483647 h)
+
+-- a 23 where states have no elapsed times
+pub untimed : (ns : Setting) (s : State) (t w n : ℕ) (c : Bool) (vs : List ℤ) (u : State) → length (ns .ranges) ≤ length (ns .timers) → refusal 11 ≡ perform ns s (timer t w n) c vs u
+untimed ns s t w n c vs u h = by (ltb t (length (ns .ranges))) (ltb w (length (ns .ranges))) refl refl
+  where
+    by : (a b : Bool) → ltb t (length (ns .ranges)) ≡ a → ltb w (length (ns .ranges)) ≡ b → refusal 11 ≡ perform ns s (timer t w n) c vs u
+    by false b e f = rw e
+    by true false e f = rw (e, f)
+    by true true e f = rw (e, f, le-ltb (timePlace (ns .timers) t) (length (ns .ranges)) (omega arith))

@@ -2,7 +2,6 @@
 // one: a struct that holds flags has a gap, which the loop of a run would copy.
 use crate::Registers;
 use crate::Stepped;
-use crate::Timing;
 use crate::timer;
 use crate::values;
 ghost use mathlib.Core.Path.{_≡_};
@@ -12,14 +11,15 @@ ghost use lib.ListN.{length};
 ghost use Rattle.limits.specs.Limits.{stackLimit};
 ghost use Rattle.leb128.specs.Numbers.{numberAt};
 ghost use Rattle.leb128.specs.Results.{unsignedRead};
-ghost use Rattle.machine.specs.Inner.Memory.{OneEach, SettingIn};
+ghost use Rattle.machine.specs.Inner.Memory.{OneEach, RangedIn};
 ghost use Rattle.machine.specs.Inner.Dispatch.{registers, dispatchedOf, overOf, DispatchedBy, PassedBy, LookaheadBy};
 
 // How many values are held, whether the variable at hand was picked, whether instructions are passed over; the place behind, and how many
-// instructions were done. Or the number of the first one's refusal.
+// instructions were done. Or the number of the first one's refusal. Or the first one is a timer that is not passed over, and nothing was done.
 pub enum Dispatched {
     On(usize, bool, bool, usize, usize),
     Refused(u8),
+    Timed,
 }
 
 // What the comparison that stands at a place finds; or none does.
@@ -88,14 +88,13 @@ fn dispatch_one(
     prev: &[i32],
     cur: &mut [i32],
     vals: &mut [i32],
-    timing: Timing,
     at: usize,
     held: usize,
     picked: bool,
 ) -> Dispatched
     requires { ⌜ (at < length (now code)) × (held ≤ stackLimit) × (stackLimit ≤ length (now vals)) ⌝ }
     requires { ⌜ OneEach (now low) (now high) (now prev) (now cur) ⌝ }
-    ensures { λ r. ⌜ DispatchedBy (now (code .entry)) (SettingIn (now (low .entry)) (now (high .entry)) timing) (now (prev .entry)) at (registers held picked false)
+    ensures { λ r. ⌜ DispatchedBy (now (code .entry)) (RangedIn (now (low .entry)) (now (high .entry))) (now (prev .entry)) at (registers held picked false)
         (now (vals .entry)) (now (cur .entry)) (now (vals .exit)) (now (cur .exit)) 1 r ⌝ }
 {
     let byte = code[at];
@@ -149,7 +148,7 @@ fn dispatch_one(
             };
             onward(next, crate::act(low, high, prev, cur, vals, m, 22, n))
         }
-        23 => timer::run(code, prev, cur, timing, at, held, picked),
+        23 => Dispatched::Timed,
         24 => {
             let leb128::Unsigned::Number(n, next) = operand(code, at) else {
                 return Dispatched::Refused(limits::BROKEN_IMAGE);
@@ -230,7 +229,6 @@ pub fn dispatch(
     prev: &[i32],
     cur: &mut [i32],
     vals: &mut [i32],
-    timing: Timing,
     at: usize,
     held: usize,
     picked: bool,
@@ -239,14 +237,14 @@ pub fn dispatch(
 ) -> Dispatched
     requires { ⌜ (at < length (now code)) × (held ≤ stackLimit) × (stackLimit ≤ length (now vals)) × (0 < left) ⌝ }
     requires { ⌜ OneEach (now low) (now high) (now prev) (now cur) ⌝ }
-    ensures { λ r. ⌜ DispatchedBy (now (code .entry)) (SettingIn (now (low .entry)) (now (high .entry)) timing) (now (prev .entry)) at (registers held picked passing)
+    ensures { λ r. ⌜ DispatchedBy (now (code .entry)) (RangedIn (now (low .entry)) (now (high .entry))) (now (prev .entry)) at (registers held picked passing)
         (now (vals .entry)) (now (cur .entry)) (now (vals .exit)) (now (cur .exit)) left r ⌝ }
 {
     if passing {
         return pass_over(code, at, held, picked);
     }
     let Lookahead::Truth(t) = comparison_at(code, prev, cur, at, held, left) else {
-        return dispatch_one(code, low, high, prev, cur, vals, timing, at, held, picked);
+        return dispatch_one(code, low, high, prev, cur, vals, at, held, picked);
     };
     vals[held] = values::bit_of(t);
     Dispatched::On(held + 1, picked, false, at + 5, 3)

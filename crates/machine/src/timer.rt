@@ -4,7 +4,7 @@ use crate::dispatch::Dispatched;
 ghost use mathlib.Core.Path.{_≡_};
 ghost use mathlib.Core.Bool.{Bool, false};
 ghost use mathlib.Core.List.{List};
-ghost use Prim.Native.Nat.{_+_, _≤_, _<_, _^_};
+ghost use Prim.Native.Nat.{ℕ, _≤_, _<_, _^_};
 ghost use lib.IntN.{ℤ, pos};
 ghost use lib.ListN.{length, getD};
 ghost use Rattle.limits.specs.Limits.{stackLimit};
@@ -14,7 +14,7 @@ ghost use Rattle.bytecode.specs.Instructions.{timer as timing-of};
 ghost use Rattle.machine.specs.Step.{perform};
 ghost use Rattle.machine.specs.Inner.Memory.{TimingIn, SettingIn};
 ghost use Rattle.machine.specs.Inner.Groups.{worked};
-ghost use Rattle.machine.specs.Inner.Dispatch.{registers, DispatchedBy, PassedBy};
+ghost use Rattle.machine.specs.Inner.Dispatch.{registers, PassedBy, WorkedBy};
 
 // The place of t's elapsed time: behind the names, by timer id.
 fn place(timing: Timing, t: usize) -> usize
@@ -93,42 +93,44 @@ fn work(prev: &[i32], cur: &mut [i32], timing: Timing, t: u64, w: u64, n: u64) -
     true
 }
 
-// The 23 at a place.
-pub fn run(
-    code: &[u8],
-    prev: &[i32],
-    cur: &mut [i32],
-    timing: Timing,
-    at: usize,
-    held: usize,
-    picked: bool,
-) -> Dispatched
-    requires { ⌜ (at < length (now code)) × (getD (now code) at 0 ≡ 23) × (held ≤ stackLimit) × (length (now cur) ≡ length (now prev)) ⌝ }
-    ensures { λ r. ⌜ ((low high vals : List ℤ) → length low ≡ length (now (prev .entry))
-        → DispatchedBy (now (code .entry)) (SettingIn low high timing) (now (prev .entry)) at (registers held picked false) vals (now (cur .entry)) vals (now (cur .exit)) 1 r) ⌝ }
+// The place behind a timer that was worked; or it is broken.
+pub enum Worked {
+    Behind(usize),
+    Broken,
+}
+
+// The 23 at a place, at work.
+pub fn run(code: &[u8], prev: &[i32], cur: &mut [i32], timing: Timing, at: usize) -> Worked
+    requires { ⌜ (at < length (now code)) × (getD (now code) at 0 ≡ 23) × (length (now cur) ≡ length (now prev)) ⌝ }
+    ensures { λ r. ⌜ ((held : ℕ) (picked : Bool) (low high vals : List ℤ) → held ≤ stackLimit → length low ≡ length (now (prev .entry))
+        → WorkedBy (now (code .entry)) (SettingIn low high timing) (now (prev .entry)) at (registers held picked false) vals (now (cur .entry)) (now (cur .exit)) r) ⌝ }
 {
     let f = bytecode::fetch(code, at);
     match f {
         bytecode::Fetched::Timer(t, w, n, next) => {
             if work(prev, cur, timing, t, w, n) {
-                return Dispatched::On(held, picked, false, next, 1);
+                return Worked::Behind(next);
             }
-            Dispatched::Refused(limits::BROKEN_IMAGE)
+            Worked::Broken
         }
-        bytecode::Fetched::Instruction(_, _, _) => Dispatched::Refused(limits::BROKEN_IMAGE),
-        bytecode::Fetched::Malformed => Dispatched::Refused(limits::BROKEN_IMAGE),
+        bytecode::Fetched::Instruction(_, _, _) => Worked::Broken,
+        bytecode::Fetched::Malformed => Worked::Broken,
     }
 }
 
-// The 23 at a place, passed over: its operands are read.
+// The 23 at a place, passed over: its operands are read, here and not by `fetch`, so that a run calls nothing.
 pub fn pass(code: &[u8], at: usize, held: usize, picked: bool) -> Dispatched
     requires { ⌜ (at < length (now code)) × (getD (now code) at 0 ≡ 23) × (held ≤ stackLimit) ⌝ }
     ensures { λ r. ⌜ PassedBy (now (code .entry)) at held picked r ⌝ }
 {
-    let f = bytecode::fetch(code, at);
-    match f {
-        bytecode::Fetched::Timer(_, _, _, next) => Dispatched::On(held, picked, true, next, 1),
-        bytecode::Fetched::Instruction(_, _, _) => Dispatched::Refused(limits::BROKEN_IMAGE),
-        bytecode::Fetched::Malformed => Dispatched::Refused(limits::BROKEN_IMAGE),
-    }
+    let leb128::Unsigned::Number(_, second) = leb128::unsigned_at(code, at + 1) else {
+        return Dispatched::Refused(limits::BROKEN_IMAGE);
+    };
+    let leb128::Unsigned::Number(_, third) = leb128::unsigned_at(code, second) else {
+        return Dispatched::Refused(limits::BROKEN_IMAGE);
+    };
+    let leb128::Unsigned::Number(_, next) = leb128::unsigned_at(code, third) else {
+        return Dispatched::Refused(limits::BROKEN_IMAGE);
+    };
+    Dispatched::On(held, picked, true, next, 1)
 }

@@ -12,9 +12,10 @@ ghost use mathlib.Core.Bool.{cond};
 ghost use Prim.Native.Nat.{_≤_};
 ghost use lib.Dec.{leb};
 ghost use lib.ListN.{length};
+ghost use Rattle.paused.specs.Memory.{layoutOf};
 ghost use Rattle.paused.specs.Responses.{ResponseWithin};
-ghost use Rattle.resumable.specs.Inner.Room.{RoomToRun, Short, Keepable};
-ghost use Rattle.limits.specs.Limits.{imageLimit, stackLimit, stateLimit};
+ghost use Rattle.resumable.specs.Inner.Room.{RoomToRun, ReadyToRun, UnderWay, Short, Keepable};
+ghost use Rattle.limits.specs.Limits.{imageLimit, stackLimit, nameLimit, stateLimit};
 ghost use Rattle.arith.specs.Values.{ok};
 ghost use Rattle.machine.specs.Inner.Memory.{machineOf, stepOutcome, ranOf, Few};
 ghost use Rattle.resumable.specs.Instalment.{afterCall, ranFrom, leftAfter, instalment, advanceOf};
@@ -54,6 +55,43 @@ fn run_from(
         cur,
         vals,
         timing,
+        p.place,
+        m,
+        n,
+    )
+}
+
+// The same where a state has no elapsed times.
+fn run_untimed_from(
+    memory: &[i32],
+    code: &[u8],
+    p: Checkpoint,
+    layout: Layout,
+    n: usize,
+    cur: &mut [i32],
+    vals: &mut [i32],
+) -> Executed
+    requires { ⌜ RoomToRun (now memory) (now cur) (now vals) p (layout .size) ⌝ }
+    requires { ⌜ layout .size ≡ layout .names ⌝ }
+    ensures { λ r. ⌜ ranOf r (now (vals .exit)) (now (cur .exit)) ≡ ranFrom (now (code .entry)) n p layout (now (memory .entry)) ⌝ }
+    ensures { λ r. ⌜ r .steps ≤ n ⌝ }
+{
+    let size = layout.size;
+    lists::fill(cur, &memory[paused::CURRENT..paused::CURRENT + size]);
+    lists::fill(vals, &memory[paused::HELD..paused::HELD_END]);
+    let m = Registers {
+        held: p.held,
+        picked: p.picked,
+        passing: p.passing,
+    };
+    machine::run_untimed(
+        code,
+        &memory[paused::LOW..paused::LOW + size],
+        &memory[paused::HIGH..paused::HIGH + size],
+        &memory[paused::START..paused::START + size],
+        cur,
+        vals,
+        size,
         p.place,
         m,
         n,
@@ -163,15 +201,132 @@ fn advance_by(
     done
 }
 
-// At most so many steps of the scan under way.
-fn advance_in(
-    paused: &mut [i32],
-    image: &[u8],
-    steps: usize,
+// The same where a state has no elapsed times.
+fn advance_untimed_by(
+    memory: &mut [i32],
+    code: &[u8],
+    p: Checkpoint,
+    layout: Layout,
+    n: usize,
     cur: &mut [i32],
     vals: &mut [i32],
-) -> Response
+) -> usize
+    requires { ⌜ RoomToRun (now memory) (now cur) (now vals) p (layout .size) ⌝ }
+    requires { ⌜ Short (now code) n p ⌝ }
+    requires { ⌜ layout .size ≡ layout .names ⌝ }
+    ensures { λ r. ⌜ afterCall (Response.Done r) (now (memory .exit)) ≡ instalment (now (code .entry)) n (now (memory .entry)) p layout ⌝ }
+    ensures { λ r. ⌜ r ≤ n ⌝ }
+{
+    let ran = run_untimed_from(memory, code, p, layout, n, cur, vals);
+    let done = ran.steps;
+    let last = ran.last;
+    keep(
+        memory,
+        p.steps,
+        code.len(),
+        done,
+        ran.place,
+        last,
+        cur,
+        vals,
+    );
+    done
+}
+
+// On room for the most numbers that a state has. The layout is read here: an instalment without elapsed times does not pay for it.
+fn timed_in(
+    memory: &mut [i32],
+    code: &[u8],
+    p: Checkpoint,
+    n: usize,
+    cur: &mut [i32],
+    vals: &mut [i32],
+) -> usize
     requires { ⌜ (length (now cur) ≡ stateLimit) × (length (now vals) ≡ stackLimit) ⌝ }
+    requires { ⌜ ReadyToRun (now memory) p ⌝ }
+    requires { ⌜ Short (now code) n p ⌝ }
+    ensures { λ r. ⌜ afterCall (Response.Done r) (now (memory .exit)) ≡ instalment (now (code .entry)) n (now (memory .entry)) p (layoutOf (now (memory .entry))) ⌝ }
+    ensures { λ r. ⌜ r ≤ n ⌝ }
+{
+    let layout = paused::layout_in(memory);
+    let size = layout.size;
+    advance_by(memory, code, p, layout, n, &mut cur[..size], vals)
+}
+
+// On room for as many names as there may be.
+fn untimed_in(
+    memory: &mut [i32],
+    code: &[u8],
+    p: Checkpoint,
+    layout: Layout,
+    n: usize,
+    cur: &mut [i32],
+    vals: &mut [i32],
+) -> usize
+    requires { ⌜ (length (now cur) ≡ nameLimit) × (length (now vals) ≡ stackLimit) ⌝ }
+    requires { ⌜ ReadyToRun (now memory) p ⌝ }
+    requires { ⌜ Short (now code) n p ⌝ }
+    requires { ⌜ (layout .size ≡ layout .names) × (layout .size ≤ nameLimit) ⌝ }
+    ensures { λ r. ⌜ afterCall (Response.Done r) (now (memory .exit)) ≡ instalment (now (code .entry)) n (now (memory .entry)) p layout ⌝ }
+    ensures { λ r. ⌜ r ≤ n ⌝ }
+{
+    let size = layout.size;
+    advance_untimed_by(memory, code, p, layout, n, &mut cur[..size], vals)
+}
+
+fn advance_timed(memory: &mut [i32], code: &[u8], p: Checkpoint, n: usize) -> usize
+    requires { ⌜ ReadyToRun (now memory) p ⌝ }
+    requires { ⌜ Short (now code) n p ⌝ }
+    ensures { λ r. ⌜ afterCall (Response.Done r) (now (memory .exit)) ≡ instalment (now (code .entry)) n (now (memory .entry)) p (layoutOf (now (memory .entry))) ⌝ }
+    ensures { λ r. ⌜ r ≤ n ⌝ }
+{
+    let mut cur = [0i32; limits::STATE_LIMIT];
+    let mut vals = [0i32; limits::STACK_LIMIT];
+    timed_in(memory, code, p, n, &mut cur, &mut vals)
+}
+
+// Half the room is cleared.
+fn advance_untimed(
+    memory: &mut [i32],
+    code: &[u8],
+    p: Checkpoint,
+    layout: Layout,
+    n: usize,
+) -> usize
+    requires { ⌜ ReadyToRun (now memory) p ⌝ }
+    requires { ⌜ Short (now code) n p ⌝ }
+    requires { ⌜ (layout .size ≡ layout .names) × (layout .size ≤ nameLimit) ⌝ }
+    ensures { λ r. ⌜ afterCall (Response.Done r) (now (memory .exit)) ≡ instalment (now (code .entry)) n (now (memory .entry)) p layout ⌝ }
+    ensures { λ r. ⌜ r ≤ n ⌝ }
+{
+    let mut cur = [0i32; limits::NAME_LIMIT];
+    let mut vals = [0i32; limits::STACK_LIMIT];
+    untimed_in(memory, code, p, layout, n, &mut cur, &mut vals)
+}
+
+// At most so many steps of the scan under way. A function of its own: among more tests the compiler takes the instalment for cold.
+fn advance_scan(paused: &mut [i32], image: &[u8], p: Checkpoint, steps: usize) -> usize
+    requires { ⌜ UnderWay (now paused) p steps ⌝ }
+    ensures { λ r. ⌜ afterCall (Response.Done r) (now (paused .exit)) ≡ advanceOf (now (image .entry)) steps (now (paused .entry)) ⌝ }
+    ensures { λ r. ⌜ r ≤ imageLimit ⌝ }
+{
+    let layout = paused::layout_in(paused);
+    let base = layout.base;
+    let size = layout.size;
+    if image.len() != layout.image {
+        return 0;
+    }
+    if image.len() - base <= p.place {
+        return 0;
+    }
+    let n = paused::least(steps, limits::IMAGE_LIMIT);
+    if size == layout.names {
+        return advance_untimed(paused, &image[base..], p, layout, n);
+    }
+    advance_timed(paused, &image[base..], p, n)
+}
+
+pub fn advance(paused: &mut [i32], image: &[u8], steps: usize) -> Response
     ensures { λ r. ⌜ afterCall r (now (paused .exit)) ≡ advanceOf (now (image .entry)) steps (now (paused .entry)) ⌝ }
     ensures { λ r. ⌜ ResponseWithin imageLimit r ⌝ }
 {
@@ -180,7 +335,6 @@ fn advance_in(
     }
     let p = paused::checkpoint_in(paused);
     let phase = p.phase;
-    let place = p.place;
     if phase == paused::NO_SCAN {
         return Response::Idle;
     }
@@ -190,25 +344,6 @@ fn advance_in(
     if steps == 0 {
         return Response::Done(0);
     }
-    let layout = paused::layout_in(paused);
-    let base = layout.base;
-    let size = layout.size;
-    if image.len() != layout.image {
-        return Response::Done(0);
-    }
-    if image.len() - base <= place {
-        return Response::Done(0);
-    }
-    let n = paused::least(steps, limits::IMAGE_LIMIT);
-    let done = advance_by(paused, &image[base..], p, layout, n, &mut cur[..size], vals);
+    let done = advance_scan(paused, image, p, steps);
     Response::Done(done)
-}
-
-pub fn advance(paused: &mut [i32], image: &[u8], steps: usize) -> Response
-    ensures { λ r. ⌜ afterCall r (now (paused .exit)) ≡ advanceOf (now (image .entry)) steps (now (paused .entry)) ⌝ }
-    ensures { λ r. ⌜ ResponseWithin imageLimit r ⌝ }
-{
-    let mut cur = [0i32; limits::STATE_LIMIT];
-    let mut vals = [0i32; limits::STACK_LIMIT];
-    advance_in(paused, image, steps, &mut cur, &mut vals)
 }

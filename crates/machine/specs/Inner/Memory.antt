@@ -53,6 +53,14 @@ pub record SettingIn (low high : List ℤ) (timing : Timing) (ns : Setting) : Ty
   pub ranged : RangesIn (ns .ranges) low high
   pub timed : TimingIn ns timing
 
+-- the settings whose ranges lent memory stands for; and those of so many names, whatever their timers and milliseconds
+abbrev pub RangedIn : List ℤ → List ℤ → Setting → Type 0
+RangedIn low high ns = RangesIn (ns .ranges) low high
+
+pub record NamedIn (low high : List ℤ) (names : ℕ) (ns : Setting) : Type 0 where
+  pub ranged : RangesIn (ns .ranges) low high
+  pub named : length (ns .timers) ≡ names
+
 -- room for 40 values, and not more held
 pub record Stack (m : Registers) (vals : List ℤ) : Type 0 where
   pub few : m .held ≤ stackLimit

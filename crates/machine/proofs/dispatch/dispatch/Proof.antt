@@ -5,7 +5,7 @@ use native.Mathlib.Omega.{arith}
 use mir.Val.{SFits}
 use mir.Syntax.{w32}
 use mir.Facts.{toZ-ofZ}
-use Rattle.machine.specs.Inner.Memory.{SettingIn}
+use Rattle.machine.specs.Inner.Memory.{RangedIn}
 use Rattle.machine.specs.Inner.Dispatch.{registers, LookaheadBy}
 use Rattle.machine.proofs.Changes.{names-length}
 use Rattle.machine.proofs.Dispatching.{with-more, comparison-done}
@@ -16,7 +16,7 @@ use Rattle.machine.proofs.dispatch.dispatch.Tie as tie
 returns : tie.Need-returns
 returns c =
     let a = c .before .before .before .args in
-    rw (c .before .if1 .taken) (with-more (a .code .now) (SettingIn (a .low .now) (a .high .now) (a .timing)) (a .prev .now) (a .at) (registers (a .held) (a .picked) true) (a .vals .now) (a .cur .now) (a .vals .now) (a .cur .now) (a .left) (c .before .before .before .pre .0 .3) (c .pass-over .result) (c .pass-over .ensures (a .timing) (a .low .now) (a .high .now) (a .prev .now) (a .vals .now) (a .cur .now)))
+    rw (c .before .if1 .taken) (with-more (a .code .now) (RangedIn (a .low .now) (a .high .now)) (a .prev .now) (a .at) (registers (a .held) (a .picked) true) (a .vals .now) (a .cur .now) (a .vals .now) (a .cur .now) (a .left) (c .before .before .before .pre .0 .3) (c .pass-over .result) (c .pass-over .ensures (a .low .now) (a .high .now) (a .prev .now) (a .vals .now) (a .cur .now)))
 
 comparison-at-requires : tie.Need-comparison-at-requires
 comparison-at-requires c κs =
@@ -25,7 +25,7 @@ comparison-at-requires c κs =
 returns-2 : tie.Need-returns-2
 returns-2 c =
     let a = c .before .before .before .before .before .before .before .before .before .before .before .args in
-    rw (c .before .before .before .before .before .before .before .before .before .if1 .left) (with-more (a .code .now) (SettingIn (a .low .now) (a .high .now) (a .timing)) (a .prev .now) (a .at) (registers (a .held) (a .picked) false) (a .vals .now) (a .cur .now) _ _ (a .left) (c .before .before .before .before .before .before .before .before .before .before .before .pre .0 .3) (c .before .before .dispatch-one .result) (c .before .before .dispatch-one .ensures))
+    rw (c .before .before .before .before .before .before .before .before .before .if1 .left) (with-more (a .code .now) (RangedIn (a .low .now) (a .high .now)) (a .prev .now) (a .at) (registers (a .held) (a .picked) false) (a .vals .now) (a .cur .now) _ _ (a .left) (c .before .before .before .before .before .before .before .before .before .before .before .pre .0 .3) (c .before .before .dispatch-one .result) (c .before .before .dispatch-one .ensures))
 
 slice-set-from-vals : tie.Need-slice-set-from-vals
 slice-set-from-vals c =
@@ -38,7 +38,7 @@ returns-3 c =
     let a = c .before .before .before .before .before .before .before .before .args in
     let s = subst (λ x. LookaheadBy (a .code .now) (a .prev .now) (a .cur .now) (a .at) (a .held) (a .left) x) (c .before .before .t .given .1) (c .before .before .before .before .comparison-at .ensures) in
     let fv : SFits w32 (c .bit-of .result) = search needs in
-    rw (toZ-ofZ fv, c .before .before .before .before .before .before .if1 .left) (comparison-done (a .code .now) (SettingIn (a .low .now) (a .high .now) (a .timing)) (a .prev .now) (a .at) (a .held) (a .picked) (a .vals .now) (a .cur .now) (a .left) _ s (λ ns q. names-length (ns .ranges) (a .low .now) (a .high .now) (q .ranged) ∙ sym (c .before .before .before .before .before .before .before .before .pre .1 .previous)) (c .before .before .before .before .before .before .before .before .pre .0 .2) (c .bit-of .result) (c .bit-of .ensures))
+    rw (toZ-ofZ fv, c .before .before .before .before .before .before .if1 .left) (comparison-done (a .code .now) (RangedIn (a .low .now) (a .high .now)) (a .prev .now) (a .at) (a .held) (a .picked) (a .vals .now) (a .cur .now) (a .left) _ s (λ ns q. names-length (ns .ranges) (a .low .now) (a .high .now) q ∙ sym (c .before .before .before .before .before .before .before .before .pre .1 .previous)) (c .before .before .before .before .before .before .before .before .pre .0 .2) (c .bit-of .result) (c .bit-of .ensures))
 
 pub dispatch-spec : {M : Type 1} → statement M
 dispatch-spec =

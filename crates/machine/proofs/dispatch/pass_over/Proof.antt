@@ -6,7 +6,7 @@ use lib.ListN.{getD}
 use borrow.Author.Tests.{ne-eqb}
 use Rattle.bytecode.specs.Instructions.{instructionOf, hasOperand}
 use Rattle.bytecode.proofs.Codes.{none-below, none-above}
-use Rattle.machine.specs.Inner.Memory.{heldOf, SettingIn}
+use Rattle.machine.specs.Inner.Memory.{heldOf, RangedIn}
 use Rattle.machine.specs.Inner.Dispatch.{registers}
 use Rattle.machine.proofs.Codes.{pass-other}
 use Rattle.machine.proofs.Fetches.{no-operand, low-operand, high-operand, fetch-unlisted}
@@ -19,7 +19,7 @@ returns : tie.Need-returns
 unfolding instructionOf hasOperand
 returns c =
     let a = c .before .before .before .before .args in
-    λ timing low high prev vals cur. operand-passed (a .code .now) (SettingIn low high timing) prev (a .at) (a .held) (a .picked) vals cur (c .before .before .before .before .pre .1) (c .before .before .before .before .pre .0) 20 (c .before .match .keys1) refl false (λ n ns t. refl) (c .over .result) (c .over .ensures)
+    λ low high prev vals cur. operand-passed (a .code .now) (RangedIn low high) prev (a .at) (a .held) (a .picked) vals cur (c .before .before .before .before .pre .1) (c .before .before .before .before .pre .0) 20 (c .before .match .keys1) refl false (λ n ns t. refl) (c .over .result) (c .over .ensures)
 
 pass-requires : tie.Need-pass-requires
 pass-requires c κs = (c .before .before .before .pre .0, c .match .keys2, c .before .before .before .pre .1)
@@ -31,41 +31,41 @@ returns-3 : tie.Need-returns-3
 unfolding instructionOf hasOperand
 returns-3 c =
     let a = c .before .before .before .before .args in
-    λ timing low high prev vals cur. operand-passed (a .code .now) (SettingIn low high timing) prev (a .at) (a .held) (a .picked) vals cur (c .before .before .before .before .pre .1) (c .before .before .before .before .pre .0) 24 (c .before .match .keys3) refl false (λ n ns t. refl) (c .over2 .result) (c .over2 .ensures)
+    λ low high prev vals cur. operand-passed (a .code .now) (RangedIn low high) prev (a .at) (a .held) (a .picked) vals cur (c .before .before .before .before .pre .1) (c .before .before .before .before .pre .0) 24 (c .before .match .keys3) refl false (λ n ns t. refl) (c .over2 .result) (c .over2 .ensures)
 
 returns-4 : tie.Need-returns-4
 unfolding instructionOf hasOperand
 returns-4 c =
     let a = c .before .before .before .before .args in
-    λ timing low high prev vals cur. operand-passed (a .code .now) (SettingIn low high timing) prev (a .at) (a .held) (a .picked) vals cur (c .before .before .before .before .pre .1) (c .before .before .before .before .pre .0) 25 (c .before .match .keys4) refl false (λ n ns t. refl) (c .over3 .result) (c .over3 .ensures)
+    λ low high prev vals cur. operand-passed (a .code .now) (RangedIn low high) prev (a .at) (a .held) (a .picked) vals cur (c .before .before .before .before .pre .1) (c .before .before .before .before .pre .0) 25 (c .before .match .keys4) refl false (λ n ns t. refl) (c .over3 .result) (c .over3 .ensures)
 
 returns-5 : tie.Need-returns-5
 returns-5 c =
     let a = c .before .before .before .before .before .before .args in
     let byte = getD (a .code .now) (a .at) 0 in
-    λ timing low high prev vals cur. operand-passed (a .code .now) (SettingIn low high timing) prev (a .at) (a .held) (a .picked) vals cur (c .before .before .before .before .before .before .pre .1) (c .before .before .before .before .before .before .pre .0) byte refl (low-operand byte (c .before .before .if1 .left) (omega (arith, c .before .if2 .taken))) true (λ n ns t. pass-other ns prev byte n (a .picked) (heldOf vals (a .held)) t (c .before .before .if1 .left) (omega (arith, c .before .if2 .taken)) (c .before .before .before .match .rest .0 .0 .0 .1)) (c .over4 .result) (c .over4 .ensures)
+    λ low high prev vals cur. operand-passed (a .code .now) (RangedIn low high) prev (a .at) (a .held) (a .picked) vals cur (c .before .before .before .before .before .before .pre .1) (c .before .before .before .before .before .before .pre .0) byte refl (low-operand byte (c .before .before .if1 .left) (omega (arith, c .before .if2 .taken))) true (λ n ns t. pass-other ns prev byte n (a .picked) (heldOf vals (a .held)) t (c .before .before .if1 .left) (omega (arith, c .before .if2 .taken)) (c .before .before .before .match .rest .0 .0 .0 .1)) (c .over4 .result) (c .over4 .ensures)
 
 returns-6 : tie.Need-returns-6
 returns-6 c =
     let a = c .before .before .before .before .before .before .args in
     let byte = getD (a .code .now) (a .at) 0 in
-    λ timing low high prev vals cur. alone-passed (a .code .now) (SettingIn low high timing) prev (a .at) (a .held) (a .picked) vals cur (c .before .before .before .before .before .before .pre .1) (c .before .before .before .before .before .before .pre .0) byte refl (ne-eqb byte 23 (λ e. omega (arith, c .if3 .taken))) (no-operand byte (c .before .if2 .left) (c .if3 .taken)) (λ ns t. pass-other ns prev byte 0 (a .picked) (heldOf vals (a .held)) t (omega (arith, c .before .if2 .left)) (omega (arith, c .if3 .taken)) (c .before .before .before .match .rest .0 .0 .0 .1))
+    λ low high prev vals cur. alone-passed (a .code .now) (RangedIn low high) prev (a .at) (a .held) (a .picked) vals cur (c .before .before .before .before .before .before .pre .1) (c .before .before .before .before .before .before .pre .0) byte refl (ne-eqb byte 23 (λ e. omega (arith, c .if3 .taken))) (no-operand byte (c .before .if2 .left) (c .if3 .taken)) (λ ns t. pass-other ns prev byte 0 (a .picked) (heldOf vals (a .held)) t (omega (arith, c .before .if2 .left)) (omega (arith, c .if3 .taken)) (c .before .before .before .match .rest .0 .0 .0 .1))
 
 returns-7 : tie.Need-returns-7
 returns-7 c =
     let a = c .before .before .before .before .before .before .before .before .args in
     let byte = getD (a .code .now) (a .at) 0 in
-    λ timing low high prev vals cur. operand-passed (a .code .now) (SettingIn low high timing) prev (a .at) (a .held) (a .picked) vals cur (c .before .before .before .before .before .before .before .before .pre .1) (c .before .before .before .before .before .before .before .before .pre .0) byte refl (high-operand byte (omega (arith, c .before .before .if3 .left)) (omega (arith, c .before .if4 .taken))) true (λ n ns t. pass-other ns prev byte n (a .picked) (heldOf vals (a .held)) t (omega (arith, c .before .before .if3 .left)) (omega (arith, c .before .if4 .taken)) (c .before .before .before .before .before .match .rest .0 .0 .0 .1)) (c .over5 .result) (c .over5 .ensures)
+    λ low high prev vals cur. operand-passed (a .code .now) (RangedIn low high) prev (a .at) (a .held) (a .picked) vals cur (c .before .before .before .before .before .before .before .before .pre .1) (c .before .before .before .before .before .before .before .before .pre .0) byte refl (high-operand byte (omega (arith, c .before .before .if3 .left)) (omega (arith, c .before .if4 .taken))) true (λ n ns t. pass-other ns prev byte n (a .picked) (heldOf vals (a .held)) t (omega (arith, c .before .before .if3 .left)) (omega (arith, c .before .if4 .taken)) (c .before .before .before .before .before .match .rest .0 .0 .0 .1)) (c .over5 .result) (c .over5 .ensures)
 
 returns-8 : tie.Need-returns-8
 returns-8 c =
     let a = c .before .before .before .before .args in
-    λ timing low high prev vals cur. none-stops (a .code .now) (SettingIn low high timing) prev (a .at) (registers (a .held) (a .picked) true) vals cur (c .before .before .before .before .pre .0) (fetch-unlisted (a .code .now) (a .at) (c .before .before .before .before .pre .0) (ne-eqb (getD (a .code .now) (a .at) 0) 23 (λ e. omega (arith, c .if1 .taken))) (λ n. none-below (getD (a .code .now) (a .at) 0) n (c .if1 .taken)))
+    λ low high prev vals cur. none-stops (a .code .now) (RangedIn low high) prev (a .at) (registers (a .held) (a .picked) true) vals cur (c .before .before .before .before .pre .0) (fetch-unlisted (a .code .now) (a .at) (c .before .before .before .before .pre .0) (ne-eqb (getD (a .code .now) (a .at) 0) 23 (λ e. omega (arith, c .if1 .taken))) (λ n. none-below (getD (a .code .now) (a .at) 0) n (c .if1 .taken)))
 
 returns-9 : tie.Need-returns-9
 returns-9 c =
     let a = c .before .before .before .before .before .before .before .args in
-    λ timing low high prev vals cur. none-stops (a .code .now) (SettingIn low high timing) prev (a .at) (registers (a .held) (a .picked) true) vals cur (c .before .before .before .before .before .before .before .pre .0) (fetch-unlisted (a .code .now) (a .at) (c .before .before .before .before .before .before .before .pre .0) (ne-eqb (getD (a .code .now) (a .at) 0) 23 (c .before .before .before .before .match .rest .0 .0 .1)) (λ n. none-above (getD (a .code .now) (a .at) 0) n (c .if4 .left) (c .before .before .before .before .match .rest .0 .1) (c .before .before .before .before .match .rest .1)))
+    λ low high prev vals cur. none-stops (a .code .now) (RangedIn low high) prev (a .at) (registers (a .held) (a .picked) true) vals cur (c .before .before .before .before .before .before .before .pre .0) (fetch-unlisted (a .code .now) (a .at) (c .before .before .before .before .before .before .before .pre .0) (ne-eqb (getD (a .code .now) (a .at) 0) 23 (c .before .before .before .before .match .rest .0 .0 .1)) (λ n. none-above (getD (a .code .now) (a .at) 0) n (c .if4 .left) (c .before .before .before .before .match .rest .0 .1) (c .before .before .before .before .match .rest .1)))
 
 pub pass-over-spec : {M : Type 1} → statement M
 pass-over-spec =

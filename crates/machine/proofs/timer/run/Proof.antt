@@ -14,27 +14,27 @@ use Rattle.machine.proofs.timer.run.Tie as tie
 returns : tie.Need-returns
 returns c =
     let a = c .before .before .before .before .before .before .before .before .before .args in
-    λ low high vals sized. timer-done (a .code .now) (SettingIn low high (a .timing)) (a .prev .now) (a .at) (a .held) (a .picked) vals (a .cur .now) (c .before .before .before .before .before .before .before .before .before .pre .2) (c .before .before .before .before .before .before .before .before .before .pre .0)
+    λ held picked low high vals few sized. timer-done (a .code .now) (SettingIn low high (a .timing)) (a .prev .now) (a .at) held picked vals (a .cur .now) few (c .before .before .before .before .before .before .before .before .before .pre .0)
     (c .before .before .before .before .before .f .given .0 .0) (c .before .before .before .before .before .f .given .0 .1 .0) (c .before .before .before .before .before .f .given .0 .1 .1 .0) (c .before .before .before .before .before .f .given .0 .1 .1 .1 .0) (sym (c .before .before .before .before .before .before .before .fetch .ensures .0) ∙ ap fetchedRead (c .before .before .before .before .before .f .given .1)) (c .before .before .work .result) _
-    (λ ns q. c .before .before .work .ensures ns (a .picked) (heldOf vals (a .held)) (names-length (ns .ranges) low high (q .ranged) ∙ sized) (q .timed)) (c .if1 .taken)
+    (λ ns q. c .before .before .work .ensures ns picked (heldOf vals held) (names-length (ns .ranges) low high (q .ranged) ∙ sized) (q .timed)) (c .if1 .taken)
 
 returns-2 : tie.Need-returns-2
 returns-2 c =
     let a = c .before .before .before .before .before .before .before .before .before .args in
-    λ low high vals sized. timer-broken (a .code .now) (SettingIn low high (a .timing)) (a .prev .now) (a .at) (a .held) (a .picked) vals (a .cur .now) (c .before .before .before .before .before .before .before .before .before .pre .2) (c .before .before .before .before .before .before .before .before .before .pre .0)
+    λ held picked low high vals few sized. timer-broken (a .code .now) (SettingIn low high (a .timing)) (a .prev .now) (a .at) held picked vals (a .cur .now) few (c .before .before .before .before .before .before .before .before .before .pre .0)
     (c .before .before .before .before .before .f .given .0 .0) (c .before .before .before .before .before .f .given .0 .1 .0) (c .before .before .before .before .before .f .given .0 .1 .1 .0) (c .before .before .before .before .before .f .given .0 .1 .1 .1 .0) (sym (c .before .before .before .before .before .before .before .fetch .ensures .0) ∙ ap fetchedRead (c .before .before .before .before .before .f .given .1)) (c .before .before .work .result) _
-    (λ ns q. c .before .before .work .ensures ns (a .picked) (heldOf vals (a .held)) (names-length (ns .ranges) low high (q .ranged) ∙ sized) (q .timed)) (c .if1 .left)
+    (λ ns q. c .before .before .work .ensures ns picked (heldOf vals held) (names-length (ns .ranges) low high (q .ranged) ∙ sized) (q .timed)) (c .if1 .left)
 
 returns-3 : tie.Need-returns-3
 returns-3 c =
     let a = c .before .before .before .before .args in
-    λ low high vals sized. none-stops (a .code .now) (SettingIn low high (a .timing)) (a .prev .now) (a .at) (registers (a .held) (a .picked) false) vals (a .cur .now) (c .before .before .before .before .pre .0)
+    λ held picked low high vals few sized. none-stops (a .code .now) (SettingIn low high (a .timing)) (a .prev .now) (a .at) (registers held picked false) vals (a .cur .now) (c .before .before .before .before .pre .0)
     (timer-only (a .code .now) (a .at) (c .before .before .before .before .pre .1) _ _ _ (ap fetchedRead (sym (c .enum-told .given .1)) ∙ c .before .before .fetch .ensures .0))
 
 returns-4 : tie.Need-returns-4
 returns-4 c =
     let a = c .before .before .before .before .args in
-    λ low high vals sized. none-stops (a .code .now) (SettingIn low high (a .timing)) (a .prev .now) (a .at) (registers (a .held) (a .picked) false) vals (a .cur .now) (c .before .before .before .before .pre .0)
+    λ held picked low high vals few sized. none-stops (a .code .now) (SettingIn low high (a .timing)) (a .prev .now) (a .at) (registers held picked false) vals (a .cur .now) (c .before .before .before .before .pre .0)
     (sym (c .before .before .fetch .ensures .0) ∙ ap fetchedRead (c .enum-told2 .given .1))
 
 pub run-spec : {M : Type 1} → statement M
