@@ -34,8 +34,8 @@ use Rattle.fused.specs.declared.ahead.Leap.{Leap}
 use Rattle.fused.specs.declared.ahead.Leap.the-variants as L
 use Rattle.fused.specs.declared.Ended.{Ended}
 use Rattle.fused.specs.declared.Ended.the-variants as E
-use Rattle.fused.specs.Inner.Passes.{registersOf, Ready, BreaksAt, Moves, Refuses, RefusedBy, CheckedCode, BrokenCode, Succeeds, Fails, RunBy}
-use Rattle.fused.specs.Inner.Leaps.{Goes, lastly, first, LeapsBy}
+use Rattle.fused.specs.Inner.Passes.{registersOf, Ready, BreaksAt, Moves, Refuses, RefusedBy, CheckedCode, BrokenBy, BrokenCode, Succeeds, Fails, RunBy}
+use Rattle.fused.specs.Inner.Leaps.{Goes, lastly, first, LeapsBy, LeapsOver}
 
 -- the settings that lows and highs stand for
 abbrev Settings : List ℤ → List ℤ → Setting → Type 0
@@ -82,6 +82,9 @@ module _ {code : List ℕ} {low high prev : List ℤ} {inputs : ℕ} {cur₀ val
   pub leapt-broken : (vals₁ cur₁ : List ℤ) (r : Leap) → LeapsBy code low high prev b vals cur vals₁ cur₁ r → r ≡ L.Broken → BreaksAt code b
   leapt-broken vals₁ cur₁ r m e = subst (λ x. LeapsBy code low high prev b vals cur vals₁ cur₁ x) e m
 
+  pub leapt-over : (r : Leap) (k : Progress) (n : ℕ) → LeapsOver code b r → r ≡ L.On k n → Goes code low high prev n b vals cur k vals cur
+  leapt-over r k n m e = subst (λ x. LeapsOver code b x) e m low high prev cur vals (f .ready)
+
   fusing-goes : (vals₁ cur₁ : List ℤ) (k : Progress) → b .at < length code → Moves code low high prev b vals cur vals₁ cur₁ k → length vals₁ ≡ length vals → length cur₁ ≡ length cur
       → Fusing code low high prev inputs cur₀ vals₀ cur₁ vals₁ k (steps + 1)
   fusing-goes vals₁ cur₁ k l m deeper wider =
@@ -109,6 +112,12 @@ module _ {code : List ℕ} {low high prev : List ℤ} {inputs : ℕ} {cur₀ val
 
   pub fusing-breaks : (at : ℕ) → Judges code (b .at) (knownOf (b .walk)) (J.Broken at) → BrokenCode code inputs (length low) at
   fusing-breaks at j ns base = sym (answers-whole code inputs (length low) (λ base₁. refused 11 (base₁ + at)) (whole (J.Broken at) j) ns base)
+
+  pub fusing-broken : BreaksAt code b → b .at ≤ length code → (cur₁ : List ℤ) (r : Ended) → BrokenBy code (b .at) r → RunBy code low high prev inputs cur₀ cur₁ r
+  fusing-broken h l cur₁ (E.Done n) x = absurd x
+  fusing-broken h l cur₁ (E.Refused j n) x = absurd x
+  fusing-broken h l cur₁ (E.Broken at) x = rw (x .0) (fusing-breaks (b .at) (h (x .1)), l)
+  fusing-broken h l cur₁ E.Timed x = tt
 
   module _ (j : Judges code (b .at) (knownOf (b .walk)) J.Sound) where
     fusing-sound : CheckedCode code inputs (length low)

@@ -1,5 +1,5 @@
 -- Instructions that stand ahead together: walk and machine go as many steps. Assumes nothing.
-use Prim.Native.Nat.{ℕ, _+_, _%_, _≤_, _<_}
+use Prim.Native.Nat.{ℕ, _+_, _≤_, _<_}
 use native.Mathlib.Omega.{arith}
 use mathlib.Core.Path.{_≡_, refl, sym, subst, _∙_}
 use mathlib.Core.Bool.{Bool, true, false, false≢true}
@@ -12,14 +12,14 @@ use Rattle.arith.specs.Inner.Flags.{flagsOf}
 use Rattle.semantics.specs.Formula.{State, at as valueAt}
 use Rattle.semantics.specs.Shape.{Setting}
 use Rattle.leb128.specs.Numbers.{unzigzag}
-use Rattle.bytecode.specs.Instructions.{Instruction, constant, current, previous, operation, comparison, operationOf, comparisonOf, instructionOf, hasOperand}
+use Rattle.bytecode.specs.Instructions.{Instruction, constant, current, previous, comparison, comparisonOf, instructionOf, hasOperand}
 use Rattle.bytecode.specs.Check.{advance}
 use Rattle.checker.specs.declared.advance.Walk.{Walk}
 use Rattle.checker.specs.declared.advance.Advanced.the-variants.{Kept}
 use Rattle.checker.specs.Inner.Walk.{knownOf, pushed, Small}
 use Rattle.checker.specs.Inner.Stretches.{withNumber, withTruth}
-use Rattle.checker.proofs.Steps.{operation-is, comparison-is, constant-is}
-use Rattle.checker.proofs.Stretching.{pushed-is, number-small, truth-small, two-tested, two-joined, previous-pushed, current-pushed}
+use Rattle.checker.proofs.Steps.{comparison-is, constant-is}
+use Rattle.checker.proofs.Stretching.{pushed-is, number-small, truth-small, two-tested, previous-pushed, current-pushed}
 use Rattle.machine.specs.declared.Registers.{Registers}
 use Rattle.machine.specs.declared.Stepped.the-variants as S
 use Rattle.machine.specs.Step.{bit, push, perform}
@@ -34,28 +34,9 @@ use Rattle.fused.specs.declared.Moved.{Moved}
 use Rattle.fused.specs.declared.Moved.the-variants as M
 use Rattle.fused.specs.declared.ahead.Leap.{Leap}
 use Rattle.fused.specs.Inner.Passes.{Ready, Moves, MovesBy}
-use Rattle.fused.specs.Inner.Leaps.{ComparisonSeen, OperationSeen, Goes, lastly, first, leapOf, LeapsBy}
-use Rattle.machine.proofs.Fetches.{short-fetch, constant-ahead, second-is, third-is, operation-third}
+use Rattle.fused.specs.Inner.Leaps.{ComparisonSeen, Goes, lastly, first, leapOf, LeapsBy}
+use Rattle.machine.proofs.Fetches.{short-fetch, second-is, third-is}
 use Rattle.fused.proofs.Joining.{arrives}
-use Rattle.fused.proofs.Passing.{over-moves-by}
-
--- ---- the bytes ahead
-
-module _ (code : List ℕ) (at : ℕ) where
-  pub operation-seen : (w : Walk) → getD code at 0 ≡ 1 → at + 2 < length code → 4 ≤ getD code (at + 2) 0 → getD code (at + 2) 0 ≤ 8 → getD code (at + 1) 0 < 128 → 1 ≤ w .held → w .held + 1 ≤ 40 → w .sorts % 2 ≡ 0
-      → OperationSeen code at w
-  operation-seen w is l a z s some-held room on-number =
-      record {
-        operand = getD code (at + 1) 0;
-        operator = operationOf (getD code (at + 2) 0);
-        first = constant-ahead code at (omega arith) is s;
-        second = operation-third code at l a z;
-        inside = omega arith;
-        short = s;
-        some-held = some-held;
-        room = room;
-        on-number = on-number;
-      }
 
 -- ---- a value that is put on top
 
@@ -167,45 +148,6 @@ module _ (code : List ℕ) {low high prev cur vals : List ℤ} {b : Progress} (r
       first 2 b vals cur vals-one cur one-on (set vals (b .walk .held) (bit found)) cur three-on move-one (length-set vals (b .walk .held) (c .x)) refl
       (first 1 one-on vals-one cur vals-two cur two-on (set vals (b .walk .held) (bit found)) cur three-on move-two (length-set vals-one (b .walk .held + 1) y) refl
       (lastly two-on vals-two cur (set vals (b .walk .held) (bit found)) cur three-on move-three))
-
--- ---- a constant and its operation that are passed over
-
-module _ (code : List ℕ) {low high prev cur vals : List ℤ} {b : Progress} (r : Ready low high prev cur vals b) (go : b .passing ≡ true) (c : OperationSeen code (b .at) (b .walk)) where
-  abbrev between : Progress
-  between = record { walk = withNumber (b .walk); at = b .at + 2; picked = b .picked; passing = true }
-
-  abbrev pub pair-on : Progress
-  pair-on = record { walk = b .walk; at = b .at + 3; picked = b .picked; passing = true }
-
-  ready-between : Ready low high prev cur vals between
-  ready-between = record { small = number-small (b .walk) (r .small) (omega (arith, c .room)); sized = r .sized; room = r .room; named = r .named; opened = λ t. r .opened go }
-
-  pass-one : Moves code low high prev b vals cur vals cur between
-  pass-one =
-      over-moves-by code r go (M.On between) record {
-        instruction = constant (unzigzag (c .operand));
-        fetched = c .first;
-        inside = omega (arith, c .inside);
-        advanced = constant-is (c .operand) (knownOf (b .walk)) (omega (arith, c .short)) ∙ pushed-is (b .walk) (omega (arith, c .room));
-        small = ready-between .small;
-        same-picked = refl;
-        passing-is = refl;
-      }
-
-  pass-two : Moves code low high prev between vals cur vals cur pair-on
-  pass-two =
-      over-moves-by code ready-between refl (M.On pair-on) record {
-        instruction = operation (c .operator);
-        fetched = c .second;
-        inside = c .inside;
-        advanced = operation-is (c .operator) (knownOf (withNumber (b .walk))) ∙ two-joined (b .walk) (c .some-held) (c .on-number);
-        small = r .small;
-        same-picked = refl;
-        passing-is = refl;
-      }
-
-  pub pair-goes : Goes code low high prev 2 b vals cur pair-on vals cur
-  pair-goes = first 1 b vals cur vals cur between vals cur pair-on pass-one refl refl (lastly between vals cur vals cur pair-on pass-two)
 
 -- ---- one instruction
 

@@ -1,4 +1,5 @@
 pub mod Joining
 pub mod Passing
+pub mod Skipping
 pub mod Fusing
 pub mod Leaping

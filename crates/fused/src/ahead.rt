@@ -1,17 +1,17 @@
-// Instructions that stand ahead together are done as one: a value, a constant and their comparison; and, where instructions are passed over, a
-// constant and its operation. Anything else, and whatever would break soundness or be refused, goes one instruction at a time.
+// Instructions that stand ahead together are done as one: a value, a constant and their comparison; and, where instructions are passed over, those
+// up to the pick. Anything else, and whatever would break soundness or be refused, goes one instruction at a time.
 use crate::Moved;
 use crate::Progress;
 use checker::advance;
 use checker::advance::Walk;
 use machine::values;
 ghost use mathlib.Core.Path.{_≡_};
-ghost use mathlib.Core.Bool.{true};
+ghost use mathlib.Core.Bool.{true, false};
 ghost use Prim.Native.Nat.{_≤_, _<_};
 ghost use lib.ListN.{length};
-ghost use Rattle.checker.specs.Inner.Walk.{Small};
+ghost use Rattle.checker.specs.Inner.Walk.{openOf, Small};
 ghost use Rattle.fused.specs.Inner.Passes.{Ready};
-ghost use Rattle.fused.specs.Inner.Leaps.{SeenBy, OperationSeen, leapOf, LeapsBy};
+ghost use Rattle.fused.specs.Inner.Leaps.{SeenBy, holding, SkippedBy, SkipsTo, leapOf, LeapsBy, LeapsOver};
 
 // What the comparison that stands ahead finds; or none does.
 pub enum Seen {
@@ -81,34 +81,108 @@ fn comparison_ahead(code: &[u8], prev: &[i32], cur: &[i32], at: usize, w: Walk) 
     Seen::Truth(values::truth(op, cur[i], leb128::unzigzag(n)))
 }
 
-// A constant, with an operand of one byte, and an operation on it and the number below: they leave the walk as it is.
-fn operation_ahead(code: &[u8], at: usize, w: Walk) -> bool
-    requires { ⌜ at < length (now code) ⌝ }
-    ensures { λ r. ⌜ (r ≡ true → OperationSeen (now (code .entry)) at w) ⌝ }
+// How many values are held behind an instruction that is passed over, and the place behind it; or it is another.
+enum Skipped {
+    Over(u64, usize),
+    Other,
+}
+
+// How many values are held behind instructions that are passed over, the place behind them, and how many they are.
+pub struct Passage {
+    pub held: u64,
+    pub at: usize,
+    pub steps: usize,
+}
+
+// Codes 1 to 8, where so many numbers are held and nothing else.
+fn skip_one(code: &[u8], at: usize, held: u64, w: Walk) -> Skipped
+    requires { ⌜ Small w × Small (holding w held) × (w .sorts ≡ 0) × (at < length (now code)) ⌝ }
+    ensures { λ r. ⌜ SkippedBy (now (code .entry)) w held at r ⌝ }
 {
-    if code[at] != 1 {
-        return false;
+    let byte = code[at];
+    if 8 < byte {
+        return Skipped::Other;
     }
-    if code.len() <= at + 2 {
-        return false;
+    if 3 < byte {
+        if held < 2 {
+            return Skipped::Other;
+        }
+        return Skipped::Over(held - 1, at + 1);
     }
-    let op = code[at + 2];
-    if op < 4 {
-        return false;
+    if byte == 0 {
+        return Skipped::Other;
     }
-    if 8 < op {
-        return false;
+    if (limits::STACK_LIMIT as u64) <= held {
+        return Skipped::Other;
     }
-    if 127 < code[at + 1] {
-        return false;
+    let leb128::Unsigned::Number(n, next) = leb128::unsigned_at(code, at + 1) else {
+        return Skipped::Other;
+    };
+    if byte == 1 {
+        return Skipped::Over(held + 1, next);
     }
-    if w.held == 0 {
-        return false;
+    if byte == 3 {
+        if w.names <= n {
+            return Skipped::Other;
+        }
+        return Skipped::Over(held + 1, next);
     }
-    if (limits::STACK_LIMIT as u64) <= w.held {
-        return false;
+    if advance::is_known(w, n) {
+        return Skipped::Over(held + 1, next);
     }
-    w.sorts % 2 == 0
+    Skipped::Other
+}
+
+// As many of them as stand here.
+fn skip(code: &[u8], from: usize, w: Walk) -> Passage
+    requires { ⌜ Small w ⌝ }
+    ensures { λ r. ⌜ SkipsTo (now (code .entry)) w from (r .steps) (holding w (r .held)) (r .at) ⌝ }
+{
+    let mut held = w.held;
+    let mut at = from;
+    let mut steps = 0;
+    if w.sorts == 0 {
+        while at < code.len() {
+            let Skipped::Over(more, next) = skip_one(code, at, held, w) else {
+                break;
+            };
+            held = more;
+            at = next;
+            steps += 1;
+        }
+    }
+    Passage { held, at, steps }
+}
+
+// Where instructions are passed over: those up to the pick, and the pick; the walk alone moves. Where one behind the first breaks
+// soundness, those before it.
+pub fn pass_on(code: &[u8], b: Progress) -> Leap
+    requires { ⌜ Small (b .walk) × (b .at < length (now code)) × (openOf (b .walk .gate) ≡ true) × (b .passing ≡ true) ⌝ }
+    ensures { λ r. ⌜ LeapsOver (now (code .entry)) b r ⌝ }
+{
+    let w = b.walk;
+    let s = skip(code, b.at, w);
+    let mut k = w;
+    k.held = s.held;
+    let p = Progress {
+        walk: k,
+        at: s.at,
+        picked: b.picked,
+        passing: true,
+    };
+    if code.len() <= s.at {
+        return Leap::On(p, s.steps);
+    }
+    match crate::pass(code, p) {
+        Moved::On(q) => Leap::On(q, s.steps + 1),
+        Moved::Refused(q, number) => Leap::Refused(q, number),
+        Moved::Broken => {
+            if s.steps == 0 {
+                return Leap::Broken;
+            }
+            Leap::On(p, s.steps)
+        }
+    }
 }
 
 // One instruction.
@@ -122,7 +196,7 @@ fn single(m: Moved) -> Leap
     }
 }
 
-// The instructions at hand: those that stand ahead together, else one.
+// The instructions at hand, where none are passed over: those that stand ahead together, else one.
 pub fn advance_ahead(
     code: &[u8],
     low: &[i32],
@@ -133,25 +207,11 @@ pub fn advance_ahead(
     b: Progress,
 ) -> Leap
     requires { ⌜ Ready (now low) (now high) (now prev) (now cur) (now vals) b ⌝ }
-    requires { ⌜ b .at < length (now code) ⌝ }
+    requires { ⌜ (b .at < length (now code)) × (b .passing ≡ false) ⌝ }
     ensures { λ r. ⌜ LeapsBy (now (code .entry)) (now (low .entry)) (now (high .entry)) (now (prev .entry)) b (now (vals .entry)) (now (cur .entry)) (now (vals .exit)) (now (cur .exit)) r ⌝ }
 {
     let at = b.at;
     let w = b.walk;
-    if b.passing {
-        if operation_ahead(code, at, w) {
-            return Leap::On(
-                Progress {
-                    walk: w,
-                    at: at + 3,
-                    picked: b.picked,
-                    passing: true,
-                },
-                2,
-            );
-        }
-        return single(crate::pass(code, b));
-    }
     let Seen::Truth(t) = comparison_ahead(code, prev, cur, at, w) else {
         return single(crate::advance_one(code, low, high, prev, cur, vals, b));
     };

@@ -17,7 +17,7 @@ ghost use Rattle.leb128.specs.Numbers.{numberAt};
 ghost use Rattle.leb128.specs.Results.{unsignedRead};
 ghost use Rattle.checker.specs.Inner.Walk.{openOf, Small};
 ghost use Rattle.machine.specs.Inner.Memory.{OneEach};
-ghost use Rattle.fused.specs.Inner.Passes.{passedOver, movedOf, PassesBy, Ready, MovesBy, RefusedBy, RunBy};
+ghost use Rattle.fused.specs.Inner.Passes.{passedOver, movedOf, PassesBy, Ready, MovesBy, RefusedBy, BrokenBy, RunBy};
 
 pub mod ahead;
 
@@ -149,7 +149,7 @@ fn onward(k: Walk, next: usize, s: Stepped) -> Moved
     }
 }
 
-// The instruction at hand: one match on its code byte. The walk moves, then the machine; where both are called with a fixed code, the compiler
+// The instruction at hand, not passed over: one match on its code byte. The walk moves, then the machine; where both are called with a fixed code, the compiler
 // works the call out for that code.
 fn advance_one(
     code: &[u8],
@@ -161,12 +161,9 @@ fn advance_one(
     b: Progress,
 ) -> Moved
     requires { ⌜ Ready (now low) (now high) (now prev) (now cur) (now vals) b ⌝ }
-    requires { ⌜ b .at < length (now code) ⌝ }
+    requires { ⌜ (b .at < length (now code)) × (b .passing ≡ false) ⌝ }
     ensures { λ r. ⌜ MovesBy (now (code .entry)) (now (low .entry)) (now (high .entry)) (now (prev .entry)) b (now (vals .entry)) (now (cur .entry)) (now (vals .exit)) (now (cur .exit)) r ⌝ }
 {
-    if b.passing {
-        return pass(code, b);
-    }
     let at = b.at;
     let byte = code[at];
     let behind = at + 1;
@@ -327,6 +324,17 @@ fn refused(code: &[u8], behind: usize, w: Walk, number: u8, steps: usize) -> End
     }
 }
 
+// A code that breaks here, or has a timer.
+fn broken(code: &[u8], at: usize) -> Ended
+    requires { ⌜ at < length (now code) ⌝ }
+    ensures { λ r. ⌜ BrokenBy (now (code .entry)) at r ⌝ }
+{
+    if code[at] == 23 {
+        return Ended::Timed;
+    }
+    Ended::Broken(at)
+}
+
 // The whole code, from nothing held, on current values that hold the row.
 fn run_in(
     code: &[u8],
@@ -348,24 +356,39 @@ fn run_in(
         passing: false,
     };
     let mut steps = 0;
-    while b.at < code.len() {
-        let m = ahead::advance_ahead(code, low, high, prev, cur, vals, b);
-        match m {
-            Leap::On(k, n) => {
-                b = k;
-                steps += n;
+    'code: while b.at < code.len() {
+        while b.at < code.len() {
+            if b.passing {
+                break;
             }
-            Leap::Refused(k, number) => {
-                let behind = k.at;
-                let w = k.walk;
-                return refused(code, behind, w, number, steps + 1);
-            }
-            Leap::Broken => {
-                let at = b.at;
-                if code[at] == 23 {
-                    return Ended::Timed;
+            let m = ahead::advance_ahead(code, low, high, prev, cur, vals, b);
+            match m {
+                Leap::On(k, n) => {
+                    b = k;
+                    steps += n;
                 }
-                return Ended::Broken(at);
+                Leap::Refused(k, number) => {
+                    let behind = k.at;
+                    let w = k.walk;
+                    return refused(code, behind, w, number, steps + 1);
+                }
+                Leap::Broken => {
+                    return broken(code, b.at);
+                }
+            }
+        }
+        if b.at < code.len() {
+            match ahead::pass_on(code, b) {
+                Leap::On(k, n) => {
+                    b = k;
+                    steps += n;
+                }
+                Leap::Refused(_, number) => {
+                    return Ended::Refused(number, steps);
+                }
+                Leap::Broken => {
+                    return broken(code, b.at);
+                }
             }
         }
     }

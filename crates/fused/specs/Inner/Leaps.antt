@@ -1,19 +1,20 @@
 -- Several instructions at once: as many steps of walk and machine, one after the other. Auxiliary definitions for proofs. Assumes nothing.
 use mathlib.Core.Path.{_≡_}
-use mathlib.Core.Bool.{Bool}
+use mathlib.Core.Bool.{Bool, false}
+use mathlib.Core.Option.{some}
 use mathlib.Core.List.{List}
-use Prim.Native.Nat.{ℕ, _+_, _%_, _≤_, _<_}
+use Prim.Native.Nat.{ℕ, _+_, _≤_, _<_}
 use lib.IntN.{ℤ}
 use lib.ListN.{length}
 use Rattle.limits.specs.Limits.{stackLimit}
-use Rattle.arith.specs.Values.{Operation, Comparison, compares}
+use Rattle.arith.specs.Values.{Comparison, compares}
 use Rattle.semantics.specs.Shape.{Setting}
 use Rattle.leb128.specs.Numbers.{got, unzigzag}
-use Rattle.bytecode.specs.Instructions.{Instruction, constant, operation, comparison, fetchOne}
+use Rattle.bytecode.specs.Instructions.{Instruction, constant, comparison, fetchOne}
 use Rattle.bytecode.specs.Check.{advance}
 use Rattle.checker.specs.declared.advance.Walk.{Walk}
-use Rattle.checker.specs.Inner.Walk.{knownOf, pushed}
-use Rattle.machine.specs.Step.{push, perform}
+use Rattle.checker.specs.Inner.Walk.{knownOf, pushed, Small}
+use Rattle.machine.specs.Step.{push, perform, isPick}
 use Rattle.fused.specs.declared.Progress.{Progress}
 use Rattle.fused.specs.declared.Moved.{Moved}
 use Rattle.fused.specs.declared.Moved.the-variants as M
@@ -21,7 +22,9 @@ use Rattle.fused.specs.declared.ahead.Leap.{Leap}
 use Rattle.fused.specs.declared.ahead.Leap.the-variants as L
 use Rattle.fused.specs.declared.ahead.Seen.{Seen}
 use Rattle.fused.specs.declared.ahead.Seen.the-variants as N
-use Rattle.fused.specs.Inner.Passes.{Moves, Refuses, BreaksAt}
+use Rattle.fused.specs.declared.ahead.Skipped.{Skipped}
+use Rattle.fused.specs.declared.ahead.Skipped.the-variants as K
+use Rattle.fused.specs.Inner.Passes.{Ready, Moves, Refuses, BreaksAt}
 
 -- ---- what stands ahead
 
@@ -46,17 +49,31 @@ abbrev pub SeenBy : List ℕ → List ℤ → List ℤ → ℕ → Walk → Seen
 SeenBy code prev cur at w (N.Truth found) = ComparisonSeen code prev cur at w found
 SeenBy code prev cur at w N.Other = Unit {0}
 
--- A constant and an operation; a number is held, and there is room for one more.
-pub record OperationSeen (code : List ℕ) (at : ℕ) (w : Walk) : Type 0 where
-  pub operand : ℕ
-  pub operator : Operation
-  pub first : fetchOne code at ≡ got (constant (unzigzag operand)) (at + 2)
-  pub second : fetchOne code (at + 2) ≡ got (operation operator) (at + 3)
-  pub inside : at + 3 ≤ length code
-  pub short : operand < 128
-  pub some-held : 1 ≤ w .held
-  pub room : w .held + 1 ≤ stackLimit
-  pub on-number : w .sorts % 2 ≡ 0
+-- ---- what is passed over
+
+-- the walk with so many values held
+abbrev pub holding : Walk → ℕ → Walk
+holding w held = record { held = held; sorts = w .sorts; gate = w .gate; picking = w .picking; known = w .known; names = w .names }
+
+-- an instruction that is no pick, by which the walk moves
+pub record Skips (code : List ℕ) (w : Walk) (at : ℕ) (k : Walk) (next : ℕ) : Type 0 where
+  pub instruction : Instruction
+  pub fetched : fetchOne code at ≡ got instruction next
+  pub inside : next ≤ length code
+  pub advanced : advance instruction (knownOf w) ≡ some (knownOf k)
+  pub small : Small k
+  pub no-pick : isPick instruction ≡ false
+  pub same-gate : k .gate ≡ w .gate
+  pub same-names : k .names ≡ w .names
+
+abbrev pub SkippedBy : List ℕ → Walk → ℕ → ℕ → Skipped → Type 0
+SkippedBy code w held at (K.Over more next) = Skips code (holding w held) at (holding w more) next
+SkippedBy code w held at K.Other = Unit {0}
+
+-- so many of them
+pub data SkipsTo (code : List ℕ) (w : Walk) (at : ℕ) : ℕ → Walk → ℕ → Type 0 where
+  stays : SkipsTo code w at 0 w at
+  further : (n : ℕ) (k : Walk) (next : ℕ) (j : Walk) (later : ℕ) → SkipsTo code w at n k next → Skips code k next j later → SkipsTo code w at (n + 1) j later
 
 -- ---- what is done
 
@@ -75,3 +92,9 @@ abbrev pub LeapsBy : List ℕ → List ℤ → List ℤ → List ℤ → Progres
 LeapsBy code low high prev b vals cur vals₁ cur₁ (L.On k n) = Goes code low high prev n b vals cur k vals₁ cur₁
 LeapsBy code low high prev b vals cur vals₁ cur₁ (L.Refused k number) = Refuses code low high prev b vals cur k number
 LeapsBy code low high prev b vals cur vals₁ cur₁ L.Broken = BreaksAt code b
+
+-- only the walk moves; the memory stays
+abbrev pub LeapsOver : List ℕ → Progress → Leap → Type 0
+LeapsOver code b (L.On k n) = (low high prev cur vals : List ℤ) → Ready low high prev cur vals b → Goes code low high prev n b vals cur k vals cur
+LeapsOver code b (L.Refused k number) = ⊥
+LeapsOver code b L.Broken = BreaksAt code b

@@ -5,7 +5,7 @@ use mathlib.Core.List.{List, []}
 use mathlib.Core.Option.{none, some}
 use Prim.Native.Nat.{ℕ, _+_, _≤_}
 use lib.IntN.{ℤ}
-use lib.ListN.{length}
+use lib.ListN.{length, getD}
 use Rattle.limits.specs.Limits.{stackLimit, brokenImage}
 use Rattle.limits.specs.Answer.{accepted, refused}
 use Rattle.arith.specs.Values.{ok, refusal}
@@ -108,6 +108,13 @@ RefusedBy code behind w number steps (E.Done n) = ⊥
 RefusedBy code behind w number steps (E.Refused m n) = (m ≡ number) × (n ≡ steps) × Judges code behind (knownOf w) J.Sound
 RefusedBy code behind w number steps (E.Broken at) = Judges code behind (knownOf w) (J.Broken at) × (at ≤ length code)
 RefusedBy code behind w number steps E.Timed = Unit {0}
+
+-- the code breaks at this place, or has a timer there
+abbrev pub BrokenBy : List ℕ → ℕ → Ended → Type 0
+BrokenBy code at (E.Done n) = ⊥
+BrokenBy code at (E.Refused m n) = ⊥
+BrokenBy code at (E.Broken place) = (place ≡ at) × (getD code at 0 ≡ 23 → ⊥)
+BrokenBy code at E.Timed = Unit {0}
 
 -- the walk finds the code sound
 abbrev pub CheckedCode : List ℕ → ℕ → ℕ → Type 0

@@ -7,47 +7,33 @@ use mir.Facts.{toZ-ofZ}
 use borrow.Author.Needs.{needs}
 use Rattle.checker.proofs.Bits.{below-40}
 use Rattle.fused.specs.Inner.Leaps.{SeenBy}
-use Rattle.fused.proofs.Passing.{over-moves-by}
-use Rattle.fused.proofs.Leaping.{comparison-goes, pair-goes, leaps-alone}
+use Rattle.fused.proofs.Leaping.{comparison-goes, leaps-alone}
 use Rattle.fused.proofs.ahead.advance_ahead.Statement.{statement}
 use Rattle.fused.proofs.ahead.advance_ahead.Tie as tie
 
 returns : tie.Need-returns
-returns c = pair-goes (c .before .before .before .before .before .args .code .now) (c .before .before .before .before .before .pre .0) (c .before .before .if1 .taken) (c .before .operation-ahead .ensures (c .if2 .taken))
-
-pass-requires : tie.Need-pass-requires
-pass-requires c κs = (c .before .before .before .before .before .pre .0 .small, c .before .before .before .before .before .pre .1, c .before .before .before .before .before .pre .0 .opened (c .before .before .if1 .taken))
-
-returns-2 : tie.Need-returns-2
-returns-2 c =
-    leaps-alone _ _ _ _ _ _ _ _ _ (c .before .pass .result) (c .single .result) (c .single .ensures)
-    (over-moves-by (c .before .before .before .before .before .before .before .args .code .now) (c .before .before .before .before .before .before .before .pre .0) (c .before .before .before .before .if1 .taken) (c .before .pass .result) (c .before .pass .ensures))
-
-returns-3 : tie.Need-returns-3
-returns-3 c = leaps-alone _ _ _ _ _ _ _ _ _ (c .before .before .before .advance-one .result) (c .single2 .result) (c .single2 .ensures) (c .before .before .before .advance-one .ensures)
+returns c = leaps-alone _ _ _ _ _ _ _ _ _ (c .before .before .before .advance-one .result) (c .single .result) (c .single .ensures) (c .before .before .before .advance-one .ensures)
 
 slice-set-from-vals : tie.Need-slice-set-from-vals
 slice-set-from-vals c =
-    let a = c .before .before .before .before .before .before .before .before .before .args in
+    let a = c .before .before .before .before .before .before .before .before .args in
     let s = subst (λ x. SeenBy (a .code .now) (a .prev .now) (a .cur .now) (a .b .at) (a .b .walk) x) (c .before .before .t .given .1) (c .before .before .before .before .comparison-ahead .ensures) in
-    omega (arith, s .room, c .before .before .before .before .before .before .before .before .before .pre .0 .room)
+    omega (arith, s .room, c .before .before .before .before .before .before .before .before .pre .0 .room)
 
 mul-k : tie.Need-mul-k
-mul-k c = record { fits = omega (arith, below-40 _ _ (c .before .before .before .before .before .before .before .before .before .before .before .pre .0 .small .few-held) (c .before .before .before .before .before .before .before .before .before .before .before .pre .0 .small .sorts-low)) }
+mul-k c = record { fits = omega (arith, below-40 _ _ (c .before .before .before .before .before .before .before .before .before .before .pre .0 .small .few-held) (c .before .before .before .before .before .before .before .before .before .before .pre .0 .small .sorts-low)) }
 
 add-k-2 : tie.Need-add-k-2
-add-k-2 c = record { fits = omega (arith, below-40 _ _ (c .before .before .before .before .before .before .before .before .before .before .before .pre .0 .small .few-held) (c .before .before .before .before .before .before .before .before .before .before .before .pre .0 .small .sorts-low)) }
+add-k-2 c = record { fits = omega (arith, below-40 _ _ (c .before .before .before .before .before .before .before .before .before .before .pre .0 .small .few-held) (c .before .before .before .before .before .before .before .before .before .before .pre .0 .small .sorts-low)) }
 
-returns-4 : tie.Need-returns-4
-returns-4 c =
-    let a = c .before .before .before .before .before .before .before .before .before .before .before .args in
+returns-2 : tie.Need-returns-2
+returns-2 c =
+    let a = c .before .before .before .before .before .before .before .before .before .before .args in
     let s = subst (λ x. SeenBy (a .code .now) (a .prev .now) (a .cur .now) (a .b .at) (a .b .walk) x) (c .before .before .before .before .t .given .1) (c .before .before .before .before .before .before .comparison-ahead .ensures) in
     let fv : SFits w32 (c .before .before .bit-of .result) = search needs in
-    rw (toZ-ofZ fv, c .before .before .bit-of .ensures) (comparison-goes (a .code .now) (c .before .before .before .before .before .before .before .before .before .before .before .pre .0) (c .before .before .before .before .before .before .before .before .if1 .left) _ s)
+    rw (toZ-ofZ fv, c .before .before .bit-of .ensures) (comparison-goes (a .code .now) (c .before .before .before .before .before .before .before .before .before .before .pre .0) (c .before .before .before .before .before .before .before .before .before .before .pre .1 .1) _ s)
 
 pub advance-ahead-spec : {M : Type 1} → statement M
 advance-ahead-spec =
     tie.close
-    (tie.spec (λ c κs. search needs) (λ c. search needs) returns pass-requires (λ c κs. search needs) returns-2 (λ c κs. search needs) (λ c. search needs) (λ c. search needs)
-    (λ c κs. search needs) (λ c κs. search needs) (λ c. search needs) (λ c. search needs) returns-3 (λ c κs. search needs) (λ c. search needs) slice-set-from-vals (λ c. search needs)
-    mul-k add-k-2 (λ c. search needs) (λ c. search needs) (λ c. search needs) returns-4)
+    (tie.spec (λ c κs. search needs) (λ c. search needs) (λ c. search needs) (λ c κs. search needs) (λ c κs. search needs) (λ c. search needs) (λ c. search needs) returns (λ c κs. search needs) (λ c. search needs) slice-set-from-vals (λ c. search needs) mul-k add-k-2 (λ c. search needs) (λ c. search needs) (λ c. search needs) returns-2)
