@@ -135,16 +135,16 @@ same-length-4 : tie.Need-same-length-4 Inv-loop μ-loop Inv-code μ-code
 same-length-4 c = let inv = c .before .before .before .before .before .before .before .before .before .before .before .loop .inv .1 _ _ (c .before .before .before .before .before .before .before .before .before .before .before .before .before .before .code .inv) in search (needs, inv .going .wide, inv .going .deep)
 
 same-length-5 : tie.Need-same-length-5 Inv-loop μ-loop Inv-code μ-code
-same-length-5 c = let inv = c .before .before .before .before .before .before .before .before .loop .inv .1 _ _ (c .before .before .before .before .before .before .before .before .before .before .before .code .inv) in search (needs, inv .going .wide, inv .going .deep)
+same-length-5 c = let inv = c .before .before .before .before .before .before .before .before .loop .inv .1 _ _ (c .before .before .before .before .before .before .before .before .before .before .before .code .inv) in search (needs, inv .going .wide)
 
 same-length-6 : tie.Need-same-length-6 Inv-loop μ-loop Inv-code μ-code
-same-length-6 c = let inv = c .before .before .before .before .before .before .before .before .loop .inv .1 _ _ (c .before .before .before .before .before .before .before .before .before .before .before .code .inv) in search (needs, inv .going .wide, inv .going .deep)
+same-length-6 c = let inv = c .before .before .before .before .before .before .before .before .loop .inv .1 _ _ (c .before .before .before .before .before .before .before .before .before .before .before .code .inv) in search (needs, inv .going .deep)
 
 same-length-7 : tie.Need-same-length-7 Inv-loop μ-loop Inv-code μ-code
-same-length-7 c = let inv = c .before .before .before .before .before .before .before .before .loop .inv .1 _ _ (c .before .before .before .before .before .before .before .before .before .before .before .code .inv) in search (needs, inv .going .wide, inv .going .deep)
+same-length-7 c = let inv = c .before .before .before .before .before .before .before .before .loop .inv .1 _ _ (c .before .before .before .before .before .before .before .before .before .before .before .code .inv) in search (needs, inv .going .wide)
 
 same-length-8 : tie.Need-same-length-8 Inv-loop μ-loop Inv-code μ-code
-same-length-8 c = let inv = c .before .before .before .before .before .before .before .before .loop .inv .1 _ _ (c .before .before .before .before .before .before .before .before .before .before .before .code .inv) in search (needs, inv .going .wide, inv .going .deep)
+same-length-8 c = let inv = c .before .before .before .before .before .before .before .before .loop .inv .1 _ _ (c .before .before .before .before .before .before .before .before .before .before .before .code .inv) in search (needs, inv .going .deep)
 
 pub run-in-spec : {M : Type 1} → statement M
 run-in-spec =
