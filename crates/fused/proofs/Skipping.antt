@@ -4,6 +4,7 @@ use native.Mathlib.Omega.{arith}
 use mathlib.Core.Path.{_≡_, refl, sym, ap, subst, _∙_}
 use mathlib.Core.Bool.{Bool, true, false, not}
 use mathlib.Core.List.{List}
+use mathlib.Core.Logic.{inr}
 use mathlib.Core.Option.{Option, some}
 use lib.IntN.{ℤ}
 use lib.ListN.{length, getD}
@@ -26,10 +27,12 @@ use Rattle.machine.proofs.Fetches.{no-operand}
 use Rattle.fused.specs.declared.Progress.{Progress}
 use Rattle.fused.specs.declared.Moved.{Moved}
 use Rattle.fused.specs.declared.Moved.the-variants as M
+use Rattle.fused.specs.declared.ahead.Leap.{Leap}
+use Rattle.fused.specs.declared.ahead.Leap.the-variants as L
 use Rattle.fused.specs.declared.ahead.Skipped.{Skipped}
 use Rattle.fused.specs.declared.ahead.Skipped.the-variants as K
 use Rattle.fused.specs.Inner.Passes.{Ready, BreaksAt, Moves, PassesBy}
-use Rattle.fused.specs.Inner.Leaps.{holding, Skips, SkippedBy, SkipsTo, stays, further, Goes, lastly, first}
+use Rattle.fused.specs.Inner.Leaps.{holding, Skips, SkippedBy, SkipsTo, stays, further, Goes, lastly, first, LeapsOver, LeapsFirst}
 use Rattle.fused.proofs.Passing.{over-moves-by}
 
 -- ---- one instruction, where nothing but numbers are held
@@ -174,3 +177,8 @@ pub breaks-here : (code : List ℕ) (b : Progress) (n : ℕ) (k : Walk) (next : 
 breaks-here code b n k next o e h =
     let same = skips-none code (b .walk) (b .at) n k next o e in
     subst (λ (x : ℕ). BreaksUnlessTimed code x (knownOf (b .walk))) (same .1) (subst (λ (x : Walk). BreaksUnlessTimed code next (knownOf x)) (same .0) h)
+
+pub first-over : (code : List ℕ) (b : Progress) (r : Leap) → b .passing ≡ true → LeapsOver code b r → LeapsFirst code b r
+first-over code b (L.On k n) go h = inr (go, h)
+first-over code b (L.Refused k number) go h = h
+first-over code b L.Broken go h = h

@@ -1,6 +1,7 @@
 -- Several instructions at once: as many steps of walk and machine, one after the other. Auxiliary definitions for proofs. Assumes nothing.
 use mathlib.Core.Path.{_≡_}
-use mathlib.Core.Bool.{Bool, false}
+use mathlib.Core.Bool.{Bool, true, false}
+use mathlib.Core.Logic.{_⊎_}
 use mathlib.Core.Option.{some}
 use mathlib.Core.List.{List}
 use Prim.Native.Nat.{ℕ, _+_, _≤_, _<_}
@@ -98,3 +99,9 @@ abbrev pub LeapsOver : List ℕ → Progress → Leap → Type 0
 LeapsOver code b (L.On k n) = (low high prev cur vals : List ℤ) → Ready low high prev cur vals b → Goes code low high prev n b vals cur k vals cur
 LeapsOver code b (L.Refused k number) = ⊥
 LeapsOver code b L.Broken = BreaksAt code b
+
+-- the same where instructions are passed over, else nothing
+abbrev pub LeapsFirst : List ℕ → Progress → Leap → Type 0
+LeapsFirst code b (L.On k n) = ((b .passing ≡ false) × (k ≡ b) × (n ≡ 0)) ⊎ ((b .passing ≡ true) × LeapsOver code b (L.On k n))
+LeapsFirst code b (L.Refused k number) = ⊥
+LeapsFirst code b L.Broken = BreaksAt code b
