@@ -53,8 +53,8 @@ SeenBy code prev cur at w N.Other = Unit {0}
 -- ---- what is passed over
 
 -- the walk with so many values held
-abbrev pub holding : Walk → ℕ → Walk
-holding w held = record { held = held; sorts = w .sorts; gate = w .gate; picking = w .picking; known = w .known; names = w .names }
+abbrev pub withHeld : Walk → ℕ → Walk
+withHeld w held = record { held = held; sorts = w .sorts; gate = w .gate; picking = w .picking; known = w .known; names = w .names }
 
 -- an instruction that is no pick, by which the walk moves
 pub record Skips (code : List ℕ) (w : Walk) (at : ℕ) (k : Walk) (next : ℕ) : Type 0 where
@@ -68,7 +68,7 @@ pub record Skips (code : List ℕ) (w : Walk) (at : ℕ) (k : Walk) (next : ℕ)
   pub same-names : k .names ≡ w .names
 
 abbrev pub SkippedBy : List ℕ → Walk → ℕ → ℕ → Skipped → Type 0
-SkippedBy code w held at (K.Over more next) = Skips code (holding w held) at (holding w more) next
+SkippedBy code w held at (K.Over more next) = Skips code (withHeld w held) at (withHeld w more) next
 SkippedBy code w held at K.Other = Unit {0}
 
 -- so many of them
