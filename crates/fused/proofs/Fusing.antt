@@ -2,9 +2,10 @@
 -- whole run. Assumes nothing.
 use Prim.Native.Nat.{ℕ, _+_, _-_, _≤_, _<_}
 use native.Mathlib.Omega.{arith}
-use mathlib.Core.Path.{_≡_, refl, sym, subst, _∙_}
+use mathlib.Core.Path.{_≡_, refl, sym, ap, subst, _∙_}
 use mathlib.Core.Bool.{Bool, true, false, cond, false≢true}
 use mathlib.Core.List.{List, []}
+use mathlib.Core.Logic.{_⊎_, inl, inr}
 use mathlib.Core.Option.{some}
 use lib.IntN.{ℤ}
 use lib.ListN.{length}
@@ -35,7 +36,7 @@ use Rattle.fused.specs.declared.ahead.Leap.the-variants as L
 use Rattle.fused.specs.declared.Ended.{Ended}
 use Rattle.fused.specs.declared.Ended.the-variants as E
 use Rattle.fused.specs.Inner.Passes.{registersOf, Ready, BreaksAt, Moves, Refuses, RefusedBy, CheckedCode, BrokenBy, BrokenCode, Succeeds, Fails, RunBy}
-use Rattle.fused.specs.Inner.Leaps.{Goes, lastly, first, LeapsBy, LeapsOver}
+use Rattle.fused.specs.Inner.Leaps.{Goes, lastly, first, LeapsBy, LeapsFirst}
 
 -- the settings that lows and highs stand for
 abbrev Settings : List ℤ → List ℤ → Setting → Type 0
@@ -81,9 +82,6 @@ module _ {code : List ℕ} {low high prev : List ℤ} {inputs : ℕ} {cur₀ val
 
   pub leapt-broken : (vals₁ cur₁ : List ℤ) (r : Leap) → LeapsBy code low high prev b vals cur vals₁ cur₁ r → r ≡ L.Broken → BreaksAt code b
   leapt-broken vals₁ cur₁ r m e = subst (λ x. LeapsBy code low high prev b vals cur vals₁ cur₁ x) e m
-
-  pub leapt-over : (r : Leap) (k : Progress) (n : ℕ) → LeapsOver code b r → r ≡ L.On k n → Goes code low high prev n b vals cur k vals cur
-  leapt-over r k n m e = subst (λ x. LeapsOver code b x) e m low high prev cur vals (f .ready)
 
   fusing-goes : (vals₁ cur₁ : List ℤ) (k : Progress) → b .at < length code → Moves code low high prev b vals cur vals₁ cur₁ k → length vals₁ ≡ length vals → length cur₁ ≡ length cur
       → Fusing code low high prev inputs cur₀ vals₀ cur₁ vals₁ k (steps + 1)
@@ -188,3 +186,30 @@ fusing-leaps {code} {low} {high} {prev} {inputs} {cur₀} {vals₀} {steps} _ _ 
     let on = fusing-goes f vals₁ cur₁ m (one-next code (b .at) (o .instruction) (m .at) (o .fetched) .0) o deep wide in
     let e : steps + 1 + n ≡ steps + (1 + n) = omega arith in
     subst (λ (s : ℕ). Fusing code low high prev inputs cur₀ vals₀ cur₂ vals₂ k s) e (fusing-leaps n m vals₁ cur₁ k vals₂ cur₂ rest on (deeper ∙ sym deep) (wider ∙ sym wide))
+
+-- ---- what is passed over first
+
+module _ {code : List ℕ} {low high prev : List ℤ} {inputs : ℕ} {cur₀ vals₀ cur vals : List ℤ} {b : Progress} {steps : ℕ}
+    (f : Fusing code low high prev inputs cur₀ vals₀ cur vals b steps) where
+  first-leapt : (r : Leap) (k : Progress) (n : ℕ) → LeapsFirst code b r → r ≡ L.On k n → LeapsFirst code b (L.On k n)
+  first-leapt r k n h e = subst (λ (x : Leap). LeapsFirst code b x) e h
+
+  pub fusing-first : (r : Leap) (k : Progress) (n : ℕ) → LeapsFirst code b r → r ≡ L.On k n → Fusing code low high prev inputs cur₀ vals₀ cur vals k (steps + n)
+  fusing-first r k n h e = by (first-leapt r k n h e)
+    where
+      by : LeapsFirst code b (L.On k n) → Fusing code low high prev inputs cur₀ vals₀ cur vals k (steps + n)
+      by (inl x) =
+          let z : steps ≡ steps + n = omega (arith, x .2) in
+          subst (λ (s : ℕ). Fusing code low high prev inputs cur₀ vals₀ cur vals k s) z (subst (λ (p : Progress). Fusing code low high prev inputs cur₀ vals₀ cur vals p steps) (sym (x .1)) f)
+      by (inr x) = fusing-leaps n b vals cur k vals cur (x .1 low high prev cur vals (f .ready)) f refl refl
+
+  -- how far: so many bytes at least; and nothing is passed over where none went
+  pub first-far : b .at < length code → (r : Leap) (k : Progress) (n : ℕ) → LeapsFirst code b r → r ≡ L.On k n → (b .at + n ≤ k .at) × (k .at ≤ length code) × ((b .at < k .at) ⊎ (k .passing ≡ false))
+  first-far l r k n h e = by (first-leapt r k n h e)
+    where
+      by : LeapsFirst code b (L.On k n) → (b .at + n ≤ k .at) × (k .at ≤ length code) × ((b .at < k .at) ⊎ (k .passing ≡ false))
+      by (inl x) = let same = ap (λ (p : Progress). p .at) (x .1) in (omega (arith, same, x .2), omega (arith, same, l), inr (ap (λ (p : Progress). p .passing) (x .1) ∙ x .0))
+      by (inr x) =
+          let far = goes-far n b vals cur k vals cur (x .1 low high prev cur vals (f .ready)) in
+          let less : b .at < k .at = omega (arith, far .0, far .2) in
+          (far .0, far .1, inl less)

@@ -4,6 +4,7 @@ use native.Mathlib.Omega.{arith}
 use mathlib.Core.Path.{_≡_, refl, sym, ap, subst, _∙_}
 use mathlib.Core.Bool.{Bool, true, false, not}
 use mathlib.Core.List.{List}
+use mathlib.Core.Logic.{inr}
 use mathlib.Core.Option.{Option, some}
 use lib.IntN.{ℤ}
 use lib.ListN.{length, getD}
@@ -26,32 +27,34 @@ use Rattle.machine.proofs.Fetches.{no-operand}
 use Rattle.fused.specs.declared.Progress.{Progress}
 use Rattle.fused.specs.declared.Moved.{Moved}
 use Rattle.fused.specs.declared.Moved.the-variants as M
+use Rattle.fused.specs.declared.ahead.Leap.{Leap}
+use Rattle.fused.specs.declared.ahead.Leap.the-variants as L
 use Rattle.fused.specs.declared.ahead.Skipped.{Skipped}
 use Rattle.fused.specs.declared.ahead.Skipped.the-variants as K
 use Rattle.fused.specs.Inner.Passes.{Ready, BreaksAt, Moves, PassesBy}
-use Rattle.fused.specs.Inner.Leaps.{holding, Skips, SkippedBy, SkipsTo, stays, further, Goes, lastly, first}
+use Rattle.fused.specs.Inner.Leaps.{withHeld, Skips, SkippedBy, SkipsTo, stays, further, Goes, lastly, first, LeapsOver, LeapsFirst}
 use Rattle.fused.proofs.Passing.{over-moves-by}
 
 -- ---- one instruction, where nothing but numbers are held
 
 module _ (w : Walk) (z : w .sorts ≡ 0) where
   -- a number more
-  grown : (h g : ℕ) → g ≡ h + 1 → knownOf (withNumber (holding w h)) ≡ knownOf (holding w g)
+  grown : (h g : ℕ) → g ≡ h + 1 → knownOf (withNumber (withHeld w h)) ≡ knownOf (withHeld w g)
   grown h g e =
       let t : w .sorts * 2 ≡ w .sorts = omega (arith, z) in
-      ap (λ (s : ℕ). knownOf (record { held = h + 1; sorts = s; gate = w .gate; picking = w .picking; known = w .known; names = w .names })) t ∙ ap (λ (n : ℕ). knownOf (holding w n)) (sym e)
+      ap (λ (s : ℕ). knownOf (record { held = h + 1; sorts = s; gate = w .gate; picking = w .picking; known = w .known; names = w .names })) t ∙ ap (λ (n : ℕ). knownOf (withHeld w n)) (sym e)
 
-  module _ (code : List ℕ) (held at : ℕ) (small : Small (holding w held)) (inside : at < length code) where
+  module _ (code : List ℕ) (held at : ℕ) (small : Small (withHeld w held)) (inside : at < length code) where
     -- an instruction that puts a number on top
-    pushes : held < 40 → (i : Instruction) (next : ℕ) → fetchOne code at ≡ got i next → next ≤ length code → isPick i ≡ false → advance i (knownOf (holding w held)) ≡ pushed (knownOf (holding w held))
-        → Skips code (holding w held) at (holding w (held + 1)) next
+    pushes : held < 40 → (i : Instruction) (next : ℕ) → fetchOne code at ≡ got i next → next ≤ length code → isPick i ≡ false → advance i (knownOf (withHeld w held)) ≡ pushed (knownOf (withHeld w held))
+        → Skips code (withHeld w held) at (withHeld w (held + 1)) next
     pushes l i next f behind n e =
-        let more = number-small (holding w held) small l in
+        let more = number-small (withHeld w held) small l in
         record {
           instruction = i;
           fetched = f;
           inside = behind;
-          advanced = e ∙ pushed-is (holding w held) l ∙ ap (λ (c : Known). some c) (grown held (held + 1) refl);
+          advanced = e ∙ pushed-is (withHeld w held) l ∙ ap (λ (c : Known). some c) (grown held (held + 1) refl);
           small = record { few-held = more .few-held; sorts-low = omega (arith, more .sorts-low, z); few-names = small .few-names; known-low = small .known-low };
           no-pick = n;
           same-gate = refl;
@@ -59,23 +62,23 @@ module _ (w : Walk) (z : w .sorts ≡ 0) where
         }
 
     module _ (n next : ℕ) (num : numberAt code (at + 1) ≡ got n next) (l : held < 40) where
-      pub constant-skips : getD code at 0 ≡ 1 → Skips code (holding w held) at (holding w (held + 1)) next
+      pub constant-skips : getD code at 0 ≡ 1 → Skips code (withHeld w held) at (withHeld w (held + 1)) next
       unfolding instructionOf hasOperand
       constant-skips is =
           let b = number-within code (at + 1) n next num in
-          pushes l (constant (unzigzag n)) next (fetch-number code at n next inside (ap hasOperand is) num ∙ rw is refl) (b .inside) refl (constant-is n (knownOf (holding w held)) (b .operand))
+          pushes l (constant (unzigzag n)) next (fetch-number code at n next inside (ap hasOperand is) num ∙ rw is refl) (b .inside) refl (constant-is n (knownOf (withHeld w held)) (b .operand))
 
-      pub previous-skips : getD code at 0 ≡ 3 → n < w .names → Skips code (holding w held) at (holding w (held + 1)) next
+      pub previous-skips : getD code at 0 ≡ 3 → n < w .names → Skips code (withHeld w held) at (withHeld w (held + 1)) next
       unfolding instructionOf hasOperand
       previous-skips is h =
-          pushes l (previous n) next (fetch-number code at n next inside (ap hasOperand is) num ∙ rw is refl) (number-within code (at + 1) n next num .inside) refl (previous-pushed (holding w held) n h)
+          pushes l (previous n) next (fetch-number code at n next inside (ap hasOperand is) num ∙ rw is refl) (number-within code (at + 1) n next num .inside) refl (previous-pushed (withHeld w held) n h)
 
-      pub current-skips : getD code at 0 ≡ 2 → getD (flagsOf (w .names) (w .known)) n false ≡ true → Skips code (holding w held) at (holding w (held + 1)) next
+      pub current-skips : getD code at 0 ≡ 2 → getD (flagsOf (w .names) (w .known)) n false ≡ true → Skips code (withHeld w held) at (withHeld w (held + 1)) next
       unfolding instructionOf hasOperand
       current-skips is h =
-          pushes l (current n) next (fetch-number code at n next inside (ap hasOperand is) num ∙ rw is refl) (number-within code (at + 1) n next num .inside) refl (current-pushed (holding w held) n h)
+          pushes l (current n) next (fetch-number code at n next inside (ap hasOperand is) num ∙ rw is refl) (number-within code (at + 1) n next num .inside) refl (current-pushed (withHeld w held) n h)
 
-    pub operation-skips : 4 ≤ getD code at 0 → getD code at 0 ≤ 8 → 2 ≤ held → Skips code (holding w held) at (holding w (held - 1)) (at + 1)
+    pub operation-skips : 4 ≤ getD code at 0 → getD code at 0 ≤ 8 → 2 ≤ held → Skips code (withHeld w held) at (withHeld w (held - 1)) (at + 1)
     operation-skips least most l =
         let byte = getD code at 0 in
         let o = operationOf byte in
@@ -84,14 +87,14 @@ module _ (w : Walk) (z : w .sorts ≡ 0) where
           instruction = operation o;
           fetched = fetch-alone code at inside (no-operand byte least (omega arith)) ∙ ap (λ (i : Option Instruction). decoded i (at + 1)) (operation-of byte 0 least most);
           inside = omega arith;
-          advanced = subst (λ (c : Known). advance (operation o) c ≡ some (knownOf (holding w (held - 1)))) (grown (held - 1) held e) (operation-is o _ ∙ two-joined (holding w (held - 1)) (omega arith) (omega (arith, z)));
+          advanced = subst (λ (c : Known). advance (operation o) c ≡ some (knownOf (withHeld w (held - 1)))) (grown (held - 1) held e) (operation-is o _ ∙ two-joined (withHeld w (held - 1)) (omega arith) (omega (arith, z)));
           small = record { few-held = omega (arith, small .few-held); sorts-low = omega (arith, z, join-low held (w .sorts) 0 l (small .sorts-low) (omega arith)); few-names = small .few-names; known-low = small .known-low };
           no-pick = refl;
           same-gate = refl;
           same-names = refl;
         }
 
-pub skipped : (code : List ℕ) (w : Walk) (held at : ℕ) (r : Skipped) (more next : ℕ) → SkippedBy code w held at r → r ≡ K.Over more next → Skips code (holding w held) at (holding w more) next
+pub skipped : (code : List ℕ) (w : Walk) (held at : ℕ) (r : Skipped) (more next : ℕ) → SkippedBy code w held at r → r ≡ K.Over more next → Skips code (withHeld w held) at (withHeld w more) next
 skipped code w held at r more next s e = subst (λ (x : Skipped). SkippedBy code w held at x) e s
 
 -- ---- so many of them
@@ -174,3 +177,8 @@ pub breaks-here : (code : List ℕ) (b : Progress) (n : ℕ) (k : Walk) (next : 
 breaks-here code b n k next o e h =
     let same = skips-none code (b .walk) (b .at) n k next o e in
     subst (λ (x : ℕ). BreaksUnlessTimed code x (knownOf (b .walk))) (same .1) (subst (λ (x : Walk). BreaksUnlessTimed code next (knownOf x)) (same .0) h)
+
+pub first-over : (code : List ℕ) (b : Progress) (r : Leap) → b .passing ≡ true → LeapsOver code b r → LeapsFirst code b r
+first-over code b (L.On k n) go h = inr (go, h)
+first-over code b (L.Refused k number) go h = h
+first-over code b L.Broken go h = h

@@ -11,7 +11,7 @@ ghost use Prim.Native.Nat.{_≤_, _<_};
 ghost use lib.ListN.{length};
 ghost use Rattle.checker.specs.Inner.Walk.{openOf, Small};
 ghost use Rattle.fused.specs.Inner.Passes.{Ready};
-ghost use Rattle.fused.specs.Inner.Leaps.{SeenBy, holding, SkippedBy, SkipsTo, leapOf, LeapsBy, LeapsOver};
+ghost use Rattle.fused.specs.Inner.Leaps.{SeenBy, withHeld, SkippedBy, SkipsTo, leapOf, LeapsBy, LeapsOver, LeapsFirst};
 
 // What the comparison that stands ahead finds; or none does.
 pub enum Seen {
@@ -96,7 +96,7 @@ pub struct Passage {
 
 // Codes 1 to 8, where so many numbers are held and nothing else.
 fn skip_one(code: &[u8], at: usize, held: u64, w: Walk) -> Skipped
-    requires { ⌜ Small w × Small (holding w held) × (w .sorts ≡ 0) × (at < length (now code)) ⌝ }
+    requires { ⌜ Small w × Small (withHeld w held) × (w .sorts ≡ 0) × (at < length (now code)) ⌝ }
     ensures { λ r. ⌜ SkippedBy (now (code .entry)) w held at r ⌝ }
 {
     let byte = code[at];
@@ -136,7 +136,7 @@ fn skip_one(code: &[u8], at: usize, held: u64, w: Walk) -> Skipped
 // As many of them as stand here.
 fn skip(code: &[u8], from: usize, w: Walk) -> Passage
     requires { ⌜ Small w ⌝ }
-    ensures { λ r. ⌜ SkipsTo (now (code .entry)) w from (r .steps) (holding w (r .held)) (r .at) ⌝ }
+    ensures { λ r. ⌜ SkipsTo (now (code .entry)) w from (r .steps) (withHeld w (r .held)) (r .at) ⌝ }
 {
     let mut held = w.held;
     let mut at = from;
@@ -156,7 +156,7 @@ fn skip(code: &[u8], from: usize, w: Walk) -> Passage
 
 // Where instructions are passed over: those up to the pick, and the pick; the walk alone moves. Where one behind the first breaks
 // soundness, those before it.
-pub fn pass_on(code: &[u8], b: Progress) -> Leap
+fn pass_on(code: &[u8], b: Progress) -> Leap
     requires { ⌜ Small (b .walk) × (b .at < length (now code)) × (openOf (b .walk .gate) ≡ true) × (b .passing ≡ true) ⌝ }
     ensures { λ r. ⌜ LeapsOver (now (code .entry)) b r ⌝ }
 {
@@ -183,6 +183,17 @@ pub fn pass_on(code: &[u8], b: Progress) -> Leap
             Leap::On(p, s.steps)
         }
     }
+}
+
+// Where instructions are passed over, up to the pick; else none.
+pub fn pass_first(code: &[u8], b: Progress) -> Leap
+    requires { ⌜ Small (b .walk) × (b .at < length (now code)) × (b .passing ≡ true → openOf (b .walk .gate) ≡ true) ⌝ }
+    ensures { λ r. ⌜ LeapsFirst (now (code .entry)) b r ⌝ }
+{
+    if b.passing {
+        return pass_on(code, b);
+    }
+    Leap::On(b, 0)
 }
 
 // One instruction.

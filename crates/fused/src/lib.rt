@@ -357,6 +357,18 @@ fn run_in(
     };
     let mut steps = 0;
     'code: while b.at < code.len() {
+        match ahead::pass_first(code, b) {
+            Leap::On(k, n) => {
+                b = k;
+                steps += n;
+            }
+            Leap::Refused(_, number) => {
+                return Ended::Refused(number, steps);
+            }
+            Leap::Broken => {
+                return broken(code, b.at);
+            }
+        }
         while b.at < code.len() {
             if b.passing {
                 break;
@@ -371,20 +383,6 @@ fn run_in(
                     let behind = k.at;
                     let w = k.walk;
                     return refused(code, behind, w, number, steps + 1);
-                }
-                Leap::Broken => {
-                    return broken(code, b.at);
-                }
-            }
-        }
-        if b.at < code.len() {
-            match ahead::pass_on(code, b) {
-                Leap::On(k, n) => {
-                    b = k;
-                    steps += n;
-                }
-                Leap::Refused(_, number) => {
-                    return Ended::Refused(number, steps);
                 }
                 Leap::Broken => {
                     return broken(code, b.at);

@@ -1,21 +1,23 @@
 -- `fused::run_in` meets its contract. The outer loop's invariant is Fusing, the inner loop keeps it; the measure is the code that is left. Assumes nothing.
-use Prim.Native.Nat.{_-_, _≤_}
-use mathlib.Core.Path.{refl, sym, subst, _∙_}
+use Prim.Native.Nat.{_-_, _≤_, _<_}
+use mathlib.Core.Path.{_≡_, refl, sym, subst, _∙_}
+use mathlib.Core.Bool.{false≢true}
 use mathlib.Core.List.{List}
-use mathlib.Core.Logic.{⊎-elim}
+use mathlib.Core.Logic.{_⊎_, inl, inr, ⊎-elim}
 use native.Mathlib.Omega.{arith}
 use borrow.Author.Needs.{needs}
 use lib.IntN.{ℤ}
 use lib.ListN.{length}
-use Rattle.fused.specs.Inner.Leaps.{LeapsOver}
-use Rattle.fused.proofs.Fusing.{Fusing, leapt, leapt-refused, leapt-broken, leapt-over, fusing-begins, fusing-broken, fusing-stops, fusing-ends, fusing-misses, goes-far, fusing-leaps}
+use Rattle.fused.specs.Inner.Leaps.{LeapsFirst}
+use Rattle.fused.proofs.Fusing.{Fusing, leapt, leapt-refused, leapt-broken, fusing-first, first-far, fusing-begins, fusing-broken, fusing-stops, fusing-ends, fusing-misses, goes-far, fusing-leaps}
 use Rattle.fused.proofs.run_in.Statement.{statement}
 use Rattle.fused.proofs.run_in.Tie as tie
 
--- from where the inner loop begins
+-- from where the inner loop begins: it goes on, or whether instructions are passed over is as it was
 abbrev Inv-loop : tie.InvT-loop
 Inv-loop code low high prev cur₀ vals₀ inputs b₀ steps₀ cur vals b steps =
-    (b₀ .at ≤ b .at) × ((cur₁ vals₁ : List ℤ) → Fusing code low high prev inputs cur₁ vals₁ cur₀ vals₀ b₀ steps₀ → Fusing code low high prev inputs cur₁ vals₁ cur vals b steps)
+    (b₀ .at ≤ b .at) × ((b₀ .at < b .at) ⊎ (b .passing ≡ b₀ .passing))
+    × ((cur₁ vals₁ : List ℤ) → Fusing code low high prev inputs cur₁ vals₁ cur₀ vals₀ b₀ steps₀ → Fusing code low high prev inputs cur₁ vals₁ cur vals b steps)
 
 abbrev μ-loop : tie.MeasureT-loop
 μ-loop code low high prev cur₀ vals₀ inputs b₀ steps₀ cur vals b steps = length code - b .at
@@ -32,125 +34,109 @@ initial-requires c κs = omega (arith, c .before .pre .1 .0, c .before .pre .1 .
 code-holds : tie.Need-code-holds Inv-loop μ-loop Inv-code μ-code
 code-holds c = rw (c .initial .ensures) (fusing-begins _ _ _ _ _ _ _ (c .before .before .pre .0) (c .before .before .pre .1 .0) (c .before .before .pre .1 .1) (c .before .before .pre .1 .2))
 
-loop-holds : tie.Need-loop-holds Inv-loop μ-loop Inv-code μ-code
-loop-holds c = (omega arith, λ cur₁ vals₁ f. f)
-
-advance-ahead-requires : tie.Need-advance-ahead-requires Inv-loop μ-loop Inv-code μ-code
-advance-ahead-requires c κs = (c .before .before .before .before .before .loop .inv .1 _ _ (c .before .before .before .before .before .before .before .before .code .inv) .ready, (c .before .before .before .if2 .taken, c .before .before .if3 .left))
+-- what is passed over
+pass-first-requires : tie.Need-pass-first-requires Inv-loop μ-loop Inv-code μ-code
+pass-first-requires c κs = (c .before .before .code .inv .ready .small, c .if1 .taken, c .before .before .code .inv .ready .opened)
 
 add-steps : tie.Need-add-steps Inv-loop μ-loop Inv-code μ-code
 add-steps c =
-    let inv = c .before .before .before .before .before .before .before .before .before .before .before .loop .inv .1 _ _ (c .before .before .before .before .before .before .before .before .before .before .before .before .before .before .code .inv) in
-    let far = goes-far _ _ _ _ _ _ _ (leapt inv _ _ (c .before .before .before .before .before .advance-ahead .result) _ _ (c .before .before .before .before .before .advance-ahead .ensures) (c .before .m .given .1)) in
-    omega (arith, inv .few, far .0, far .1, c .before .before .before .before .before .before .before .before .before .before .before .before .before .before .before .before .before .good .0)
+    let far = first-far (c .before .before .before .before .before .before .code .inv) (c .before .before .before .before .if1 .taken) (c .before .before .before .pass-first .result) _ _ (c .before .before .before .pass-first .ensures) (c .before .k .given .1) in
+    omega (arith, c .before .before .before .before .before .before .code .inv .few, far .0, far .1, c .before .before .before .before .before .before .before .before .before .good .0)
 
--- a turn that goes on
+returns : tie.Need-returns Inv-loop μ-loop Inv-code μ-code
+returns c = absurd (subst (λ x. LeapsFirst (c .before .before .before .before .before .before .before .before .before .args .code .now) (c .before .before .before .before .before .before .code .b) x) (c .before .number .given .1) (c .before .before .before .pass-first .ensures))
+
+returns-2 : tie.Need-returns-2 Inv-loop μ-loop Inv-code μ-code
+returns-2 c = fusing-broken (c .before .before .before .before .before .before .code .inv) (subst (λ x. LeapsFirst (c .before .before .before .before .before .before .before .before .before .args .code .now) (c .before .before .before .before .before .before .code .b) x) (c .before .enum-told .given .1) (c .before .before .before .pass-first .ensures)) (omega (arith, c .before .before .before .before .if1 .taken)) _ (c .broken .result) (c .broken .ensures)
+
+loop-holds : tie.Need-loop-holds Inv-loop μ-loop Inv-code μ-code
+loop-holds c = (omega arith, inr refl, λ cur₁ vals₁ f. f)
+
+-- the inner loop ends with the code
+code-less : tie.Need-code-less Inv-loop μ-loop Inv-code μ-code
+code-less c = omega (arith, c .if2 .left, c .before .before .before .before .before .before .before .if1 .taken)
+
+code-again : tie.Need-code-again Inv-loop μ-loop Inv-code μ-code
+code-again c = c .before .before .loop .inv .2 _ _ (fusing-first (c .before .before .before .before .before .before .before .before .before .code .inv) (c .before .before .before .before .before .before .pass-first .result) _ _ (c .before .before .before .before .before .before .pass-first .ensures) (c .before .before .before .before .k .given .1))
+
+-- or where instructions are passed over
+code-less-2 : tie.Need-code-less-2 Inv-loop μ-loop Inv-code μ-code
+code-less-2 c =
+    let far = first-far (c .before .before .before .before .before .before .before .before .before .before .code .inv) (c .before .before .before .before .before .before .before .before .if1 .taken) (c .before .before .before .before .before .before .before .pass-first .result) _ _ (c .before .before .before .before .before .before .before .pass-first .ensures) (c .before .before .before .before .before .k .given .1) in
+    let less : c .before .before .before .before .before .before .before .before .before .before .code .b .at < c .before .before .before .loop .b .at =
+    ⊎-elim (λ l. omega (arith, l, far .0)) (λ e. ⊎-elim (λ l. omega (arith, l, c .before .before .before .loop .inv .0)) (λ p. absurd (false≢true (sym p ∙ sym e ∙ c .if3 .taken))) (far .2)) (c .before .before .before .loop .inv .1) in
+    omega (arith, less, c .before .if2 .taken)
+
+code-again-2 : tie.Need-code-again-2 Inv-loop μ-loop Inv-code μ-code
+code-again-2 c = c .before .before .before .loop .inv .2 _ _ (fusing-first (c .before .before .before .before .before .before .before .before .before .before .code .inv) (c .before .before .before .before .before .before .before .pass-first .result) _ _ (c .before .before .before .before .before .before .before .pass-first .ensures) (c .before .before .before .before .before .k .given .1))
+
+-- a turn of the inner loop
+advance-ahead-requires : tie.Need-advance-ahead-requires Inv-loop μ-loop Inv-code μ-code
+advance-ahead-requires c κs = (c .before .before .before .before .before .loop .inv .2 _ _ (fusing-first (c .before .before .before .before .before .before .before .before .before .before .before .before .code .inv) (c .before .before .before .before .before .before .before .before .before .pass-first .result) _ _ (c .before .before .before .before .before .before .before .before .before .pass-first .ensures) (c .before .before .before .before .before .before .before .k .given .1)) .ready, (c .before .before .before .if2 .taken, c .before .before .if3 .left))
+
+add-steps-2 : tie.Need-add-steps-2 Inv-loop μ-loop Inv-code μ-code
+add-steps-2 c =
+    let inv = c .before .before .before .before .before .before .before .before .before .before .before .loop .inv .2 _ _ (fusing-first (c .before .before .before .before .before .before .before .before .before .before .before .before .before .before .before .before .before .before .code .inv) (c .before .before .before .before .before .before .before .before .before .before .before .before .before .before .before .pass-first .result) _ _ (c .before .before .before .before .before .before .before .before .before .before .before .before .before .before .before .pass-first .ensures) (c .before .before .before .before .before .before .before .before .before .before .before .before .before .k .given .1)) in
+    let far = goes-far _ _ _ _ _ _ _ (leapt inv _ _ (c .before .before .before .before .before .advance-ahead .result) _ _ (c .before .before .before .before .before .advance-ahead .ensures) (c .before .m .given .1)) in
+    omega (arith, inv .few, far .0, far .1, c .before .before .before .before .before .before .before .before .before .before .before .before .before .before .before .before .before .before .before .before .before .good .0)
+
 loop-less : tie.Need-loop-less Inv-loop μ-loop Inv-code μ-code
 loop-less c =
-    let far = goes-far _ _ _ _ _ _ _ (leapt (c .before .before .before .before .before .before .before .before .before .before .before .loop .inv .1 _ _ (c .before .before .before .before .before .before .before .before .before .before .before .before .before .before .code .inv)) _ _ (c .before .before .before .before .before .advance-ahead .result) _ _ (c .before .before .before .before .before .advance-ahead .ensures) (c .before .m .given .1)) in
+    let far = goes-far _ _ _ _ _ _ _ (leapt (c .before .before .before .before .before .before .before .before .before .before .before .loop .inv .2 _ _ (fusing-first (c .before .before .before .before .before .before .before .before .before .before .before .before .before .before .before .before .before .before .code .inv) (c .before .before .before .before .before .before .before .before .before .before .before .before .before .before .before .pass-first .result) _ _ (c .before .before .before .before .before .before .before .before .before .before .before .before .before .before .before .pass-first .ensures) (c .before .before .before .before .before .before .before .before .before .before .before .before .before .k .given .1))) _ _ (c .before .before .before .before .before .advance-ahead .result) _ _ (c .before .before .before .before .before .advance-ahead .ensures) (c .before .m .given .1)) in
     omega (arith, far .0, far .2, c .before .before .before .before .before .before .before .before .before .if2 .taken)
 
 loop-again : tie.Need-loop-again Inv-loop μ-loop Inv-code μ-code
 loop-again c =
-    let goes = leapt (c .before .before .before .before .before .before .before .before .before .before .before .loop .inv .1 _ _ (c .before .before .before .before .before .before .before .before .before .before .before .before .before .before .code .inv)) _ _ (c .before .before .before .before .before .advance-ahead .result) _ _ (c .before .before .before .before .before .advance-ahead .ensures) (c .before .m .given .1) in
+    let goes = leapt (c .before .before .before .before .before .before .before .before .before .before .before .loop .inv .2 _ _ (fusing-first (c .before .before .before .before .before .before .before .before .before .before .before .before .before .before .before .before .before .before .code .inv) (c .before .before .before .before .before .before .before .before .before .before .before .before .before .before .before .pass-first .result) _ _ (c .before .before .before .before .before .before .before .before .before .before .before .before .before .before .before .pass-first .ensures) (c .before .before .before .before .before .before .before .before .before .before .before .before .before .k .given .1))) _ _ (c .before .before .before .before .before .advance-ahead .result) _ _ (c .before .before .before .before .before .advance-ahead .ensures) (c .before .m .given .1) in
     let far = goes-far _ _ _ _ _ _ _ goes in
-    (omega (arith, c .before .before .before .before .before .before .before .before .before .before .before .loop .inv .0, far .0), λ cur₁ vals₁ f. fusing-leaps _ _ _ _ _ _ _ goes (c .before .before .before .before .before .before .before .before .before .before .before .loop .inv .1 cur₁ vals₁ f) (c .before .before .before .before .before .advance-ahead .kept .1 .1 .1 .1 .1 .0) (c .before .before .before .before .before .advance-ahead .kept .1 .1 .1 .1 .0))
+    (omega (arith, c .before .before .before .before .before .before .before .before .before .before .before .loop .inv .0, far .0), inl (omega (arith, c .before .before .before .before .before .before .before .before .before .before .before .loop .inv .0, far .0, far .2)), λ cur₁ vals₁ f. fusing-leaps _ _ _ _ _ _ _ goes (c .before .before .before .before .before .before .before .before .before .before .before .loop .inv .2 cur₁ vals₁ f) (c .before .before .before .before .before .advance-ahead .kept .1 .1 .1 .1 .1 .0) (c .before .before .before .before .before .advance-ahead .kept .1 .1 .1 .1 .0))
 
--- a turn that the machine refuses
+-- that the machine refuses
 add-refused : tie.Need-add-refused Inv-loop μ-loop Inv-code μ-code
-add-refused c = omega (arith, c .before .before .before .before .before .before .before .before .before .before .before .before .loop .inv .1 _ _ (c .before .before .before .before .before .before .before .before .before .before .before .before .before .before .before .code .inv) .few, c .before .before .before .before .before .before .before .before .before .before .if2 .taken, c .before .before .before .before .before .before .before .before .before .before .before .before .before .before .before .before .before .before .good .0)
+add-refused c = omega (arith, c .before .before .before .before .before .before .before .before .before .before .before .before .loop .inv .2 _ _ (fusing-first (c .before .before .before .before .before .before .before .before .before .before .before .before .before .before .before .before .before .before .before .code .inv) (c .before .before .before .before .before .before .before .before .before .before .before .before .before .before .before .before .pass-first .result) _ _ (c .before .before .before .before .before .before .before .before .before .before .before .before .before .before .before .before .pass-first .ensures) (c .before .before .before .before .before .before .before .before .before .before .before .before .before .before .k .given .1)) .few, c .before .before .before .before .before .before .before .before .before .before .if2 .taken, c .before .before .before .before .before .before .before .before .before .before .before .before .before .before .before .before .before .before .before .before .before .before .good .0)
 
 refused-requires : tie.Need-refused-requires Inv-loop μ-loop Inv-code μ-code
-refused-requires c κs = leapt-refused (c .before .before .before .before .before .before .before .before .before .before .before .before .loop .inv .1 _ _ (c .before .before .before .before .before .before .before .before .before .before .before .before .before .before .before .code .inv)) _ _ (c .before .before .before .before .before .before .advance-ahead .result) _ _ (c .before .before .before .before .before .before .advance-ahead .ensures) (c .before .before .m2 .given .1) .small
-
-returns : tie.Need-returns Inv-loop μ-loop Inv-code μ-code
-returns c =
-    let inv = c .before .before .before .before .before .before .before .before .before .before .before .before .before .loop .inv .1 _ _ (c .before .before .before .before .before .before .before .before .before .before .before .before .before .before .before .before .code .inv) in
-    fusing-stops inv _ _ (c .before .before .before .before .before .before .before .before .before .before .before .if2 .taken) (leapt-refused inv _ _ (c .before .before .before .before .before .before .before .advance-ahead .result) _ _ (c .before .before .before .before .before .before .before .advance-ahead .ensures) (c .before .before .before .m2 .given .1)) _ (c .refused .result) (c .refused .ensures)
-
--- a turn that breaks soundness
-returns-2 : tie.Need-returns-2 Inv-loop μ-loop Inv-code μ-code
-returns-2 c =
-    let inv = c .before .before .before .before .before .before .before .before .before .before .before .loop .inv .1 _ _ (c .before .before .before .before .before .before .before .before .before .before .before .before .before .before .code .inv) in
-    fusing-broken inv (leapt-broken inv _ _ (c .before .before .before .before .before .advance-ahead .result) (c .before .before .before .before .before .advance-ahead .ensures) (c .before .enum-told .given .1)) (omega (arith, c .before .before .before .before .before .before .before .before .before .if2 .taken)) _ (c .broken .result) (c .broken .ensures)
-
--- where instructions are passed over
-pass-on-requires : tie.Need-pass-on-requires Inv-loop μ-loop Inv-code μ-code
-pass-on-requires c κs =
-    let ready = c .before .before .before .before .loop .inv .1 _ _ (c .before .before .before .before .before .before .before .code .inv) .ready in
-    let passing = ⊎-elim (λ e. let f : ⊥ = omega (arith, e .left, c .if4 .taken) in absurd f) (λ t. t .1 .taken) (c .before .before .if2 .came) in
-    (ready .small, c .if4 .taken, ready .opened passing, passing)
-
-add-steps-2 : tie.Need-add-steps-2 Inv-loop μ-loop Inv-code μ-code
-add-steps-2 c =
-    let inv = c .before .before .before .before .before .before .before .before .loop .inv .1 _ _ (c .before .before .before .before .before .before .before .before .before .before .before .code .inv) in
-    let far = goes-far _ _ _ _ _ _ _ (leapt-over inv (c .before .before .before .pass-on .result) _ _ (c .before .before .before .pass-on .ensures) (c .before .k .given .1)) in
-    omega (arith, inv .few, far .0, far .1, c .before .before .before .before .before .before .before .before .before .before .before .before .before .before .good .0)
-
-code-less : tie.Need-code-less Inv-loop μ-loop Inv-code μ-code
-code-less c =
-    let far = goes-far _ _ _ _ _ _ _ (leapt-over (c .before .before .before .before .before .before .before .before .loop .inv .1 _ _ (c .before .before .before .before .before .before .before .before .before .before .before .code .inv)) (c .before .before .before .pass-on .result) _ _ (c .before .before .before .pass-on .ensures) (c .before .k .given .1)) in
-    omega (arith, far .0, far .2, c .before .before .before .before .if4 .taken, c .before .before .before .before .before .before .before .before .loop .inv .0)
-
-code-again : tie.Need-code-again Inv-loop μ-loop Inv-code μ-code
-code-again c =
-    let inv = c .before .before .before .before .before .before .before .before .loop .inv .1 _ _ (c .before .before .before .before .before .before .before .before .before .before .before .code .inv) in
-    fusing-leaps _ _ _ _ _ _ _ (leapt-over inv (c .before .before .before .pass-on .result) _ _ (c .before .before .before .pass-on .ensures) (c .before .k .given .1)) inv refl refl
+refused-requires c κs = leapt-refused (c .before .before .before .before .before .before .before .before .before .before .before .before .loop .inv .2 _ _ (fusing-first (c .before .before .before .before .before .before .before .before .before .before .before .before .before .before .before .before .before .before .before .code .inv) (c .before .before .before .before .before .before .before .before .before .before .before .before .before .before .before .before .pass-first .result) _ _ (c .before .before .before .before .before .before .before .before .before .before .before .before .before .before .before .before .pass-first .ensures) (c .before .before .before .before .before .before .before .before .before .before .before .before .before .before .k .given .1))) _ _ (c .before .before .before .before .before .before .advance-ahead .result) _ _ (c .before .before .before .before .before .before .advance-ahead .ensures) (c .before .before .m2 .given .1) .small
 
 returns-3 : tie.Need-returns-3 Inv-loop μ-loop Inv-code μ-code
-returns-3 c = absurd (subst (λ x. LeapsOver (c .before .before .before .before .before .before .before .before .before .before .before .before .before .before .args .code .now) (c .before .before .before .before .before .before .before .before .loop .b) x) (c .before .number .given .1) (c .before .before .before .pass-on .ensures))
+returns-3 c =
+    let inv = c .before .before .before .before .before .before .before .before .before .before .before .before .before .loop .inv .2 _ _ (fusing-first (c .before .before .before .before .before .before .before .before .before .before .before .before .before .before .before .before .before .before .before .before .code .inv) (c .before .before .before .before .before .before .before .before .before .before .before .before .before .before .before .before .before .pass-first .result) _ _ (c .before .before .before .before .before .before .before .before .before .before .before .before .before .before .before .before .before .pass-first .ensures) (c .before .before .before .before .before .before .before .before .before .before .before .before .before .before .before .k .given .1)) in
+    fusing-stops inv _ _ (c .before .before .before .before .before .before .before .before .before .before .before .if2 .taken) (leapt-refused inv _ _ (c .before .before .before .before .before .before .before .advance-ahead .result) _ _ (c .before .before .before .before .before .before .before .advance-ahead .ensures) (c .before .before .before .m2 .given .1)) _ (c .refused .result) (c .refused .ensures)
 
+-- that breaks soundness
 returns-4 : tie.Need-returns-4 Inv-loop μ-loop Inv-code μ-code
 returns-4 c =
-    let inv = c .before .before .before .before .before .before .before .before .loop .inv .1 _ _ (c .before .before .before .before .before .before .before .before .before .before .before .code .inv) in
-    fusing-broken inv (subst (λ x. LeapsOver (c .before .before .before .before .before .before .before .before .before .before .before .before .before .before .args .code .now) (c .before .before .before .before .before .before .before .before .loop .b) x) (c .before .enum-told2 .given .1) (c .before .before .before .pass-on .ensures)) (omega (arith, c .before .before .before .before .if4 .taken)) _ (c .broken2 .result) (c .broken2 .ensures)
+    let inv = c .before .before .before .before .before .before .before .before .before .before .before .loop .inv .2 _ _ (fusing-first (c .before .before .before .before .before .before .before .before .before .before .before .before .before .before .before .before .before .before .code .inv) (c .before .before .before .before .before .before .before .before .before .before .before .before .before .before .before .pass-first .result) _ _ (c .before .before .before .before .before .before .before .before .before .before .before .before .before .before .before .pass-first .ensures) (c .before .before .before .before .before .before .before .before .before .before .before .before .before .k .given .1)) in
+    fusing-broken inv (leapt-broken inv _ _ (c .before .before .before .before .before .advance-ahead .result) (c .before .before .before .before .before .advance-ahead .ensures) (c .before .enum-told2 .given .1)) (omega (arith, c .before .before .before .before .before .before .before .before .before .if2 .taken)) _ (c .broken2 .result) (c .broken2 .ensures)
 
 -- the code ends
-code-less-2 : tie.Need-code-less-2 Inv-loop μ-loop Inv-code μ-code
-code-less-2 c = omega (arith, c .if4 .left, c .before .before .before .before .before .if1 .taken)
-
-code-again-2 : tie.Need-code-again-2 Inv-loop μ-loop Inv-code μ-code
-code-again-2 c = c .before .before .before .before .loop .inv .1 _ _ (c .before .before .before .before .before .before .before .code .inv)
-
 complete-requires : tie.Need-complete-requires Inv-loop μ-loop Inv-code μ-code
 complete-requires c κs = c .before .before .before .code .inv .ready .small
 
 returns-5 : tie.Need-returns-5 Inv-loop μ-loop Inv-code μ-code
-returns-5 c = fusing-ends (c .before .before .before .before .before .code .inv) (c .before .before .before .if1 .left) (sym (c .if5 .taken) ∙ c .before .complete .ensures)
+returns-5 c = fusing-ends (c .before .before .before .before .before .code .inv) (c .before .before .before .if1 .left) (sym (c .if4 .taken) ∙ c .before .complete .ensures)
 
 returns-6 : tie.Need-returns-6 Inv-loop μ-loop Inv-code μ-code
-returns-6 c = (fusing-misses (c .before .before .before .before .before .code .inv) (c .before .before .before .if1 .left) (sym (c .if5 .left) ∙ c .before .complete .ensures), omega arith)
+returns-6 c = (fusing-misses (c .before .before .before .before .before .code .inv) (c .before .before .before .if1 .left) (sym (c .if4 .left) ∙ c .before .complete .ensures), omega arith)
 
 -- the slices stay as long as they are
-same-length : tie.Need-same-length Inv-loop μ-loop Inv-code μ-code
-same-length c = let inv = c .before .before .before .before .before .before .before .before .before .before .before .before .before .loop .inv .1 _ _ (c .before .before .before .before .before .before .before .before .before .before .before .before .before .before .before .before .code .inv) in search (needs, inv .going .wide, inv .going .deep)
-
-same-length-2 : tie.Need-same-length-2 Inv-loop μ-loop Inv-code μ-code
-same-length-2 c = let inv = c .before .before .before .before .before .before .before .before .before .before .before .before .before .loop .inv .1 _ _ (c .before .before .before .before .before .before .before .before .before .before .before .before .before .before .before .before .code .inv) in search (needs, inv .going .wide, inv .going .deep)
-
-same-length-3 : tie.Need-same-length-3 Inv-loop μ-loop Inv-code μ-code
-same-length-3 c = let inv = c .before .before .before .before .before .before .before .before .before .before .before .loop .inv .1 _ _ (c .before .before .before .before .before .before .before .before .before .before .before .before .before .before .code .inv) in search (needs, inv .going .wide, inv .going .deep)
-
-same-length-4 : tie.Need-same-length-4 Inv-loop μ-loop Inv-code μ-code
-same-length-4 c = let inv = c .before .before .before .before .before .before .before .before .before .before .before .loop .inv .1 _ _ (c .before .before .before .before .before .before .before .before .before .before .before .before .before .before .code .inv) in search (needs, inv .going .wide, inv .going .deep)
-
 same-length-5 : tie.Need-same-length-5 Inv-loop μ-loop Inv-code μ-code
-same-length-5 c = let inv = c .before .before .before .before .before .before .before .before .loop .inv .1 _ _ (c .before .before .before .before .before .before .before .before .before .before .before .code .inv) in search (needs, inv .going .wide, inv .going .deep)
+same-length-5 c = let inv = c .before .before .before .before .before .before .before .before .before .before .before .before .before .loop .inv .2 _ _ (fusing-first (c .before .before .before .before .before .before .before .before .before .before .before .before .before .before .before .before .before .before .before .before .code .inv) (c .before .before .before .before .before .before .before .before .before .before .before .before .before .before .before .before .before .pass-first .result) _ _ (c .before .before .before .before .before .before .before .before .before .before .before .before .before .before .before .before .before .pass-first .ensures) (c .before .before .before .before .before .before .before .before .before .before .before .before .before .before .before .k .given .1)) in search (needs, inv .going .wide, inv .going .deep)
 
 same-length-6 : tie.Need-same-length-6 Inv-loop μ-loop Inv-code μ-code
-same-length-6 c = let inv = c .before .before .before .before .before .before .before .before .loop .inv .1 _ _ (c .before .before .before .before .before .before .before .before .before .before .before .code .inv) in search (needs, inv .going .wide, inv .going .deep)
+same-length-6 c = let inv = c .before .before .before .before .before .before .before .before .before .before .before .before .before .loop .inv .2 _ _ (fusing-first (c .before .before .before .before .before .before .before .before .before .before .before .before .before .before .before .before .before .before .before .before .code .inv) (c .before .before .before .before .before .before .before .before .before .before .before .before .before .before .before .before .before .pass-first .result) _ _ (c .before .before .before .before .before .before .before .before .before .before .before .before .before .before .before .before .before .pass-first .ensures) (c .before .before .before .before .before .before .before .before .before .before .before .before .before .before .before .k .given .1)) in search (needs, inv .going .wide, inv .going .deep)
 
 same-length-7 : tie.Need-same-length-7 Inv-loop μ-loop Inv-code μ-code
-same-length-7 c = let inv = c .before .before .before .before .before .before .before .before .loop .inv .1 _ _ (c .before .before .before .before .before .before .before .before .before .before .before .code .inv) in search (needs, inv .going .wide, inv .going .deep)
+same-length-7 c = let inv = c .before .before .before .before .before .before .before .before .before .before .before .loop .inv .2 _ _ (fusing-first (c .before .before .before .before .before .before .before .before .before .before .before .before .before .before .before .before .before .before .code .inv) (c .before .before .before .before .before .before .before .before .before .before .before .before .before .before .before .pass-first .result) _ _ (c .before .before .before .before .before .before .before .before .before .before .before .before .before .before .before .pass-first .ensures) (c .before .before .before .before .before .before .before .before .before .before .before .before .before .k .given .1)) in search (needs, inv .going .wide, inv .going .deep)
 
 same-length-8 : tie.Need-same-length-8 Inv-loop μ-loop Inv-code μ-code
-same-length-8 c = let inv = c .before .before .before .before .before .before .before .before .loop .inv .1 _ _ (c .before .before .before .before .before .before .before .before .before .before .before .code .inv) in search (needs, inv .going .wide, inv .going .deep)
+same-length-8 c = let inv = c .before .before .before .before .before .before .before .before .before .before .before .loop .inv .2 _ _ (fusing-first (c .before .before .before .before .before .before .before .before .before .before .before .before .before .before .before .before .before .before .code .inv) (c .before .before .before .before .before .before .before .before .before .before .before .before .before .before .before .pass-first .result) _ _ (c .before .before .before .before .before .before .before .before .before .before .before .before .before .before .before .pass-first .ensures) (c .before .before .before .before .before .before .before .before .before .before .before .before .before .k .given .1)) in search (needs, inv .going .wide, inv .going .deep)
 
 pub run-in-spec : {M : Type 1} → statement M
 run-in-spec =
     tie.close
     (tie.spec Inv-loop μ-loop Inv-code μ-code
-    initial-requires code-holds loop-holds advance-ahead-requires (λ c. search needs) add-steps loop-less loop-again (λ c. search needs) add-refused refused-requires same-length same-length-2 returns
-    (λ c. search needs) (λ c κs. search needs) same-length-3 same-length-4 returns-2 pass-on-requires (λ c. search needs) add-steps-2 code-less code-again
-    (λ c. search needs) same-length-5 same-length-6 returns-3 (λ c. search needs) (λ c κs. search needs) same-length-7 same-length-8 returns-4 code-less-2 code-again-2 complete-requires
+    initial-requires code-holds pass-first-requires (λ c. search needs) add-steps (λ c. search needs) (λ c. search needs) (λ c. search needs) returns (λ c. search needs) (λ c κs. search needs) (λ c. search needs) (λ c. search needs) returns-2
+    loop-holds code-less code-again code-less-2 code-again-2 advance-ahead-requires (λ c. search needs) add-steps-2 loop-less loop-again
+    (λ c. search needs) add-refused refused-requires same-length-5 same-length-6 returns-3 (λ c. search needs) (λ c κs. search needs) same-length-7 same-length-8 returns-4 complete-requires
     (λ c. search needs) (λ c. search needs) returns-5 (λ c. search needs) (λ c. search needs) returns-6)

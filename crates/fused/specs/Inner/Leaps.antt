@@ -1,6 +1,7 @@
 -- Several instructions at once: as many steps of walk and machine, one after the other. Auxiliary definitions for proofs. Assumes nothing.
 use mathlib.Core.Path.{_≡_}
-use mathlib.Core.Bool.{Bool, false}
+use mathlib.Core.Bool.{Bool, true, false}
+use mathlib.Core.Logic.{_⊎_}
 use mathlib.Core.Option.{some}
 use mathlib.Core.List.{List}
 use Prim.Native.Nat.{ℕ, _+_, _≤_, _<_}
@@ -52,8 +53,8 @@ SeenBy code prev cur at w N.Other = Unit {0}
 -- ---- what is passed over
 
 -- the walk with so many values held
-abbrev pub holding : Walk → ℕ → Walk
-holding w held = record { held = held; sorts = w .sorts; gate = w .gate; picking = w .picking; known = w .known; names = w .names }
+abbrev pub withHeld : Walk → ℕ → Walk
+withHeld w held = record { held = held; sorts = w .sorts; gate = w .gate; picking = w .picking; known = w .known; names = w .names }
 
 -- an instruction that is no pick, by which the walk moves
 pub record Skips (code : List ℕ) (w : Walk) (at : ℕ) (k : Walk) (next : ℕ) : Type 0 where
@@ -67,7 +68,7 @@ pub record Skips (code : List ℕ) (w : Walk) (at : ℕ) (k : Walk) (next : ℕ)
   pub same-names : k .names ≡ w .names
 
 abbrev pub SkippedBy : List ℕ → Walk → ℕ → ℕ → Skipped → Type 0
-SkippedBy code w held at (K.Over more next) = Skips code (holding w held) at (holding w more) next
+SkippedBy code w held at (K.Over more next) = Skips code (withHeld w held) at (withHeld w more) next
 SkippedBy code w held at K.Other = Unit {0}
 
 -- so many of them
@@ -98,3 +99,9 @@ abbrev pub LeapsOver : List ℕ → Progress → Leap → Type 0
 LeapsOver code b (L.On k n) = (low high prev cur vals : List ℤ) → Ready low high prev cur vals b → Goes code low high prev n b vals cur k vals cur
 LeapsOver code b (L.Refused k number) = ⊥
 LeapsOver code b L.Broken = BreaksAt code b
+
+-- the same where instructions are passed over, else nothing
+abbrev pub LeapsFirst : List ℕ → Progress → Leap → Type 0
+LeapsFirst code b (L.On k n) = ((b .passing ≡ false) × (k ≡ b) × (n ≡ 0)) ⊎ ((b .passing ≡ true) × LeapsOver code b (L.On k n))
+LeapsFirst code b (L.Refused k number) = ⊥
+LeapsFirst code b L.Broken = BreaksAt code b

@@ -4,13 +4,13 @@ use native.Mathlib.Omega.{arith}
 use borrow.Author.Needs.{needs}
 use lib.ListN.{length}
 use Rattle.bytecode.proofs.RoundTrip.{one-next}
-use Rattle.fused.specs.Inner.Leaps.{holding, SkipsTo, stays, further}
+use Rattle.fused.specs.Inner.Leaps.{withHeld, SkipsTo, stays, further}
 use Rattle.fused.proofs.Skipping.{skipped, skips-far, skips-kept}
 use Rattle.fused.proofs.ahead.skip.Statement.{statement}
 use Rattle.fused.proofs.ahead.skip.Tie as tie
 
 abbrev Inv-loop : tie.InvT-loop
-Inv-loop code from w held₀ at₀ steps₀ held at steps = SkipsTo code w from steps (holding w held) at
+Inv-loop code from w held₀ at₀ steps₀ held at steps = SkipsTo code w from steps (withHeld w held) at
 
 abbrev μ-loop : tie.MeasureT-loop
 μ-loop code from w held₀ at₀ steps₀ held at steps = length code - at
