@@ -90,7 +90,7 @@ pub fn meaning(number: u8) -> &'static str {
         15 => "two conditions of one rule hold",
         16 => "a case gives the previous value again",
         17 => "a new value is outside its range",
-        18 => "a value of the state is outside its range, or an elapsed time over its timer's limit",
+        18 => "a value of the state is outside its range, or an elapsed time outside 0 to its timer's limit",
         19 => "the farm table breaks its limits",
         20 => "the UTC minute is below 0 or over 2,147,483,647",
         21 => "a declared name that is a word of Structured Text, or a timer",

@@ -1,4 +1,4 @@
--- The tests of a scan before its code, as one definition. Document 01, "Who can cause which refusal". Assumes nothing.
+-- The tests of a scan before its code, as one definition. Document 01, "Who can cause which refusal"; document 02, A.7. Assumes nothing.
 use mathlib.Core.Bool.{Bool, true, false, _&&_}
 use mathlib.Core.List.{List}
 use Prim.Native.Nat.{ℕ}

@@ -78,6 +78,6 @@ pub record AllowedOn (i : Instruction) (vs : List Sort) (g : Bool) (o : Option P
 abbrev pub Allowed : Instruction → Known → Type 0
 Allowed i (known vs g o ids) = AllowedOn i vs g o ids
 
--- nothing missing at the end: no value held, no gate without its pick, no pick without its settle, each variable settled or let
+-- nothing missing at the end: no value held, no gate without its pick, no pick without its settle, each variable settled, let or timed
 abbrev pub Finished : Known → Type 0
 Finished (known vs g o ids) = (vs ≡ []) × (g ≡ false) × (o ≡ none) × T (allTrue ids)

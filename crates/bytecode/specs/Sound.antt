@@ -18,7 +18,7 @@ abbrev pub heldAfter : List Instruction → List Sort → List Sort
 heldAfter [] vs = vs
 heldAfter (i ∷ is) vs = heldAfter is (heldBy i vs)
 
--- of each id, whether it is an input, or a variable settled or let
+-- of each id, whether it is an input, or a variable settled, let or timed
 abbrev pub idsIn : Role → List Bool → List Bool
 idsIn (pushes fits) ids = ids
 idsIn computes ids = ids
@@ -113,7 +113,7 @@ sidesOf v (i ∷ is) = sideIn v (signature i .role) ++ sidesOf v is
 
 -- what a role asks for, of the values below the operands and the ids known there
 abbrev pub FittingIn : Role → List Sort → List Bool → Type 0
--- constants in signed 32-bit range; ids of names declared, current values by the rule above: of inputs, and of variables settled or let
+-- constants in signed 32-bit range; ids of names declared, current values by the rule above: of inputs, and of variables settled, let or timed
 -- before; never over 40 values held
 FittingIn (pushes fits) rest ids = T (fits ids) × (length rest < stackLimit)
 FittingIn computes rest ids = Unit {0}
@@ -169,7 +169,7 @@ pub record SoundCode (ns : List Range) (first : List Bool) (code : List Instruct
   pub sided : (before : List Instruction) (v : ℕ) (after : List Instruction) → code ≡ before ++ settle v ∷ after → Sided (sidesOf v before)
   -- a timer's instruction keeps its limits and its place (document 02, A.7)
   pub timed : (before : List Instruction) (t w n : ℕ) (after : List Instruction) → code ≡ before ++ timer t w n ∷ after → TimerStands ns before t w n
-  -- nothing missing at the end: no value held, each variable settled or let
+  -- nothing missing at the end: no value held, each variable settled, let or timed
   pub none-held : heldAfter code [] ≡ []
   pub all-set : T (allTrue (idsAfter code first))
 

@@ -1,4 +1,4 @@
--- The clock service: what it answers and leaves in the row lent to it, for every text, table, minute and row. Document 02, A.1. Assumes
+-- The clock service: what it answers and leaves in the row lent to it, for every text, table, minute and row. Document 02, A.1, A.7. Assumes
 -- nothing.
 use Prim.Native.Nat.{ℕ}
 use mathlib.Core.Bool.{Bool, true, false}

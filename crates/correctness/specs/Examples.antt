@@ -227,8 +227,8 @@ climb = sound
     (done 13 (pos 1 ∷ pos 5 ∷ []) ∷ stopped 22 6 (pos 1 ∷ pos 5 ∷ []) ∷ done 13 (pos 0 ∷ pos 0 ∷ []) ∷ stopped 22 12 (pos 0 ∷ pos 0 ∷ []) ∷ [])
 
 -- A.7 a delay of 5 s: from the edge of W on; the elapsed time is the state's last number, and a row ends with its milliseconds
-abbrev pub ton : Example
-ton = sound
+abbrev pub delayText : Example
+delayText = sound
     (bytes "input In 0..1; var W 0..1; timer Q of W limit 5000; W: GX(W = (In));")
     (0x01 ∷ 0x02 ∷ 0x00 ∷ 0x02 ∷ 0x00 ∷ 0x00 ∷ 0x02 ∷ 0x00 ∷ 0x00 ∷ 0x02 ∷ 0x00 ∷ 0x02 ∷ 0x00 ∷ 0x15 ∷ 0x01 ∷ 0x17 ∷ 0x02 ∷ 0x01 ∷ 0x88 ∷ 0x27 ∷ [])
     (pos 0 ∷ pos 0 ∷ pos 0 ∷ pos 0 ∷ [])
@@ -246,4 +246,4 @@ abbrev pub otherTimer : Example
 otherTimer = record { given = text (bytes "input i 0..1; timer t of i limit 1;"); translation = refused 23 25; verdict = accepted tt; first = []; rows = []; results = [] }
 
 abbrev pub examples : List Example
-examples = L1 ∷ L2 ∷ L3 ∷ L4 ∷ L5 ∷ L5-deeper ∷ L6 ∷ L7 ∷ L8 ∷ L8-unsound ∷ launch ∷ rotation ∷ share ∷ recased ∷ otherWord ∷ climb ∷ ton ∷ otherTimer ∷ []
+examples = L1 ∷ L2 ∷ L3 ∷ L4 ∷ L5 ∷ L5-deeper ∷ L6 ∷ L7 ∷ L8 ∷ L8-unsound ∷ launch ∷ rotation ∷ share ∷ recased ∷ otherWord ∷ climb ∷ delayText ∷ otherTimer ∷ []

@@ -15,7 +15,7 @@ use Rattle.phrases.specs.Inner.Steps.{parsedOf, nothing, answered, Writes}
 use Rattle.phrases.proofs.Writing.{got, refuses}
 use Rattle.grammar.proofs.Combine.{then-then, never}
 use Rattle.declarations.specs.Inner.Ranges.{declaredRange, rangeBytes}
-use Rattle.declarations.specs.Inner.Tables.{TableHolds, RangesStand, Names, DeclaresOne}
+use Rattle.declarations.specs.Inner.Tables.{TableHolds, RangesBehind, Names, DeclaresOne}
 use Rattle.declarations.proofs.Numbers.{range-bytes}
 use Rattle.declarations.proofs.Steps.{After, after, refused-then}
 use Rattle.declarations.proofs.Standing.{stand-kept, stand-more}

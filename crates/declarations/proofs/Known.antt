@@ -18,7 +18,7 @@ use Rattle.lexer.specs.declared.Place.{Place}
 use Rattle.lexer.specs.declared.Step.{Step}
 use Rattle.lexer.specs.declared.Step.the-variants.{Done, Refused}
 use Rattle.phrases.proofs.Writing.{got, refused-part}
-use Rattle.declarations.specs.Inner.Tables.{TableHolds, RangesStand, headerAfter, DeclaresAll}
+use Rattle.declarations.specs.Inner.Tables.{TableHolds, RangesBehind, headerAfter, DeclaresAll}
 use Rattle.declarations.proofs.Loop.{header-append}
 
 -- an empty table holds no names
@@ -38,7 +38,7 @@ pub record AllDeclared (word : Kind) (text : List ℕ) (names : List Name) (at t
   pub ended : t ≡ to + length (headerAfter names all)
   pub wrote : after ≡ sets before to (headerAfter names all)
   pub held : TableHolds text starts ends c all
-  pub stand : RangesStand text ends₀ 0 names → RangesStand text ends 0 all
+  pub stand : RangesBehind text ends₀ 0 names → RangesBehind text ends 0 all
 
 module _ (word : Kind) (text : List ℕ) (names : List Name) (at to : ℕ) (before after' ends₀ starts ends : List ℕ) {r : Step} (d : DeclaresAll word text names at to before after' ends₀ starts ends r) where
   pub all-declared : {x : Place} → r ≡ Done x → AllDeclared word text names at to before after' ends₀ starts ends (x .at) (x .to) (x .number)

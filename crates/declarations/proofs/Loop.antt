@@ -21,7 +21,7 @@ use Rattle.phrases.proofs.Writing.{got, refused-part, writes}
 use Rattle.phrases.proofs.Writing as W
 use Rattle.leb128.proofs.Stores.{sets-append}
 use Rattle.grammar.proofs.Combine.{same-value, never}
-use Rattle.declarations.specs.Inner.Tables.{TableRoom, TableHolds, RangesStand, DeclaresOne, headerAfter, DeclaresAll, FewDeclared}
+use Rattle.declarations.specs.Inner.Tables.{TableRoom, TableHolds, RangesBehind, DeclaresOne, headerAfter, DeclaresAll, FewDeclared}
 
 pub header-append : (l k : List Name) → header (l ++ k) ≡ header l ++ header k
 unfolding header
@@ -55,7 +55,7 @@ pub record Going (word : Kind) (text : List ℕ) (names : List Name) (at to : �
   pub enough : 64 ≤ fuel + known
   pub new : List Name
   pub held : TableHolds text starts ends known (names ++ new)
-  pub stand : RangesStand text ends₀ 0 names → RangesStand text ends 0 (names ++ new)
+  pub stand : RangesBehind text ends₀ 0 names → RangesBehind text ends 0 (names ++ new)
   pub goes : declarations word text names at ≡ declarationsFrom (suc fuel) word text (names ++ new) a
   pub ended : t ≡ to + length (header new)
   pub wrote : after ≡ sets before to (header new)
@@ -90,7 +90,7 @@ module _ (word : Kind) (text : List ℕ) (names : List Name) (at to : ℕ) (befo
           record {
             writes = writes i (record { tree = names ++ g .new; is = d; ended = rw seam (g .ended); tells-it = g .held .counted; wrote = rw seam (g .wrote) });
             named = λ all m j. subst (λ (l : List Name). TableHolds text starts ends (length l) l) (same-value (sym d ∙ j)) (rw (g .held .counted) at (g .held));
-            ranged = λ r all m j. subst (λ (l : List Name). RangesStand text ends 0 l) (same-value (sym d ∙ j)) (g .stand r);
+            ranged = λ r all m j. subst (λ (l : List Name). RangesBehind text ends 0 l) (same-value (sym d ∙ j)) (g .stand r);
           }
 
       module _ (f : is k word ≡ true) (mid starts' ends' : List ℕ) where

@@ -19,7 +19,7 @@ use Rattle.phrases.proofs.Writing.{writes, refuses}
 use Rattle.grammar.proofs.Combine.{then-then, never, same-value}
 use Rattle.declarations.specs.Inner.Ranges.{rangeBytes}
 use Rattle.declarations.specs.Inner.Tables.{TableRoom, TableHolds, Names}
-use Rattle.declarations.specs.Inner.Timers.{Watchables, timerRest, timerTold, TimersStand, TimersHeld, DeclaresTimer}
+use Rattle.declarations.specs.Inner.Timers.{Watchables, timerRest, timerTold, TimersStand, TimersHeld, TimerDeclared}
 use Rattle.declarations.proofs.Standing.{stand-kept}
 use Rattle.declarations.proofs.Steps.{After, after, refused-then}
 use Rattle.declarations.proofs.Numbers.{range-bytes}
@@ -102,7 +102,7 @@ timer-names text inputs first x at y n e = go (newName text (x .names) at) refl
 module _ (text starts ends watched limits : List ℕ) (inputs first at to count : ℕ) (before starts' ends' : List ℕ) where
   abbrev Answers : List ℕ → List ℕ → List ℕ → Step → Type 0
   Answers watched' limits' mid r =
-      ((x : WithTimers) → TimersHeld text starts ends watched limits first count x → DeclaresTimer text inputs first x at to count before mid starts' ends' watched' limits' r) × ((x : Place) → r ≡ Done x → (count < 64) × (x .to ≤ to + 15))
+      ((x : WithTimers) → TimersHeld text starts ends watched limits first count x → TimerDeclared text inputs first x at to count before mid starts' ends' watched' limits' r) × ((x : Place) → r ≡ Done x → (count < 64) × (x .to ≤ to + 15))
 
   refuses-timer : (watched' limits' mid : List ℕ) {r : Step} {k q : ℕ} → r ≡ Refused k q → ((x : WithTimers) → TimersHeld text starts ends watched limits first count x → timerDeclaration text inputs first x at ≡ refused k q) → Answers watched' limits' mid r
   refuses-timer watched' limits' mid {k = k} {q = q} g e = (

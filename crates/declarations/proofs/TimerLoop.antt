@@ -23,7 +23,7 @@ use Rattle.leb128.proofs.Stores.{sets-append}
 use Rattle.grammar.proofs.Combine.{same-value, never}
 use Rattle.declarations.specs.Inner.Ranges.{rangeBytes}
 use Rattle.declarations.specs.Inner.Tables.{TableRoom}
-use Rattle.declarations.specs.Inner.Timers.{TimersHeld, TimerRoom, DeclaresTimer, timersHeader, DeclaresTimers}
+use Rattle.declarations.specs.Inner.Timers.{TimersHeld, TimerRoom, TimerDeclared, timersHeader, DeclaresTimers}
 use Rattle.declarations.proofs.Loop.{header-append}
 use Rattle.declarations.proofs.TimerEntries.{timer-names}
 
@@ -99,7 +99,7 @@ module _ (text : List ℕ) (inputs first : ℕ) (x : WithTimers) (at to : ℕ) (
             held = λ y m j. subst (λ (z : WithTimers). TimersHeld text starts ends watched limits first (length (z .names)) z) (same-value (sym d ∙ j)) (rw (g .held .known .table .counted) at (g .held));
           }
 
-      module _ (f : is k timerWord ≡ true) (mid starts' ends' watched' limits' : List ℕ) {one : Step} (d : DeclaresTimer text inputs first (g .all) n t known after' mid starts' ends' watched' limits' one) where
+      module _ (f : is k timerWord ≡ true) (mid starts' ends' watched' limits' : List ℕ) {one : Step} (d : TimerDeclared text inputs first (g .all) n t known after' mid starts' ends' watched' limits' one) where
         stops-at : {q p : ℕ} → one ≡ Refused q p → DeclaresTimers text inputs first x at to before mid starts' ends' watched' limits' one
         stops-at {q} {p} h = refuses mid starts' ends' watched' limits' q p h (g .goes ∙ turn-refused (g .fuel) text inputs first (g .all) a k s n e q p f (refused-part (d .writes) h))
 
@@ -154,7 +154,7 @@ module _ (text : List ℕ) (inputs first at to : ℕ) (before starts₀ ends₀ 
     timer-room r = record { in-watched = omega (arith, r .in-watched, g .watched-kept); in-limits = omega (arith, r .in-limits, g .limits-kept) }
 
     module _ (k : Kind) (s n : ℕ) (e : tokenAt text a ≡ token k s n) (f : is k timerWord ≡ true) (mid starts' ends' watched' limits' : List ℕ) {one : Step}
-        (d : (x : WithTimers) → TimersHeld text starts ends watched limits first known x → DeclaresTimer text inputs first x n t known after' mid starts' ends' watched' limits' one)
+        (d : (x : WithTimers) → TimersHeld text starts ends watched limits first known x → TimerDeclared text inputs first x n t known after' mid starts' ends' watched' limits' one)
         (l : (y : Place) → one ≡ Done y → (known < 64) × (y .to ≤ t + 15))
       where
         pub turns-out : {q p : ℕ} → one ≡ Refused q p → (x : WithTimers) → TimersHeld text starts₀ ends₀ watched₀ limits₀ first first x → DeclaresTimers text inputs first x at to before mid starts' ends' watched' limits' one

@@ -5,7 +5,7 @@ use lexer::Step;
 ghost use mathlib.Core.Path.{_≡_};
 ghost use mathlib.Core.Bool.{true};
 ghost use mathlib.Core.List.{List};
-ghost use Prim.Native.Nat.{ℕ, _+_, _*_, _≤_, _<_, _^_};
+ghost use Prim.Native.Nat.{ℕ, _+_, _≤_, _<_, _^_};
 ghost use lib.ListN.{length, set};
 ghost use Rattle.limits.specs.Limits.{nameLimit, timeLimit};
 ghost use Rattle.semantics.specs.Program.{Name, Range, isBinary};
@@ -16,7 +16,7 @@ ghost use Rattle.lexer.specs.declared.Step.the-variants.{Done};
 ghost use Rattle.phrases.specs.Inner.Steps.{parsedOf, numberTold};
 ghost use Rattle.declarations.specs.Inner.Ranges.{declaredRange};
 ghost use Rattle.declarations.specs.Inner.Tables.{TableRoom, FewDeclared};
-ghost use Rattle.declarations.specs.Inner.Timers.{Watchables, timerTold, timerAt, timerRest, TimersHeld, TimerRoom, DeclaresTimer, DeclaresTimers};
+ghost use Rattle.declarations.specs.Inner.Timers.{Watchables, timerTold, timerDone, timerRest, TimersHeld, TimerRoom, TimerDeclared, DeclaresTimers};
 
 // Whether the range that stands at a place is 0..1.
 fn is_binary(text: &[u8], at: usize) -> bool
@@ -130,7 +130,7 @@ fn store(watched: &mut [u8], limits: &mut [u32], id: usize, w: usize, n: usize)
 
 // The place after a timer, with w's id and N.
 fn told(at: usize, w: usize, n: usize) -> Step
-    ensures { λ r. ⌜ r ≡ timerAt at w n ⌝ }
+    ensures { λ r. ⌜ r ≡ timerDone at w n ⌝ }
 {
     Step::Done(Place {
         at,
@@ -200,7 +200,7 @@ fn timer(
     requires { ⌜ TimerRoom (now watched) (now limits) ⌝ }
     requires { ⌜ (first ≤ count) × (to < 2 ^ 30) ⌝ }
     ensures { λ r. ⌜ ((x : WithTimers) → TimersHeld (now (text .entry)) (now (starts .entry)) (now (ends .entry)) (now (watched .entry)) (now (limits .entry)) first count x
-        → DeclaresTimer (now (text .entry)) inputs first x at to count (now (out .entry)) (now (out .exit)) (now (starts .exit)) (now (ends .exit)) (now (watched .exit)) (now (limits .exit)) r) ⌝ }
+        → TimerDeclared (now (text .entry)) inputs first x at to count (now (out .entry)) (now (out .exit)) (now (starts .exit)) (now (ends .exit)) (now (watched .exit)) (now (limits .exit)) r) ⌝ }
     ensures { λ r. ⌜ ((x : Place) → r ≡ Done x → (count < nameLimit) × (x .to ≤ to + 15)) ⌝ }
 {
     let named = crate::new_name(text, at, starts, ends, count);

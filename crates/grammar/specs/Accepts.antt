@@ -9,7 +9,7 @@ use Rattle.semantics.specs.Program.{Program}
 use Rattle.grammar.specs.Parse.{programOf}
 use Rattle.grammar.specs.Spelled.{Spelled}
 
--- A text is accepted, as the program p, exactly if it has document 01's grammar, limits, order and agreement, and spells p.
+-- A text is accepted, as the program p, exactly if it has the documents' grammar, limits, order and agreement, and spells p.
 pub record Accepts : Type 0 where
   pub accepted-spelled : (text : List ℕ) (p : Program) → programOf text ≡ accepted p → Spelled text p
   pub spelled-accepted : (text : List ℕ) (p : Program) → Spelled text p → programOf text ≡ accepted p

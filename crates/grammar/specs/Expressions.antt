@@ -16,8 +16,8 @@ use Rattle.arith.specs.Values.{Operation, add, subtract, multiply, divide, modu
 use Rattle.semantics.specs.Program.{Expression, constant, current, previous, operation, negate}
 use Rattle.grammar.specs.Parsed.{Parsed, accepted, refused, andThen, onToken, onOption, sign, followed, chain}
 
--- the text, the names declared, and which of them may be used with their current value: the inputs, and the variables whose rule
--- stands earlier
+-- the text, the names declared, and which of them may be used with their current value: the inputs, the variables whose
+-- rule stands earlier and the timers of these; in a watch all
 pub record Scope : Type 0 where
   pub text : List ℕ
   pub names : List (List ℕ)

@@ -1,7 +1,7 @@
 -- Rules: functions, change formulas and their no-change formulas; pairs of rising and falling formulas. Document 01, "The text"; document 02,
 -- A.6, A.7. Assumes nothing.
 use Prim.Native.Nat.{ℕ, zero, suc, _-_}
-use mathlib.Core.Bool.{Bool, true, false, cond}
+use mathlib.Core.Bool.{Bool, true, cond}
 use mathlib.Core.List.{List, [], _∷_, _++_}
 use lib.ListN.{length, set}
 use lib.Dec.{ltb, leb, eqb}

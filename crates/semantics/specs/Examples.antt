@@ -8,7 +8,7 @@ use Rattle.semantics.specs.Program.{Name, current, operation, function, 
 use Rattle.semantics.specs.Formula.{State}
 use Rattle.semantics.specs.Rows.{Reply, referenceReplies, startsOf}
 
--- a program, a state, the rows, and what the plain scan answers and acceptedAs at each
+-- a program, a state, the rows, and what the plain scan answers and leaves at each
 pub record TimedExample : Type 0 where
   pub program : Program
   pub first : State
@@ -64,7 +64,7 @@ delays = record {
       ∷ acceptedAs (four (pos 1) (pos 1) (pos 0) (pos 0)) ∷ acceptedAs (four (pos 1) (pos 1) (pos 1) (pos 5000)) ∷ acceptedAs allZero ∷ [];
 }
 
--- rows of wrong length, a negative time, an input outside its range; the elapsed time refusedAs
+-- rows of wrong length, a negative time, an input outside its range; the elapsed time stays
 abbrev pub refusedTimes : TimedExample
 refusedTimes = record {
   program = ton 5000;

@@ -64,7 +64,7 @@ stateLength k = length (cells k)
 abbrev pub startingState : Shape → State
 startingState k = map (λ n. n .start) (cells k)
 
--- each value lies in the range of the name at its place
+-- each value lies in the range that stands at its place
 abbrev pub allWithin : List Range → List ℤ → Bool
 allWithin [] zs = true
 allWithin (n ∷ ns) [] = true

@@ -5,7 +5,6 @@ use mathlib.Core.List.{List, [], _∷_, _++_}
 use lib.ListN.{length, replicate}
 use Rattle.limits.specs.Answer.{Answer, accepted, refused}
 use Rattle.lexer.specs.Bytes.{bytes}
-use Rattle.translate.specs.Services.{AfterTranslation}
 use Rattle.structured_text.specs.Services.{structuredTextOf}
 
 pub record OutputExample : Type 0 where

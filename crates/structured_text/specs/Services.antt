@@ -1,10 +1,8 @@
--- The service that writes Structured Text: what it answers and leaves in the buffer lent to it, for every text and every buffer. Document 02, A.4,
--- A.7.
--- Assumes nothing.
+-- The service that writes Structured Text: what it answers and leaves in the buffer lent to it, for every text and every buffer.
+-- Document 02, A.4, A.7. Assumes nothing.
 use Prim.Native.Nat.{ℕ, zero, suc}
-use mathlib.Core.Bool.{Bool, true, false, _&&_, _||_, cond}
+use mathlib.Core.Bool.{Bool, false, _&&_, _||_, cond}
 use mathlib.Core.List.{List}
-use mathlib.Core.Option.{Option, none, some}
 use lib.ListN.{length}
 use Rattle.limits.specs.Limits.{notInSt}
 use Rattle.limits.specs.Answer.{Answer, accepted, refused}

@@ -7,7 +7,7 @@ use Rattle.limits.specs.Limits.{nameLimit}
 use Rattle.lexer.specs.Token.{Kind}
 use Rattle.lexer.specs.Names.{tableNames}
 use Rattle.semantics.specs.Program.{Name}
-use Rattle.grammar.specs.Parsed.{Parsed, accepted, andThen}
+use Rattle.grammar.specs.Parsed.{accepted, andThen}
 use Rattle.grammar.specs.Declarations.{spellings, newName, declaration, declarations}
 use Rattle.grammar.specs.Inner.Bytes.{header}
 use Rattle.lexer.specs.declared.Step.{Step}
@@ -27,9 +27,9 @@ pub record TableHolds (text starts ends : List ℕ) (count : ℕ) (names : List 
   pub spelled : tableNames text starts ends count ≡ spellings names
 
 -- the range of each name stands behind the name, whose end the table has, from the entry i on
-abbrev pub RangesStand : List ℕ → List ℕ → ℕ → List Name → Type 0
-RangesStand text ends i [] = Unit {0}
-RangesStand text ends i (x ∷ l) = ((n : ℕ) × (declaredRange text (getD ends i 0) ≡ accepted (x .range) n)) × RangesStand text ends (suc i) l
+abbrev pub RangesBehind : List ℕ → List ℕ → ℕ → List Name → Type 0
+RangesBehind text ends i [] = Unit {0}
+RangesBehind text ends i (x ∷ l) = ((n : ℕ) × (declaredRange text (getD ends i 0) ≡ accepted (x .range) n)) × RangesBehind text ends (suc i) l
 
 -- a new name: the answer, and where it is accepted the table with that name; the ends of the names before it stay
 pub record Names (text : List ℕ) (names : List Name) (at count : ℕ) (ends₀ starts ends : List ℕ) (r : Step) : Type 0 where
@@ -41,7 +41,7 @@ pub record Names (text : List ℕ) (names : List Name) (at count : ℕ) (ends₀
 pub record DeclaresOne (text : List ℕ) (names : List Name) (at to count : ℕ) (before after ends₀ starts ends : List ℕ) (r : Step) : Type 0 where
   pub writes : Writes (λ x. header (x ∷ [])) nothing (λ x. tt) (declaration text names at) to before after r
   pub named : (x : Name) (n : ℕ) → declaration text names at ≡ accepted x n → TableHolds text starts ends (count + 1) (names ++ (x ∷ []))
-  pub ranged : RangesStand text ends₀ 0 names → (x : Name) (n : ℕ) → declaration text names at ≡ accepted x n → RangesStand text ends 0 (names ++ (x ∷ []))
+  pub ranged : RangesBehind text ends₀ 0 names → (x : Name) (n : ℕ) → declaration text names at ≡ accepted x n → RangesBehind text ends 0 (names ++ (x ∷ []))
 
 -- the bytes of the names declared after those declared before
 unfoldable pub headerAfter : List Name → List Name → List ℕ
@@ -51,7 +51,7 @@ headerAfter names all = header (drop (length names) all)
 pub record DeclaresAll (word : Kind) (text : List ℕ) (names : List Name) (at to : ℕ) (before after ends₀ starts ends : List ℕ) (r : Step) : Type 0 where
   pub writes : Writes (headerAfter names) numberTold length (declarations word text names at) to before after r
   pub named : (all : List Name) (n : ℕ) → declarations word text names at ≡ accepted all n → TableHolds text starts ends (length all) all
-  pub ranged : RangesStand text ends₀ 0 names → (all : List Name) (n : ℕ) → declarations word text names at ≡ accepted all n → RangesStand text ends 0 all
+  pub ranged : RangesBehind text ends₀ 0 names → (all : List Name) (n : ℕ) → declarations word text names at ≡ accepted all n → RangesBehind text ends 0 all
 
 -- no more names than a text may declare, and no more than fifteen bytes for each
 abbrev pub FewDeclared : ℕ → Step → Type 0

@@ -15,7 +15,7 @@ use Rattle.lexer.specs.declared.Step.{Step}
 use Rattle.lexer.specs.declared.Step.the-variants.{Done}
 use Rattle.phrases.specs.Inner.Steps.{nothing, numberTold, Writes}
 use Rattle.declarations.specs.Inner.Ranges.{rangeBytes}
-use Rattle.declarations.specs.Inner.Tables.{TableHolds, RangesStand}
+use Rattle.declarations.specs.Inner.Tables.{TableHolds, RangesBehind}
 
 -- the table has names, the first of which are inputs and variables, with their ranges behind them
 pub record Watchables (text starts ends : List ℕ) (count first : ℕ) (names : List Name) : Type 0 where
@@ -24,7 +24,7 @@ pub record Watchables (text starts ends : List ℕ) (count first : ℕ) (names :
   pub others : List Name
   pub split : names ≡ variables ++ others
   pub many : length variables ≡ first
-  pub stand : RangesStand text ends 0 variables
+  pub stand : RangesBehind text ends 0 variables
 
 -- `of w limit N;` after a timer's name, which is the last of these names: w's id and N
 unfoldable pub timerRest : List ℕ → ℕ → ℕ → List Name → ℕ → Parsed (ℕ × ℕ)
@@ -38,8 +38,8 @@ timerRest text inputs first names at =
 abbrev pub timerTold : Place → ℕ × ℕ
 timerTold x = (x .number, x .start)
 
-abbrev pub timerAt : ℕ → ℕ → ℕ → Step
-timerAt at w n = Done (record { at = at; kind = 0; start = n; end = at; to = 0; number = w; value = pos 0 })
+abbrev pub timerDone : ℕ → ℕ → ℕ → Step
+timerDone at w n = Done (record { at = at; kind = 0; start = n; end = at; to = 0; number = w; value = pos 0 })
 
 -- the timers from the id i on: of each w and N
 abbrev pub TimersStand : List ℕ → List ℕ → ℕ → List Timer → Type 0
@@ -58,7 +58,7 @@ pub record TimerRoom (watched limits : List ℕ) : Type 0 where
   pub in-limits : nameLimit ≤ length limits
 
 -- a timer: the answer, the header's bytes of its name, and where it is accepted the tables with it
-pub record DeclaresTimer (text : List ℕ) (inputs first : ℕ) (x : WithTimers) (at to count : ℕ) (before after starts ends watched limits : List ℕ) (r : Step) : Type 0 where
+pub record TimerDeclared (text : List ℕ) (inputs first : ℕ) (x : WithTimers) (at to count : ℕ) (before after starts ends watched limits : List ℕ) (r : Step) : Type 0 where
   pub writes : Writes (λ y. rangeBytes bitRange) nothing (λ y. tt) (timerDeclaration text inputs first x at) to before after r
   pub held : (y : WithTimers) (n : ℕ) → timerDeclaration text inputs first x at ≡ accepted y n → TimersHeld text starts ends watched limits first (count + 1) y
 

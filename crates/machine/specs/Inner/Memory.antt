@@ -1,10 +1,10 @@
 -- What the memory lent to the running machine and its answers stand for. Assumes nothing.
 use mathlib.Core.Path.{_≡_}
-use mathlib.Core.List.{List, [], _∷_, map}
+use mathlib.Core.List.{List, map}
 use mathlib.Core.Option.{Option, none, some}
-use Prim.Native.Nat.{ℕ, zero, suc, _≤_}
-use lib.IntN.{ℤ, pos}
-use lib.ListN.{length, getD}
+use Prim.Native.Nat.{ℕ, _≤_}
+use lib.IntN.{ℤ}
+use lib.ListN.{length}
 use Rattle.limits.specs.Limits.{stackLimit, brokenImage}
 use Rattle.arith.specs.Values.{Outcome, ok, refusal}
 use Rattle.arith.specs.Inner.Flags.{flagsOf}

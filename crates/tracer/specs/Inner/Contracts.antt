@@ -15,10 +15,9 @@ use Rattle.lexer.specs.Names.{tableNames}
 use Rattle.grammar.specs.Parsed.{accepted}
 use Rattle.grammar.specs.Parse.{parse, programOf}
 use Rattle.grammar.specs.Declarations.{spellings}
-use Rattle.trace_text.specs.declared.Line.{Line}
 use Rattle.tracer.specs.declared.Tracer.{Tracer}
 use Rattle.tracer.specs.Printed.{opening}
-use Rattle.tracer.specs.Session.{textRoom, lineRoom, Session, sessionOf, behindText, fedOver, putOver, takenOf}
+use Rattle.tracer.specs.Session.{textRoom, Session, sessionOf, behindText, fedOver, putOver, takenOf}
 
 -- the memory that the program keeps: room for one byte more than a text may have, for any image, any state and any row handed to scan
 pub record Memory (text image : List ℕ) (s cells : List ℤ) : Type 0 where

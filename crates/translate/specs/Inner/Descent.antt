@@ -15,7 +15,7 @@ use Rattle.semantics.specs.Program.{Name, Timer, Watch, Program, knownFirst, fr
 use Rattle.grammar.specs.Parsed.{Parsed, accepted, refused, andThen, itemBound}
 use Rattle.grammar.specs.Expressions.{Scope}
 use Rattle.grammar.specs.Declarations.{declarations, spellings}
-use Rattle.grammar.specs.Timers.{WithTimers, timersFrom}
+use Rattle.grammar.specs.Timers.{timersFrom}
 use Rattle.grammar.specs.Watches.{watchesFrom}
 use Rattle.grammar.specs.Parse.{endAt}
 use Rattle.grammar.specs.Inner.Bytes.{header, image}
