@@ -1,4 +1,4 @@
-/* Launch rules in plain C: the four services of document 01 (and A.5 of document 02), written from the documents alone. It is not
+/* Launch rules in plain C: the four services of document 01 (with A.2, A.5 and A.6 of document 02, without timers), written from the documents alone. It is not
  * part of the product: bench/ measures the proved archive against it.
  */
 #ifndef BASELINE_H
