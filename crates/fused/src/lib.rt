@@ -6,8 +6,9 @@ use checker::advance;
 use checker::advance::Advanced;
 use checker::advance::Walk;
 use machine::Registers;
-use machine::Stepped;
 use machine::held;
+use moves::onward;
+use moves::over;
 ghost use mathlib.Core.Path.{_≡_};
 ghost use mathlib.Core.Bool.{true, false};
 ghost use Prim.Native.Nat.{_+_, _≤_, _<_};
@@ -17,9 +18,10 @@ ghost use Rattle.leb128.specs.Numbers.{numberAt};
 ghost use Rattle.leb128.specs.Results.{unsignedRead};
 ghost use Rattle.checker.specs.Inner.Walk.{openOf, Small};
 ghost use Rattle.machine.specs.Inner.Memory.{OneEach};
-ghost use Rattle.fused.specs.Inner.Passes.{passedOver, movedOf, PassesBy, Ready, MovesBy, RefusedBy, BrokenBy, RunBy};
+ghost use Rattle.fused.specs.Inner.Passes.{PassesBy, Ready, MovesBy, RefusedBy, BrokenBy, RunBy};
 
 pub mod ahead;
+pub mod moves;
 
 // The walk before an instruction, and the place of that instruction; whether the variable at hand was picked, and whether
 // instructions are passed over. As many values are held as the walk knows of, none while instructions are passed over.
@@ -52,21 +54,6 @@ fn operand(code: &[u8], at: usize) -> leb128::Unsigned
     ensures { λ r. ⌜ unsignedRead r ≡ numberAt (now (code .entry)) (at + 1) ⌝ }
 {
     leb128::unsigned_at(code, at + 1)
-}
-
-// An instruction that is passed over: only the walk moves.
-fn over(b: Progress, next: usize, passing: bool, a: Advanced) -> Moved
-    ensures { λ r. ⌜ r ≡ passedOver b next passing a ⌝ }
-{
-    let Advanced::Kept(k) = a else {
-        return Moved::Broken;
-    };
-    Moved::On(Progress {
-        walk: k,
-        at: next,
-        picked: b.picked,
-        passing,
-    })
 }
 
 // Between a gate and its pick only codes 1 to 9 stand.
@@ -123,29 +110,6 @@ fn pass(code: &[u8], b: Progress) -> Moved
             over(b, next, false, advance::pick(w, advance::FALLING, n))
         }
         _ => Moved::Broken,
-    }
-}
-
-// An instruction that is done: the walk behind it, and how the machine's step ended.
-fn onward(k: Walk, next: usize, s: Stepped) -> Moved
-    ensures { λ r. ⌜ r ≡ movedOf k next s ⌝ }
-{
-    match s {
-        Stepped::Next(t) => Moved::On(Progress {
-            walk: k,
-            at: next,
-            picked: t.picked,
-            passing: t.passing,
-        }),
-        Stepped::Refused(number) => Moved::Refused(
-            Progress {
-                walk: k,
-                at: next,
-                picked: false,
-                passing: false,
-            },
-            number,
-        ),
     }
 }
 

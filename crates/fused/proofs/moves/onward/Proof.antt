@@ -1,9 +1,9 @@
--- `fused::onward` meets its contract. Assumes nothing.
+-- `fused::moves::onward` meets its contract. Assumes nothing.
 use mathlib.Core.Path.{sym, ap}
 use Rattle.fused.specs.Inner.Passes.{movedOf}
 use borrow.Author.Needs.{needs}
-use Rattle.fused.proofs.onward.Statement.{statement}
-use Rattle.fused.proofs.onward.Tie as tie
+use Rattle.fused.proofs.moves.onward.Statement.{statement}
+use Rattle.fused.proofs.moves.onward.Tie as tie
 
 returns : tie.Need-returns
 returns c = ap (movedOf (c .before .before .before .args .k) (c .before .before .before .args .next)) (sym (c .before .s .given .1))

@@ -1,9 +1,9 @@
--- `fused::over` meets its contract. Assumes nothing.
+-- `fused::moves::over` meets its contract. Assumes nothing.
 use mathlib.Core.Path.{sym, ap}
 use Rattle.fused.specs.Inner.Passes.{passedOver}
 use borrow.Author.Needs.{needs}
-use Rattle.fused.proofs.over.Statement.{statement}
-use Rattle.fused.proofs.over.Tie as tie
+use Rattle.fused.proofs.moves.over.Statement.{statement}
+use Rattle.fused.proofs.moves.over.Tie as tie
 
 returns-2 : tie.Need-returns-2
 returns-2 c = ap (passedOver (c .before .before .before .args .b) (c .before .before .before .args .next) (c .before .before .before .args .passing)) (sym (c .before .a .given .1))
