@@ -3,7 +3,7 @@ use Prim.Native.Nat.{ℕ, zero, suc, _+_, _≤_, _<_}
 use native.Mathlib.Omega.{arith}
 use mathlib.Core.Path.{_≡_, refl, sym, _∙_}
 use mathlib.Core.List.{List}
-use lib.ListN.{length, set, length-set}
+use lib.ListN.{length, set}
 use Rattle.leb128.specs.Numbers.{got, nothing}
 use Rattle.bytecode.specs.Instructions.{Instruction, timer, fetch, instructionOf, decoded}
 use Rattle.bytecode.specs.Signature.{signature}

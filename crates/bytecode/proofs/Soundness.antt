@@ -13,7 +13,6 @@ use borrow.Author.Tests.{lt-ltb, le-ltb}
 use Rattle.limits.specs.Answer.{Answer, accepted}
 use Rattle.arith.specs.Values.{isInt32}
 use Rattle.semantics.specs.Program.{Program, Range, rangesOf, knownFirst, RangeFits, firstTimer, EachTimer, TimerFits}
-use Rattle.semantics.specs.Program as P
 use Rattle.arith.proofs.Basics.{T-true, and-left, and-right}
 use Rattle.semantics.specs.Shape.{shapeOf, settingOf}
 use Rattle.semantics.proofs.Timers.{each-map, each-both, numbered-from, ownerOf, placed}

@@ -1,20 +1,19 @@
 -- The code of a rule has no timer in it, so nothing is asked of it but that it keeps soundness. Assumes nothing.
-use Prim.Native.Nat.{ℕ, zero, suc, _+_}
+use Prim.Native.Nat.{ℕ, _+_}
 use native.Mathlib.Omega.{arith}
-use mathlib.Core.Path.{_≡_, refl, sym, ap, ap₂, subst, _∙_}
+use mathlib.Core.Path.{_≡_, refl, sym, ap, subst, _∙_}
 use mathlib.Core.Bool.{Bool, true, false, cond, _&&_}
 use mathlib.Core.List.{List, [], _∷_, _++_}
 use mathlib.Core.Option.{Option, none, some}
-use lib.Dec.{T, eqb, leb, ltb}
+use lib.Dec.{eqb, leb, ltb}
 use lib.ListN.{length, getD}
-use Rattle.limits.specs.Answer.{Answer}
 use Rattle.semantics.specs.Program.{changing, rising, falling, Range, Expression, Condition, Case, Rule, function, change}
 use Rattle.semantics.specs.Program as P
 use Rattle.leb128.specs.Numbers.{unzigzag, Read, got, nothing, _then_, numberAt}
 use Rattle.bytecode.specs.Instructions.{Instruction, constant, current, previous, operation, negate, comparison, negated, both, either, gate, pick, assign, settle, timer, operationOf, comparisonOf, instructionOf, hasOperand, decoded, fetchCode, fetchOne, timerAt, fetch}
 use Rattle.bytecode.specs.Signature.{Role, pushes, computes, tests, opens, picks, lets, settles, times, signature}
 use Rattle.bytecode.specs.Translation.{codeE, codeC, codeCase, codeK, codeR, codeRules}
-use Rattle.bytecode.specs.Check.{Known, tested, item, advance, suitsIn, suits, complete, ends, ifSome, checkCode}
+use Rattle.bytecode.specs.Check.{suitsIn}
 
 abbrev pub TimelessIn : Role → Type 0
 TimelessIn (pushes fits) = Unit {0}

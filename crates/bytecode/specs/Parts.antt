@@ -1,6 +1,6 @@
 -- The parts of an image, on its bytes alone. Document 01, "The image" and "The plain scan and the list of rows"; document 02, A.7. Assumes nothing.
 use Prim.Native.Nat.{ℕ, zero, suc, _+_}
-use mathlib.Core.List.{List, [], _∷_, map}
+use mathlib.Core.List.{List, [], map}
 use lib.IntN.{ℤ}
 use lib.ListN.{length, set, drop, replicate}
 use Rattle.limits.specs.Answer.{Answer, accepted, refused}

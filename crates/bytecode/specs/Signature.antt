@@ -1,7 +1,7 @@
 -- What each instruction takes of the values held, and its role in a rule: everything that soundness says of an instruction goes by
 -- these. Document 01, "The image". Assumes nothing.
 use Prim.Native.Nat.{ℕ}
-use mathlib.Core.Bool.{Bool, true, false}
+use mathlib.Core.Bool.{Bool, false}
 use mathlib.Core.List.{List, [], _∷_}
 use lib.Dec.{ltb}
 use lib.ListN.{length, getD, drop}

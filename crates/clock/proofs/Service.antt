@@ -6,7 +6,7 @@ use mathlib.Core.Option.{Option, none, some}
 use Prim.Native.Nat.{ℕ, zero, suc, _+_, _^_, _≤_, _<_}
 use native.Mathlib.Omega.{arith}
 use lib.IntN.{ℤ, pos, negsuc}
-use lib.ListN.{length, take, drop, replicate, length-set, length-map, take-append-drop}
+use lib.ListN.{length, take, drop, length-set, length-map, take-append-drop}
 use lib.Seq.{take-nil, set-append-left, length-take-le}
 use lib.Signed.{mag, leZ}
 use borrow.Author.Tests.{eq-eqb, ne-eqb, leb-true}
@@ -17,6 +17,7 @@ use Rattle.lexer.specs.Bytes.{bytes, part}
 use Rattle.lexer.specs.Names.{tableNames, idOf}
 use Rattle.semantics.specs.Program.{Program, Timer, rangesOf, firstTimer, EachTimer, TimerFits, WellFormed}
 use Rattle.semantics.specs.Shape.{shapeOf, isLimit, hasTimer, rowLength}
+use Rattle.semantics.proofs.Timers.{timer-behind}
 use Rattle.grammar.specs.Parsed.{Parsed, accepted, refused}
 use Rattle.grammar.specs.Parse.{parse, programOf}
 use Rattle.grammar.proofs.Bytes.{id-of}
@@ -49,12 +50,8 @@ row-few inputs (suc n) = omega arith
 pub front-length : (row : List ℤ) (inputs timers : ℕ) → length row ≡ rowFor inputs timers → length (take inputs row) ≡ inputs
 front-length row inputs timers e = length-take-le inputs row (omega (arith, e, row-few inputs timers))
 
-after-zeros : (n : ℕ) (l : List ℕ) → hasTimer (replicate n 0 ++ l) ≡ hasTimer l
-after-zeros zero l = refl
-after-zeros (suc n) l = after-zeros n l
-
 row-length : (p : Program) → WellFormed p → rowLength (shapeOf p) ≡ rowFor (p .inputs) (length (p .timers))
-row-length p w = ap (λ (b : Bool). cond b (p .inputs + 1) (p .inputs)) (after-zeros (firstTimer p) (map (λ (x : Timer). x .limit) (p .timers))) ∙ go (p .timers) (w .timed .each)
+row-length p w = ap (λ (b : Bool). cond b (p .inputs + 1) (p .inputs)) (timer-behind (firstTimer p) (map (λ (x : Timer). x .limit) (p .timers))) ∙ go (p .timers) (w .timed .each)
   where
     one : (n : ℕ) (b : Bool) → 1 ≤ n → cond (isLimit n || b) (p .inputs + 1) (p .inputs) ≡ p .inputs + 1
     one zero b h = absurd (omega (arith, h))

@@ -4,14 +4,13 @@ use native.Mathlib.Omega.{arith}
 use mathlib.Core.Path.{_≡_, refl}
 use mathlib.Core.List.{List, []}
 use lib.ListN.{length}
-use Rattle.limits.specs.Limits.{bufferTooShort, imageRoom, textLimit}
+use Rattle.limits.specs.Limits.{bufferTooShort, textLimit}
 use Rattle.limits.specs.Answer.{accepted, refused}
 use Rattle.semantics.specs.Program.{Program}
 use Rattle.leb128.specs.Numbers.{number, groups, grouped}
 use Rattle.lexer.specs.Lexer.{runOn, runEnd, tokenPast, tokenAt}
 use Rattle.lexer.specs.Token.{is, kindNumber}
 use Rattle.bytecode.specs.Translation.{imageOf}
-use Rattle.grammar.specs.Spelled.{Spelled}
 use Rattle.grammar.specs.Watches.{watchesFrom}
 use Rattle.grammar.specs.Parse.{endAt, program, parse, programOf}
 use Rattle.grammar.specs.Rules.{rulesFrom}
@@ -22,7 +21,7 @@ use Rattle.grammar.proofs.PlacesText.{program-refused, not-ten}
 use Rattle.grammar.proofs.ConverseText.{accepted-exactly}
 use Rattle.translate.specs.Services.{AfterTranslation, translationOf}
 use Rattle.translate.proofs.Kept.{never, Way, image, no-room, fault, way}
-use Rattle.correctness.specs.Buffers.{EmptyText, BufferBound}
+use Rattle.correctness.specs.Buffers.{BufferBound}
 
 -- what an accepted text and its image measure
 record Measured (text : List ℕ) (p : Program) : Type 0 where

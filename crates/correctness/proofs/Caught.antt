@@ -1,9 +1,9 @@
 -- Document 01, c: whoever refuses every text, or writes a single image, does not meet demand 2. The empty text and L2 tell it, whose
 -- images are in the table of worked examples. Assumes nothing.
-use Prim.Native.Nat.{ℕ, _≤_}
+use Prim.Native.Nat.{ℕ}
 use native.Mathlib.Omega.{arith}
 use mathlib.Core.Path.{_≡_, refl, sym, ap, _∙_}
-use mathlib.Core.List.{List, [], _∷_, _++_}
+use mathlib.Core.List.{List, [], _∷_}
 use lib.ListN.{length, take, drop, replicate}
 use lib.Seq.{take-append-seam}
 use Rattle.limits.specs.Answer.{Answer, accepted, refused}
@@ -15,7 +15,7 @@ use Rattle.grammar.proofs.ConverseText.{accepted-exactly}
 use Rattle.translate.specs.Services as S
 use Rattle.translate.specs.Services.{AfterTranslation}
 use Rattle.translate.proofs.Kept.{image-stored, stored-image}
-use Rattle.correctness.specs.Examples.{imageWritten, examples}
+use Rattle.correctness.specs.Examples.{imageWritten}
 use Rattle.correctness.specs.Demand2.{Demand2Of}
 use Rattle.correctness.proofs.Table.{examples-hold}
 

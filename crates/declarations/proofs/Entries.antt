@@ -3,7 +3,7 @@ use mathlib.Core.Path.{_≡_, refl, sym, ap, _∙_}
 use mathlib.Core.List.{List, [], _∷_, _++_}
 use Prim.Native.Nat.{ℕ, _+_, _≤_, _<_}
 use native.Mathlib.Omega.{arith}
-use lib.ListN.{length, getD, length-append}
+use lib.ListN.{getD, length-append}
 use Rattle.semantics.specs.Program.{Name, Range}
 use Rattle.grammar.specs.Parsed.{Parsed, accepted, refused, andThen}
 use Rattle.grammar.specs.Declarations.{spellings, newName, declaration}
@@ -15,7 +15,7 @@ use Rattle.phrases.specs.Inner.Steps.{parsedOf, nothing, answered, Writes}
 use Rattle.phrases.proofs.Writing.{got, refuses}
 use Rattle.grammar.proofs.Combine.{then-then, never}
 use Rattle.declarations.specs.Inner.Ranges.{declaredRange, rangeBytes}
-use Rattle.declarations.specs.Inner.Tables.{TableHolds, RangesBehind, Names, DeclaresOne}
+use Rattle.declarations.specs.Inner.Tables.{TableHolds, Names, DeclaresOne}
 use Rattle.declarations.proofs.Numbers.{range-bytes}
 use Rattle.declarations.proofs.Steps.{After, after, refused-then}
 use Rattle.declarations.proofs.Standing.{stand-kept, stand-more}

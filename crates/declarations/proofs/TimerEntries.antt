@@ -1,14 +1,14 @@
 -- Laws of a timer: its name, then `of w limit N;`, and the tables with it. Assumes nothing.
-use mathlib.Core.Path.{_≡_, refl, sym, ap, ap₂, subst, _∙_}
+use mathlib.Core.Path.{_≡_, refl, sym, ap, subst, _∙_}
 use mathlib.Core.List.{List, [], _∷_, _++_, append-assoc}
-use Prim.Native.Nat.{ℕ, zero, suc, _+_, _^_, _≤_, _<_}
+use Prim.Native.Nat.{ℕ, suc, _+_, _≤_, _<_}
 use native.Mathlib.Omega.{arith}
 use lib.ListN.{length, getD, set, length-append}
 use lib.Seq.{sets, getD-set-same, getD-set-other}
 use Rattle.lexer.specs.Token.{ofWord, limitWord, semicolon}
 use Rattle.semantics.specs.Program.{Name, Timer, bitRange}
 use Rattle.grammar.specs.Parsed.{Parsed, accepted, refused, andThen, sign, expected, phrase, followed}
-use Rattle.grammar.specs.Declarations.{spellings, newName}
+use Rattle.grammar.specs.Declarations.{newName}
 use Rattle.grammar.specs.Timers.{timerName, WithTimers, watchedAt, limitAt, timerDeclaration}
 use Rattle.lexer.specs.declared.Place.{Place}
 use Rattle.lexer.specs.declared.Step.{Step}

@@ -1,21 +1,19 @@
 -- Laws of a timer's parts: which w may stand there, N, and the ways through their tests. Assumes nothing.
-use mathlib.Core.Path.{_≡_, refl, sym, ap, ap₂, _∙_}
-use mathlib.Core.Bool.{Bool, true, false, _&&_, cond}
+use mathlib.Core.Path.{_≡_, refl, sym, ap, _∙_}
+use mathlib.Core.Bool.{Bool, true, false, _&&_}
 use mathlib.Core.List.{List, [], _∷_, _++_, map}
 use mathlib.Core.Option.{none, some}
 use Prim.Native.Nat.{ℕ, zero, suc, _^_, _≤_, _<_, min}
 use native.Mathlib.Omega.{arith}
 use borrow.Author.Tests.{lt-ltb, le-ltb, le-leb, lt-leb}
-use lib.Dec.{leb, ltb}
 use lib.IntN.{ℤ, pos}
 use lib.ListN.{length, getD}
-use lib.Signed.{leZ}
 use Rattle.limits.specs.Limits.{timeLimit, noToken, notAllowed, outOfLimit, wrongName, tooMany, wrongTimer}
 use Rattle.arith.specs.Values.{eqZ, equal, compares, lowest, highest}
 use Rattle.lexer.specs.Bytes.{part}
 use Rattle.lexer.specs.Token.{Kind, name, digits, dots, is, token, fault}
 use Rattle.lexer.specs.Lexer.{tokenAt, overLong, valueOf}
-use Rattle.lexer.specs.Names.{idOf, tableNames}
+use Rattle.lexer.specs.Names.{idOf}
 use Rattle.lexer.specs.declared.Place.{Place}
 use Rattle.lexer.specs.declared.Step.the-variants.{Done}
 use Rattle.semantics.specs.Program.{Name, Range, rangeAt, isBinary}

@@ -1,12 +1,12 @@
 -- The memory agrees with what is expected: the scan in it is the run of the undivided scan, as far as its steps were done. Assumes nothing.
-use Prim.Native.Nat.{ℕ, zero, suc, _+_, _-_, _≤_, _<_, min}
+use Prim.Native.Nat.{ℕ, _+_, _≤_, _<_, min}
 use native.Mathlib.Omega.{arith}
-use mathlib.Core.Path.{_≡_, refl, sym, ap, subst, _∙_}
-use mathlib.Core.Bool.{Bool, true, false}
+use mathlib.Core.Path.{_≡_, refl, sym, ap, _∙_}
+use mathlib.Core.Bool.{false}
 use mathlib.Core.List.{List, []}
 use mathlib.Core.Option.{Option, none, some}
 use lib.IntN.{ℤ}
-use lib.ListN.{length, take, drop, length-take, length-drop}
+use lib.ListN.{length, take, length-take, length-drop}
 use Rattle.limits.specs.Limits.{imageLimit, stateLimit, pausedLength}
 use Rattle.arith.specs.Values.{Outcome, ok, refusal}
 use Rattle.semantics.specs.Formula.{State}
@@ -16,16 +16,16 @@ use Rattle.bytecode.specs.Parts.{codeOf, lows, highs, shapeIn}
 use Rattle.bytecode.proofs.ImageLimits.{state-most}
 use Rattle.before.proofs.Cells.{names-first}
 use Rattle.machine.specs.Step.{Machine, machine}
-use Rattle.machine.specs.Runs.{Ran, ran, run, resume}
+use Rattle.machine.specs.Runs.{Ran, run, resume}
 use Rattle.machine.proofs.Laws.{run-end, run-divided}
 use Rattle.machine.proofs.Copies.{length-over}
 use Rattle.runs.proofs.Divided.{run-place, run-counts, run-exact, run-min, run-goes}
 use Rattle.runs.proofs.Sizes.{Sized, SizedIn, run-sized}
-use Rattle.scan.specs.Services.{AfterScan, finished, scanCode, scanOf}
+use Rattle.scan.specs.Services.{AfterScan, finished, scanCode}
 use Rattle.paused.specs.Memory.{startPlace, lowPlace, highPlace, slice, checkpointOf, layoutOf, waitingOf}
 use Rattle.lifecycle.specs.Calls.{layoutFor}
 use Rattle.divided.specs.Expected.{Scan, whole, Played, Expected}
-use Rattle.divided.proofs.May.{Placed, placed, May}
+use Rattle.divided.proofs.May.{placed, May}
 use Rattle.divided.proofs.Left.{Stands}
 
 -- what a scan works with, and its current values before the code

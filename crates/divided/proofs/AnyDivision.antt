@@ -1,7 +1,7 @@
 -- A.8's sentence as one theorem: any division into instalments gives the result, total steps and state of the undivided scan. Assumes nothing.
-use Prim.Native.Nat.{ℕ, _+_, _-_, _≤_, _<_, min}
+use Prim.Native.Nat.{ℕ, _+_, _-_, min}
 use native.Mathlib.Omega.{arith}
-use mathlib.Core.Path.{_≡_, refl, sym, ap, _∙_}
+use mathlib.Core.Path.{_≡_, refl, ap, _∙_}
 use mathlib.Core.List.{List, [], _∷_, _++_}
 use mathlib.Core.Option.{Option, none, some}
 use lib.IntN.{ℤ}
@@ -13,11 +13,10 @@ use Rattle.limits.specs.Answer.{accepted}
 use Rattle.semantics.specs.Formula.{State}
 use Rattle.bytecode.specs.Check.{checkOf}
 use Rattle.bytecode.specs.Parts.{shapeIn}
-use Rattle.scan.specs.Services.{scanOf}
 use Rattle.paused.specs.declared.Response.the-variants as R
 use Rattle.paused.specs.Memory.{checkpointOf, waitingOf}
 use Rattle.lifecycle.specs.Calls.{mayPost}
-use Rattle.divided.specs.Expected.{Call, post, begin, advanceScan, finish, Said, says, saysLeaving, play, Scan, whole, expect, expectPost, stepsNow, furtherBy, expects, expectedSaid, NotOver, givenIn, doneIn, saidOf, begunScan, AsUndivided}
+use Rattle.divided.specs.Expected.{Call, post, begin, advanceScan, finish, Said, says, play, Scan, whole, expectPost, stepsNow, furtherBy, expects, expectedSaid, NotOver, givenIn, begunScan, AsUndivided}
 use Rattle.divided.proofs.May.{may}
 use Rattle.divided.proofs.Starting.{expect-begun}
 use Rattle.divided.proofs.Undivided.{as-undivided}

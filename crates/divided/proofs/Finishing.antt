@@ -1,11 +1,11 @@
 -- A finish agrees with what is expected. Assumes nothing.
-use Prim.Native.Nat.{ℕ, _+_, _≤_, _<_}
+use Prim.Native.Nat.{ℕ, _≤_, _<_}
 use native.Mathlib.Omega.{arith}
-use mathlib.Core.Path.{_≡_, refl, sym, ap, _∙_}
+use mathlib.Core.Path.{_≡_, refl, _∙_}
 use mathlib.Core.Bool.{Bool, true, false, cond}
 use mathlib.Core.List.{List}
 use mathlib.Core.Option.{Option, none, some}
-use lib.Dec.{eqb, ltb, leb}
+use lib.Dec.{leb}
 use lib.IntN.{ℤ, pos}
 use lib.ListN.{length, length-set}
 use borrow.Author.Tests.{eq-eqb, lt-ltb, le-ltb, le-leb, lt-leb, leb-true, leb-false}
@@ -13,15 +13,13 @@ use Rattle.limits.specs.Limits.{pausedLength}
 use Rattle.arith.specs.Values.{Outcome, ok, refusal}
 use Rattle.semantics.specs.Formula.{State}
 use Rattle.machine.specs.Step.{Machine, machine}
-use Rattle.scan.specs.Services.{finished as ended}
-use Rattle.paused.specs.declared.Checkpoint.{Checkpoint}
 use Rattle.paused.specs.declared.Response.the-variants as R
-use Rattle.paused.specs.Memory.{startPlace, currentPlace, slice, checkpointOf, layoutOf, waitingOf}
+use Rattle.paused.specs.Memory.{checkpointOf, waitingOf}
 use Rattle.lifecycle.specs.Calls.{sameValues, withoutScan, afterFinish, finishOf}
 use Rattle.divided.specs.Expected.{Scan, whole, saysLeaving, played, finish, plays, expect, expects}
 use Rattle.divided.proofs.Left.{Stands}
 use Rattle.divided.proofs.Stored.{phase-over, waits-over}
-use Rattle.divided.proofs.Agrees.{codeLength, Standing, Agrees, Matches, over-refused, over-ended, not-over, whole-is}
+use Rattle.divided.proofs.Agrees.{codeLength, Agrees, Matches, over-refused, over-ended, not-over, whole-is}
 
 -- a scan that is over leaves the row that waits
 over-agrees : (image : List ℕ) (cells : List ℤ) (w : Option (List ℤ)) → length cells ≡ pausedLength → waitingOf cells ≡ w → Agrees image (withoutScan cells) w none

@@ -1,36 +1,36 @@
 -- An instalment agrees with what is expected. Assumes nothing.
-use Prim.Native.Nat.{ℕ, zero, suc, _+_, _-_, _≤_, _<_, min}
+use Prim.Native.Nat.{ℕ, _+_, _-_, _≤_, _<_, min}
 use native.Mathlib.Omega.{arith}
 use mathlib.Core.Path.{_≡_, refl, sym, ap, subst, _∙_}
-use mathlib.Core.Bool.{Bool, true, false, cond}
+use mathlib.Core.Bool.{Bool, true, false}
 use mathlib.Core.List.{List, []}
 use mathlib.Core.Option.{Option, none, some}
 use lib.Dec.{eqb, leb}
 use lib.IntN.{ℤ}
 use lib.ListN.{length, drop, length-drop}
 use borrow.Author.Tests.{le-leb, lt-leb, leb-true, leb-false, eqb-true, eqb-false}
-use Rattle.limits.specs.Limits.{imageLimit, pausedLength}
+use Rattle.limits.specs.Limits.{imageLimit}
 use Rattle.arith.specs.Values.{Outcome, ok, refusal}
 use Rattle.arith.specs.Inner.Flags.{flagsOf}
 use Rattle.semantics.specs.Shape.{nameCount, timersOf}
 use Rattle.bytecode.specs.Parts.{headerOf, codeOf, shapeIn}
 use Rattle.machine.specs.Step.{Machine, machine}
-use Rattle.machine.specs.Runs.{Ran, ran, run}
+use Rattle.machine.specs.Runs.{Ran, run}
 use Rattle.runs.proofs.Divided.{later, run-shift, run-exact}
-use Rattle.runs.proofs.Bounds.{Alike, run-ranges}
+use Rattle.runs.proofs.Bounds.{run-ranges}
 use Rattle.runs.proofs.Sizes.{SizedIn}
 use Rattle.paused.specs.declared.Checkpoint.{Checkpoint}
 use Rattle.paused.specs.declared.Response.the-variants as R
-use Rattle.paused.specs.Memory.{startPlace, lowPlace, highPlace, slice, checkpointOf, layoutOf, bitsOf}
+use Rattle.paused.specs.Memory.{lowPlace, highPlace, slice, checkpointOf, layoutOf, bitsOf}
 use Rattle.resumable.specs.Instalment.{afterCall, settingIn, ranFrom, leftByRun, instalment, advanceOf}
 use Rattle.lifecycle.specs.Calls.{layoutFor}
 use Rattle.resumable.proofs.Running.{length-slice, ranges-between}
 use Rattle.resumable.proofs.Advancing.{advance-idle, advance-over, advance-zero, advance-goes}
-use Rattle.divided.specs.Expected.{Scan, whole, says, played, advanceScan, plays, stepsNow, furtherBy, expect, expects}
+use Rattle.divided.specs.Expected.{Scan, advanceScan, plays, stepsNow, furtherBy, expects}
 use Rattle.paused.proofs.Bits.{flags-bits}
 use Rattle.divided.proofs.Stored.{length-timers}
 use Rattle.divided.proofs.Left.{Stands, kept-left, stands-left}
-use Rattle.divided.proofs.Agrees.{settingFor, begunWith, goes, codeLength, Standing, Agrees, Matches, few-numbers, code-short, goes-sized, goes-place, goes-min, goes-within, whole-steps, on-from, done-within, over-refused, over-ended, not-over}
+use Rattle.divided.proofs.Agrees.{settingFor, begunWith, goes, codeLength, Agrees, Matches, few-numbers, code-short, goes-sized, goes-place, goes-min, goes-within, whole-steps, on-from, done-within, over-refused, over-ended}
 
 module _ {image : List ℕ} {cells : List ℤ} {w : Option (List ℤ)} (o : Scan) (x : Agrees image cells w (some o)) (n : ℕ) where
   -- 0 steps: nothing moves

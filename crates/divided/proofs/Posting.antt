@@ -1,7 +1,7 @@
 -- A post agrees with what is expected. Assumes nothing.
 use Prim.Native.Nat.{ℕ, _≤_}
 use native.Mathlib.Omega.{arith}
-use mathlib.Core.Path.{_≡_, refl, sym, ap, _∙_}
+use mathlib.Core.Path.{_≡_, refl, ap, _∙_}
 use mathlib.Core.Bool.{Bool, true, false}
 use mathlib.Core.List.{List}
 use mathlib.Core.Option.{Option, none, some}
@@ -19,7 +19,7 @@ use Rattle.bytecode.proofs.Walk.{refused≢accepted}
 use Rattle.machine.specs.Step.{Machine, machine}
 use Rattle.semantics.specs.Shape.{rowLength}
 use Rattle.paused.specs.declared.Response.the-variants as R
-use Rattle.paused.specs.Memory.{heldPlace, startPlace, currentPlace, lowPlace, highPlace, waitingOf}
+use Rattle.paused.specs.Memory.{heldPlace, startPlace, currentPlace, lowPlace, highPlace}
 use Rattle.resumable.specs.Instalment.{afterCall}
 use Rattle.lifecycle.specs.Calls.{mayPost, orRefused, withRow, postOf}
 use Rattle.divided.specs.Expected.{Scan, says, played, post, plays, expectPost, expects}

@@ -1,11 +1,11 @@
 -- A start agrees with what is expected. Assumes nothing.
-use Prim.Native.Nat.{ℕ, zero, suc, _+_, _≤_, _<_}
+use Prim.Native.Nat.{ℕ, zero, suc, _<_}
 use native.Mathlib.Omega.{arith}
 use mathlib.Core.Path.{_≡_, refl, sym, ap, _∙_}
 use mathlib.Core.Bool.{Bool, true, false, cond}
 use mathlib.Core.List.{List, []}
 use mathlib.Core.Option.{Option, none, some}
-use lib.Dec.{eqb, leb}
+use lib.Dec.{leb}
 use lib.IntN.{ℤ}
 use lib.ListN.{length}
 use borrow.Author.Tests.{eq-eqb, ne-eqb}
@@ -18,16 +18,16 @@ use Rattle.bytecode.specs.Parts.{codeOf}
 use Rattle.machine.specs.Step.{Machine, machine}
 use Rattle.machine.specs.Runs.{ran}
 use Rattle.runs.proofs.Divided.{refused-late}
-use Rattle.scan.specs.Services.{AfterScan, finished, scanOf}
+use Rattle.scan.specs.Services.{finished, scanOf}
 use Rattle.paused.specs.declared.Response.the-variants as R
-use Rattle.paused.specs.Memory.{checkpointOf, waitingOf}
+use Rattle.paused.specs.Memory.{checkpointOf}
 use Rattle.resumable.specs.Instalment.{AfterCall, afterCall}
-use Rattle.lifecycle.specs.Calls.{formed, startedIn, rowTaken, orRefused, startWith, beginOf}
-use Rattle.divided.specs.Expected.{Scan, Expected, expect, says, begunScan, Played, played, imageAfter, begin, plays, expectBegin, expects}
+use Rattle.lifecycle.specs.Calls.{formed, startedIn, rowTaken, orRefused, beginOf}
+use Rattle.divided.specs.Expected.{Scan, expect, says, begunScan, played, imageAfter, begin, plays, expectBegin, expects}
 use Rattle.divided.proofs.May.{placed, May, may, may-not}
 use Rattle.divided.proofs.Left.{Stands, kept-left, stands-left}
-use Rattle.divided.proofs.Stored.{apart-taken, waits-none, Formed, forms}
-use Rattle.divided.proofs.Agrees.{settingFor, begunWith, goes, codeLength, Standing, Agrees, Matches, few-numbers, first-sized, code-short, whole-finished}
+use Rattle.divided.proofs.Stored.{apart-taken, waits-none, forms}
+use Rattle.divided.proofs.Agrees.{settingFor, begunWith, goes, codeLength, Agrees, Matches, few-numbers, first-sized, whole-finished}
 
 -- a scan that is not over has a phase
 pub some-phase : (cells : List ℤ) (w len total place : ℕ) (r : Outcome Machine) → Stands cells w len total place r → checkpointOf cells .phase ≡ 0 → ⊥

@@ -2,19 +2,19 @@
 use Prim.Native.Nat.{ℕ, zero, suc, _+_, _≤_, _<_}
 use native.Mathlib.Omega.{arith}
 use mathlib.Core.Path.{_≡_, refl, sym, ap, _∙_}
-use mathlib.Core.Bool.{Bool, true, false, cond, false≢true}
+use mathlib.Core.Bool.{false, false≢true}
 use mathlib.Core.List.{List, [], _∷_, map}
-use mathlib.Core.Option.{Option, none, some}
+use mathlib.Core.Option.{none, some}
 use lib.IntN.{ℤ, pos}
-use lib.ListN.{length, getD, set, length-map, length-set}
-use lib.Seq.{sets, length-sets, getD-set-same, getD-set-other}
-use Rattle.limits.specs.Limits.{imageLimit, nameLimit, stateLimit, pausedLength}
+use lib.ListN.{length, getD, set, length-map}
+use lib.Seq.{sets, length-sets, getD-set-same}
+use Rattle.limits.specs.Limits.{nameLimit, stateLimit, pausedLength}
 use Rattle.semantics.specs.Formula.{State}
 use Rattle.semantics.specs.Shape.{isLimit, hasTimer, nameCount, timersOf, stateLength, settingOf}
 use Rattle.bytecode.specs.Parts.{lows, highs, limitsOf, shapeIn}
 use Rattle.bytecode.proofs.Limits.{limits-length}
-use Rattle.paused.specs.Memory.{layoutPlace, timersPlace, startPlace, lowPlace, highPlace, rowPlace, waitingPlace, slice, clipped, checkpointOf, layoutOf, layoutCells, bitsOf, timerCells, waitingLength, waitingIn, waitingOf}
-use Rattle.paused.proofs.ReadBack.{getD-sets-before, getD-sets-behind, getD-sets-same, slice-sets-before, slice-sets-behind, slice-sets-same, clipped-is, clipped-alike, layout-alike, LayoutReadable, layout-stored, waiting-alike}
+use Rattle.paused.specs.Memory.{layoutPlace, timersPlace, startPlace, lowPlace, highPlace, rowPlace, waitingPlace, slice, checkpointOf, layoutOf, layoutCells, bitsOf, timerCells, waitingLength, waitingOf}
+use Rattle.paused.proofs.ReadBack.{getD-sets-before, getD-sets-behind, slice-sets-before, slice-sets-behind, slice-sets-same, clipped-is, clipped-alike, layout-alike, LayoutReadable, layout-stored, waiting-alike}
 use Rattle.paused.proofs.Bits.{bits-below}
 use Rattle.before.proofs.Cells.{no-elapsed}
 use Rattle.lifecycle.specs.Calls.{layoutFor, formed, rowTaken, withRow, withoutScan}

@@ -1,6 +1,6 @@
 -- What is expected of the calls is the undivided scan: its steps, its result and its state. Laws over the definitions of Expected alone.
 -- Assumes nothing.
-use Prim.Native.Nat.{ℕ, zero, suc, _+_, _-_, _≤_, _<_, min}
+use Prim.Native.Nat.{ℕ, suc, _+_, _-_, _≤_, min}
 use native.Mathlib.Omega.{arith}
 use mathlib.Core.Path.{_≡_, refl, sym, ap, _∙_}
 use mathlib.Core.Bool.{Bool, true, false, _&&_, cond}
@@ -34,7 +34,7 @@ use Rattle.paused.specs.Memory.{startPlace, slice, checkpointOf}
 use Rattle.paused.specs.Responses.{stepsIn}
 use Rattle.resumable.specs.Instalment.{AfterCall, afterCall, settingIn, standing, ranFrom, advanceOf}
 use Rattle.lifecycle.specs.Calls.{sameValues, mayPost}
-use Rattle.divided.specs.Expected.{Call, post, begin, advanceScan, finish, Said, saysLeaving, Scan, whole, Expected, expect, expectPost, furtherBy, expectEnd, expects, expectedSaid, NotOver, givenIn, doneIn, saidOf}
+use Rattle.divided.specs.Expected.{Call, post, begin, advanceScan, finish, saysLeaving, Scan, whole, expect, expectPost, furtherBy, expectEnd, expects, expectedSaid, NotOver, givenIn, doneIn, saidOf}
 
 -- ---- the steps of an instalment
 

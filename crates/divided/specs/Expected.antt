@@ -1,7 +1,7 @@
 -- What the calls of a scan in instalments answer, by the undivided scan alone. Document 02, A.8. Assumes nothing.
 use Prim.Native.Nat.{ℕ, zero, suc, _+_, _-_, _≤_, _<_, min}
 use mathlib.Core.Path.{_≡_}
-use mathlib.Core.Bool.{Bool, true, false, cond}
+use mathlib.Core.Bool.{cond}
 use mathlib.Core.List.{List, [], _∷_, _++_}
 use mathlib.Core.Option.{Option, none, some}
 use lib.Dec.{ltb}
@@ -16,8 +16,8 @@ use Rattle.scan.specs.Services.{AfterScan, scanOf}
 use Rattle.paused.specs.declared.Response.{Response}
 use Rattle.paused.specs.declared.Response.the-variants as R
 use Rattle.paused.specs.Responses.{stepsIn}
-use Rattle.resumable.specs.Instalment.{AfterCall, advanceOf}
-use Rattle.lifecycle.specs.Calls.{sameValues, mayPost, postOf, beginOf, AfterFinish, finishOf}
+use Rattle.resumable.specs.Instalment.{advanceOf}
+use Rattle.lifecycle.specs.Calls.{sameValues, mayPost, postOf, beginOf, finishOf}
 
 -- An instalment is lent the image of the scan under way.
 pub data Call : Type 0 where

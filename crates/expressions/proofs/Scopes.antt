@@ -52,6 +52,9 @@ module _ (known n i : ℕ) where
       let l : length (flagsOf n known) ≤ i = omega (arith, length-flags n known) in
       rw (drop-of-length-le (flagsOf n known) l)
 
+pub id-counted : (text starts ends : List ℕ) (n : ℕ) (w : List ℕ) (i : ℕ) → idOf (tableNames text starts ends n) w ≡ some i → i < n
+id-counted text starts ends n w i e = omega (arith, id-of (tableNames text starts ends n) w i e, names-length text starts ends n)
+
 module _ (text : List ℕ) {starts ends : List ℕ} {names : Names} (d : Declared starts ends names) where
   pub few-names : length (scopeOf text starts ends names .names) ≤ 64
   few-names = omega (arith, names-length text starts ends (names .count), d .few)
@@ -62,7 +65,7 @@ module _ (text : List ℕ) {starts ends : List ℕ} {names : Names} (d : Declare
   -- the id of a name w
   module _ (w : List ℕ) {i : ℕ} (e : idOf (scopeOf text starts ends names .names) w ≡ some i) where
     pub id-below : i < names .count
-    id-below = omega (arith, id-of (tableNames text starts ends (names .count)) w i e, names-length text starts ends (names .count))
+    id-below = id-counted text starts ends (names .count) w i e
 
     pub id-few : i < 64
     id-few = omega (arith, id-below, d .few)

@@ -12,7 +12,7 @@ use borrow.Author.Tests.{eq-eqb, ne-eqb, eqb-true, eqb-false}
 use Rattle.limits.specs.Limits.{noToken, notAllowed}
 use Rattle.lexer.specs.Token.{Kind, kindNumber, ending, minus, is, TokenRead, token, fault}
 use Rattle.lexer.specs.Lexer.{tokenAt}
-use Rattle.lexer.specs.Results.{kindOf, tokenStep}
+use Rattle.lexer.specs.Results.{tokenStep}
 use Rattle.lexer.specs.declared.Place.{Place}
 use Rattle.lexer.specs.declared.Step.{Step}
 use Rattle.lexer.specs.declared.Step.the-variants.{Done, Refused}
@@ -21,7 +21,7 @@ use Rattle.grammar.specs.Parsed.{Parsed, accepted, refused, andThen, onToken, s
 use Rattle.grammar.proofs.Growth.{Grown}
 use Rattle.leb128.proofs.Stores.{sets-append}
 use Rattle.grammar.proofs.Combine.{apart, same-value, same-end}
-use Rattle.phrases.proofs.Writing.{same-refusal, Got, got, refused-part}
+use Rattle.phrases.proofs.Writing.{same-refusal, got, refused-part}
 use Rattle.phrases.proofs.Writing as W
 use Rattle.expressions.specs.Inner.Steps.{stepAt, Followed, lookedAhead, Parses, Room}
 use Rattle.expressions.specs.Inner.Readers.{StandsAt, closedStep, behindMinus}

@@ -17,9 +17,9 @@ use Rattle.lexer.proofs.Laws.{token-at-moved}
 use Rattle.arith.specs.Values.{Operation, Comparison}
 use Rattle.semantics.specs.Program.{Expression, operation, negate}
 use Rattle.bytecode.proofs.Soundness.{none≢some}
-use Rattle.grammar.specs.Parsed.{Parsed, refused, sign, expected, followed}
+use Rattle.grammar.specs.Parsed.{Parsed, sign, expected, followed}
 use Rattle.grammar.specs.Expressions.{Scope, withId, currentAt, previousValueAt, constantAt, primary, negative, factor, productOf, sumOf, term, expression, bracket, wholeExpression}
-use Rattle.grammar.specs.Conditions.{comparisonBy, condition}
+use Rattle.grammar.specs.Conditions.{comparisonBy}
 use Rattle.grammar.specs.Derivation as D
 use Rattle.grammar.specs.Derivation.{Tokens, ProductSign, SumSign, ComparisonSign, Level, SpellsE, a-number, a-current, a-previous, brackets, plain, opposite, one-factor, product, one-term, sum, normal}
 use Rattle.grammar.proofs.Combine.{one-sign}

@@ -15,7 +15,7 @@ use Rattle.lexer.specs.Spelling.{IsDigits, SpellsName}
 use Rattle.lexer.proofs.Laws.{token-at-moved}
 use Rattle.lexer.proofs.Spellings.{isFixed}
 use Rattle.semantics.specs.Program.{Name}
-use Rattle.grammar.specs.Parsed.{Parsed, accepted, sign, phrase, followed}
+use Rattle.grammar.specs.Parsed.{Parsed, sign, phrase, followed}
 use Rattle.grammar.specs.Expressions.{withId}
 use Rattle.grammar.specs.Declarations.{spellings, newName}
 use Rattle.grammar.specs.Timers.{timerName, WithTimers, isWatchable, watchedAt, limitAt, timerDeclaration, timersFrom}

@@ -6,8 +6,7 @@ use Prim.Native.Nat.{ℕ, zero, suc, _≤_}
 use native.Mathlib.Omega.{arith}
 use lib.ListN.{length}
 use Rattle.lexer.specs.Bytes.{bytes, part}
-use Rattle.lexer.specs.Token.{Kind, kindNumber, name, closeRound, arrow, watchWord, is, token, spellingOf}
-use Rattle.lexer.specs.Spelling.{SpellsName, Spelling}
+use Rattle.lexer.specs.Token.{Kind, kindNumber, closeRound, arrow, watchWord, is, token}
 use Rattle.lexer.specs.Lexer.{tokenAt}
 use Rattle.lexer.proofs.Laws.{token-at-moved}
 use Rattle.lexer.proofs.Spellings.{isFixed}

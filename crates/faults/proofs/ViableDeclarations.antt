@@ -3,7 +3,7 @@ use mathlib.Core.Path.{_≡_, refl, ap, sym, _∙_, subst}
 use mathlib.Core.List.{List, [], _∷_, _++_, append-assoc}
 use mathlib.Core.Bool.{Bool, true, _&&_}
 use mathlib.Core.Option.{none}
-use Prim.Native.Nat.{ℕ, zero, suc, _+_, _≤_}
+use Prim.Native.Nat.{ℕ, zero, suc, _≤_}
 use native.Mathlib.Omega.{arith}
 use lib.ListN.{length}
 use lib.Dec.{ltb}
@@ -16,8 +16,8 @@ use Rattle.lexer.specs.Lexer.{isDigit, isLetter, sameName, grammarWord, wordOf,
 use Rattle.lexer.specs.Names.{idOf}
 use Rattle.lexer.proofs.Laws.{token-at-moved}
 use Rattle.semantics.specs.Program.{Name}
-use Rattle.grammar.specs.Parsed.{Parsed, accepted, refused, andThen, Wanted, sign, isWanted, expected, phrase, followed}
-use Rattle.grammar.specs.Declarations.{inRange, signedDigits, boundAt, spellings, newName, startAt, declaration, declarationsFrom, declarations}
+use Rattle.grammar.specs.Parsed.{Parsed, accepted, andThen, Wanted, sign, isWanted, expected, phrase, followed}
+use Rattle.grammar.specs.Declarations.{inRange, signedDigits, boundAt, spellings, newName, startAt, declaration, declarationsFrom}
 use Rattle.lexer.specs.Spelling.{IsDigits, SpellsName}
 use Rattle.grammar.specs.Derivation.{Tokens, normal}
 use Rattle.grammar.specs.Spelled.{SpellsZ, positive, negative, absent, given}

@@ -11,14 +11,14 @@ use lib.IntN.{pos}
 use borrow.Author.Tests.{ltb-false}
 use Rattle.limits.specs.Limits.{bracketLimit, numberLimit}
 use Rattle.lexer.specs.Bytes.{bytes, part}
-use Rattle.lexer.specs.Token.{Kind, kindNumber, name, digits, openRound, closeRound, openSquare, closeSquare, tilde, ampersand, bar, minus, is, token}
+use Rattle.lexer.specs.Token.{Kind, kindNumber, name, digits, openRound, closeRound, openSquare, closeSquare, tilde, ampersand, bar, minus, is}
 use Rattle.lexer.specs.Token as T
 use Rattle.lexer.specs.Lexer.{isDigit, overLong, valueOf, valueOn}
 use Rattle.lexer.specs.Names.{idOf}
 use Rattle.lexer.proofs.Laws.{token-at-moved}
 use Rattle.arith.specs.Values.{Operation, Comparison, equal}
 use Rattle.semantics.specs.Program.{Expression, constant, current, previous, operation, negate, Condition, comparison, negated, both, either}
-use Rattle.grammar.specs.Parsed.{Parsed, refused, sign}
+use Rattle.grammar.specs.Parsed.{Parsed}
 use Rattle.grammar.specs.Expressions.{Scope, withId, currentAt, previousValueAt, constantAt, primary, negative, factor, productOf, sumOf, term, expression, bracket, wholeExpression}
 use Rattle.grammar.specs.Conditions.{comparisonBy, compared, comparisonAt, opposite as opposed, inverted, atom, Connective, andAlso, orElse, connect, andOf, orOf, conjunction, condition, square, wholeCondition}
 use Rattle.grammar.specs.Derivation as D

@@ -1,6 +1,6 @@
 -- What stands before a token refused by 2 begins timers. Assumes nothing.
-use mathlib.Core.Path.{_≡_, refl}
-use mathlib.Core.List.{List, [], _∷_, _++_}
+use mathlib.Core.Path.{refl}
+use mathlib.Core.List.{List, [], _∷_}
 use mathlib.Core.Bool.{_&&_}
 use Prim.Native.Nat.{ℕ, zero, suc, _≤_}
 use native.Mathlib.Omega.{arith}
@@ -9,7 +9,7 @@ use lib.Dec.{leb}
 use Rattle.limits.specs.Limits.{timeLimit}
 use Rattle.lexer.specs.Bytes.{bytes, part}
 use Rattle.lexer.specs.Token.{kindNumber, name, digits, timerWord, ofWord, limitWord, semicolon, is}
-use Rattle.lexer.specs.Lexer.{tokenAt, overLong, valueOf}
+use Rattle.lexer.specs.Lexer.{overLong, valueOf}
 use Rattle.lexer.specs.Names.{idOf}
 use Rattle.lexer.specs.Spelling.{IsDigits, SpellsName}
 use Rattle.lexer.proofs.Laws.{token-at-moved}

@@ -1,12 +1,11 @@
 -- What stands before a token refused by 2 in a watch begins watches of the grammar. Assumes nothing.
-use mathlib.Core.Path.{_≡_, refl}
+use mathlib.Core.Path.{refl}
 use mathlib.Core.List.{List, [], _∷_, _++_}
 use Prim.Native.Nat.{ℕ, zero, suc, _≤_}
 use native.Mathlib.Omega.{arith}
 use lib.ListN.{length}
 use Rattle.lexer.specs.Bytes.{bytes}
 use Rattle.lexer.specs.Token.{kindNumber, arrow, watchWord, is}
-use Rattle.lexer.specs.Lexer.{tokenAt}
 use Rattle.lexer.proofs.Laws.{token-at-moved}
 use Rattle.lexer.proofs.Spellings.{isFixed}
 use Rattle.semantics.specs.Program.{Condition, Watch}

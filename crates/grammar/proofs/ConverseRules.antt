@@ -19,7 +19,7 @@ use Rattle.grammar.specs.Parsed.{accepted, phrase, followed, itemBound}
 use Rattle.grammar.specs.Expressions.{Scope, productOf, sumOf, wholeExpression}
 use Rattle.grammar.specs.Forms.{valueOpening, functionClosing, formulaClosing, changeOpening, noChangeOpening, ruleOpening, turnedOpening, fallingOpening}
 use Rattle.grammar.specs.Pairs.{pairCases, pairRule}
-use Rattle.grammar.specs.Rules.{Spanned, casesFrom, plainList, agrees, partsFrom, firstFound, agreeingList, casesOf, functionAt, changeAt, pairAt, formulaAt, formulas, ruleAt, ruled, Ruled, rulesFrom}
+use Rattle.grammar.specs.Rules.{Spanned, casesFrom, plainList, agrees, partsFrom, firstFound, agreeingList, casesOf, functionAt, changeAt, pairAt, formulaAt, formulas, ruleAt, ruled, rulesFrom}
 use Rattle.grammar.specs.Derivation.{Spells, IsName, SpellsE, normal, normals}
 use Rattle.grammar.specs.Derivation as D
 use Rattle.grammar.specs.Spelled.{SpellsCases, SpellsList, SpellsR, a-change, a-function, a-pair, SpellsRules}

@@ -28,7 +28,7 @@ use Rattle.grammar.proofs.Bytes.{part-length}
 use Rattle.grammar.proofs.Distinct.{distinct-at}
 use Rattle.grammar.proofs.Normal.{seen-id}
 use Rattle.grammar.proofs.Standing.{at-kind, split, stands-in, spells-in, is-read, written}
-use Rattle.grammar.proofs.Phrases.{signs, fixed-at, name-at, phrase-reads, followed-reads}
+use Rattle.grammar.proofs.Phrases.{signs, fixed-at, name-at, phrase-reads}
 use Rattle.grammar.proofs.DerivedTimers.{place-behind, normals-append, rangesIn, range-front, Limited}
 use Rattle.grammar.proofs.ConverseDeclarations.{name-reads}
 

@@ -12,7 +12,7 @@ use Rattle.lexer.specs.Token.{Kind, kindNumber, closeRound, arrow, watchWord, i
 use Rattle.lexer.specs.Lexer.{tokenAt}
 use Rattle.lexer.proofs.Laws.{token-at-moved}
 use Rattle.lexer.proofs.Spellings.{isFixed}
-use Rattle.semantics.specs.Program.{Condition, Watch, UsableC, knownFirst, free}
+use Rattle.semantics.specs.Program.{Condition, Watch, UsableC, free}
 use Rattle.grammar.specs.Parsed.{accepted, phrase, followed}
 use Rattle.grammar.specs.Expressions.{Scope}
 use Rattle.grammar.specs.Conditions.{listed}

@@ -1,6 +1,6 @@
 -- What a parser accepts is spelled by the tokens that it went past, and uses only values that may be used: expressions and conditions.
 -- One law a combinator. Assumes nothing.
-use mathlib.Core.Path.{_≡_, refl, ap, sym, _∙_, subst}
+use mathlib.Core.Path.{_≡_, refl, ap, _∙_, subst}
 use mathlib.Core.List.{List, [], _∷_, _++_}
 use mathlib.Core.Bool.{Bool, true, false, cond}
 use mathlib.Core.Option.{Option, none, some}

@@ -1,5 +1,5 @@
 -- Laws of the cases of a pair: what holds of both lists holds of the cases that they are read as. Assumes nothing.
-use Prim.Native.Nat.{ℕ, zero, suc, _+_, _≤_, max}
+use Prim.Native.Nat.{ℕ, suc, _+_, _≤_}
 use native.Mathlib.Omega.{arith}
 use mathlib.Core.Path.{_≡_, refl, sym, ap, ap₂, _∙_, subst}
 use mathlib.Core.Bool.{Bool}
@@ -10,7 +10,7 @@ use Rattle.bytecode.specs.Instructions.{pickCode}
 use Rattle.grammar.specs.Pairs.{onSide, pairCases}
 use Rattle.grammar.specs.Rules.{Spanned, casesOf}
 use Rattle.grammar.specs.Spelled.{SpellsCases, one-case, more-cases}
-use Rattle.grammar.specs.Inner.Bytes.{bytesC, bytesE, bytesK, bytesPicked}
+use Rattle.grammar.specs.Inner.Bytes.{bytesK, bytesPicked}
 
 pub length-cases : (cs : List Spanned) → length (casesOf cs) ≡ length cs
 length-cases [] = refl

@@ -5,7 +5,6 @@ use Prim.Native.Nat.{ℕ, _+_, _-_, _≤_, _<_}
 use native.Mathlib.Omega.{arith}
 use lib.ListN.{length, getD, take, drop}
 use Rattle.lexer.specs.Bytes.{part}
-use Rattle.lexer.specs.Token.{token}
 use Rattle.lexer.specs.Lexer.{isSpace, runEnd}
 use Rattle.lexer.proofs.Laws.{run-from, run-within, token-at-moved, token-past-space}
 use Rattle.lexer.proofs.Repeated.{moved, behind, part-twice, token-twice}

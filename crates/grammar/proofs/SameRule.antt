@@ -1,16 +1,16 @@
 -- A rule reads the same with any name that is the same in place of its own. Assumes nothing.
-use mathlib.Core.Path.{_≡_, refl, ap, ap₂}
+use mathlib.Core.Path.{_≡_, refl, ap}
 use mathlib.Core.List.{List, [], _∷_, _++_}
-use mathlib.Core.Bool.{Bool, cond}
+use mathlib.Core.Bool.{cond}
 use Prim.Native.Nat.{ℕ, zero, suc, _+_, _-_}
 use lib.ListN.{length}
 use Rattle.limits.specs.Limits.{caseLimit, notAllowed}
 use Rattle.lexer.specs.Bytes.{part, capitals}
-use Rattle.lexer.specs.Token.{Kind, openSquare, tilde, bar, greater, plus, is, TokenRead, token, fault}
+use Rattle.lexer.specs.Token.{Kind, openSquare, bar, greater, is, TokenRead, token, fault}
 use Rattle.lexer.specs.Lexer.{tokenAt}
 use Rattle.lexer.proofs.Same.{same-left}
-use Rattle.grammar.specs.Parsed.{Parsed, accepted, refused, andThen, onToken, Wanted, sign, own, ownPrevious, expected, phrase}
-use Rattle.grammar.specs.Expressions.{Scope, wholeExpression}
+use Rattle.grammar.specs.Parsed.{Parsed, accepted, refused, andThen, onToken, Wanted, own, ownPrevious, expected, phrase}
+use Rattle.grammar.specs.Expressions.{Scope}
 use Rattle.grammar.specs.Conditions.{listed}
 use Rattle.grammar.specs.Forms.{valueOpening, changeOpening, noChangeOpening, ruleOpening, caseValueOpening, turnedOpening, fallingOpening}
 use Rattle.grammar.specs.Rules.{Spanned, caseAt, casesFrom, functionAt, changeAt, pairAt, formulaAt, formulas}

@@ -11,7 +11,7 @@ use borrow.Author.Tests.{eqb-true}
 use Rattle.leb128.specs.Numbers.{number, zigzag}
 use Rattle.lexer.specs.Bytes.{bytes}
 use Rattle.lexer.specs.Token.{timerWord, is}
-use Rattle.lexer.specs.Lexer.{tokenAt, valueOf}
+use Rattle.lexer.specs.Lexer.{tokenAt}
 use Rattle.lexer.proofs.Laws.{cond-prop, token-at-moved}
 use Rattle.semantics.specs.Program.{Name, Rule, Timer, Program, target, rangesOf, knownFirst, timersKnown, Numbered, OrderedRules}
 use Rattle.semantics.proofs.Cells.{not-taken}
@@ -29,7 +29,7 @@ use Rattle.grammar.proofs.Derived.{Derives}
 use Rattle.grammar.proofs.DerivedTimers.{TimerRead, timer-derives, normals-length}
 use Rattle.grammar.proofs.Growth.{laterBytes, bytesOf, bytes-append, token-bytes, spells-bytes, digits-some}
 use Rattle.grammar.proofs.Known.{ruled-known, known-stays}
-use Rattle.grammar.proofs.Size.{Pays, nameBytes, header-append, header-code, header-none, all-make, ruleBytes, rules-code, rules-make}
+use Rattle.grammar.proofs.Size.{Pays, nameBytes, header-append, header-code, header-none, all-make, rules-code, rules-make}
 
 -- ---- a timer's instruction
 

@@ -15,7 +15,7 @@ use Rattle.bytecode.specs.Translation.{imageOf}
 use Rattle.grammar.specs.Derivation.{Tokens, normal, Stands, Spells}
 use Rattle.grammar.specs.Spelled.{Spelled}
 use Rattle.grammar.specs.Spelled as S
-use Rattle.grammar.specs.Unwatched.{unwatched, WatchesCut, WatchesLeave}
+use Rattle.grammar.specs.Unwatched.{unwatched, WatchesLeave}
 use Rattle.grammar.proofs.Standing.{View, split, stands-in, spells-in, written, normally}
 use Rattle.grammar.proofs.ConverseText.{accepted-exactly}
 

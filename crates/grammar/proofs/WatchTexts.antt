@@ -1,6 +1,6 @@
 -- Worked examples of texts with watches (document 02, A.13): a table as ExampleTexts has. Assumes nothing.
 use mathlib.Core.List.{List, [], _∷_, _++_}
-use Prim.Native.Nat.{ℕ, zero, suc}
+use Prim.Native.Nat.{ℕ}
 use Prim.Native.String.{String}
 use Rattle.lexer.specs.Bytes.{bytes}
 use Rattle.grammar.proofs.ExampleTexts.{Example, times, at, fine, round}

@@ -1,7 +1,7 @@
 -- A text whose names are in other letter cases spells the same program, but for its names' spelling. Assumes nothing.
 use mathlib.Core.Path.{_≡_, refl, ap, ap₂, sym, _∙_, subst}
 use mathlib.Core.List.{List, [], _∷_, _++_, map}
-use Prim.Native.Nat.{ℕ, _+_, _-_}
+use Prim.Native.Nat.{ℕ, _-_}
 use native.Mathlib.Omega.{arith}
 use lib.ListN.{length}
 use Rattle.semantics.specs.Program.{Range, Name, Program, knownFirst, OrderedRules, Numbered, EachTimer, TimerFits}

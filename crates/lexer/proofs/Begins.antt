@@ -8,7 +8,7 @@ use lib.ListN.{length, getD}
 use lib.Dec.{eqb, ltb}
 use borrow.Author.Tests.{eq-eqb, ltb-true, ltb-false}
 use Rattle.lexer.specs.Bytes.{part, sameBytes}
-use Rattle.lexer.specs.Token.{Kind, kindNumber, unknown, ending, name, previous, digits, inputWord, varWord, initWord, modWord, nextWord, dots, arrow, lessEqual, greaterEqual, notEqual, semicolon, colon, openRound, closeRound, openSquare, closeSquare, tilde, ampersand, bar, equals, less, greater, plus, minus, star, slash, otherCase, watchWord, alwaysWord, afterWord, timerWord, ofWord, limitWord, is, token}
+use Rattle.lexer.specs.Token.{Kind, kindNumber, unknown, ending, name, previous, digits, inputWord, varWord, initWord, modWord, nextWord, dots, arrow, lessEqual, greaterEqual, notEqual, semicolon, colon, openRound, closeRound, openSquare, closeSquare, tilde, ampersand, bar, equals, less, greater, plus, minus, star, slash, otherCase, watchWord, alwaysWord, afterWord, timerWord, ofWord, limitWord, is}
 use Rattle.lexer.specs.Lexer.{isDigit, isLetter, isAlphanumeric, runEnd, pairOf, signOf}
 use Rattle.lexer.specs.Spelling.{AllBytes, IsWord, IsDigits, SpellsName, IsPrevious, Spelling}
 use Rattle.lexer.proofs.Laws.{letter-in-run, run-stop, run-step, run-from}

@@ -1,18 +1,16 @@
 -- The tests of a start. Assumes nothing.
-use Prim.Native.Nat.{ℕ, zero, suc, _+_, _-_, _≤_, _<_}
+use Prim.Native.Nat.{ℕ, zero, suc, _+_, _-_, _≤_}
 use native.Mathlib.Omega.{arith}
 use mathlib.Core.Path.{_≡_, refl, sym, ap, _∙_}
-use mathlib.Core.Bool.{false}
-use mathlib.Core.List.{List, []}
+use mathlib.Core.List.{List}
 use lib.IntN.{ℤ}
-use lib.ListN.{length, take, drop, length-drop}
+use lib.ListN.{length, take, length-drop}
 use borrow.Author.Tests.{eq-eqb, ne-eqb}
 use Rattle.before.specs.Before.{beforeCode, mayScan}
 use Rattle.limits.specs.Limits.{imageLimit, nameLimit, pausedLength}
 use Rattle.limits.specs.Answer.{Answer, accepted, refused}
 use Rattle.semantics.specs.Formula.{State}
 use Rattle.semantics.specs.Shape.{nameCount, timersOf}
-use Rattle.semantics.specs.ReferenceScan.{withInputs}
 use Rattle.bytecode.specs.Check.{checkOf}
 use Rattle.bytecode.specs.Parts.{headerOf, codeOf, shapeIn}
 use Rattle.bytecode.proofs.Walk.{check-sound}
@@ -22,7 +20,7 @@ use Rattle.paused.specs.declared.Checkpoint.{Checkpoint}
 use Rattle.paused.specs.declared.Response.the-variants as R
 use Rattle.paused.specs.Memory.{rowPlace, slice, checkpointOf, bitsOf, waitingLength, waitingOf}
 use Rattle.resumable.specs.Instalment.{afterCall}
-use Rattle.lifecycle.specs.Calls.{startedIn, rowTaken, beginOf}
+use Rattle.lifecycle.specs.Calls.{rowTaken, beginOf}
 use Rattle.before.specs.Inner.Known.{Begun}
 use Rattle.paused.proofs.Clipped.{clipped-most}
 use Rattle.paused.proofs.Bits.{bits-flags}

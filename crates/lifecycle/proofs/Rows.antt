@@ -1,7 +1,7 @@
 -- A row of a sound image has at most 64 numbers, the milliseconds too: an input is no timer. Assumes nothing.
 use Prim.Native.Nat.{ℕ, zero, suc, _+_, _≤_, _<_}
 use native.Mathlib.Omega.{arith}
-use mathlib.Core.Path.{_≡_, refl, sym, ap, _∙_}
+use mathlib.Core.Path.{_≡_, refl, sym, _∙_}
 use mathlib.Core.Bool.{Bool, true, false, cond, false≢true}
 use mathlib.Core.List.{List, [], _∷_}
 use mathlib.Core.Option.{none}
@@ -12,7 +12,7 @@ use Rattle.limits.specs.Limits.{nameLimit}
 use Rattle.limits.specs.Answer.{accepted}
 use Rattle.semantics.specs.Program.{knownFirst}
 use Rattle.semantics.specs.Shape.{hasTimer, rowLength}
-use Rattle.bytecode.specs.Check.{Header, atStart, checkBody, checkOf}
+use Rattle.bytecode.specs.Check.{atStart, checkBody, checkOf}
 use Rattle.bytecode.specs.Parts.{headerOf, codeOf, limitsOf, shapeIn}
 use Rattle.bytecode.proofs.Walk.{check-sound}
 use Rattle.bytecode.proofs.SoundHeader.{header-is}

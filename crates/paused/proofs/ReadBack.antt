@@ -1,16 +1,15 @@
 -- What is read back from the memory after a store, over any place and length. Assumes nothing.
-use Prim.Native.Nat.{ℕ, zero, suc, _+_, _-_, _*_, _/_, _%_, _^_, _≤_, _<_, min}
+use Prim.Native.Nat.{ℕ, zero, suc, _+_, _-_, _*_, _/_, _%_, _^_, _≤_, _<_}
 use native.Mathlib.Omega.{arith}
 use mathlib.Core.Path.{_≡_, refl, sym, ap, _∙_}
 use mathlib.Core.Bool.{Bool, true, false, cond}
 use mathlib.Core.List.{List, [], _∷_, _++_, append-assoc}
-use mathlib.Core.Option.{Option, none, some}
+use mathlib.Core.Option.{some}
 use lib.Dec.{eqb}
 use borrow.Author.Tests.{eqb-true}
 use lib.IntN.{ℤ, pos}
-use lib.ListN.{length, getD, take, drop, set, length-append, length-set, List·getD-append}
+use lib.ListN.{length, getD, take, drop, set, List·getD-append}
 use lib.Seq.{sets, sets-eq, length-sets, getD-set-other, drop-set-lt, drop-set-add, take-set-le, take-at, drop-at, getD-append-add, length-take-le}
-use Rattle.arith.specs.Values.{count}
 use Rattle.limits.specs.Limits.{imageLimit, nameLimit, stackLimit, stateLimit}
 use Rattle.leb128.proofs.Stores.{sets-front}
 use Rattle.paused.specs.declared.Checkpoint.{Checkpoint}

@@ -1,9 +1,8 @@
 -- The tests before an instalment. Assumes nothing.
 use Prim.Native.Nat.{ℕ, zero, suc, _≤_, _<_, _-_, min}
 use native.Mathlib.Omega.{arith}
-use mathlib.Core.Path.{_≡_, refl, sym, ap, _∙_}
+use mathlib.Core.Path.{_≡_, refl}
 use mathlib.Core.List.{List}
-use lib.Dec.{eqb, ltb}
 use lib.IntN.{ℤ}
 use lib.ListN.{length, take, drop, length-take, length-drop}
 use lib.Seq.{take-all}
@@ -13,7 +12,7 @@ use Rattle.paused.specs.declared.Checkpoint.{Checkpoint}
 use Rattle.paused.specs.declared.Layout.{Layout}
 use Rattle.paused.specs.declared.Response.the-variants as R
 use Rattle.paused.specs.Memory.{checkpointOf, layoutOf}
-use Rattle.resumable.specs.Instalment.{afterCall, instalment, advanced, advanceOf}
+use Rattle.resumable.specs.Instalment.{afterCall, instalment, advanceOf}
 
 module _ (image : List ℕ) (n : ℕ) (cells : List ℤ) where
   pub advance-elsewhere : (length cells ≡ pausedLength → ⊥) → afterCall R.Idle cells ≡ advanceOf image n cells

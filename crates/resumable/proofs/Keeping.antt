@@ -1,15 +1,15 @@
 -- What an instalment leaves, kept. Assumes nothing.
 use Prim.Native.Nat.{ℕ, zero, suc, _+_, _≤_, _<_, _^_}
 use native.Mathlib.Omega.{arith}
-use mathlib.Core.Path.{_≡_, refl, sym, ap, _∙_}
-use mathlib.Core.List.{List, [], _∷_, _++_}
+use mathlib.Core.Path.{_≡_, refl, ap, _∙_}
+use mathlib.Core.List.{List}
 use mathlib.Core.Bool.{Bool, true, false, cond}
 use lib.Dec.{leb}
 use lib.IntN.{ℤ, pos}
 use lib.ListN.{length, take}
-use lib.Seq.{take-suc, sets, length-sets, length-take-le}
+use lib.Seq.{take-suc, sets, length-sets}
 use Rattle.machine.specs.Held.{heldOf}
-use Rattle.arith.specs.Values.{ok, refusal}
+use Rattle.arith.specs.Values.{ok}
 use Rattle.machine.proofs.Stack.{length-held}
 use Rattle.machine.specs.Inner.Memory.{machineOf}
 use Rattle.machine.specs.declared.Registers.{Registers}

@@ -1,13 +1,13 @@
 -- A run from what stands in the memory. Assumes nothing.
-use Prim.Native.Nat.{ℕ, zero, suc, _+_, _-_, _≤_, _<_}
+use Prim.Native.Nat.{ℕ, _+_, _-_, _≤_, _<_}
 use native.Mathlib.Omega.{arith}
 use mathlib.Core.Path.{_≡_, refl, sym, ap, subst, _∙_}
 use mathlib.Core.Bool.{Bool, true, false}
-use mathlib.Core.List.{List, [], _∷_, map}
+use mathlib.Core.List.{List, [], _∷_}
 use borrow.Author.Tests.{ltb-true, ltb-false}
 use lib.Dec.{ltb}
 use lib.IntN.{ℤ}
-use lib.ListN.{length, take, drop, length-take, length-drop}
+use lib.ListN.{length, length-take, length-drop}
 use Rattle.resumable.specs.Inner.Room.{RoomToRun, Short}
 use Rattle.limits.specs.Limits.{imageLimit, stackLimit}
 use Rattle.semantics.specs.Shape.{Setting}
@@ -31,7 +31,7 @@ use Rattle.machine.proofs.Copies.{over-all}
 use Rattle.paused.specs.declared.Checkpoint.{Checkpoint}
 use Rattle.paused.specs.declared.Layout.{Layout}
 use Rattle.paused.specs.Memory.{heldPlace, startPlace, currentPlace, lowPlace, highPlace, slice}
-use Rattle.resumable.specs.Instalment.{afterCall, rangesBetween, rangesIn, settingIn, standing, ranFrom, leftAfter, leftByRun, instalment}
+use Rattle.resumable.specs.Instalment.{afterCall, rangesBetween, settingIn, standing, ranFrom, leftAfter, leftByRun, instalment}
 
 pub length-slice : (at n : ℕ) (l : List ℤ) → at + n ≤ length l → length (slice at n l) ≡ n
 length-slice at n l h = simp (length-take, length-drop) (omega arith)

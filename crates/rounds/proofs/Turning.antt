@@ -11,11 +11,10 @@ use borrow.Rule.Slice.PartMut.{midOf, postOf, putMid, same-len-mid}
 use Rattle.limits.specs.Limits.{pausedLength}
 use Rattle.semantics.specs.Formula.{State}
 use Rattle.paused.specs.declared.Response.{Response}
-use Rattle.paused.specs.declared.Response.the-variants as R
 use Rattle.paused.specs.Responses.{packedResponse}
-use Rattle.lifecycle.specs.Calls.{AfterFinish, afterFinish}
-use Rattle.rounds.specs.Visits.{AfterRound, visitOf, roundFrom}
-use Rattle.rounds.specs.Together.{answersOf, Together, together, leftTogether, visitsOf}
+use Rattle.lifecycle.specs.Calls.{afterFinish}
+use Rattle.rounds.specs.Visits.{visitOf, roundFrom}
+use Rattle.rounds.specs.Together.{answersOf, Together, together, visitsOf}
 
 -- ---- parts that are clipped
 

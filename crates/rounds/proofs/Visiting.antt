@@ -1,14 +1,14 @@
 -- A visit by its three calls. Assumes nothing.
 use Prim.Native.Nat.{ℕ}
-use mathlib.Core.Path.{_≡_, refl, sym, ap, _∙_}
-use mathlib.Core.Bool.{Bool, true, false, _&&_, cond}
+use mathlib.Core.Path.{_≡_, sym, _∙_}
+use mathlib.Core.Bool.{true, false}
 use mathlib.Core.List.{List}
 use lib.IntN.{ℤ}
 use Rattle.paused.specs.Responses.{stepsIn}
 use Rattle.semantics.specs.Formula.{State}
 use Rattle.paused.specs.declared.Response.{Response}
 use Rattle.paused.specs.declared.Response.the-variants as R
-use Rattle.resumable.specs.Instalment.{AfterCall, afterCall, advanceOf}
+use Rattle.resumable.specs.Instalment.{afterCall, advanceOf}
 use Rattle.lifecycle.specs.Calls.{AfterFinish, afterFinish, beginOf, finishOf}
 use Rattle.rounds.specs.Visits.{shareInLimit, withSteps, given, visitFrom, visitOf}
 

@@ -1,6 +1,6 @@
 -- The answers of a round as 64-bit numbers, and what a round leaves in the memory lent to it. Document 02, A.9. Assumes nothing.
 use Prim.Native.Nat.{ℕ}
-use mathlib.Core.List.{List, [], _∷_, map}
+use mathlib.Core.List.{List, [], _∷_}
 use lib.IntN.{ℤ}
 use lib.Seq.{sets}
 use Rattle.limits.specs.Limits.{outOfShare}

@@ -2,15 +2,14 @@
 use mathlib.Core.Path.{_≡_, refl, ap, sym, _∙_, subst}
 use mathlib.Core.List.{List, [], _∷_, _++_, append-assoc, append-nil}
 use mathlib.Core.Bool.{true, false}
-use Prim.Native.Nat.{ℕ, zero, suc, _+_, _-_, _*_, _≤_, _<_}
+use Prim.Native.Nat.{ℕ, suc, _+_, _-_, _*_, _≤_, _<_}
 use native.Mathlib.Omega.{arith}
 use lib.IntN.{pos}
-use lib.ListN.{length, getD, set, length-append}
+use lib.ListN.{length, set, length-append}
 use lib.Seq.{sets}
 use Rattle.limits.specs.Limits.{noToken}
 use Rattle.lexer.specs.Token.{Kind, name, is, token, fault}
 use Rattle.lexer.specs.Lexer.{tokenAt}
-use Rattle.lexer.specs.Names.{tableNames, Table}
 use Rattle.lexer.specs.Results.{kindOf}
 use Rattle.lexer.proofs.KindNumbers.{kind-number}
 use Rattle.semantics.specs.Program.{Rule, Timer, function, change, target, taken, timersKnown}

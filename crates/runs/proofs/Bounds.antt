@@ -1,22 +1,20 @@
 -- A run asks only lows and highs of the ranges, no starts; and the timers and milliseconds. Assumes nothing.
-use Prim.Native.Nat.{ℕ, zero, suc, _+_, _≤_, _<_}
-use native.Mathlib.Omega.{arith}
-use mathlib.Core.Path.{_≡_, refl, sym, ap, subst, _∙_}
-use mathlib.Core.Bool.{Bool, true, false, _&&_, cond}
-use mathlib.Core.List.{List, [], _∷_, map}
+use Prim.Native.Nat.{ℕ, zero, suc, _+_}
+use mathlib.Core.Path.{_≡_, refl, sym, ap, _∙_}
+use mathlib.Core.Bool.{Bool, true, false, cond}
+use mathlib.Core.List.{List, [], _∷_}
 use lib.Dec.{ltb}
 use lib.IntN.{ℤ}
-use lib.Signed.{leZ}
-use lib.ListN.{length, set, getD}
+use lib.ListN.{length, getD}
 use Rattle.arith.specs.Values.{Outcome, ok, refusal, _>>=_, require}
 use Rattle.semantics.specs.Program.{Side, Range, Timer, within, noRange, rangeAt}
 use Rattle.semantics.specs.Formula.{State, at}
-use Rattle.semantics.specs.Shape.{Setting, timePlace, timed}
+use Rattle.semantics.specs.Shape.{Setting, timed}
 use Rattle.semantics.specs.ReferenceScan.{ranged, moves, stays, picked}
 use Rattle.leb128.specs.Numbers.{Read, got, nothing}
 use Rattle.bytecode.specs.Instructions.{Instruction, constant, current, previous, operation, negate, comparison, negated, both, either, gate, pick, assign, settle, timer, fetch}
 use Rattle.bytecode.specs.Parts.{lows, highs}
-use Rattle.machine.specs.Step.{Machine, machine, pop, declared, perform, step}
+use Rattle.machine.specs.Step.{Machine, machine, perform, step}
 use Rattle.machine.specs.Runs.{ran, afterStep, afterFetch, run}
 
 -- the same lows, highs, timers and milliseconds

@@ -1,7 +1,7 @@
 -- The first instruction of a run: the three ways it goes, for every budget and count. Assumes nothing.
 use Prim.Native.Nat.{ℕ, suc, _+_, _≤_, _<_}
 use native.Mathlib.Omega.{arith}
-use mathlib.Core.Path.{_≡_, refl, sym, subst}
+use mathlib.Core.Path.{_≡_, refl}
 use mathlib.Core.Bool.{Bool, true, false, cond}
 use mathlib.Core.Option.{Option, none, some}
 use mathlib.Core.List.{List}
@@ -16,7 +16,7 @@ use Rattle.bytecode.specs.Instructions.{Instruction, timer, instructionOf, hasO
 use Rattle.bytecode.proofs.RoundTrip.{one-next, fetch-next}
 use Rattle.bytecode.proofs.Fetching.{number-within, fetch-alone, fetch-malformed, fetch-number}
 use Rattle.machine.specs.Step.{Machine, step}
-use Rattle.machine.specs.Runs.{ran, afterStep, afterFetch, run}
+use Rattle.machine.specs.Runs.{ran, run}
 
 -- an instruction ends inside the code: one of one operand at most,
 one-inside : (code : List ℕ) (at : ℕ) (i : Instruction) (next : ℕ) → fetchOne code at ≡ got i next → next ≤ length code

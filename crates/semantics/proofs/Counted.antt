@@ -10,7 +10,7 @@ use lib.Seq.{getD-append-add}
 use lib.Signed.{leZ}
 use Rattle.semantics.specs.Program.{Range, noRange, rangeAt, within}
 use Rattle.semantics.specs.Formula.{State}
-use Rattle.semantics.specs.Shape.{Shape, isLimit, timersOf, countTrue, timeRange, timeRanges, withTimes, cells, stateLength, startingState, allWithin, stateInRange, timePlace}
+use Rattle.semantics.specs.Shape.{Shape, isLimit, timersOf, countTrue, timeRange, timeRanges, cells, stateLength, startingState, allWithin, stateInRange, timePlace}
 use Rattle.semantics.proofs.Timers.{times-append}
 
 abbrev flags : List ℕ → List Bool

@@ -8,7 +8,7 @@ use lib.IntN.{ℤ}
 use lib.ListN.{length, getD, take, replicate, length-append, length-replicate, length-map, List·getD-append}
 use lib.Seq.{append-snoc, getD-append-add, getD-at}
 use Rattle.semantics.specs.Program.{Range, noRange, rangeAt, Timer, Program, rangesOf, bitRange, firstTimer, Numbered, EachTimer, TimerFits, TimersFit}
-use Rattle.semantics.specs.Shape.{shapeOf, isLimit, timersOf, countTrue, timeRange, timeRanges, withTimes, cells, stateLength, Setting, settingOf, timePlace, timeCell}
+use Rattle.semantics.specs.Shape.{shapeOf, isLimit, hasTimer, timersOf, countTrue, timeRange, timeRanges, withTimes, cells, stateLength, Setting, settingOf, timePlace, timeCell}
 
 -- ---- lists of timers
 
@@ -73,6 +73,10 @@ count-last (suc i) (suc t) m g h = count-last i t m (omega arith) (omega arith) 
 times-none : (i : ℕ) (ls : List ℕ) → timeRanges (replicate i 0 ++ ls) ≡ timeRanges ls
 times-none zero ls = refl
 times-none (suc i) ls = times-none i ls
+
+pub timer-behind : (i : ℕ) (ls : List ℕ) → hasTimer (replicate i 0 ++ ls) ≡ hasTimer ls
+timer-behind zero ls = refl
+timer-behind (suc i) ls = timer-behind i ls
 
 times-cons : (n : ℕ) (ls : List ℕ) → 1 ≤ n → timeRanges (n ∷ ls) ≡ timeRange n ∷ timeRanges ls
 times-cons zero ls h = let b : ⊥ = omega arith in absurd b

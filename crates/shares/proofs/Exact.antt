@@ -3,12 +3,12 @@ use Prim.Native.Nat.{ℕ, zero, suc, _+_, _*_, _-_, _/_, _%_, _≤_, _<_}
 use native.Mathlib.Omega.{arith}
 use native.Mathlib.Nat.{zero-mul, suc-mul, div-add-mod', mod-lt}
 use mathlib.Core.Path.{_≡_, refl, sym, ap, subst, _∙_}
-use mathlib.Core.Bool.{Bool, true, false}
-use mathlib.Core.List.{List, [], _∷_, _++_}
-use mathlib.Core.Option.{Option, none, some}
+use mathlib.Core.Bool.{true, false}
+use mathlib.Core.List.{List, [], _∷_}
+use mathlib.Core.Option.{none, some}
 use lib.Arith.{digits-div}
 use lib.IntN.{ℤ}
-use lib.ListN.{length, take, replicate}
+use lib.ListN.{length, take}
 use lib.Seq.{take-all}
 use Rattle.before.specs.Before.{beforeCode}
 use Rattle.limits.specs.Limits.{pausedLength, shareLimit}
@@ -23,9 +23,8 @@ use Rattle.paused.specs.declared.Response.{Response}
 use Rattle.paused.specs.declared.Response.the-variants as R
 use Rattle.paused.specs.Memory.{checkpointOf, waitingOf}
 use Rattle.lifecycle.specs.Calls.{AfterFinish}
-use Rattle.divided.specs.Expected.{Scan}
 use Rattle.divided.proofs.Agrees.{Agrees}
-use Rattle.divided.proofs.May.{May, may}
+use Rattle.divided.proofs.May.{may}
 use Rattle.rounds.specs.Visits.{shareInLimit, given, visitOf}
 use Rattle.shares.specs.Farm.{Post, posting, Visit, visit, Visits, visiting, finishedAfter, roundsFor}
 use Rattle.scan.proofs.Steps.{scan-steps}

@@ -1,32 +1,29 @@
 -- A visit by what the undivided scan says: its start, its share, its finish; and rows posted between. Assumes nothing.
-use Prim.Native.Nat.{ℕ, zero, suc, _+_, _-_, _≤_, _<_, min}
+use Prim.Native.Nat.{ℕ, suc, _+_, _-_, _≤_, _<_, min}
 use native.Mathlib.Omega.{arith}
-use mathlib.Core.Path.{_≡_, refl, sym, ap, subst, _∙_}
-use mathlib.Core.Bool.{Bool, true, false, _&&_, cond}
+use mathlib.Core.Path.{_≡_, refl, ap, subst, _∙_}
+use mathlib.Core.Bool.{true}
 use mathlib.Core.List.{List, [], _∷_}
 use mathlib.Core.Option.{Option, none, some}
-use lib.Dec.{ltb, leb}
 use lib.IntN.{ℤ}
 use borrow.Author.Tests.{lt-ltb, le-ltb, le-leb}
-use Rattle.paused.specs.Responses.{stepsIn}
-use Rattle.limits.specs.Answer.{Answer, accepted, refused}
+use Rattle.limits.specs.Answer.{accepted, refused}
 use Rattle.semantics.specs.Formula.{State}
 use Rattle.bytecode.specs.Check.{checkOf}
 use Rattle.bytecode.specs.Parts.{shapeIn}
-use Rattle.scan.specs.Services.{AfterScan, scanOf}
+use Rattle.scan.specs.Services.{scanOf}
 use Rattle.paused.specs.declared.Response.{Response}
 use Rattle.paused.specs.declared.Response.the-variants as R
-use Rattle.paused.specs.Memory.{waitingOf}
-use Rattle.resumable.specs.Instalment.{AfterCall, advanceOf}
-use Rattle.lifecycle.specs.Calls.{sameValues, mayPost, postOf, beginOf, AfterFinish, finishOf}
-use Rattle.divided.specs.Expected.{Scan, whole, Said, Played, Expected, post, begin, advanceScan, finish, plays, expectPost, expects, imageAfter, expect, says, saysLeaving, expectBegin}
-use Rattle.divided.proofs.Agrees.{Agrees, Matches}
+use Rattle.resumable.specs.Instalment.{advanceOf}
+use Rattle.lifecycle.specs.Calls.{mayPost, postOf, beginOf, AfterFinish, finishOf}
+use Rattle.divided.specs.Expected.{Scan, Said, Expected, post, begin, finish, plays, expects, imageAfter, expect, says, saysLeaving}
+use Rattle.divided.proofs.Agrees.{Agrees}
 use Rattle.divided.proofs.Posting.{post-agrees}
 use Rattle.divided.proofs.Starting.{begin-agrees}
 use Rattle.divided.proofs.Instalments.{advance-agrees}
 use Rattle.divided.proofs.Finishing.{finish-agrees}
 use Rattle.divided.proofs.Yardstick.{posted-scan, same-itself}
-use Rattle.rounds.specs.Visits.{shareInLimit, withSteps, toldWith, given, visitFrom, visitOf}
+use Rattle.rounds.specs.Visits.{shareInLimit, withSteps, given, visitFrom, visitOf}
 use Rattle.shares.specs.Farm.{Post, posting}
 
 -- the memory agrees with a scan that is not over, whatever row waits

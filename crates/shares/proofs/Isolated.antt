@@ -1,14 +1,14 @@
 -- Rule sets do not meet: each answers and is left as if it were alone. Assumes nothing.
 use Prim.Native.Nat.{ℕ, zero, suc}
 use native.Mathlib.Omega.{arith}
-use mathlib.Core.Path.{_≡_, refl, sym, ap, subst, _∙_}
-use mathlib.Core.Bool.{Bool, true, false, cond}
+use mathlib.Core.Path.{_≡_, refl, sym, ap, _∙_}
+use mathlib.Core.Bool.{Bool, true, false}
 use mathlib.Core.List.{List, [], _∷_, map}
-use mathlib.Core.Option.{Option, none, some}
+use mathlib.Core.Option.{Option, some}
 use lib.Dec.{eqb}
 use lib.ListN.{getElem?}
 use borrow.Author.Tests.{eq-eqb, ne-eqb, eqb-true, eqb-false}
-use Rattle.shares.specs.Farm.{Post, RuleSet, Turn, posted, visited, still, Event, posts, round, postedTo, happens, leftSets, happening, Own, ownPost, ownVisit, notOwn, own, does, alone}
+use Rattle.shares.specs.Farm.{Post, RuleSet, Turn, visited, still, Event, posts, round, postedTo, happens, leftSets, happening, own, does, alone}
 
 at-map : {A B : Type 0} (f : A → B) (xs : List A) (i : ℕ) (x : A) → getElem? xs i ≡ some x → getElem? (map f xs) i ≡ some (f x)
 at-map f [] i x e = let z : _≡_ {A = ℕ} 0 1 = cc in absurd (omega arith)

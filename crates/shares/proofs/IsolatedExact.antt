@@ -1,9 +1,9 @@
 -- No rows or refusals of another set change a set's values or the number of its rounds. Assumes nothing.
 use Prim.Native.Nat.{ℕ, _*_, _-_, _≤_, _<_}
 use native.Mathlib.Omega.{arith}
-use mathlib.Core.Path.{_≡_, refl, sym, ap, subst, _∙_}
+use mathlib.Core.Path.{_≡_, refl, sym, ap, _∙_}
 use mathlib.Core.List.{List, [], _∷_, map}
-use mathlib.Core.Option.{Option, none, some}
+use mathlib.Core.Option.{some}
 use lib.IntN.{ℤ}
 use lib.ListN.{length, getElem?}
 use Rattle.limits.specs.Limits.{shareLimit}
@@ -12,7 +12,7 @@ use Rattle.bytecode.specs.Parts.{instructionsIn}
 use Rattle.scan.specs.Services.{scanOf}
 use Rattle.paused.specs.declared.Response.the-variants as R
 use Rattle.rounds.specs.Visits.{visitOf}
-use Rattle.shares.specs.Farm.{Post, posting, Visit, visit, visiting, finishedAfter, roundsFor, RuleSet, Turn, Event, happening, Own, ownPost, ownVisit, notOwn, own, does, alone, postsFirst, postsAfter, visitIn, visitsAmong}
+use Rattle.shares.specs.Farm.{posting, Visit, visit, visiting, finishedAfter, roundsFor, RuleSet, Turn, Event, happening, Own, ownPost, ownVisit, notOwn, own, does, alone, postsFirst, postsAfter, visitsAmong}
 use Rattle.shares.proofs.Exact.{Waiting, shares-exact}
 use Rattle.shares.proofs.Isolated.{isolated}
 

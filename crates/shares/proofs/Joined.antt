@@ -1,16 +1,12 @@
 -- A round over joined memory is the visits of its sets: cut by the table, the memory gives the sets back. Assumes nothing.
 use Prim.Native.Nat.{ℕ, zero, suc}
-use native.Mathlib.Omega.{arith}
 use mathlib.Core.Path.{_≡_, refl, sym, ap, _∙_}
 use mathlib.Core.List.{List, [], _∷_, _++_, map}
-use mathlib.Core.Option.{Option, none, some}
-use lib.IntN.{ℤ}
 use lib.ListN.{length, take, drop}
 use lib.Seq.{take-append-seam, drop-append-seam}
 use Rattle.limits.specs.Limits.{pausedLength}
-use Rattle.paused.specs.declared.Response.{Response}
-use Rattle.rounds.specs.Visits.{AfterRound, roundIs, andRest, visitOf, roundFrom}
-use Rattle.shares.specs.Farm.{RuleSet, Turn, visited, leftSets}
+use Rattle.rounds.specs.Visits.{AfterRound, roundIs, roundFrom}
+use Rattle.shares.specs.Farm.{RuleSet, visited, leftSets}
 use Rattle.shares.proofs.Lengths.{visit-same}
 use Rattle.shares.specs.Joined.{tableOf, imagesOf, memoriesOf, joinedStates, Whole, visitReplies, roundsFrom, visitRounds}
 

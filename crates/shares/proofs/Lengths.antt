@@ -1,7 +1,7 @@
 -- A visit keeps the lengths of the memory and the state that are lent to it. Assumes nothing.
 use Prim.Native.Nat.{ℕ, _-_, min}
 use native.Mathlib.Omega.{arith}
-use mathlib.Core.Path.{_≡_, refl, sym, ap, _∙_}
+use mathlib.Core.Path.{_≡_, refl, sym, _∙_}
 use mathlib.Core.Bool.{Bool, true, false, _&&_, cond}
 use mathlib.Core.List.{List, []}
 use mathlib.Core.Option.{Option, none, some}
@@ -28,7 +28,7 @@ use Rattle.resumable.specs.Instalment.{AfterCall, afterCall, ranFrom, leftAfter
 use Rattle.resumable.proofs.Running.{length-slice}
 use Rattle.lifecycle.specs.Calls.{AfterFinish, afterFinish, withoutScan, sameValues, finishOf, rowTaken, orRefused, formed, startedIn, startWith, beginOf}
 use Rattle.lifecycle.proofs.Sameness.{same-long}
-use Rattle.rounds.specs.Visits.{shareInLimit, withSteps, given, visitFrom, visitOf}
+use Rattle.rounds.specs.Visits.{shareInLimit, given, visitFrom, visitOf}
 
 cond-long : (b : Bool) (x y : AfterCall) (n : ℕ) → length (x .cells) ≡ n → length (y .cells) ≡ n → length (cond b x y .cells) ≡ n
 cond-long true x y n p q = p

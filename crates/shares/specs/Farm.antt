@@ -1,6 +1,6 @@
 -- Rule sets that are visited in rounds, with rows posted between. Document 02, A.9. Assumes nothing.
-use Prim.Native.Nat.{ℕ, zero, suc, _+_, _*_, _-_, _/_}
-use mathlib.Core.Bool.{Bool, true, false, cond}
+use Prim.Native.Nat.{ℕ, zero, suc, _+_, _-_, _/_}
+use mathlib.Core.Bool.{cond}
 use mathlib.Core.List.{List, [], _∷_, _++_, map}
 use mathlib.Core.Option.{Option, none, some}
 use lib.Dec.{eqb}
@@ -9,8 +9,7 @@ use lib.ListN.{replicate}
 use Rattle.semantics.specs.Formula.{State}
 use Rattle.paused.specs.declared.Response.{Response}
 use Rattle.paused.specs.declared.Response.the-variants as R
-use Rattle.resumable.specs.Instalment.{AfterCall}
-use Rattle.lifecycle.specs.Calls.{AfterFinish, postOf}
+use Rattle.lifecycle.specs.Calls.{postOf}
 use Rattle.rounds.specs.Visits.{visitOf}
 
 -- ---- visits to one rule set, with rows posted between

@@ -1,5 +1,5 @@
 -- The worked cycles. Assumes nothing.
-use mathlib.Core.Path.{_≡_, refl}
+use mathlib.Core.Path.{refl}
 use Rattle.lexer.specs.Bytes.{sameBytes, capital, capitals}
 use Rattle.lexer.specs.Lexer.{isSpace, isDigit, isLetter, sameName, valueOn, valueOf}
 use Rattle.st.specs.Reading.{lexemesFrom, onward, leveled, readPrimary, readUnary, readExpression, readBranches, readStatement, readStatements, readDeclarations, readSection, programRead}

@@ -1,17 +1,16 @@
 -- An expression that is printed is read back. Assumes nothing.
 use Prim.Native.Nat.{ℕ, zero, suc, _+_, _≤_}
 use native.Mathlib.Omega.{arith}
-use mathlib.Core.Path.{_≡_, refl, sym, ap, _∙_, subst}
-use mathlib.Core.Bool.{Bool, true, false, not, _&&_, _||_, cond, false≢true}
+use mathlib.Core.Path.{_≡_, refl, _∙_}
 use mathlib.Core.List.{List, [], _∷_, _++_}
-use mathlib.Core.Option.{Option, none, some}
+use mathlib.Core.Option.{none, some}
 use lib.ListN.{length}
-use Rattle.arith.specs.Values.{Comparison, equal, notEqual, less, lessEqual, greater, greaterEqual, Operation, add, subtract, multiply, divide, modulo}
+use Rattle.arith.specs.Values.{equal, notEqual, less, lessEqual, greater, greaterEqual, add, subtract, multiply, divide, modulo}
 use Rattle.lexer.specs.Bytes.{bytes, sameBytes, capital, capitals}
-use Rattle.lexer.specs.Lexer.{isSpace, sameName, valueOf}
-use Rattle.trace_text.specs.Output.{unsignedDecimal, decimalOf}
-use Rattle.st.specs.Syntax.{Identifier, Logical, or, and, Operator, connects, relates, computes, StExpression, number, variable, negative, complement, binary}
-use Rattle.st.specs.Reading.{isPart, lexemesFrom, Lexemes, isIdentifier, isNumber, Reading, read, unread, _followedBy_, begins, Sign, levels, operatorIn, onward, leveled, readPrimary, readUnary, readExpression}
+use Rattle.lexer.specs.Lexer.{isSpace, sameName}
+use Rattle.trace_text.specs.Output.{unsignedDecimal}
+use Rattle.st.specs.Syntax.{or, and, Operator, connects, relates, computes, StExpression, number, variable, negative, complement, binary}
+use Rattle.st.specs.Reading.{lexemesFrom, Lexemes, Reading, read, Sign, levels, operatorIn, onward, leveled, readPrimary, readUnary, readExpression}
 use Rattle.st.specs.Printed.{spelling, expressionPrinted}
 use Rattle.st.proofs.Lexed.{Clear, word-read, NameWord}
 use Rattle.st.proofs.Words.{numeral}

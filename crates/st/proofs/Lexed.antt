@@ -1,14 +1,14 @@
 -- Words are one lexeme each. Assumes nothing.
-use Prim.Native.Nat.{ℕ, zero, suc, _+_}
+use Prim.Native.Nat.{ℕ}
 use mathlib.Core.Path.{_≡_, refl, sym, ap, _∙_}
-use mathlib.Core.Bool.{Bool, true, false, not, _&&_, _||_, cond, false≢true}
+use mathlib.Core.Bool.{Bool, true, false, cond, false≢true}
 use mathlib.Core.List.{List, [], _∷_, _++_, append-nil, append-assoc}
 use lib.Dec.{eqb}
 use borrow.Author.Tests.{eqb-true}
 use Rattle.lexer.specs.Bytes.{bytes}
 use Rattle.lexer.specs.Lexer.{isSpace, sameName, valueOf}
 use Rattle.trace_text.specs.Output.{unsignedDecimal}
-use Rattle.st.specs.Reading.{isPart, joins, ended, Lexemes, lexemesFrom, isIdentifier, isNumber}
+use Rattle.st.specs.Reading.{isPart, joins, lexemesFrom, isIdentifier, isNumber}
 
 abbrev pub Parts : List ℕ → Type 0
 Parts [] = Unit {0}

@@ -3,19 +3,19 @@ use Prim.Native.Nat.{ℕ, zero, suc, _+_, _≤_}
 use Prim.Native.String.{String}
 use native.Mathlib.Omega.{arith}
 use native.Mathlib.Numerals.{add-one}
-use mathlib.Core.Path.{_≡_, refl, sym, ap, _∙_, subst}
-use mathlib.Core.Bool.{Bool, true, false, not, _&&_, _||_, cond}
+use mathlib.Core.Path.{_≡_, refl, ap, _∙_}
+use mathlib.Core.Bool.{true, false}
 use mathlib.Core.List.{List, [], _∷_, _++_}
-use mathlib.Core.Option.{Option, none, some}
-use lib.IntN.{ℤ, pos, negsuc, negℤ}
+use mathlib.Core.Option.{some}
+use lib.IntN.{ℤ, pos, negsuc}
 use lib.ListN.{length}
 use Rattle.arith.specs.Values.{isInt32}
 use Rattle.lexer.specs.Bytes.{bytes, sameBytes, capital, capitals}
-use Rattle.lexer.specs.Lexer.{isSpace, sameName, valueOf}
+use Rattle.lexer.specs.Lexer.{isSpace, sameName}
 use Rattle.trace_text.specs.Output.{unsignedDecimal, decimalOf}
-use Rattle.st.specs.Syntax.{Identifier, StExpression, number, variable, negative, complement, binary, Assignment, Branch, Statement, assign, choose, Declaration, StProgram}
-use Rattle.st.specs.Reading.{isPart, lexemesFrom, Lexemes, isIdentifier, isNumber, Reading, read, unread, _followedBy_, begins, want, behind, first, levels, readExpression, readWhole, readAssignment, readBranch, readBranches, readStatement, readStatements, readStart, readDeclaration, readDeclarations, readSection, isEmpty, declaredOnce, programFrom, programRead}
-use Rattle.st.specs.Printed.{spelling, expressionPrinted, assignmentPrinted, branchPrinted, laterBranches, statementPrinted, statementsPrinted, declarationsPrinted, sectionPrinted, programPrinted}
+use Rattle.st.specs.Syntax.{StExpression, number, variable, negative, complement, binary, Assignment, Branch, Statement, assign, choose, Declaration}
+use Rattle.st.specs.Reading.{lexemesFrom, Lexemes, read, begins, levels, readWhole, readAssignment, readBranch, readBranches, readStatement, readStatements, readStart, readDeclaration, readDeclarations, readSection, isEmpty, declaredOnce, programRead}
+use Rattle.st.specs.Printed.{spelling, expressionPrinted, assignmentPrinted, laterBranches, statementPrinted, statementsPrinted, declarationsPrinted, sectionPrinted, programPrinted}
 use Rattle.st.proofs.Words.{numeral}
 use Rattle.st.proofs.Lexed.{word-read, NameWord}
 use Rattle.st.proofs.Expressions.{Writable, tokensE, lexed, Quiet, operations, expression-read, minus-token}

@@ -6,16 +6,16 @@ use mathlib.Core.Bool.{Bool, true, false, not, _&&_, _||_, cond, false≢true}
 use mathlib.Core.List.{List, [], _∷_}
 use lib.Dec.{eqb, leb, ltb}
 use lib.ListN.{length}
-use borrow.Author.Tests.{ne-eqb, eqb-true, leb-true, ltb-true, le-leb, lt-ltb}
+use borrow.Author.Tests.{ne-eqb, eqb-true, leb-true, ltb-true}
 use Rattle.arith.proofs.Basics.{and-both}
 use Rattle.lexer.specs.Bytes.{bytes, sameBytes, capital, capitals}
-use Rattle.lexer.specs.Lexer.{isDigit, isLetter, isAlphanumeric, sameName, valueOf}
+use Rattle.lexer.specs.Lexer.{isDigit, isLetter, isAlphanumeric, sameName}
 use Rattle.lexer.specs.Spelling.{AllBytes}
 use Rattle.trace_text.specs.Row.{allDigits}
 use Rattle.trace_text.specs.Output.{unsignedDecimal}
 use Rattle.trace_text.proofs.Printing.{reads}
-use Rattle.st.specs.Reading.{isPart, isAny, keywords, isIdentifier, isNumber}
-use Rattle.st.proofs.Lexed.{Parts, Word, Plain, Numeral, NameWord}
+use Rattle.st.specs.Reading.{isPart, isAny, keywords, isIdentifier}
+use Rattle.st.proofs.Lexed.{Parts, Numeral, NameWord}
 
 -- ---- bytes
 

@@ -2,10 +2,10 @@
 use Prim.Native.Nat.{ℕ}
 use Prim.Native.String.{String}
 use mathlib.Core.List.{List, [], _∷_, _++_}
-use Rattle.arith.specs.Values.{Comparison, equal, notEqual, less, lessEqual, greater, greaterEqual, Operation, add, subtract, multiply, divide, modulo}
+use Rattle.arith.specs.Values.{equal, notEqual, less, lessEqual, greater, greaterEqual, add, subtract, multiply, divide, modulo}
 use Rattle.lexer.specs.Bytes.{bytes}
 use Rattle.trace_text.specs.Output.{unsignedDecimal, decimalOf}
-use Rattle.st.specs.Syntax.{Identifier, Logical, or, and, Operator, connects, relates, computes, StExpression, number, variable, negative, complement, binary, Assignment, Branch, Statement, assign, choose, Declaration, StProgram}
+use Rattle.st.specs.Syntax.{or, and, Operator, connects, relates, computes, StExpression, number, variable, negative, complement, binary, Assignment, Branch, Statement, assign, choose, Declaration, StProgram}
 
 -- `&`, `|`, `~`, `mod` as AND, OR, NOT, MOD
 abbrev pub spelling : Operator → List ℕ

@@ -7,11 +7,11 @@ use mathlib.Core.Option.{Option, none, some}
 use lib.Dec.{leb, ltb, eqb}
 use lib.IntN.{ℤ, pos, negℤ}
 use lib.ListN.{length}
-use Rattle.arith.specs.Values.{Comparison, equal, notEqual, less, lessEqual, greater, greaterEqual, Operation, add, subtract, multiply, divide, modulo, isInt32}
+use Rattle.arith.specs.Values.{equal, notEqual, less, lessEqual, greater, greaterEqual, add, subtract, multiply, divide, modulo, isInt32}
 use Rattle.lexer.specs.Bytes.{bytes}
 use Rattle.lexer.specs.Lexer.{isSpace, isLetter, sameName, valueOf}
 use Rattle.trace_text.specs.Row.{allDigits}
-use Rattle.st.specs.Syntax.{Identifier, Logical, or, and, Operator, connects, relates, computes, StExpression, number, variable, negative, complement, binary, Assignment, Branch, Statement, assign, choose, Declaration, StProgram}
+use Rattle.st.specs.Syntax.{Identifier, or, and, Operator, connects, relates, computes, StExpression, number, variable, negative, complement, binary, Assignment, Branch, Statement, assign, choose, Declaration, StProgram}
 
 -- ---- lexemes, by longest match
 

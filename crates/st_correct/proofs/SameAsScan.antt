@@ -1,15 +1,14 @@
 -- Structured Text does what the scans of the image do, for every text, buffer, state and row. Assumes nothing.
 use Prim.Native.Nat.{ℕ}
-use native.Mathlib.Omega.{arith}
 use mathlib.Core.Path.{_≡_, refl, sym, ap, _∙_, subst}
 use mathlib.Core.Bool.{Bool, true, false, _&&_}
-use mathlib.Core.List.{List, [], _∷_, map}
-use mathlib.Core.Option.{Option, none, some}
+use mathlib.Core.List.{List}
+use mathlib.Core.Option.{some}
 use lib.Dec.{eqb}
 use lib.IntN.{ℤ}
 use lib.ListN.{length, take}
 use borrow.Author.Tests.{eqb-true}
-use Rattle.limits.specs.Answer.{Answer, accepted, refused}
+use Rattle.limits.specs.Answer.{Answer, accepted}
 use Rattle.arith.specs.Values.{Outcome, ok, refusal}
 use Rattle.arith.proofs.Basics.{true-T, and-both, ok≢refusal}
 use Rattle.semantics.specs.Program.{Program}
@@ -21,23 +20,21 @@ use Rattle.semantics.proofs.Reference.{starts-in-range}
 use Rattle.bytecode.specs.Translation.{imageOf, Translatable}
 use Rattle.bytecode.proofs.Soundness.{header-of, check-translated}
 use Rattle.bytecode.proofs.Shapes.{limits-of}
-use Rattle.grammar.specs.Parse.{programOf}
 use Rattle.grammar.specs.Spelled.{namesOf}
 use Rattle.grammar.proofs.Accepted.{program-translatable}
 use Rattle.translate.specs.Services.{translationOf}
 use Rattle.translate.proofs.Kept.{never, image-stored, stored-image}
 use Rattle.scan.specs.Services.{AfterStart, AfterScan, testedScan, scanned, scanOf}
-use Rattle.correctness.specs.TraceCorrect.{verdictOf, replyOf, repliesOf, found, TraceCorrect}
+use Rattle.correctness.specs.TraceCorrect.{verdictOf, replyOf, repliesOf, found}
 use Rattle.correctness.proofs.Correct.{scan-reply, scans-agree, start-translated}
-use Rattle.st.specs.Reading.{programRead}
-use Rattle.st.specs.Meaning.{freshStore, ValuesLeft, cycleLeaves, cycleStates}
+use Rattle.st.specs.Meaning.{freshStore, cycleStates}
 use Rattle.st_program.specs.Written.{programInSt, stBytes, hasSt}
 use Rattle.st_program.proofs.Cycle.{InSt}
 use Rattle.st_program.proofs.Trace.{fresh-ready, fresh-values, leaves-same, cycles-same}
 use Rattle.st_program.proofs.Printable.{AllStarts, printed-read}
 use Rattle.st_program.proofs.Literals.{accepted-in-st, accepted-starts, st-untimed}
 use Rattle.structured_text.specs.Services.{structuredTextOf}
-use Rattle.structured_text.proofs.Ways.{StStored, st-stored, stored-st}
+use Rattle.structured_text.proofs.Ways.{st-stored, stored-st}
 use Rattle.st_correct.specs.StructuredText.{SameAsScan, StCorrect}
 
 -- ---- an accepted scan

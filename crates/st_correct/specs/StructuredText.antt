@@ -17,7 +17,7 @@ use Rattle.translate.specs.Services.{translationOf}
 use Rattle.scan.specs.Services.{scanOf}
 use Rattle.correctness.specs.TraceCorrect.{found}
 use Rattle.st.specs.Reading.{programRead}
-use Rattle.st.specs.Meaning.{freshStore, valuesIn, previousName, ValuesLeft, cycleLeaves, cycleStates}
+use Rattle.st.specs.Meaning.{freshStore, valuesIn, previousName, cycleLeaves, cycleStates}
 use Rattle.st_program.specs.Written.{programInSt}
 use Rattle.structured_text.specs.Services.{structuredTextOf}
 

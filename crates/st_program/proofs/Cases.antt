@@ -1,15 +1,15 @@
 -- The cases of a rule leave in Structured Text what they leave in a scan. Assumes nothing.
 use Prim.Native.Nat.{ℕ}
-use mathlib.Core.Path.{_≡_, refl, sym, ap, _∙_}
+use mathlib.Core.Path.{_≡_, sym, ap, _∙_}
 use mathlib.Core.Bool.{Bool, true, false}
 use mathlib.Core.List.{List, [], _∷_, map}
 use mathlib.Core.Option.{Option, none, some}
 use lib.IntN.{ℤ}
 use lib.ListN.{length}
 use Rattle.limits.specs.Limits.{secondTrueCase}
-use Rattle.arith.specs.Values.{Outcome, ok, refusal, _>>=_}
+use Rattle.arith.specs.Values.{ok, _>>=_}
 use Rattle.arith.proofs.Basics.{ok≢refusal, ok-inj, Bound, bound, unbind}
-use Rattle.semantics.specs.Program.{Range, Expression, Case, UsableK}
+use Rattle.semantics.specs.Program.{Range, Case, UsableK}
 use Rattle.semantics.specs.Formula.{State, evalE, evalC}
 use Rattle.semantics.specs.ReferenceScan.{picked, tryCase, tryCases}
 use Rattle.semantics.proofs.Unique.{picked-is}

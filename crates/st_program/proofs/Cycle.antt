@@ -2,34 +2,30 @@
 use Prim.Native.Nat.{ℕ, zero, suc, _+_, _-_, _<_, _≤_}
 use native.Mathlib.Omega.{arith}
 use mathlib.Core.Path.{_≡_, refl, sym, ap, _∙_, subst}
-use mathlib.Core.Bool.{Bool, true, false, cond, false≢true}
-use mathlib.Core.List.{List, [], _∷_, _++_, map}
-use mathlib.Core.Option.{Option, none, some}
-use lib.Dec.{eqb, ltb}
+use mathlib.Core.Bool.{Bool, true, false, false≢true}
+use mathlib.Core.List.{List, [], _∷_, map}
+use mathlib.Core.Option.{some}
+use lib.Dec.{ltb}
 use lib.IntN.{ℤ, pos}
-use lib.ListN.{length, getD, getElem?, take, drop, take-append-drop, List·getD-append, length-map, length-append, length-drop}
+use lib.ListN.{length, getD, take, drop, List·getD-append, length-map, length-append, length-drop}
 use lib.Seq.{getD-take, getD-drop, getD-append-add, length-take-le}
-use borrow.Author.Tests.{ltb-true, ltb-false, eqb-true}
-use Rattle.arith.specs.Values.{Outcome, ok, refusal, check}
-use Rattle.arith.proofs.Basics.{ok≢refusal, ok-inj}
+use borrow.Author.Tests.{ltb-true, ltb-false}
+use Rattle.arith.specs.Values.{ok}
 use Rattle.lexer.specs.Lexer.{sameName}
-use Rattle.semantics.specs.Program.{Name, Program, rangesOf, WellFormed, knownFirst}
+use Rattle.semantics.specs.Program.{Program, rangesOf, WellFormed, knownFirst}
 use Rattle.semantics.specs.Formula.{State, at}
-use Rattle.semantics.specs.Shape.{shapeOf, rowInRange}
 use Rattle.semantics.specs.ReferenceScan.{withInputs}
 use Rattle.semantics.proofs.Untimed.{plainRules, untimed-order}
-use Rattle.semantics.specs.Rows.{Reply, reply, referenceReplies, startsOf, acceptedStates, acceptedRows, InRanges}
-use Rattle.semantics.proofs.Reference.{length-known, reference-next}
+use Rattle.semantics.proofs.Reference.{length-known}
 use Rattle.grammar.specs.Derivation.{IsName}
-use Rattle.grammar.specs.Spelled.{Apart, Distinct, namesOf}
+use Rattle.grammar.specs.Spelled.{Distinct, namesOf}
 use Rattle.st.specs.Syntax.{Identifier, StProgram}
-use Rattle.st.specs.Reading.{programRead}
-use Rattle.st.specs.Meaning.{Store, freshStore, valueIn, holdingAll, givenRow, isInput, runStatements, previousName, valuesIn, ValuesLeft, cycleLeaves, cycleStates}
+use Rattle.st.specs.Meaning.{Store, valueIn, givenRow, isInput, runStatements, previousName}
 use Rattle.st_program.specs.Written.{nameAt, ruleInSt, savingLine, programInSt}
-use Rattle.st_program.proofs.Stores.{storeNames, inputNames, apart-turned, apart-at, Has, AllHeld, all-held, values-listed, Rowed, rowed, In, in-at}
+use Rattle.st_program.proofs.Stores.{storeNames, inputNames, apart-turned, apart-at, AllHeld, all-held, Rowed, rowed}
 use Rattle.st_program.proofs.Values.{Shows}
-use Rattle.st_program.proofs.Rules.{LiteralAll, SameFrame, same-frame, frames, Separate, Underway, Ruled, rules-same, lines-same}
-use Rattle.st_program.proofs.FirstStore.{AllNames, previous-apart, previous-apart-all, apart-previous, previous-distinct, spelled, store-apart, first-inputs, variable-free, previous-free, current-found, previous-found}
+use Rattle.st_program.proofs.Rules.{LiteralAll, SameFrame, frames, Separate, Underway, Ruled, rules-same, lines-same}
+use Rattle.st_program.proofs.FirstStore.{AllNames, previous-apart, apart-previous, previous-distinct}
 
 -- ---- names by their places
 

@@ -1,22 +1,22 @@
 -- The variables of a program's Structured Text before its first cycle. Assumes nothing.
 use Prim.Native.Nat.{ℕ}
 use mathlib.Core.Path.{_≡_, refl, sym, ap, ap₂, _∙_, subst}
-use mathlib.Core.Bool.{Bool, true, false, not, _&&_, _||_, cond, false≢true}
+use mathlib.Core.Bool.{Bool, true, false, cond, false≢true}
 use mathlib.Core.List.{List, [], _∷_, _++_, map, append-nil}
 use mathlib.Core.Logic.{_⊎_, inl, inr}
-use mathlib.Core.Option.{Option, none, some}
+use mathlib.Core.Option.{some}
 use lib.Dec.{eqb}
 use borrow.Author.Tests.{ne-eqb}
 use Rattle.lexer.specs.Bytes.{sameBytes, capital, capitals}
 use Rattle.lexer.specs.Lexer.{isLetter, sameName}
 use Rattle.lexer.specs.Spelling.{IsWord}
 use Rattle.lexer.proofs.Capitals.{word-capitals}
-use Rattle.semantics.specs.Program.{Name, Program}
+use Rattle.semantics.specs.Program.{Name}
 use Rattle.grammar.specs.Derivation.{IsName}
-use Rattle.grammar.specs.Spelled.{Apart, Distinct, namesOf}
-use Rattle.st.specs.Syntax.{Identifier, Declaration, StProgram}
-use Rattle.st.specs.Meaning.{Variable, Store, variablesOf, freshStore, valueIn, isInput, previousName}
-use Rattle.st_program.specs.Written.{currentLine, previousLine, variableLines, programInSt}
+use Rattle.grammar.specs.Spelled.{Apart, Distinct}
+use Rattle.st.specs.Syntax.{Identifier, Declaration}
+use Rattle.st.specs.Meaning.{Variable, Store, variablesOf, valueIn, isInput, previousName}
+use Rattle.st_program.specs.Written.{currentLine, previousLine, variableLines}
 use Rattle.st_program.proofs.Stores.{storeNames, inputNames, apart-turned, In, in-left, in-right, in-map, in-either, apart-in, value-of}
 
 -- ---- names and previous values' names

@@ -1,16 +1,16 @@
 -- The program of an accepted text: its names are names, its starts DINTs, and its numbers carry no sign. Assumes nothing.
 use Prim.Native.Nat.{ℕ, zero, suc}
 use mathlib.Core.Path.{_≡_, refl, subst}
-use mathlib.Core.Bool.{Bool, true, false, _&&_, false≢true}
+use mathlib.Core.Bool.{true, _&&_, false≢true}
 use mathlib.Core.List.{List, [], _∷_, _++_, map, append-nil}
-use mathlib.Core.Option.{Option, none, some}
-use lib.ListN.{length, getElem?}
+use mathlib.Core.Option.{none, some}
+use lib.ListN.{getElem?}
 use lib.Signed.{leZ}
 use Rattle.limits.specs.Answer.{accepted}
 use Rattle.arith.specs.Values.{isInt32}
 use Rattle.arith.proofs.Basics.{T-true, and-left, and-both}
-use Rattle.semantics.specs.Program.{Name, Range, Expression, Condition, Side, rising, falling, Case, Rule, Timer, Program, rangesOf}
-use Rattle.bytecode.specs.Translation.{Translatable, RangesFit}
+use Rattle.semantics.specs.Program.{Name, Expression, Condition, Side, rising, falling, Case, Rule, Timer, Program}
+use Rattle.bytecode.specs.Translation.{RangesFit}
 use Rattle.grammar.specs.Derivation as D
 use Rattle.grammar.specs.Derivation.{IsName, Tokens, normals, Level, LevelC, SpellsE, SpellsC}
 use Rattle.grammar.specs.Pairs.{onSide, pairCases}
@@ -21,7 +21,7 @@ use Rattle.grammar.proofs.Accepted.{program-parsed, parse-spelled, parse-named,
 use Rattle.st.specs.Syntax.{Identifier}
 use Rattle.st_program.proofs.Values.{Literal, LiteralC}
 use Rattle.st_program.proofs.Cases.{LiteralK}
-use Rattle.st_program.proofs.Rules.{LiteralR, LiteralAll}
+use Rattle.st_program.proofs.Rules.{LiteralAll}
 use Rattle.st_program.proofs.FirstStore.{AllNames}
 use Rattle.st_program.proofs.Printable.{AllStarts}
 use Rattle.st_program.specs.Written.{noneStWord, noTimer, hasSt}

@@ -2,17 +2,16 @@
 use Prim.Native.Nat.{ℕ, zero, suc, _<_, _≤_}
 use native.Mathlib.Omega.{arith}
 use mathlib.Core.Path.{_≡_, refl, sym, ap, _∙_, subst}
-use mathlib.Core.Bool.{Bool, true, false, not, _&&_, _||_, false≢true}
+use mathlib.Core.Bool.{Bool, true, false, not, false≢true}
 use mathlib.Core.List.{List, [], _∷_, _++_, map}
-use mathlib.Core.Option.{Option, none, some}
-use lib.Dec.{T, ltb}
-use lib.IntN.{ℤ, pos, negsuc}
-use lib.ListN.{length, getD, set, take, drop, take-append-drop, length-map, length-set}
+use mathlib.Core.Option.{some}
+use lib.Dec.{ltb}
+use lib.IntN.{pos, negsuc}
+use lib.ListN.{length, set, take, drop, take-append-drop, length-set}
 use borrow.Author.Tests.{ltb-true}
 use Rattle.arith.specs.Values.{isInt32}
 use Rattle.arith.proofs.Basics.{T-true, and-both}
-use Rattle.lexer.specs.Lexer.{sameName}
-use Rattle.semantics.specs.Program.{Name, Range, Expression, constant, current, previous, operation, negate, Condition, comparison, negated, both, either, Side, Case, Rule, function, change, target, Program, rangesOf, knownFirst, UsableE, UsableC, UsableK, UsableR, OrderedRules, Sided, all-changing, up-then-down, sides, SidedR, SidedAll}
+use Rattle.semantics.specs.Program.{Name, Expression, constant, current, previous, operation, negate, Condition, comparison, negated, both, either, Side, Case, Rule, function, change, target, Program, rangesOf, knownFirst, UsableE, UsableC, UsableK, UsableR, OrderedRules, Sided, all-changing, up-then-down, SidedR, SidedAll}
 use Rattle.semantics.proofs.Reference.{length-known}
 use Rattle.semantics.proofs.Untimed.{untimed-order}
 use Rattle.grammar.specs.Spelled.{Apart, Distinct, namesOf}
@@ -22,7 +21,7 @@ use Rattle.st.specs.Meaning.{previousName}
 use Rattle.st.specs.Printed.{programPrinted}
 use Rattle.st.proofs.Lexed.{NameWord}
 use Rattle.st.proofs.Expressions.{Writable}
-use Rattle.st.proofs.Programs.{WritableA, WritableK, AllWritable, WritableS, AllWritableS, WritableD, program-read, nothing-read}
+use Rattle.st.proofs.Programs.{AllWritable, WritableS, AllWritableS, WritableD, program-read, nothing-read}
 use Rattle.st_program.specs.Written.{nameAt, expressionInSt, conditionInSt, branchInSt, ruleInSt, currentLine, previousLine, variableLines, savingLine, programInSt, stBytes, isStWord, noneStWord, hasSt, noTimer}
 use Rattle.st_program.proofs.Values.{Literal, LiteralC, known-in}
 use Rattle.st_program.proofs.Cases.{LiteralK}

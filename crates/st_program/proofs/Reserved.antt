@@ -1,11 +1,9 @@
 -- A name of a text that is no word of Structured Text is an identifier there, and so is every previous value's name. Assumes nothing.
-use Prim.Native.Nat.{ℕ}
-use mathlib.Core.Path.{_≡_, refl, sym, ap, _∙_, subst}
+use mathlib.Core.Path.{_≡_, refl, sym, subst}
 use mathlib.Core.Bool.{Bool, true, false, not, _&&_, _||_, false≢true}
-use mathlib.Core.List.{List, [], _∷_}
+use mathlib.Core.List.{[], _∷_}
 use lib.Dec.{eqb}
 use Rattle.lexer.specs.Bytes.{bytes, sameBytes, capital, capitals}
-use Rattle.lexer.specs.Token.{Kind, varWord, modWord, spellingOf}
 use Rattle.lexer.specs.Lexer.{isLetter, isDigit, isAlphanumeric, sameName}
 use Rattle.lexer.specs.Spelling.{IsWord}
 use Rattle.lexer.proofs.Capitals.{word-capitals}

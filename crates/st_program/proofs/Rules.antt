@@ -1,30 +1,29 @@
 -- Rules one after the other, and the previous-value lines. Assumes nothing.
-use Prim.Native.Nat.{ℕ, zero, suc, _<_, _≤_}
+use Prim.Native.Nat.{ℕ, zero, suc, _<_}
 use native.Mathlib.Omega.{arith}
 use mathlib.Core.Path.{_≡_, refl, sym, ap, _∙_, subst}
-use mathlib.Core.Bool.{Bool, true, false, cond, false≢true}
+use mathlib.Core.Bool.{Bool, true, false, false≢true}
 use mathlib.Core.List.{List, [], _∷_, _++_, map}
 use mathlib.Core.Option.{Option, none, some}
-use lib.Dec.{T, ltb, eqb}
+use lib.Dec.{ltb, eqb}
 use lib.IntN.{ℤ, pos}
 use lib.ListN.{length, getD, set, length-set}
 use lib.Seq.{getD-set-same, getD-set-other}
 use borrow.Author.Tests.{ltb-true, eqb-true, eqb-false}
-use Rattle.arith.specs.Values.{Outcome, ok, refusal, _>>=_}
+use Rattle.arith.specs.Values.{ok}
 use Rattle.arith.proofs.Basics.{T-true, ok-inj, Bound, bound, unbind, passed}
-use Rattle.semantics.specs.Program.{Range, rangeAt, Expression, Case, Condition, Rule, function, change, target, within, UsableR, OrderedRules}
+use Rattle.semantics.specs.Program.{Range, rangeAt, Rule, function, change, target, within, UsableR, OrderedRules}
 use Rattle.semantics.specs.Formula.{State, at, evalE}
 use Rattle.semantics.specs.ReferenceScan.{ranged, tryCases, orPrevious, newValue}
 use Rattle.semantics.proofs.Untimed.{plainRules}
 use Rattle.lexer.specs.Lexer.{sameName}
 use Rattle.trace_text.specs.Row.{_andIf_}
-use Rattle.st.specs.Syntax.{Identifier, Statement, assign, choose, variable}
-use Rattle.st.specs.Meaning.{dint, Store, valueIn, holding, holdingAll, isInput, evaluate, assignedTo, firstTrue, runStatements, previousName}
-use Rattle.grammar.specs.Spelled.{Apart, Distinct}
+use Rattle.st.specs.Syntax.{Identifier, Statement}
+use Rattle.st.specs.Meaning.{Store, valueIn, holding, holdingAll, isInput, evaluate, firstTrue, runStatements, previousName}
 use Rattle.st_program.specs.Written.{nameAt, expressionInSt, branchInSt, ruleInSt, savingLine}
 use Rattle.st_program.proofs.Stores.{inputNames, storeNames, Held, held, Has, still-has, apart-turned}
 use Rattle.st_program.proofs.Values.{Literal, Shows, expression-same}
-use Rattle.st_program.proofs.Cases.{LiteralK, afterwards, assigns, cases-same}
+use Rattle.st_program.proofs.Cases.{LiteralK, assigns, cases-same}
 
 abbrev pub LiteralR : Rule → Type 0
 LiteralR (function v e) = Literal e

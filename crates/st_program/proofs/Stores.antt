@@ -6,11 +6,10 @@ use mathlib.Core.Bool.{Bool, true, false, cond, false≢true}
 use mathlib.Core.List.{List, [], _∷_, _++_, map}
 use mathlib.Core.Logic.{_⊎_, inl, inr}
 use mathlib.Core.Option.{Option, none, some}
-use lib.IntN.{ℤ, pos}
+use lib.IntN.{ℤ}
 use lib.ListN.{length, getD}
 use Rattle.lexer.specs.Lexer.{sameName}
 use Rattle.lexer.proofs.Same.{same-name, names-same, same-left}
-use Rattle.trace_text.specs.Row.{_andIf_}
 use Rattle.grammar.specs.Spelled.{Apart, Distinct}
 use Rattle.semantics.specs.Formula.{at}
 use Rattle.st.specs.Syntax.{Identifier}

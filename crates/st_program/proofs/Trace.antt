@@ -1,15 +1,14 @@
 -- The document's sentence, and cycle after cycle from the declared starts. Assumes nothing.
-use Prim.Native.Nat.{ℕ, zero, suc, _+_, _-_, _<_, _≤_}
+use Prim.Native.Nat.{ℕ, zero, suc, _<_, _≤_}
 use native.Mathlib.Omega.{arith}
 use mathlib.Core.Path.{_≡_, refl, sym, ap, _∙_, subst}
 use mathlib.Core.Bool.{Bool, true, false}
 use mathlib.Core.List.{List, [], _∷_, _++_, map}
-use mathlib.Core.Logic.{_⊎_, inl, inr}
-use mathlib.Core.Option.{Option, none, some}
+use mathlib.Core.Logic.{inl, inr}
+use mathlib.Core.Option.{some}
 use lib.Dec.{eqb}
-use lib.IntN.{ℤ, pos}
-use lib.ListN.{length, getD, take, drop, take-append-drop, length-map}
-use lib.Seq.{getD-drop}
+use lib.IntN.{ℤ}
+use lib.ListN.{length, take, drop, take-append-drop, length-map}
 use borrow.Author.Tests.{eqb-true}
 use Rattle.arith.specs.Values.{Outcome, ok, refusal, check}
 use Rattle.arith.proofs.Basics.{ok≢refusal}
@@ -18,18 +17,17 @@ use Rattle.semantics.specs.Formula.{State, at}
 use Rattle.semantics.specs.Shape.{allWithin}
 use Rattle.semantics.specs.ReferenceScan.{withInputs, referenceScan}
 use Rattle.semantics.proofs.Untimed.{plainRules, plainScan, plain-states, plain-starts, plain-scan}
-use Rattle.semantics.specs.Rows.{Reply, reply, referenceReplies, startsOf, acceptedStates, acceptedRows, InRanges}
+use Rattle.semantics.specs.Rows.{reply, referenceReplies, startsOf, acceptedStates, acceptedRows, InRanges}
 use Rattle.semantics.proofs.Reference.{reference-next}
 use Rattle.grammar.specs.Spelled.{Distinct, namesOf}
 use Rattle.st.specs.Syntax.{Identifier}
 use Rattle.st.specs.Reading.{programRead}
-use Rattle.st.specs.Meaning.{Store, freshStore, valueIn, givenRow, isInput, runStatements, previousName, valuesIn, ValuesLeft, cycleLeaves, cycleStates}
+use Rattle.st.specs.Meaning.{Store, freshStore, valueIn, isInput, previousName, valuesIn, cycleLeaves, cycleStates}
 use Rattle.st_program.specs.Written.{nameAt, programInSt}
 use Rattle.st_program.proofs.Stores.{AllHeld, all-held, values-listed, In}
-use Rattle.st_program.proofs.Values.{Shows}
-use Rattle.st_program.proofs.Rules.{SameFrame, frames}
+use Rattle.st_program.proofs.Rules.{frames}
 use Rattle.st_program.proofs.FirstStore.{AllNames, apart-previous, previous-apart-all, previous-distinct, spelled, firstStore, store-apart, first-inputs, variable-free, previous-free, current-found, previous-found}
-use Rattle.st_program.proofs.Cycle.{name-at, previous-at, Framed, still-framed, held-frame, Ready, Cycled, InSt, same-count, cycled}
+use Rattle.st_program.proofs.Cycle.{name-at, previous-at, still-framed, held-frame, Ready, Cycled, InSt, same-count, cycled}
 
 -- a name by its place
 record Placed (ns : List Name) (i : ℕ) : Type 0 where

@@ -4,13 +4,13 @@ use native.Mathlib.Omega.{arith}
 use mathlib.Core.Path.{_≡_, refl, sym, ap, _∙_}
 use mathlib.Core.Bool.{Bool, true, false, not, _&&_, _||_, cond, false≢true}
 use mathlib.Core.List.{List, [], _∷_}
-use mathlib.Core.Option.{Option, none, some}
-use lib.Dec.{T, ltb}
+use mathlib.Core.Option.{none, some}
+use lib.Dec.{ltb}
 use lib.IntN.{ℤ, pos, negsuc, negℤ, _+ℤ_, _-ℤ_, _*ℤ_}
 use lib.Signed.{quotZ}
 use lib.ListN.{length, getD}
 use borrow.Author.Tests.{ltb-true}
-use Rattle.arith.specs.Values.{Outcome, ok, refusal, _>>=_, require, eqZ, isInt32, int32, nonZero, remainder, Operation, add, subtract, multiply, divide, modulo, arithmetic, negation, Comparison, equal, notEqual, less, lessEqual, greater, greaterEqual, compares}
+use Rattle.arith.specs.Values.{ok, _>>=_, require, eqZ, isInt32, int32, remainder, Operation, add, subtract, multiply, divide, modulo, arithmetic, negation, Comparison, equal, notEqual, less, lessEqual, greater, greaterEqual, compares}
 use Rattle.arith.proofs.Basics.{T-true, ok≢refusal, ok-inj, Bound, bound, unbind}
 use Rattle.semantics.specs.Program.{Expression, constant, current, previous, operation, negate, Condition, comparison, negated, both, either, UsableE, UsableC}
 use Rattle.semantics.specs.Formula.{State, at, evalE, evalC}

@@ -6,14 +6,14 @@ use mathlib.Core.List.{List, [], _∷_, _++_}
 use mathlib.Core.Option.{Option, none, some}
 use lib.ListN.{length, take, drop, length-append}
 use lib.Seq.{sets}
-use Rattle.leb128.specs.Numbers.{Read, got, nothing}
+use Rattle.leb128.specs.Numbers.{got, nothing}
 use Rattle.leb128.proofs.RoundTrip.{drop-behind}
 use Rattle.leb128.proofs.Stores.{take-sets}
 use Rattle.semantics.specs.Program.{Program}
 use Rattle.bytecode.specs.Instructions.{Instruction, timer, encode, encodeAll, decoded, fetch}
 use Rattle.bytecode.specs.Signature.{signature}
 use Rattle.bytecode.specs.Translation.{codeRules, Translatable}
-use Rattle.bytecode.proofs.RoundTrip.{Small, AllSmall, fetch-encoded, encoded-inside}
+use Rattle.bytecode.proofs.RoundTrip.{AllSmall, fetch-encoded, encoded-inside}
 use Rattle.bytecode.proofs.Soundness.{past-end}
 use Rattle.bytecode.proofs.Timeless.{Timeless, TimelessIn, timeless-rules}
 use Rattle.st_writer.specs.Inner.Fronts.{Fronts}

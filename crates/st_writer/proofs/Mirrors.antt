@@ -1,10 +1,9 @@
 -- Mirrored code: what the mirror holds of each part of a program, and how it is made. Assumes nothing.
-use Prim.Native.Nat.{ℕ, _+_}
+use Prim.Native.Nat.{ℕ}
 use mathlib.Core.Path.{_≡_, refl, ap, subst, _∙_}
 use mathlib.Core.List.{List, [], _∷_, _++_}
 use Rattle.semantics.specs.Program.{Expression, Condition, Case, Rule, function, change, Timer, Program}
 use Rattle.semantics.specs.Program as P
-use Rattle.leb128.specs.Numbers.{nothing}
 use Rattle.leb128.proofs.RoundTrip.{zigzag-small}
 use Rattle.bytecode.specs.Instructions.{Instruction, encode}
 use Rattle.bytecode.specs.Translation.{codeE, codeC, codeCase, codeK, codeR, codeRules, ShallowR, Shallow, Translatable}

@@ -6,7 +6,7 @@ use native.Mathlib.Numerals.{add-one}
 use mathlib.Core.Path.{_≡_, refl, sym, ap, _∙_}
 use mathlib.Core.List.{List, [], _∷_, _++_, map}
 use mathlib.Core.Option.{Option, none, some}
-use lib.IntN.{ℤ, pos, negsuc, negℤ}
+use lib.IntN.{ℤ, pos, negℤ}
 use lib.ListN.{length, getElem?, take, drop, take-append-drop, length-append}
 use Rattle.limits.specs.Limits.{bufferTooShort, notInSt}
 use Rattle.limits.specs.Answer.{accepted, refused}
@@ -17,7 +17,7 @@ use Rattle.trace_text.proofs.Printing.{decimal-small}
 use Rattle.semantics.specs.Program.{Name, Timer, Program}
 use Rattle.grammar.specs.Derivation.{normal, normals, IsName}
 use Rattle.grammar.specs.Spelled as S
-use Rattle.grammar.specs.Spelled.{SpellsZ, SpellsStart, Declares, DeclareAll, DeclaresTimer, DeclareTimers, namesOf, Spelled}
+use Rattle.grammar.specs.Spelled.{SpellsZ, SpellsStart, Declares, DeclareAll, DeclaresTimer, DeclareTimers, namesOf}
 use Rattle.grammar.specs.Parse.{programOf}
 use Rattle.grammar.proofs.Growth.{laterBytes, bytesOf, bytes-append, token-bytes, digits-some, spells-bytes}
 use Rattle.grammar.proofs.Normal.{normal-length}

@@ -2,8 +2,8 @@
 use Prim.Native.Nat.{ℕ, zero, suc, _+_, _-_, _≤_}
 use native.Mathlib.Omega.{arith}
 use mathlib.Core.Path.{_≡_, refl, sym, ap, _∙_, subst}
-use mathlib.Core.Bool.{Bool, true, false, not, _&&_, _||_, cond, false≢true}
-use mathlib.Core.List.{List, [], _∷_, _++_, map, append-assoc, append-nil}
+use mathlib.Core.Bool.{Bool, true, false, not, _&&_, cond, false≢true}
+use mathlib.Core.List.{List, [], _∷_, _++_, append-assoc, append-nil}
 use mathlib.Core.Logic.{_⊎_, inl, inr}
 use lib.IntN.{ℤ}
 use lib.ListN.{length, take, length-append, length-map}
@@ -19,7 +19,7 @@ use Rattle.grammar.specs.Derivation.{asWritten, Stands, Spells, IsName}
 use Rattle.grammar.specs.Spelled as S
 use Rattle.grammar.specs.Spelled.{SpellsZ, SpellsStart, Declares, DeclareAll, DeclaresTimer, DeclareTimers, namesOf, Spelled}
 use Rattle.grammar.specs.Parse.{programOf}
-use Rattle.grammar.proofs.Growth.{bytesOf, bytes-append, spells-bytes}
+use Rattle.grammar.proofs.Growth.{bytesOf, spells-bytes}
 use Rattle.grammar.proofs.Standing.{written, is-read, split, stands-in, spells-in}
 use Rattle.grammar.proofs.Phrases.{fixed-at, name-at}
 use Rattle.grammar.proofs.ConverseText.{accepted-exactly}

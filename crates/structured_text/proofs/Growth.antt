@@ -1,13 +1,12 @@
 -- The Structured Text of the expressions, conditions and rules that tokens spell: twice its bytes are at most seven times theirs. Assumes nothing.
-use Prim.Native.Nat.{ℕ, zero, suc, _+_, _*_, _/_, _%_, _≤_, _<_}
+use Prim.Native.Nat.{ℕ, suc, _+_, _*_, _/_, _%_, _≤_, _<_}
 use native.Mathlib.Omega.{arith}
 use mathlib.Core.Path.{_≡_, refl, sym, ap, ap₂, _∙_, subst}
 use mathlib.Core.Bool.{Bool, true, false}
 use mathlib.Core.List.{List, [], _∷_, _++_, map, append-nil, map-append}
-use mathlib.Core.Option.{Option, none, some}
+use mathlib.Core.Option.{none, some}
 use lib.Dec.{ltb, leb}
-use lib.IntN.{ℤ, pos, negsuc, negℤ}
-use lib.ListN.{length, getD, getElem?, length-append}
+use lib.ListN.{length, getElem?, length-append}
 use borrow.Author.Tests.{ltb-true, ltb-false, leb-true}
 use Rattle.arith.specs.Values.{Operation, Comparison}
 use Rattle.arith.proofs.Basics.{and-both}
@@ -24,8 +23,8 @@ use Rattle.grammar.specs.Spelled as S
 use Rattle.grammar.specs.Spelled.{squared, cased, changeForm, pairForm, SpellsCases, SpellsR, SpellsRules}
 use Rattle.grammar.proofs.Growth.{laterBytes, bytesOf, bytes-append, token-bytes, digits-some}
 use Rattle.grammar.proofs.Phrases.{headTokens, middleTokens, riseTokens, fallTokens}
-use Rattle.st.specs.Syntax.{Identifier, or, and, Operator, connects, relates, computes, StExpression, number, variable, negative, complement, binary, Branch, Statement, choose}
-use Rattle.st.specs.Printed.{spelling, expressionPrinted, assignmentPrinted, branchPrinted, laterBranches, statementPrinted, statementsPrinted}
+use Rattle.st.specs.Syntax.{Identifier, or, and, Operator, connects, relates, computes, StExpression, binary, Branch, Statement, choose}
+use Rattle.st.specs.Printed.{spelling, expressionPrinted, branchPrinted, laterBranches, statementPrinted, statementsPrinted}
 use Rattle.st_program.specs.Written.{nameAt, expressionInSt, conditionInSt, branchInSt, ruleInSt}
 
 -- ---- decimals: no longer than the digits of the text

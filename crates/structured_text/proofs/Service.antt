@@ -2,7 +2,7 @@
 use Prim.Native.Nat.{ℕ, zero, suc, _+_, _-_, _*_, _≤_, _<_}
 use native.Mathlib.Omega.{arith}
 use mathlib.Core.Path.{_≡_, refl, sym, ap, subst, _∙_}
-use mathlib.Core.Bool.{Bool, true, false, _&&_, cond}
+use mathlib.Core.Bool.{Bool, true, false, _&&_}
 use mathlib.Core.List.{List, [], _∷_, _++_, map}
 use lib.IntN.{ℤ}
 use lib.ListN.{length, take, drop, length-map, length-drop}
@@ -11,7 +11,7 @@ use borrow.Author.Tests.{le-leb, lt-leb}
 use Rattle.limits.specs.Limits.{textLimit, nameLimit}
 use Rattle.limits.specs.Answer as A
 use Rattle.leb128.proofs.Stores.{sets-front}
-use Rattle.lexer.specs.Token.{Kind, ending, is, TokenRead, token, fault}
+use Rattle.lexer.specs.Token.{ending, is, TokenRead, token, fault}
 use Rattle.lexer.specs.Lexer.{tokenAt}
 use Rattle.lexer.specs.Bytes.{part}
 use Rattle.lexer.specs.Names.{tableNames, Table}
@@ -19,16 +19,16 @@ use Rattle.lexer.specs.declared.Place.{Place}
 use Rattle.lexer.specs.declared.Step.{Step}
 use Rattle.lexer.specs.declared.Step.the-variants.{Done, Refused}
 use Rattle.lexer.proofs.Laws.{cond-prop, Moved, token-moved}
-use Rattle.semantics.specs.Program.{Name, Program, rangesOf, Timer}
-use Rattle.bytecode.specs.Instructions.{Instruction, encodeAll}
-use Rattle.bytecode.specs.Translation.{imageOf, Translatable, codeRules}
+use Rattle.semantics.specs.Program.{Name, Program, Timer}
+use Rattle.bytecode.specs.Instructions.{encodeAll}
+use Rattle.bytecode.specs.Translation.{Translatable, codeRules}
 use Rattle.bytecode.specs.Check.{Header, checkHeader}
 use Rattle.bytecode.specs.Parts as Parts
 use Rattle.bytecode.specs.Parts.{headerOf, codeOf}
 use Rattle.bytecode.specs.Results.{HeaderStands}
 use Rattle.bytecode.proofs.Soundness.{programHeader, check-header, header-of, code-of}
 use Rattle.bytecode.proofs.SoundHeader.{header-counts, header-place, starts-stored}
-use Rattle.grammar.specs.Parsed.{Parsed, accepted, refused}
+use Rattle.grammar.specs.Parsed.{accepted, refused}
 use Rattle.grammar.specs.Parse.{program, parse, programOf}
 use Rattle.grammar.specs.Spelled.{namesOf}
 use Rattle.grammar.proofs.Image.{image-emitted}
@@ -37,10 +37,8 @@ use Rattle.grammar.proofs.Accepted.{parse-few, parse-short, program-parsed, pro
 use Rattle.grammar.proofs.PlacesText.{Placed, parse-limited}
 use Rattle.grammar.proofs.ConverseText.{short-parse}
 use Rattle.phrases.proofs.Writing.{refused-part}
-use Rattle.declarations.specs.Inner.Tables.{TableHolds}
 use Rattle.translate.specs.Inner.Descent.{Descends}
-use Rattle.translate.proofs.Service.{parse-long, Made, image-made}
-use Rattle.st.specs.Syntax.{Statement}
+use Rattle.translate.proofs.Service.{parse-long, image-made}
 use Rattle.st.specs.Printed.{statementsPrinted, sectionPrinted, programPrinted}
 use Rattle.st_program.specs.Written.{currentLine, previousLine, variableLines, savingLine, ruleInSt, programInSt, stBytes, noneStWord, noTimer, hasSt}
 use Rattle.st_writer.specs.Inner.Fronts.{Fronts}

@@ -1,5 +1,5 @@
 -- The worked outputs hold, by computation. Assumes nothing.
-use mathlib.Core.Path.{_≡_, refl}
+use mathlib.Core.Path.{refl}
 use Rattle.grammar.specs.Watches.{watchesFrom}
 use Rattle.grammar.specs.Parse.{endAt, program, parse, programOf}
 use Rattle.grammar.specs.Rules.{caseAt, casesFrom, listFrom, plainList, partFrom, kindAt, partsFrom, firstFound, agreeingList, functionAt, changeAt, pairAt, formulaAt, formulas, ruleAt, rulesFrom}

@@ -1,7 +1,6 @@
 -- The four ways of the service, and what it leaves in the buffer. Assumes nothing.
 use Prim.Native.Nat.{ℕ, _≤_, _<_}
-use native.Mathlib.Omega.{arith}
-use mathlib.Core.Path.{_≡_, refl, sym, ap, _∙_}
+use mathlib.Core.Path.{_≡_, refl, sym, ap}
 use mathlib.Core.Bool.{Bool, true, false, cond}
 use mathlib.Core.List.{List, _++_}
 use lib.Dec.{leb}
@@ -13,7 +12,7 @@ use Rattle.limits.specs.Answer.{Answer, accepted, refused}
 use Rattle.semantics.specs.Program.{Program}
 use Rattle.grammar.specs.Parse.{programOf}
 use Rattle.translate.specs.Services.{AfterTranslation, stored}
-use Rattle.translate.proofs.Kept.{never, split}
+use Rattle.translate.proofs.Kept.{never}
 use Rattle.st_program.specs.Written.{stBytes, hasSt}
 use Rattle.structured_text.specs.Services.{reservedPlace, writtenInSt, structuredTextOf}
 

@@ -4,7 +4,6 @@ use mathlib.Core.List.{List, [], _∷_, _++_}
 use mathlib.Core.Option.{some}
 use Prim.Native.Nat.{ℕ, zero, suc, _+_, _*_, _≤_}
 use native.Mathlib.Omega.{arith}
-use lib.IntN.{ℤ}
 use lib.ListN.{length, take, drop, getElem?, length-map, length-take}
 use lib.Seq.{take-append-seam, length-take-le}
 use borrow.Author.Tests.{le-leb}
@@ -37,7 +36,7 @@ use Rattle.trace_text.specs.declared.Stage.the-variants.{Rows}
 use Rattle.trace_text.specs.declared.Line.the-variants.{Start}
 use Rattle.tracer.specs.declared.Tracer.the-variants as T
 use Rattle.tracer.specs.Printed.{printedValues, opening}
-use Rattle.tracer.specs.Session.{lineRoom, inRows}
+use Rattle.tracer.specs.Session.{lineRoom}
 use Rattle.tracer.specs.Inner.Contracts.{PutWhole, AcceptedText, Begins, Opens}
 use Rattle.tracer.proofs.States.{state-counted, state-few}
 

@@ -2,13 +2,13 @@
 -- line of the wrong length is 12, with timers too. Assumes nothing.
 use mathlib.Core.Path.{_≡_, refl, sym, subst, _∙_}
 use mathlib.Core.Bool.{Bool, true, false, cond}
-use mathlib.Core.List.{List, [], _∷_, _++_}
+use mathlib.Core.List.{List, [], _∷_}
 use mathlib.Core.Option.{none, some}
-use Prim.Native.Nat.{ℕ, zero, suc, _+_, _≤_, _<_}
+use Prim.Native.Nat.{ℕ, _+_, _≤_, _<_}
 use native.Mathlib.Omega.{arith}
 use lib.Dec.{leb}
 use lib.IntN.{ℤ}
-use lib.ListN.{length, replicate, length-map}
+use lib.ListN.{length}
 use borrow.Author.Tests.{leb-false, ne-eqb}
 use Rattle.limits.specs.Limits.{nameLimit, wrongLength}
 use Rattle.limits.specs.Answer.{accepted}
@@ -17,14 +17,11 @@ use Rattle.semantics.specs.Program.{Program, Timer, rangesOf, firstTimer}
 use Rattle.semantics.specs.Formula.{State}
 use Rattle.semantics.specs.Shape.{shapeOf, hasTimer, rowLength}
 use Rattle.semantics.specs.ReferenceScan.{referenceScan}
+use Rattle.semantics.proofs.Timers.{timer-behind}
 use Rattle.grammar.specs.Parse.{programOf}
 use Rattle.grammar.proofs.Accepted.{program-translatable}
 use Rattle.trace_text.specs.Row.{rowOf, longRow, handedOf}
 use Rattle.tracer.proofs.States.{timerLimits, EachFits}
-
-after-zeros : (n : ℕ) (l : List ℕ) → hasTimer (replicate n 0 ++ l) ≡ hasTimer l
-after-zeros zero l = refl
-after-zeros (suc n) l = after-zeros n l
 
 one-more : (t : Bool) (n : ℕ) → cond t (n + 1) n ≤ n + 1
 one-more true n = omega arith
@@ -35,7 +32,7 @@ module _ (text : List ℕ) (p : Program) (e : programOf text ≡ accepted p) whe
   row-few : rowLength (shapeOf p) ≤ nameLimit
   row-few =
       let t = program-translatable text p e in
-      subst (λ (b : Bool). cond b (p .inputs + 1) (p .inputs) ≤ nameLimit) (sym (after-zeros (firstTimer p) (timerLimits (p .timers)))) (go (t .few) (t .well-formed .inputs-fit) (p .timers) (t .well-formed .timed .each))
+      subst (λ (b : Bool). cond b (p .inputs + 1) (p .inputs) ≤ nameLimit) (sym (timer-behind (firstTimer p) (timerLimits (p .timers)))) (go (t .few) (t .well-formed .inputs-fit) (p .timers) (t .well-formed .timed .each))
     where
       go : length (rangesOf p) ≤ nameLimit → p .inputs ≤ length (rangesOf p) → (ts : List Timer) → EachFits p ts → cond (hasTimer (timerLimits ts)) (p .inputs + 1) (p .inputs) ≤ nameLimit
       go few i [] h = omega (arith, few, i)

@@ -1,9 +1,8 @@
 -- A line of the rows that has ended, and one byte of the rows. Assumes nothing.
-use mathlib.Core.Path.{_≡_, refl, sym, ap, subst, _∙_}
+use mathlib.Core.Path.{_≡_, sym, ap, subst, _∙_}
 use mathlib.Core.List.{List, append-nil}
 use Prim.Native.Nat.{ℕ, _+_, _*_, _≤_, min}
 use native.Mathlib.Omega.{arith}
-use lib.Dec.{eqb}
 use lib.IntN.{ℤ}
 use lib.ListN.{length, take, length-take}
 use borrow.Author.Tests.{eq-eqb, ne-eqb}
@@ -19,7 +18,7 @@ use Rattle.trace_text.specs.Inner.Stages.{lineAfter, cellsAfter, countOf, cells
 use Rattle.trace_text.specs.Output.{Put, rowLine}
 use Rattle.trace_text.proofs.Within.{count-within}
 use Rattle.tracer.specs.Printed.{refusalOf}
-use Rattle.tracer.specs.Session.{lineRoom, Session, inRows, nextNumber, scanLine, after, putBy}
+use Rattle.tracer.specs.Session.{lineRoom, inRows, nextNumber, scanLine, after, putBy}
 use Rattle.tracer.specs.Inner.Contracts.{PutWhole}
 use Rattle.tracer.proofs.Begun.{put-whole}
 use Rattle.tracer.proofs.Taking.{take-clip}

@@ -1,18 +1,16 @@
 -- The bytes that one call takes: in the rows, in the text, behind a refused text. Assumes nothing.
 use mathlib.Core.Path.{_≡_, refl, sym, ap, subst, _∙_}
-use mathlib.Core.Bool.{Bool, true, false, true≢false, cond}
+use mathlib.Core.Bool.{Bool, true, false, true≢false}
 use mathlib.Core.List.{List, [], _∷_, _++_, append-nil}
-use Prim.Native.Nat.{ℕ, zero, suc, _+_, _-_, _≤_, _<_, min}
+use Prim.Native.Nat.{ℕ, suc, _+_, _-_, _≤_, _<_, min}
 use native.Mathlib.Numerals.{add-one}
 use native.Mathlib.Omega.{arith}
-use lib.Dec.{eqb, leb, ltb}
+use lib.Dec.{leb}
 use lib.IntN.{ℤ}
 use lib.ListN.{length, getD, take, drop, length-take, drop-of-length-le}
 use lib.Seq.{take-suc, drop-cons, take-at, take-all, take-length}
 use borrow.Author.Tests.{leb-true, leb-false, lt-ltb, le-ltb}
 use Rattle.limits.specs.Limits.{stateLimit}
-use Rattle.limits.specs.Answer.{Answer, accepted, refused}
-use Rattle.semantics.specs.Program.{Program}
 use Rattle.semantics.specs.Formula.{State}
 use Rattle.grammar.specs.Parse.{programOf}
 use Rattle.scan.specs.Services.{scanOf}
@@ -20,8 +18,7 @@ use Rattle.trace_text.specs.Output.{Put}
 use Rattle.trace_text.specs.declared.Stage.{Stage}
 use Rattle.trace_text.specs.declared.Stage.the-variants.{LineStart, InLine, Hash, Rows}
 use Rattle.trace_text.specs.declared.Line.{Line}
-use Rattle.trace_text.specs.declared.Line.the-variants.{Start}
-use Rattle.trace_text.specs.Inner.Stages.{stageAfter, textAfter, stageOver, textOver, isRows, bytesBefore, lineAfter, cellsAfter, cellsOf, handedRow, isBegun}
+use Rattle.trace_text.specs.Inner.Stages.{stageAfter, textAfter, stageOver, textOver, isRows, bytesBefore, handedRow, isBegun}
 use Rattle.trace_text.proofs.Chunks.{rows-of, stage-rows, text-rows, none-before, before-cons}
 use Rattle.trace_text.proofs.Within.{rows-within}
 use Rattle.trace_text.proofs.Lengths.{put-cut}

@@ -14,7 +14,7 @@ use Rattle.semantics.specs.Program.{Condition, Watch}
 use Rattle.semantics.specs.Formula.{Trace}
 use Rattle.semantics.specs.Shape.{statesOf, placesIn, isTrace}
 use Rattle.watching.specs.Watching.{placesOf, firstFailure}
-use Rattle.watching.specs.Failing.{FailsBy, FailsAt}
+use Rattle.watching.specs.Failing.{FailsBy}
 use Rattle.watching.proofs.Laws.{reported-first}
 use Rattle.lent.proofs.Laws.{trace-whole}
 use Rattle.evaluation.specs.declared.Failed.{Failed}

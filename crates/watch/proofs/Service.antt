@@ -1,6 +1,6 @@
 -- The ways of the watch service. Assumes nothing.
 use mathlib.Core.Path.{_≡_, refl, ap, ap₂, sym, _∙_, subst}
-use mathlib.Core.Bool.{Bool, true, false, _&&_, cond}
+use mathlib.Core.Bool.{true, false, _&&_, cond}
 use mathlib.Core.List.{List, [], _++_}
 use Prim.Native.Nat.{ℕ, _+_, _*_, _≤_}
 use native.Mathlib.Omega.{arith}
@@ -12,12 +12,11 @@ use borrow.Author.Tests.{eq-eqb, ne-eqb}
 use Rattle.limits.specs.Limits.{textLimit, nameLimit, watchLimit, reportLength}
 use Rattle.limits.specs.Answer.{Answer}
 use Rattle.limits.specs.Answer as A
-use Rattle.semantics.specs.Program.{Watch, Program, rangesOf, TimersFit}
-use Rattle.semantics.specs.Formula.{Trace}
+use Rattle.semantics.specs.Program.{Program, rangesOf, TimersFit}
 use Rattle.semantics.specs.Shape.{shapeOf, stateLength, isTrace, tracedStates}
 use Rattle.semantics.proofs.Timers.{timer-count, cells-length}
 use Rattle.grammar.specs.Parsed.{Parsed, accepted, refused}
-use Rattle.grammar.specs.Parse.{parse, answerOf, programOf}
+use Rattle.grammar.specs.Parse.{parse, programOf}
 use Rattle.grammar.proofs.Accepted.{parse-translatable}
 use Rattle.grammar.proofs.PlacesText.{Placed, parse-limited}
 use Rattle.watching.specs.Watching.{placesOf, firstFailure}
@@ -26,7 +25,7 @@ use Rattle.translate.specs.declared.Surveyed.{Surveyed}
 use Rattle.translate.specs.declared.Surveyed.the-variants as S
 use Rattle.translate.specs.Inner.Survey.{WatchCounts, surveyed, watchCounts, WatchesStand, Surveys}
 use Rattle.watch.specs.declared.Watched.the-variants as W
-use Rattle.watch.specs.Services.{AfterWatch, reported, reportOf, watchedStates, watched, watchOf}
+use Rattle.watch.specs.Services.{reported, reportOf, watchedStates, watchOf}
 use Rattle.watch.specs.Results.{afterWatch, WatchedWithin}
 use Rattle.watch.specs.Inner.Reports.{CountedWatches}
 use Rattle.watch.proofs.Counting.{watches-few}

@@ -1,15 +1,13 @@
 -- A watch walked alone or paired, by its code. Assumes nothing.
-use mathlib.Core.Path.{_≡_, refl, ap, sym, _∙_, subst}
+use mathlib.Core.Path.{_≡_, ap}
 use mathlib.Core.List.{List}
 use mathlib.Core.Option.{Option, none, some}
 use Prim.Native.Nat.{ℕ, _-_, _≤_}
 use native.Mathlib.Omega.{arith}
-use lib.IntN.{ℤ}
 use lib.ListN.{length, take, drop, length-drop}
 use lib.Seq.{length-take-le}
 use Rattle.semantics.specs.Program.{Condition, Watch}
-use Rattle.semantics.specs.Shape.{statesOf}
-use Rattle.watching.specs.Watching.{TracePlace, placesOf, firstFailure}
+use Rattle.watching.specs.Watching.{TracePlace, firstFailure}
 use Rattle.evaluation.specs.Conditions.{ConditionCode}
 use Rattle.evaluation.specs.declared.Failed.{Failed}
 use Rattle.evaluation.specs.Walks.{failedAt}

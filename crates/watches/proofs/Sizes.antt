@@ -1,13 +1,13 @@
 -- How large the code of a watch is, where it ends, and that its conditions are fit to be worked out. Assumes nothing.
 use mathlib.Core.Path.{_≡_, refl, subst}
-use mathlib.Core.Bool.{Bool, true, false}
-use mathlib.Core.List.{List, [], _++_}
+use mathlib.Core.Bool.{Bool}
+use mathlib.Core.List.{List}
 use mathlib.Core.Option.{Option, none, some}
 use Prim.Native.Nat.{ℕ, _+_, _*_, _≤_}
 use native.Mathlib.Omega.{arith}
 use lib.ListN.{length, length-append}
 use Rattle.limits.specs.Limits.{stackLimit, bracketLimit}
-use Rattle.lexer.specs.Token.{Kind, arrow, is, kindNumber}
+use Rattle.lexer.specs.Token.{arrow, is, kindNumber}
 use Rattle.lexer.specs.Lexer.{tokenAt}
 use Rattle.lexer.proofs.Laws.{cond-prop, token-at-moved}
 use Rattle.semantics.specs.Program.{Condition, Watch, UsableC}
@@ -26,7 +26,7 @@ use Rattle.grammar.proofs.Derived.{Derives, listed-scoped}
 use Rattle.grammar.proofs.Standing.{normally}
 use Rattle.grammar.proofs.Growth.{Grown, listed-grown}
 use Rattle.grammar.proofs.Size.{Pays, Long, phrase-long}
-use Rattle.watches.specs.Inner.Codes.{bytesLater, codeOfWatch}
+use Rattle.watches.specs.Inner.Codes.{codeOfWatch}
 
 abbrev pub watchBytes : Watch → ℕ
 watchBytes w = length (codeOfWatch w)

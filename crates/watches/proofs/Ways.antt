@@ -1,7 +1,7 @@
 -- The ways through a watch: what each comes to. Assumes nothing.
 use mathlib.Core.Path.{_≡_, refl, sym, ap, _∙_}
 use mathlib.Core.Bool.{true, false}
-use mathlib.Core.List.{List, []}
+use mathlib.Core.List.{List}
 use mathlib.Core.Option.{none, some}
 use Prim.Native.Nat.{ℕ, _+_}
 use native.Mathlib.Omega.{arith}
@@ -9,7 +9,6 @@ use lib.ListN.{length, length-append}
 use lib.Seq.{sets}
 use Rattle.lexer.specs.Token.{Kind, arrow, is, token}
 use Rattle.lexer.specs.Lexer.{tokenAt}
-use Rattle.lexer.specs.declared.Place.{Place}
 use Rattle.lexer.specs.declared.Step.{Step}
 use Rattle.lexer.specs.declared.Step.the-variants.{Done, Refused}
 use Rattle.semantics.specs.Program.{Condition, Watch}

@@ -1,5 +1,5 @@
 -- `before::before_known` meets its contract (Tests). Assumes nothing.
-use mathlib.Core.Path.{_≡_, refl, _∙_}
+use mathlib.Core.Path.{refl, _∙_}
 use Rattle.semantics.specs.Shape.{cells}
 use Rattle.before.proofs.Tests.{plain-length, plain-rest, plain-prepared, timed-length}
 use borrow.Author.Needs.{needs}

@@ -1,5 +1,5 @@
 -- `bytecode::header` meets its contract: the counts, then the ranges. Assumes nothing.
-use mathlib.Core.Path.{_≡_, sym, ap, _∙_, subst}
+use mathlib.Core.Path.{sym, ap, _∙_, subst}
 use lib.ListN.{length}
 use borrow.Author.Needs.{needs}
 use Rattle.bytecode.specs.Check.{checkHeader}

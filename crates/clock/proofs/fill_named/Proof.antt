@@ -1,28 +1,20 @@
 -- `clock::fill_named` meets its contract: the value goes to the id that the name has, if any. Assumes nothing.
 use borrow.Author.Needs.{needs}
-use mathlib.Core.Path.{_≡_, sym, ap, _∙_}
-use mathlib.Core.List.{List}
-use mathlib.Core.Option.{some}
-use Prim.Native.Nat.{ℕ, _<_}
+use mathlib.Core.Path.{sym, ap, _∙_}
 use native.Mathlib.Omega.{arith}
-use Rattle.lexer.specs.Names.{tableNames, idOf}
 use Rattle.lexer.specs.Results.{foundId}
-use Rattle.grammar.proofs.Bytes.{id-of}
-use Rattle.expressions.proofs.Scopes.{names-length}
+use Rattle.expressions.proofs.Scopes.{id-counted}
 use Rattle.arith.proofs.Laws.{same32}
 use Rattle.clock.proofs.fill_named.Statement.{statement}
 use Rattle.clock.proofs.fill_named.Tie as tie
 
-below : (text starts ends : List ℕ) (n : ℕ) (w : List ℕ) (i : ℕ) → idOf (tableNames text starts ends n) w ≡ some i → i < n
-below text starts ends n w i e = omega (arith, id-of (tableNames text starts ends n) w i e, names-length text starts ends n)
-
 mul-value : tie.Need-mul-value
 mul-value c =
-    let h = below _ _ _ _ _ _ (sym (c .before .before .before .find .ensures) ∙ ap foundId (c .before .found .given .1)) in
+    let h = id-counted _ _ _ _ _ _ (sym (c .before .before .before .find .ensures) ∙ ap foundId (c .before .found .given .1)) in
     omega (arith, h, c .before .before .before .before .before .before .before .before .good .1 .0 .1, c .before .before .before .before .before .before .before .before .pre .in-starts)
 
 slice-set-from-value : tie.Need-slice-set-from-value
-slice-set-from-value c = below _ _ _ _ _ _ (sym (c .before .before .before .find .ensures) ∙ ap foundId (c .before .found .given .1))
+slice-set-from-value c = id-counted _ _ _ _ _ _ (sym (c .before .before .before .find .ensures) ∙ ap foundId (c .before .found .given .1))
 
 returns : tie.Need-returns
 returns c = rw (sym (c .before .before .before .find .ensures) ∙ ap foundId (c .before .found .given .1), same32 (c .before .before .before .before .before .before .before .before .fits .value))

@@ -1,5 +1,4 @@
 -- `clock::row_length` meets its contract. Assumes nothing.
-use native.Mathlib.Omega.{arith}
 use borrow.Author.Needs.{needs}
 use Rattle.clock.proofs.Service.{some-timer, no-timer}
 use Rattle.clock.proofs.row_length.Statement.{statement}

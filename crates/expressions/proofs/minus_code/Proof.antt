@@ -1,5 +1,5 @@
 -- `expressions::minus_code` meets its contract. Assumes nothing.
-use borrow.Author.Tests.{eq-eqb, ne-eqb}
+use borrow.Author.Tests.{ne-eqb}
 use Rattle.lexer.specs.Token.{kindNumber}
 use Rattle.expressions.proofs.minus_code.Statement.{statement}
 use Rattle.expressions.proofs.minus_code.Tie as tie

@@ -1,5 +1,5 @@
 -- `lifecycle::begin_in` meets its contract. Assumes nothing.
-use mathlib.Core.Path.{_≡_, sym, ap, subst, _∙_}
+use mathlib.Core.Path.{sym, ap, subst, _∙_}
 use native.Mathlib.Omega.{arith}
 use Rattle.before.specs.Inner.Known.{beforeAnswer, BegunBy}
 use Rattle.lifecycle.proofs.Begins.{waiting-most, image-short, image-few, begin-elsewhere, begin-early, begin-idle, begin-refused, begin-done}

@@ -1,5 +1,5 @@
 -- `calls::finish` meets its contract (Finishes). Assumes nothing.
-use mathlib.Core.Path.{_≡_, sym, ap, subst, _∙_}
+use mathlib.Core.Path.{sym, subst, _∙_}
 use native.Mathlib.Omega.{arith}
 use borrow.Author.Needs.{needs}
 use Rattle.paused.proofs.Clipped.{CheckpointWithin, checkpoint-within, LayoutWithin, layout-within}

@@ -1,9 +1,7 @@
 -- `lifecycle::post` meets its contract (Posts). Assumes nothing.
 use mathlib.Core.Path.{_≡_, subst, _∙_}
-use Prim.Native.Nat.{_≤_}
 use native.Mathlib.Omega.{arith}
 use borrow.Author.Needs.{needs}
-use Rattle.limits.specs.Limits.{nameLimit}
 use Rattle.semantics.specs.Shape.{rowLength}
 use Rattle.bytecode.specs.Parts.{shapeIn}
 use Rattle.shapes.specs.Results.{ShapedBy}

@@ -1,7 +1,6 @@
 -- `machine::run` meets its contract. The loop's invariant: what is left to do makes the whole run (Loop.Going). The measure is
 -- the budget left. Assumes nothing.
-use mathlib.Core.Path.{_≡_, refl, sym, subst, _∙_}
-use mathlib.Core.List.{List}
+use mathlib.Core.Path.{_≡_, refl, sym, _∙_}
 use Prim.Native.Nat.{_+_, _-_}
 use native.Mathlib.Omega.{arith}
 use borrow.Author.Needs.{needs}

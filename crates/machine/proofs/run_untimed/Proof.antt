@@ -1,6 +1,6 @@
 -- `machine::run_untimed` meets its contract. The loop's invariant: what is left to do makes the whole run (Loop.Going). The measure is
 -- the budget left. Assumes nothing.
-use mathlib.Core.Path.{_≡_, refl, sym, _∙_}
+use mathlib.Core.Path.{_≡_, refl}
 use Prim.Native.Nat.{_+_, _-_}
 use native.Mathlib.Omega.{arith}
 use borrow.Author.Needs.{needs}

@@ -1,5 +1,5 @@
 -- `paused::pack_response` meets its contract: places and steps are at most the image's limit, so they fit. Assumes nothing.
-use mathlib.Core.Path.{_≡_, sym, ap, subst, _∙_}
+use mathlib.Core.Path.{sym, ap, subst, _∙_}
 use native.Mathlib.Omega.{arith}
 use borrow.Author.Needs.{needs}
 use Rattle.limits.specs.Limits.{imageLimit}

@@ -1,5 +1,4 @@
 -- `resumable::advance_by` meets its contract. Assumes nothing.
-use mathlib.Core.Path.{_≡_}
 use native.Mathlib.Omega.{arith}
 use borrow.Author.Needs.{needs}
 use Rattle.resumable.proofs.Running.{few-left, place-left, instalment-is}

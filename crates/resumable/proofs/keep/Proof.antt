@@ -1,5 +1,5 @@
 -- `resumable::keep` meets its contract. Assumes nothing.
-use mathlib.Core.Path.{_≡_, subst}
+use mathlib.Core.Path.{subst}
 use borrow.Author.Needs.{needs}
 use Rattle.machine.specs.Inner.Memory.{Few}
 use Rattle.resumable.proofs.keep.Statement.{statement}

@@ -1,5 +1,5 @@
 -- `rounds::visit_all` meets its contract, by the numbers left in the table (Turning). Assumes nothing.
-use mathlib.Core.Path.{_≡_, refl, sym, ap, _∙_}
+use mathlib.Core.Path.{sym}
 use native.Mathlib.Omega.{arith}
 use lib.Seq.{length-take-le}
 use Rattle.rounds.proofs.Turning.{ended, lent-long, turned-in}

@@ -1,5 +1,5 @@
 -- `rounds::answer` meets its contract. Assumes nothing.
-use mathlib.Core.Path.{_≡_, _∙_}
+use mathlib.Core.Path.{_∙_}
 use borrow.Author.Needs.{needs}
 use Rattle.rounds.proofs.answer.Statement.{statement}
 use Rattle.rounds.proofs.answer.Tie as tie

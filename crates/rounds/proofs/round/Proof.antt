@@ -1,6 +1,6 @@
 -- `rounds::round` meets its contract (Limits). Assumes nothing.
 use native.Mathlib.Omega.{arith}
-use mathlib.Core.Path.{_≡_, sym, _∙_}
+use mathlib.Core.Path.{sym, _∙_}
 use borrow.Author.Tests.{not-true, not-false}
 use Rattle.rounds.specs.Together.{together}
 use Rattle.rounds.proofs.Limits.{table-short, round-empty, round-out, round-in}

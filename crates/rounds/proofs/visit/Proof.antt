@@ -1,5 +1,5 @@
 -- `rounds::visit` meets its contract (Visiting). Assumes nothing.
-use mathlib.Core.Path.{_≡_, sym, ap, subst, _∙_}
+use mathlib.Core.Path.{sym, ap, subst, _∙_}
 use borrow.Author.Tests.{not-true, not-false}
 use native.Mathlib.Omega.{arith}
 use Rattle.limits.specs.Limits.{imageLimit}

@@ -1,5 +1,5 @@
 -- `scan::run_over` meets its contract. The run works on a copy; the laws are those of Scanning. Assumes nothing.
-use mathlib.Core.Path.{_≡_, sym, _∙_}
+use mathlib.Core.Path.{sym, _∙_}
 use native.Mathlib.Omega.{arith}
 use borrow.Author.Needs.{needs}
 use Rattle.scan.proofs.Scanning.{code-done, code-refused}

@@ -1,5 +1,5 @@
 -- `scan::scan_code` meets its contract. The run works on a copy; the laws are those of Joined. Assumes nothing.
-use mathlib.Core.Path.{_≡_, sym, _∙_}
+use mathlib.Core.Path.{sym, _∙_}
 use native.Mathlib.Omega.{arith}
 use lib.ListN.{length, drop, length-drop}
 use Rattle.checker.proofs.Checking.{rest-of}

@@ -1,6 +1,6 @@
 -- `scan::scan_in` meets its contract: 9, the header, the lengths, then the values. The ranges stand at the front of the lent memory. Assumes nothing.
 use Prim.Native.Nat.{_≤_}
-use mathlib.Core.Path.{_≡_, refl, sym, _∙_}
+use mathlib.Core.Path.{refl, sym, _∙_}
 use native.Mathlib.Omega.{arith}
 use lib.ListN.{length}
 use lib.Seq.{length-take-le}

@@ -1,5 +1,5 @@
 -- `scan::scan_sound` meets its contract: a run without timers, on a copy that holds the row. Assumes nothing.
-use mathlib.Core.Path.{_≡_, refl, ap, _∙_}
+use mathlib.Core.Path.{refl, ap, _∙_}
 use borrow.Author.Needs.{needs}
 use Rattle.semantics.specs.Formula.{State}
 use Rattle.machine.proofs.Changes.{names-length}

@@ -1,5 +1,5 @@
 -- `scan::scan_values` meets its contract: 18, 13, then the code, after what the check of the image answers. Assumes nothing.
-use mathlib.Core.Path.{_≡_, sym, _∙_}
+use mathlib.Core.Path.{sym, _∙_}
 use borrow.Author.Tests.{not-true, not-false}
 use Rattle.bytecode.specs.Parts.{headerOf}
 use Rattle.scan.proofs.Joined.{known-ranges, value-refused, input-refused}

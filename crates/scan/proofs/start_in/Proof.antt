@@ -1,5 +1,5 @@
 -- `scan::start_in` meets its contract. The ways are the laws of Images. Assumes nothing.
-use mathlib.Core.Path.{_≡_, sym, subst, _∙_}
+use mathlib.Core.Path.{sym, subst, _∙_}
 use native.Mathlib.Omega.{arith}
 use Rattle.shapes.specs.Results.{Measures, ShapedAs}
 use Rattle.scan.proofs.Images.{start-refused, start-wrong-length}

@@ -1,6 +1,5 @@
 -- `st_sections::inputs_before` meets its contract. Assumes nothing.
 use native.Mathlib.Omega.{arith}
-use mathlib.Core.Path.{_∙_}
 use borrow.Author.Needs.{needs}
 use Rattle.lexer.specs.Names.{tableNames}
 use Rattle.expressions.proofs.Scopes.{names-counted}

@@ -1,10 +1,10 @@
 -- `st_sections::lines_before` meets its contract. The lines from `i` on are put. Assumes nothing.
 use Prim.Native.Nat.{_≤_, _-_}
 use native.Mathlib.Omega.{arith}
-use mathlib.Core.Path.{_≡_, sym, ap, _∙_}
+use mathlib.Core.Path.{_≡_}
 use mathlib.Core.List.{map}
 use lib.IntN.{pos}
-use lib.ListN.{length, getD, take, drop}
+use lib.ListN.{getD, take, drop}
 use mir.Syntax.{w32}
 use mir.Val.{SFits}
 use borrow.Author.Needs.{needs}

@@ -6,7 +6,6 @@ use lib.ListN.{length, take}
 use mathlib.Core.Bool.{true≢false}
 use Rattle.tracer.specs.Session.{sessionOf, fedOver}
 use Rattle.trace.proofs.Parts.{taken-inside, taken-less, fed-further, fed-all}
-use borrow.Author.Needs.{needs}
 use Rattle.trace.proofs.trace_part.Statement.{statement}
 use Rattle.trace.proofs.trace_part.Tie as tie
 

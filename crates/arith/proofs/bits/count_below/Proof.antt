@@ -1,6 +1,6 @@
 -- `arith::bits::count_below` meets its contract. The measure is the bits not yet looked at. Assumes nothing.
-use Prim.Native.Nat.{ℕ, _+_, _-_, _%_, _/_, _≤_, _<_}
-use mathlib.Core.Path.{_≡_, refl, _∙_}
+use Prim.Native.Nat.{_+_, _-_, _%_, _/_, _≤_, _<_}
+use mathlib.Core.Path.{_≡_, _∙_}
 use native.Mathlib.Omega.{arith}
 use Rattle.arith.specs.Inner.Flags.{onesBelow}
 use Rattle.arith.proofs.Flags.{ones-next, ones-none}

@@ -1,11 +1,9 @@
 -- `declarations::timers::is_binary` meets its contract: each part that was read takes the definition one step on. Assumes nothing.
 use mathlib.Core.Path.{_≡_, sym, ap, _∙_}
-use mathlib.Core.Bool.{_&&_}
 use native.Mathlib.Omega.{arith}
 use mir.Syntax.{w32}
 use mir.Val.{SFits}
-use lib.IntN.{pos}
-use Rattle.arith.specs.Values.{lowest, highest, eqZ}
+use Rattle.arith.specs.Values.{lowest, highest}
 use Rattle.arith.proofs.Laws.{same32}
 use Rattle.lexer.specs.Token.{dots}
 use Rattle.lexer.specs.Results.{kindOf}

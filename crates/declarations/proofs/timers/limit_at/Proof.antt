@@ -1,6 +1,5 @@
 -- `declarations::timers::limit_at` meets its contract. Assumes nothing.
-use mathlib.Core.Path.{_≡_, sym, ap, _∙_}
-use native.Mathlib.Omega.{arith}
+use mathlib.Core.Path.{sym, ap, _∙_}
 use Rattle.lexer.specs.Token.{kindNumber, digits}
 use Rattle.lexer.proofs.KindNumbers.{kind-is, kind-is-not}
 use Rattle.lexer.proofs.Tokens.{is-token, is-fault}

@@ -1,8 +1,5 @@
 -- `declarations::timers::rest` meets its contract: each part that was read takes the definition one step on. Assumes nothing.
-use mathlib.Core.Path.{_≡_, sym, ap, _∙_}
-use mathlib.Core.List.{List}
-use native.Mathlib.Omega.{arith}
-use Rattle.lexer.specs.Token.{ofWord, limitWord, semicolon}
+use mathlib.Core.Path.{sym, ap, _∙_}
 use Rattle.lexer.specs.Results.{kindOf}
 use Rattle.lexer.specs.declared.Place.{Place}
 use Rattle.phrases.specs.Inner.Steps.{parsedOf, nothing, numberTold}

@@ -1,5 +1,5 @@
 -- `declarations::timers::watched_at` meets its contract. Assumes nothing.
-use mathlib.Core.Path.{_≡_, sym, ap, _∙_}
+use mathlib.Core.Path.{sym, ap, _∙_}
 use native.Mathlib.Omega.{arith}
 use Rattle.lexer.specs.Token.{kindNumber, name}
 use Rattle.lexer.specs.Names.{idOf}

@@ -3,7 +3,6 @@ use Prim.Native.Nat.{ℕ}
 use native.Mathlib.Omega.{arith}
 use borrow.Author.Needs.{needs}
 use borrow.Fn.Kinds.{In}
-use Rattle.lexer.specs.Token.{kindNumber}
 use Rattle.expressions.proofs.Steps.{ahead-fault, operand-stands, operand-room}
 use Rattle.expressions.proofs.Cycle.{just, below}
 use Rattle.expressions.proofs.Ways.{factor-fault, operand-fault, factor-refuses, factor-accepts, primary-fits}

@@ -1,7 +1,6 @@
 -- `fused::ahead::pass_first` meets its contract. Assumes nothing.
 use mathlib.Core.Path.{refl}
 use mathlib.Core.Logic.{inl}
-use borrow.Author.Needs.{needs}
 use Rattle.fused.proofs.Skipping.{first-over}
 use Rattle.fused.proofs.ahead.pass_first.Statement.{statement}
 use Rattle.fused.proofs.ahead.pass_first.Tie as tie

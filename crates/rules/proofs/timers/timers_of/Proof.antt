@@ -1,7 +1,6 @@
 -- `rules::timers::timers_of` meets its contract: the timers before the one at hand are put. Assumes nothing.
 use Prim.Native.Nat.{_-_}
 use native.Mathlib.Omega.{arith}
-use borrow.Author.Needs.{needs}
 use Rattle.rules.proofs.Putting.{Putting, putting-first, putting-near, putting-more, putting-all}
 use Rattle.rules.proofs.timers.timers_of.Statement.{statement}
 use Rattle.rules.proofs.timers.timers_of.Tie as tie

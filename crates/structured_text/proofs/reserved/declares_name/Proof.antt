@@ -1,7 +1,4 @@
 -- `structured_text::reserved::declares_name` meets its contract. Assumes nothing.
-use mathlib.Core.Path.{_≡_}
-use mathlib.Core.Bool.{_||_}
-use lib.Dec.{eqb}
 use Rattle.lexer.specs.Token.{kindNumber, inputWord, varWord}
 use Rattle.lexer.proofs.KindNumbers.{is-kind, kind-is, kind-is-not}
 use Rattle.structured_text.proofs.reserved.declares_name.Statement.{statement}

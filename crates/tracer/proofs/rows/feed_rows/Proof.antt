@@ -6,7 +6,6 @@ use lib.ListN.{length}
 use Rattle.trace_text.proofs.Lengths.{turn-less}
 use Rattle.tracer.specs.Session.{inRows}
 use Rattle.tracer.proofs.Taking.{Taking, taking, taking-byte, taking-all, taking-full, rows-taken}
-use borrow.Author.Needs.{needs}
 use Rattle.tracer.proofs.rows.feed_rows.Statement.{statement}
 use Rattle.tracer.proofs.rows.feed_rows.Tie as tie
 
