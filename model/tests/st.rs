@@ -175,6 +175,28 @@ fn what_is_no_unit() {
     assert!(read(b"").is_some());
 }
 
+/// identifier ::= (letter | ('_' (letter | digit))) {['_'] (letter | digit)}, as the list of
+/// words that it makes of one letter and one digit, up to six bytes.
+#[test]
+fn identifiers() {
+    let mut made: Vec<String> = ["a", "_a", "_1"].map(str::to_owned).to_vec();
+    let mut from = 0;
+    while from < made.len() {
+        let longer = ["a", "1", "_a", "_1"].map(|part| format!("{}{part}", made[from]));
+        made.extend(longer.into_iter().filter(|word| word.len() <= 6));
+        from += 1;
+    }
+    let mut words = vec![String::new()];
+    for _ in 0..6 {
+        let longer = |word: &String| ["", "a", "1", "_"].map(|part| format!("{word}{part}"));
+        words = words.iter().flat_map(longer).collect();
+    }
+    for word in words {
+        let unit = read(format!("VAR {word} : DINT := 0; END_VAR").as_bytes());
+        assert_eq!(unit.is_some(), made.contains(&word), "{word}");
+    }
+}
+
 /// A unit printed again: each operation in round brackets and nothing else.
 fn printed(unit: &Unit) -> String {
     let section = |word: &str, part: std::ops::Range<usize>| {

@@ -10,11 +10,11 @@ use borrow.Author.Tests.{ne-eqb, eqb-true, leb-true, ltb-true}
 use Rattle.arith.proofs.Basics.{and-both}
 use Rattle.lexer.specs.Bytes.{bytes, sameBytes, capital, capitals}
 use Rattle.lexer.specs.Lexer.{isDigit, isLetter, isAlphanumeric, sameName}
-use Rattle.lexer.specs.Spelling.{AllBytes}
+use Rattle.lexer.specs.Spelling.{AllBytes, IsWord}
 use Rattle.trace_text.specs.Row.{allDigits}
 use Rattle.trace_text.specs.Output.{unsignedDecimal}
 use Rattle.trace_text.proofs.Printing.{reads}
-use Rattle.st.specs.Reading.{isPart, isAny, keywords, isIdentifier}
+use Rattle.st.specs.Reading.{isPart, isAny, keywords, isRepetition, isProduced, isIdentifier}
 use Rattle.st.proofs.Lexed.{Parts, Numeral, NameWord}
 
 -- ---- bytes
@@ -154,10 +154,36 @@ begins-word a e = by (leb 65 a && ltb a 91) refl (leb 97 a && ltb a 123) refl (e
   by false s false et true eu e = let g = eqb-true a 95 eu in (rw g, far (omega arith))
   by false s false et false eu e = absurd (false≢true e)
 
+produced-begins : (a : ℕ) (l : List ℕ) → isProduced (a ∷ l) ≡ true → (isLetter a || eqb a 95) ≡ true
+produced-begins a [] e = rw e
+produced-begins a (b ∷ l) e = by (isLetter a) (isRepetition (b ∷ l)) (eqb a 95) (isAlphanumeric b && isRepetition l) e where
+  by : (s t u v : Bool) → ((s && t) || (u && v)) ≡ true → (s || u) ≡ true
+  by true t u v e = refl
+  by false t true v e = refl
+  by false t false v e = absurd (false≢true e)
+
+-- letters and digits repeat
+pub alphanumeric-repetition : (l : List ℕ) → AllBytes isAlphanumeric l → isRepetition l ≡ true
+alphanumeric-repetition [] h = refl
+alphanumeric-repetition (a ∷ []) h = h .0
+alphanumeric-repetition (a ∷ b ∷ l) h = rw (h .0, alphanumeric-repetition (b ∷ l) (h .1))
+
+-- a letter, then letters and digits; `_` before such a word
+pub word-produced : (w : List ℕ) → IsWord w → isProduced w ≡ true
+word-produced [] h = absurd h
+word-produced (a ∷ []) h = h .0
+word-produced (a ∷ b ∷ l) h = rw (h .0, alphanumeric-repetition (b ∷ l) (h .1))
+
+pub underscore-produced : (w : List ℕ) → IsWord w → isProduced (95 ∷ w) ≡ true
+unfolding isLetter isAlphanumeric
+underscore-produced [] h = absurd h
+underscore-produced (a ∷ l) h = rw (h .0, alphanumeric-repetition l (h .1))
+
 pub identifier-word : (a : ℕ) (l : List ℕ) → Parts l → isIdentifier (a ∷ l) ≡ true → NameWord (a ∷ l)
+unfolding isIdentifier
 identifier-word a l h e =
-    let x = and-both (isLetter a || eqb a 95) (not (isAny keywords (a ∷ l))) e in
-    let b = begins-word a (x .0) in
+    let x = and-both (isProduced (a ∷ l)) (not (isAny keywords (a ∷ l))) e in
+    let b = begins-word a (produced-begins a l (x .0)) in
     let k₀ = neither (sameName (a ∷ l) (bytes "VAR")) _ (untrue (isAny keywords (a ∷ l)) (x .1)) in
     let k₁ = neither (sameName (a ∷ l) (bytes "VAR_INPUT")) _ (k₀ .1) in
     let k₂ = neither (sameName (a ∷ l) (bytes "END_VAR")) _ (k₁ .1) in

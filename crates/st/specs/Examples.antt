@@ -1,12 +1,14 @@
 -- Worked cycles: what bytes, a state and a row leave. Assumes nothing.
 use Prim.Native.Nat.{ℕ}
+use Prim.Native.String.{String}
 use mathlib.Core.Path.{_≡_}
 use mathlib.Core.Bool.{Bool, true, false}
 use mathlib.Core.List.{List, [], _∷_, _++_}
 use mathlib.Core.Option.{Option, none, some}
 use lib.IntN.{ℤ, pos, negsuc}
 use Rattle.lexer.specs.Bytes.{bytes}
-use Rattle.st.specs.Syntax.{Identifier}
+use Rattle.st.specs.Syntax.{Identifier, StProgram}
+use Rattle.st.specs.Reading.{programRead}
 use Rattle.st.specs.Meaning.{ValuesLeft, cycleLeaves}
 
 pub record CycleExample : Type 0 where
@@ -83,3 +85,25 @@ cycleExamples =
     -- precedence, left to right
     ∷ statementCycle true (bytes "v := 1 - 2 - 3 * 4;") (alike (negsuc 12 ∷ []))
     ∷ statementCycle true (bytes "w := 1;") none ∷ inputCycle ∷ []
+
+-- Worked identifiers: what a section that declares a word reads as.
+pub record IdentifierExample : Type 0 where
+  pub word : List ℕ
+  pub program : Option StProgram
+
+abbrev pub IdentifiersHold : List IdentifierExample → Type 0
+IdentifiersHold [] = Unit {0}
+IdentifiersHold (x ∷ more) = (programRead (bytes "VAR " ++ (x .word ++ bytes " : DINT := 0; END_VAR")) ≡ x .program) × IdentifiersHold more
+
+abbrev pub declared : String → IdentifierExample
+declared w = record { word = bytes w; program = some (record { inputs = []; variables = record { name = bytes w; start = pos 0 } ∷ []; body = [] }) }
+
+abbrev pub undeclared : String → IdentifierExample
+undeclared w = record { word = bytes w; program = none }
+
+abbrev pub identifierExamples : List IdentifierExample
+identifierExamples =
+    declared "a" ∷ declared "_a" ∷ declared "_1" ∷ declared "a_b" ∷ declared "a1_2"
+    -- two underscores in a row, one at the end, one alone
+    ∷ undeclared "a__b" ∷ undeclared "__a" ∷ undeclared "a_" ∷ undeclared "_"
+    ∷ undeclared "1a" ∷ undeclared "If" ∷ []

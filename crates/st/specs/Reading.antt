@@ -9,7 +9,7 @@ use lib.IntN.{ℤ, pos, negℤ}
 use lib.ListN.{length}
 use Rattle.arith.specs.Values.{equal, notEqual, less, lessEqual, greater, greaterEqual, add, subtract, multiply, divide, modulo, isInt32}
 use Rattle.lexer.specs.Bytes.{bytes}
-use Rattle.lexer.specs.Lexer.{isSpace, isLetter, sameName, valueOf}
+use Rattle.lexer.specs.Lexer.{isSpace, isLetter, isAlphanumeric, sameName, valueOf}
 use Rattle.trace_text.specs.Row.{allDigits}
 use Rattle.st.specs.Syntax.{Identifier, or, and, Operator, connects, relates, computes, StExpression, number, variable, negative, complement, binary, Assignment, Branch, Statement, assign, choose, Declaration, StProgram}
 
@@ -53,10 +53,21 @@ isAny (w ∷ ws) t = sameName t w || isAny ws t
 abbrev pub keywords : List (List ℕ)
 keywords = bytes "VAR" ∷ bytes "VAR_INPUT" ∷ bytes "END_VAR" ∷ bytes "DINT" ∷ bytes "IF" ∷ bytes "THEN" ∷ bytes "ELSIF" ∷ bytes "END_IF" ∷ bytes "AND" ∷ bytes "OR" ∷ bytes "NOT" ∷ bytes "MOD" ∷ []
 
--- begins with a letter or `_`, and is no keyword
-abbrev pub isIdentifier : List ℕ → Bool
-isIdentifier [] = false
-isIdentifier (a ∷ l) = (isLetter a || eqb a 95) && not (isAny keywords (a ∷ l))
+-- {['_'] (letter | digit)}
+abbrev pub isRepetition : List ℕ → Bool
+isRepetition [] = true
+isRepetition (a ∷ []) = isAlphanumeric a
+isRepetition (a ∷ b ∷ l) = (isAlphanumeric a && isRepetition (b ∷ l)) || (eqb a 95 && (isAlphanumeric b && isRepetition l))
+
+-- the standard's production: identifier ::= (letter | ('_' (letter | digit))) {['_'] (letter | digit)}
+abbrev pub isProduced : List ℕ → Bool
+isProduced [] = false
+isProduced (a ∷ []) = isLetter a
+isProduced (a ∷ b ∷ l) = (isLetter a && isRepetition (b ∷ l)) || (eqb a 95 && (isAlphanumeric b && isRepetition l))
+
+-- a word of that production which is no keyword
+unfoldable pub isIdentifier : List ℕ → Bool
+isIdentifier w = isProduced w && not (isAny keywords w)
 
 abbrev pub isNumber : List ℕ → Bool
 isNumber [] = false

@@ -1,8 +1,7 @@
 -- A name of a text that is no word of Structured Text is an identifier there, and so is every previous value's name. Assumes nothing.
 use mathlib.Core.Path.{_≡_, refl, sym, subst}
-use mathlib.Core.Bool.{Bool, true, false, not, _&&_, _||_, false≢true}
+use mathlib.Core.Bool.{Bool, true, false, _||_, false≢true}
 use mathlib.Core.List.{[], _∷_}
-use lib.Dec.{eqb}
 use Rattle.lexer.specs.Bytes.{bytes, sameBytes, capital, capitals}
 use Rattle.lexer.specs.Lexer.{isLetter, isDigit, isAlphanumeric, sameName}
 use Rattle.lexer.specs.Spelling.{IsWord}
@@ -13,7 +12,7 @@ use Rattle.st.specs.Syntax.{Identifier}
 use Rattle.st.specs.Reading.{isAny, keywords, isIdentifier}
 use Rattle.st.specs.Meaning.{previousName}
 use Rattle.st.proofs.Lexed.{NameWord}
-use Rattle.st.proofs.Words.{letter-part, alphanumeric-parts, identifier-word}
+use Rattle.st.proofs.Words.{letter-part, alphanumeric-parts, word-produced, underscore-produced, identifier-word}
 use Rattle.st_program.specs.Written.{isStWord}
 
 -- the same as a word that it cannot be
@@ -60,11 +59,6 @@ none-of v i ev d f t e ei a o n m hv hi hev hei hm h = rw (hv, hi, hev, hei, hm)
   by false false false true h = absurd (false≢true (sym h))
   by false false false false h = h
 
-letter-begins : (t u v : Bool) → t ≡ true → v ≡ false → ((t || u) && not v) ≡ true
-letter-begins true u false e f = refl
-letter-begins true u true e f = absurd (false≢true (sym f))
-letter-begins false u v e f = absurd (false≢true e)
-
 keywords-none : (w : Identifier) → IsName w → isStWord w ≡ false → isAny keywords w ≡ false
 unfolding isStWord
 keywords-none w h e =
@@ -73,14 +67,17 @@ keywords-none w h e =
     (no-var w h) (no-var-input w (h .is-word)) (no-end-var w (h .is-word)) (no-end-if w (h .is-word)) (no-mod w h) e
 
 pub name-word : (w : Identifier) → IsName w → isStWord w ≡ false → NameWord w
+unfolding isIdentifier
 name-word [] h e = absurd (h .is-word)
-name-word (a ∷ l) h e =
-    identifier-word a l (alphanumeric-parts l (h .is-word .1)) (letter-begins (isLetter a) (eqb a 95) (isAny keywords (a ∷ l)) (h .is-word .0) (keywords-none (a ∷ l) h e))
+name-word (a ∷ l) h e = identifier-word a l (alphanumeric-parts l (h .is-word .1)) (rw (word-produced (a ∷ l) (h .is-word), keywords-none (a ∷ l) h e))
 
-underscore-identifier : (w : Identifier) → isIdentifier (previousName w) ≡ true
-unfolding sameName sameBytes capitals capital isLetter
-underscore-identifier w = refl
+-- no keyword begins with `_`
+underscore-none : (w : Identifier) → isAny keywords (previousName w) ≡ false
+unfolding sameName sameBytes capitals capital
+underscore-none w = refl
 
 pub previous-word : (w : Identifier) → IsName w → NameWord (previousName w)
+unfolding isIdentifier
 previous-word [] h = absurd (h .is-word)
-previous-word (a ∷ l) h = identifier-word 95 (a ∷ l) (letter-part a (h .is-word .0), alphanumeric-parts l (h .is-word .1)) (underscore-identifier (a ∷ l))
+previous-word (a ∷ l) h =
+    identifier-word 95 (a ∷ l) (letter-part a (h .is-word .0), alphanumeric-parts l (h .is-word .1)) (rw (underscore-produced (a ∷ l) (h .is-word), underscore-none (a ∷ l)))

@@ -2,11 +2,12 @@
 use Prim.Native.Nat.{ℕ, zero, suc, _+_, _-_, _≤_}
 use native.Mathlib.Omega.{arith}
 use mathlib.Core.Path.{_≡_, refl, sym, ap, _∙_, subst}
-use mathlib.Core.Bool.{Bool, true, false, not, _&&_, cond, false≢true}
+use mathlib.Core.Bool.{Bool, true, false, not, cond, false≢true}
 use mathlib.Core.List.{List, [], _∷_, _++_, append-assoc, append-nil}
 use mathlib.Core.Logic.{_⊎_, inl, inr}
 use lib.IntN.{ℤ}
 use lib.ListN.{length, take, length-append, length-map}
+use Rattle.arith.proofs.Basics.{and-both}
 use Rattle.limits.specs.Answer.{accepted}
 use Rattle.lexer.specs.Bytes.{bytes, part, capitals}
 use Rattle.lexer.specs.Token.{Kind, name, ending, inputWord, varWord, timerWord, kindNumber, spellingOf, is, TokenRead, token}
@@ -20,13 +21,14 @@ use Rattle.grammar.specs.Spelled as S
 use Rattle.grammar.specs.Spelled.{SpellsZ, SpellsStart, Declares, DeclareAll, DeclaresTimer, DeclareTimers, namesOf, Spelled}
 use Rattle.grammar.specs.Parse.{programOf}
 use Rattle.grammar.proofs.Growth.{bytesOf, spells-bytes}
-use Rattle.grammar.proofs.Standing.{written, is-read, split, stands-in, spells-in}
+use Rattle.grammar.proofs.Standing.{written, is-read, spells-append, split, stands-in, spells-in}
 use Rattle.grammar.proofs.Phrases.{fixed-at, name-at}
 use Rattle.grammar.proofs.ConverseText.{accepted-exactly}
 use Rattle.st_program.specs.Written.{isStWord, noneStWord, hasSt}
 use Rattle.st_program.proofs.FirstStore.{spelled}
 use Rattle.structured_text.specs.Services.{declaresName, reservedFrom, reservedPlace}
-use Rattle.structured_text.specs.Place.{DeclaredAt, FirstReserved, NoneTimer, FirstOutside, a-name, a-timer}
+use Rattle.structured_text.proofs.SolePlace.{sole-outside}
+use Rattle.structured_text.specs.Place.{DeclaredIn, none, a-declared, another, FirstReserved, NoneTimer, FirstOutside, a-name, a-timer, OutsideAt}
 
 -- ---- tokens that declare nothing
 
@@ -70,6 +72,23 @@ bounds-plain ls hs ss r dl dh ds =
     plain-append ((ls ++ bytes ".." ∷ hs) ++ ss) (bytes ";" ∷ []) (plain-append (ls ++ bytes ".." ∷ hs) ss
     (plain-append ls (bytes ".." ∷ hs) (number-plain ls (r .low) dl) (length-plain (bytes "..") 2 refl (λ q. omega arith) (λ q. omega arith), number-plain hs (r .high) dh)) (start-plain ss (r .start) ds)) (one-plain 59, tt)
 
+plain-declared : (ts : List (List ℕ)) → AllPlain ts → DeclaredIn ts []
+plain-declared [] p = none
+plain-declared (t ∷ ts) p = another t ts [] (p .0 .0) (p .0 .1) (plain-declared ts (p .1))
+
+declared-append : {ts us ws vs : List (List ℕ)} → DeclaredIn ts ws → DeclaredIn us vs → DeclaredIn (ts ++ us) (ws ++ vs)
+declared-append none g = g
+declared-append {us = us} {vs = vs} (a-declared k w ts ws o d) g = a-declared k w (ts ++ us) (ws ++ vs) o (declared-append d g)
+declared-append {us = us} {vs = vs} (another t ts ws i v d) g = another t (ts ++ us) (ws ++ vs) i v (declared-append d g)
+
+declaring : (k : Kind) → (k ≡ inputWord) ⊎ (k ≡ varWord) → (spellingOf k ≡ bytes "input") ⊎ (spellingOf k ≡ bytes "var")
+declaring k (inl e) = inl (ap spellingOf e)
+declaring k (inr e) = inr (ap spellingOf e)
+
+none-both : (ws vs : List (List ℕ)) → noneStWord ws ≡ true → noneStWord vs ≡ true → noneStWord (ws ++ vs) ≡ true
+none-both [] vs e f = f
+none-both (w ∷ ws) vs e f = let x = and-both (not (isStWord w)) (noneStWord ws) e in rw (x .0) (none-both ws vs (x .1) f)
+
 -- ---- the walk
 
 same-token : (j k : Kind) (s n : ℕ) → _≡_ {A = TokenRead} (token j s n) (token k s n) → j ≡ k
@@ -108,16 +127,19 @@ module _ (text : List ℕ) where
   two f a s n t m k w e y d q r p = rw (q, e, y, d, r, p)
 
   -- one declaration
-  record Declared (x : Name) (ts : List (List ℕ)) (a b f : ℕ) : Type 0 where
+  record Declared (k : Kind) (x : Name) (ts : List (List ℕ)) (a b f : ℕ) : Type 0 where
+    behind : ℕ
+    declares : Stands asWritten text a behind (spellingOf k)
     start : ℕ
+    separated : Separated text behind start
     end : ℕ
     stands : TokenFrom text start end name
     spells : part text start end ≡ x .spelling
-    behind : DeclaredAt text start
+    names : DeclaredIn ts (x .spelling ∷ [])
     walks : reservedFrom f text false a ≡ cond (isStWord (x .spelling)) start (reservedFrom (f - length ts) text false b)
 
   declared : (k : Kind) → (k ≡ inputWord) ⊎ (k ≡ varWord) → isFixed k ≡ true → is k ending ≡ false → is k timerWord ≡ false → declaresName k ≡ true → (ts : List (List ℕ)) (x : Name) → Declares (spellingOf k) ts x
-      → (a b : ℕ) → a ≤ length text → Spells asWritten text a b ts → (f : ℕ) → length ts ≤ f → Declared x ts a b f
+      → (a b : ℕ) → a ≤ length text → Spells asWritten text a b ts → (f : ℕ) → length ts ≤ f → Declared k x ts a b f
   declared k o fx e y d ts x (S.Declares.declares w ls hs ss r nm dl dh ds fits) a b h g zero l = absurd (omega arith)
   declared k o fx e y d ts x (S.Declares.declares w ls hs ss r nm dl dh ds fits) a b h g (suc zero) l = absurd (omega arith)
   declared k o fx e y d ts x (S.Declares.declares w ls hs ss r nm dl dh ds fits) a b h g (suc (suc f)) l =
@@ -132,87 +154,104 @@ module _ (text : List ℕ) where
       let t2 = name-at written text w nm n1 n2 h1 st2 in
       let fuel : f - length rest ≡ suc (suc f) - length (S.declarationForm (spellingOf k) w ls hs ss) = omega arith in
       record {
+        behind = n1;
+        declares = st1;
         start = st2 .start;
+        separated = st2 .separated;
         end = n2;
         stands = subst (TokenFrom text (st2 .start) n2) (same-token (st2 .kind) name (st2 .start) n2 (sym (is-read st2) ∙ t2)) (st2 .is-token);
         spells = st2 .spelled;
-        behind = record {
-          kind = k;
-          declares = o;
-          start = st1 .start;
-          end = n1;
-          stands = subst (TokenFrom text (st1 .start) n1) (same-token (st1 .kind) k (st1 .start) n1 (sym (is-read st1) ∙ fixed-at written text k fx a n1 h st1)) (st1 .is-token);
-          separated = st2 .separated;
-        };
+        names = a-declared (spellingOf k) w rest [] (declaring k o) (plain-declared rest plain);
         walks = two f a (st1 .start) n1 (st2 .start) n2 k w e y d (fixed-at written text k fx a n1 h st1) t2 (st2 .spelled)
             ∙ ap (cond (isStWord w) (st2 .start)) (walk-plain rest plain n2 b h2 (g .2 .2) f (omega arith) ∙ ap (λ (n : ℕ). reservedFrom n text false b) fuel);
       }
 
+  -- up to a: tokens that declare the names listed, none of them a word of Structured Text
+  record Before (names : List (List ℕ)) (a : ℕ) : Type 0 where
+    tokens : List (List ℕ)
+    declare : DeclaredIn tokens names
+    none-reserved : noneStWord names ≡ true
+    spells : Spells asWritten text 0 a tokens
+
   -- what a walk over declarations shows: a reserved name, or none and where it goes on
-  abbrev Walked : List Name → List (List ℕ) → ℕ → ℕ → ℕ → Type 0
-  Walked ns ts a b f = FirstReserved text (spelled ns) (reservedFrom f text false a) ⊎ ((noneStWord (spelled ns) ≡ true) × (reservedFrom f text false a ≡ reservedFrom (f - length ts) text false b))
+  abbrev Walked : List (List ℕ) → List Name → List (List ℕ) → ℕ → ℕ → ℕ → Type 0
+  Walked ws ns ts a b f = FirstReserved text (ws ++ spelled ns) (reservedFrom f text false a) ⊎ (Before (ws ++ spelled ns) b × (reservedFrom f text false a ≡ reservedFrom (f - length ts) text false b))
 
-  first-here : (x : Name) (ns : List Name) (ts : List (List ℕ)) (a b f : ℕ) (d : Declared x ts a b f) → isStWord (x .spelling) ≡ true → FirstReserved text (spelled (x ∷ ns)) (reservedFrom f text false a)
-  first-here x ns ts a b f d e =
+  first-here : (k : Kind) → (k ≡ inputWord) ⊎ (k ≡ varWord) → (ws : List (List ℕ)) (x : Name) (ns : List Name) (ts : List (List ℕ)) (a b f : ℕ) → Before ws a → (d : Declared k x ts a b f) → isStWord (x .spelling) ≡ true
+      → FirstReserved text (ws ++ spelled (x ∷ ns)) (reservedFrom f text false a)
+  first-here k o ws x ns ts a b f z d e =
       let q : reservedFrom f text false a ≡ d .start = d .walks ∙ ap (λ (t : Bool). cond t (d .start) (reservedFrom (f - length ts) text false b)) e in
-      subst (FirstReserved text (spelled (x ∷ ns))) (sym q)
-      (record { earlier = []; word = x .spelling; later = spelled ns; in-order = refl; none-earlier = refl; reserved = e; end = d .end; stands = d .stands; spells = d .spells; declared = d .behind })
+      subst (FirstReserved text (ws ++ spelled (x ∷ ns))) (sym q)
+      (record {
+        earlier = ws;
+        word = x .spelling;
+        later = spelled ns;
+        in-order = refl;
+        none-earlier = z .none-reserved;
+        reserved = e;
+        tokens = z .tokens;
+        declare-earlier = z .declare;
+        declares = spellingOf k;
+        is-declaring = declaring k o;
+        behind = d .behind;
+        spells-tokens = spells-append written text 0 a (d .behind) (z .tokens) (spellingOf k ∷ []) (z .spells) (d .behind, d .declares, refl);
+        separated = d .separated;
+        end = d .end;
+        stands = d .stands;
+        spells = d .spells;
+      })
 
-  first-later : (w : List ℕ) (ws : List (List ℕ)) (place : ℕ) → isStWord w ≡ false → FirstReserved text ws place → FirstReserved text (w ∷ ws) place
-  first-later w ws place e r =
-      record { earlier = w ∷ r .earlier; word = r .word; later = r .later; in-order = ap (λ (l : List (List ℕ)). w ∷ l) (r .in-order); none-earlier = rw (e, r .none-earlier); reserved = r .reserved; end = r .end; stands = r .stands; spells = r .spells; declared = r .declared }
+  one-more : (k : Kind) (ws : List (List ℕ)) (x : Name) (ts : List (List ℕ)) (a b f : ℕ) → Before ws a → Declared k x ts a b f → isStWord (x .spelling) ≡ false → Spells asWritten text a b ts → Before (ws ++ x .spelling ∷ []) b
+  one-more k ws x ts a b f z d e g =
+      record { tokens = z .tokens ++ ts; declare = declared-append (z .declare) (d .names); none-reserved = none-both ws (x .spelling ∷ []) (z .none-reserved) (rw e); spells = spells-append written text 0 a b (z .tokens) ts (z .spells) g }
 
   all-walked : (k : Kind) → (k ≡ inputWord) ⊎ (k ≡ varWord) → isFixed k ≡ true → is k ending ≡ false → is k timerWord ≡ false → declaresName k ≡ true → (ts : List (List ℕ)) (ns : List Name) → DeclareAll (spellingOf k) ts ns
-      → (a b : ℕ) → a ≤ length text → Spells asWritten text a b ts → (f : ℕ) → length ts ≤ f → Walked ns ts a b f
-  all-walked k o fx e y d ts ns S.DeclareAll.none a b h g f l = inr (refl, (let q : f ≡ f - 0 = omega arith in ap (λ (n : ℕ). reservedFrom f text false n) g ∙ ap (λ (n : ℕ). reservedFrom n text false b) q))
-  all-walked k o fx e y d ts ns (S.DeclareAll.more us vs x xs dx r) a b h g f l =
+      → (ws : List (List ℕ)) (a b : ℕ) → a ≤ length text → Before ws a → Spells asWritten text a b ts → (f : ℕ) → length ts ≤ f → Walked ws ns ts a b f
+  all-walked k o fx e y d ts ns S.DeclareAll.none ws a b h z g f l =
+      let q : f ≡ f - 0 = omega arith in
+      inr (subst (λ (l : List (List ℕ)). Before l b) (sym (append-nil ws)) (subst (Before ws) g z), ap (λ (n : ℕ). reservedFrom f text false n) g ∙ ap (λ (n : ℕ). reservedFrom n text false b) q)
+  all-walked k o fx e y d ts ns (S.DeclareAll.more us vs x xs dx r) ws a b h z g f l =
       let s = split written text a b us vs g in
       let m = length-append us vs in
       let one = declared k o fx e y d us x dx a (s .place) h (s .first) f (omega arith) in
       let mid = spells-in written text a (s .place) us h (s .first) .1 in
-      by (isStWord (x .spelling)) refl (s .place) one (all-walked k o fx e y d vs xs r (s .place) b mid (s .second) (f - length us) (omega arith)) m where
-        by : (t : Bool) → isStWord (x .spelling) ≡ t → (c : ℕ) → Declared x us a c f → Walked xs vs c b (f - length us) → length (us ++ vs) ≡ length us + length vs → Walked (x ∷ xs) (us ++ vs) a b f
-        by true q c one more m = inl (first-here x xs us a c f one q)
-        by false q c one more m = go more where
+      by (isStWord (x .spelling)) refl (s .place) one (s .first) (λ z2. all-walked k o fx e y d vs xs r (ws ++ x .spelling ∷ []) (s .place) b mid z2 (s .second) (f - length us) (omega arith)) m where
+        by : (t : Bool) → isStWord (x .spelling) ≡ t → (c : ℕ) → Declared k x us a c f → Spells asWritten text a c us → (Before (ws ++ x .spelling ∷ []) c → Walked (ws ++ x .spelling ∷ []) xs vs c b (f - length us))
+            → length (us ++ vs) ≡ length us + length vs → Walked ws (x ∷ xs) (us ++ vs) a b f
+        by true q c one g1 more m = inl (first-here k o ws x xs us a c f z one q)
+        by false q c one g1 more m = go (more (one-more k ws x us a c f z one q g1)) where
           on : reservedFrom f text false a ≡ reservedFrom (f - length us) text false c
           on = one .walks ∙ ap (λ (t : Bool). cond t (one .start) (reservedFrom (f - length us) text false c)) q
 
-          go : Walked xs vs c b (f - length us) → Walked (x ∷ xs) (us ++ vs) a b f
-          go (inl z) = inl (first-later (x .spelling) (spelled xs) (reservedFrom f text false a) q (subst (FirstReserved text (spelled xs)) (sym on) z))
-          go (inr z) = inr (rw (q, z .0), (let e2 : f - length us - length vs ≡ f - length (us ++ vs) = omega arith in on ∙ z .1 ∙ ap (λ (n : ℕ). reservedFrom n text false b) e2))
+          joined : (ws ++ x .spelling ∷ []) ++ spelled xs ≡ ws ++ spelled (x ∷ xs)
+          joined = append-assoc ws (x .spelling ∷ []) (spelled xs)
 
-  -- all names, the inputs' first
-  both-walked : (is vs : List Name) (place : ℕ) → noneStWord (spelled is) ≡ true → FirstReserved text (spelled vs) place → FirstReserved text (spelled (is ++ vs)) place
-  both-walked [] vs place e r = r
-  both-walked (n ∷ is) vs place e r = let x = halves (isStWord (n .spelling)) (noneStWord (spelled is)) e in first-later (n .spelling) (spelled (is ++ vs)) place (x .0) (both-walked is vs place (x .1) r) where
-    halves : (s t : Bool) → (not s && t) ≡ true → (s ≡ false) × (t ≡ true)
-    halves true t e = absurd (false≢true e)
-    halves false t e = (refl, e)
+          go : Walked (ws ++ x .spelling ∷ []) xs vs c b (f - length us) → Walked ws (x ∷ xs) (us ++ vs) a b f
+          go (inl w) = inl (subst (λ (l : List (List ℕ)). FirstReserved text l (reservedFrom f text false a)) joined (subst (FirstReserved text ((ws ++ x .spelling ∷ []) ++ spelled xs)) (sym on) w))
+          go (inr w) =
+              let e2 : f - length us - length vs ≡ f - length (us ++ vs) = omega arith in
+              inr (subst (λ (l : List (List ℕ)). Before l b) joined (w .0), on ∙ w .1 ∙ ap (λ (n : ℕ). reservedFrom n text false b) e2)
 
-  none-both : (is vs : List Name) → noneStWord (spelled is) ≡ true → noneStWord (spelled vs) ≡ true → noneStWord (spelled (is ++ vs)) ≡ true
-  none-both [] vs e f = f
-  none-both (n ∷ is) vs e f = go (isStWord (n .spelling)) (noneStWord (spelled is)) e (none-both is vs) where
-    go : (s t : Bool) → (not s && t) ≡ true → (t ≡ true → noneStWord (spelled vs) ≡ true → noneStWord (spelled (is ++ vs)) ≡ true) → (not s && noneStWord (spelled (is ++ vs))) ≡ true
-    go true t e more = absurd (false≢true e)
-    go false t e more = more e f
-
-  more-inputs : (is vs : List Name) (place : ℕ) → FirstReserved text (spelled is) place → FirstReserved text (spelled (is ++ vs)) place
-  more-inputs is vs place r =
+  more-names : (ws vs : List (List ℕ)) (place : ℕ) → FirstReserved text ws place → FirstReserved text (ws ++ vs) place
+  more-names ws vs place r =
       record {
         earlier = r .earlier;
         word = r .word;
-        later = r .later ++ spelled vs;
+        later = r .later ++ vs;
         none-earlier = r .none-earlier;
         reserved = r .reserved;
+        tokens = r .tokens;
+        declare-earlier = r .declare-earlier;
+        declares = r .declares;
+        is-declaring = r .is-declaring;
+        behind = r .behind;
+        spells-tokens = r .spells-tokens;
+        separated = r .separated;
         end = r .end;
         stands = r .stands;
         spells = r .spells;
-        declared = r .declared;
-        in-order = joined is ∙ ap (λ (l : List (List ℕ)). l ++ spelled vs) (r .in-order) ∙ append-assoc (r .earlier) (r .word ∷ r .later) (spelled vs);
-      } where
-        joined : (k : List Name) → spelled (k ++ vs) ≡ spelled k ++ spelled vs
-        joined [] = refl
-        joined (n ∷ k) = ap (λ (l : List (List ℕ)). n .spelling ∷ l) (joined k)
+        in-order = ap (λ (l : List (List ℕ)). l ++ vs) (r .in-order) ∙ append-assoc (r .earlier) (r .word ∷ r .later) vs;
+      }
 
 tokens-few : (ts : List (List ℕ)) → length ts ≤ bytesOf ts
 tokens-few [] = omega arith
@@ -246,6 +285,10 @@ timers-counted : {names : List (List ℕ)} {ts : List (List ℕ)} {ns : List Nam
 timers-counted S.DeclareTimers.none = refl
 timers-counted (S.DeclareTimers.more us vs t l x ys d r) = ap suc (timers-counted r)
 
+spelled-both : (ns ms : List Name) → spelled (ns ++ ms) ≡ spelled ns ++ spelled ms
+spelled-both [] ms = refl
+spelled-both (n ∷ ns) ms = ap (λ (l : List (List ℕ)). n .spelling ∷ l) (spelled-both ns ms)
+
 spelled-front : (ns ms : List Name) (n : ℕ) → n ≡ length ns → take n (spelled (ns ++ ms)) ≡ spelled ns
 spelled-front ns ms n e = rw e (go ns) where
   go : (k : List Name) → take (length k) (spelled (k ++ ms)) ≡ spelled k
@@ -272,41 +315,43 @@ all-none k f ts ns (S.DeclareAll.more us vs x xs (S.Declares.declares w ls hs ss
 
 module _ (text : List ℕ) (p : Program) (s : Spelled text p) where
   -- the names before the timers
-  names-before : take (firstTimer p) (namesOf p) ≡ spelled (s .inputs ++ s .variables)
+  names-before : take (firstTimer p) (namesOf p) ≡ spelled (s .inputs) ++ spelled (s .variables)
   names-before =
       let all = length-append (s .inputs ++ s .variables) (s .timer-names) in
       let n : length (p .names) ≡ length (s .inputs ++ s .variables ++ s .timer-names) = ap length (s .names) in
       let m = length-map (p .names) (λ x. x .range) in
       let c = timers-counted (s .declares-timers) in
-      ap (λ (ns : List Name). take (firstTimer p) (spelled ns)) (s .names) ∙ spelled-front (s .inputs ++ s .variables) (s .timer-names) (firstTimer p) (omega arith)
+      ap (λ (ns : List Name). take (firstTimer p) (spelled ns)) (s .names) ∙ spelled-front (s .inputs ++ s .variables) (s .timer-names) (firstTimer p) (omega arith) ∙ spelled-both (s .inputs) (s .variables)
 
   -- `timer` is none of the tokens before
   before-timers : NoneTimer (s .input-tokens ++ s .variable-tokens)
   before-timers = none-append (s .input-tokens) (s .variable-tokens) (all-none inputWord (λ q. omega (arith, heads q)) (s .input-tokens) (s .inputs) (s .declares-inputs)) (all-none varWord (λ q. omega (arith, heads q)) (s .variable-tokens) (s .variables) (s .declares-variables))
 
   -- where no name is reserved, a timer stands
-  by-timer : hasSt p ≡ false → noneStWord (spelled (s .inputs ++ s .variables)) ≡ true → (d : ℕ) → Spells asWritten text 0 d (s .input-tokens ++ s .variable-tokens)
-      → (place : ℕ) → ((s .timer-names ≡ []) × (p .timers ≡ [])) ⊎ TimerAt text d place → FirstOutside text (spelled (s .inputs ++ s .variables)) place
+  by-timer : hasSt p ≡ false → noneStWord (spelled (s .inputs) ++ spelled (s .variables)) ≡ true → (d : ℕ) → Spells asWritten text 0 d (s .input-tokens ++ s .variable-tokens)
+      → (place : ℕ) → ((s .timer-names ≡ []) × (p .timers ≡ [])) ⊎ TimerAt text d place → FirstOutside text (spelled (s .inputs) ++ spelled (s .variables)) place
   unfolding hasSt
-  by-timer lacks none d g place (inr y) =
-      a-timer (record { none-reserved = none; tokens = s .input-tokens ++ s .variable-tokens; behind = d; spells-tokens = g; none-timer = before-timers; separated = y .separated; end = y .end; stands = y .stands })
-  by-timer lacks none d g place (inl z) =
-      let q : namesOf p ≡ spelled (s .inputs ++ s .variables) = ap (λ (ns : List Name). spelled ns) (s .names ∙ ap (λ (ns : List Name). s .inputs ++ s .variables ++ ns) (z .0) ∙ append-nil (s .inputs ++ s .variables)) in
-      absurd (false≢true (sym lacks ∙ rw (z .1, q, none)))
+  by-timer lacks free d g place (inr y) =
+      a-timer (record { none-reserved = free; tokens = s .input-tokens ++ s .variable-tokens; behind = d; spells-tokens = g; none-timer = before-timers; separated = y .separated; end = y .end; stands = y .stands })
+  by-timer lacks free d g place (inl z) =
+      let q : namesOf p ≡ spelled (s .inputs) ++ spelled (s .variables) = ap (λ (ns : List Name). spelled ns) (s .names ∙ ap (λ (ns : List Name). s .inputs ++ s .variables ++ ns) (z .0) ∙ append-nil (s .inputs ++ s .variables)) ∙ spelled-both (s .inputs) (s .variables) in
+      absurd (false≢true (sym lacks ∙ rw (z .1, q, free)))
 
-  walked-outside : hasSt p ≡ false → (c d : ℕ) → Spells asWritten text 0 d (s .input-tokens ++ s .variable-tokens) → Walked text (s .inputs) (s .input-tokens) 0 c (suc (length text)) → Walked text (s .variables) (s .variable-tokens) c d (suc (length text) - length (s .input-tokens))
+  -- of the walks over the inputs and over the variables behind them
+  walked-outside : hasSt p ≡ false → (c d : ℕ) → Spells asWritten text 0 d (s .input-tokens ++ s .variable-tokens) → Walked text [] (s .inputs) (s .input-tokens) 0 c (suc (length text))
+      → (Before text (spelled (s .inputs)) c → Walked text (spelled (s .inputs)) (s .variables) (s .variable-tokens) c d (suc (length text) - length (s .input-tokens)))
       → ((s .timer-names ≡ []) × (p .timers ≡ [])) ⊎ TimerAt text d (reservedFrom (suc (length text) - length (s .input-tokens) - length (s .variable-tokens)) text false d)
-      → FirstOutside text (spelled (s .inputs ++ s .variables)) (reservedFrom (suc (length text)) text false 0)
-  walked-outside lacks c d g (inl r) w t = a-name (more-inputs text (s .inputs) (s .variables) (reservedFrom (suc (length text)) text false 0) r)
-  walked-outside lacks c d g (inr z) (inl r) t =
-      a-name (both-walked text (s .inputs) (s .variables) (reservedFrom (suc (length text)) text false 0) (z .0) (subst (FirstReserved text (spelled (s .variables))) (sym (z .1)) r))
-  walked-outside lacks c d g (inr z) (inr y) t =
-      subst (FirstOutside text (spelled (s .inputs ++ s .variables))) (sym (z .1 ∙ y .1)) (by-timer lacks (none-both text (s .inputs) (s .variables) (z .0) (y .0)) d g _ t)
+      → FirstOutside text (spelled (s .inputs) ++ spelled (s .variables)) (reservedFrom (suc (length text)) text false 0)
+  walked-outside lacks c d g (inl r) more t = a-name (more-names text (spelled (s .inputs)) (spelled (s .variables)) (reservedFrom (suc (length text)) text false 0) r)
+  walked-outside lacks c d g (inr z) more t = subst (FirstOutside text (spelled (s .inputs) ++ spelled (s .variables))) (sym (z .1)) (go (more (z .0))) where
+    go : Walked text (spelled (s .inputs)) (s .variables) (s .variable-tokens) c d (suc (length text) - length (s .input-tokens)) → FirstOutside text (spelled (s .inputs) ++ spelled (s .variables)) (reservedFrom (suc (length text) - length (s .input-tokens)) text false c)
+    go (inl r) = a-name r
+    go (inr y) = subst (FirstOutside text (spelled (s .inputs) ++ spelled (s .variables))) (sym (y .1)) (by-timer lacks (y .0 .none-reserved) d g _ t)
 
--- the theorem: of an accepted text without Structured Text, the place is that of the first such name, or of the first timer
-pub first-outside : (text : List ℕ) (p : Program) → programOf text ≡ accepted p → hasSt p ≡ false → FirstOutside text (take (firstTimer p) (namesOf p)) (reservedPlace text)
+-- the walk finds it
+walk-finds : (text : List ℕ) (p : Program) → programOf text ≡ accepted p → hasSt p ≡ false → FirstOutside text (take (firstTimer p) (namesOf p)) (reservedPlace text)
 unfolding reservedPlace
-first-outside text p e lacks =
+walk-finds text p e lacks =
     let s = accepted-exactly .accepted-spelled text p e in
     let y = split written text 0 (s .rules-from) (s .input-tokens ++ s .variable-tokens) (s .timer-tokens) (s .spells-declarations) in
     let x = split written text 0 (y .place) (s .input-tokens) (s .variable-tokens) (y .first) in
@@ -318,8 +363,15 @@ first-outside text p e lacks =
     let tv = tokens-few (s .variable-tokens) in
     let left : suc (length text - length (s .input-tokens) - length (s .variable-tokens)) ≡ suc (length text) - length (s .input-tokens) - length (s .variable-tokens) = omega arith in
     let t = timers-walked text _ (s .timer-tokens) (s .timer-names) (p .timers) (s .declares-timers) (y .place) (s .rules-from) end (y .second) (length text - length (s .input-tokens) - length (s .variable-tokens)) in
+    let nothing-before : Before text [] 0 = record { tokens = []; declare = none; none-reserved = refl; spells = refl } in
     subst (λ (ws : List (List ℕ)). FirstOutside text ws (reservedFrom (suc (length text)) text false 0)) (sym (names-before text p s))
     (walked-outside text p s lacks (x .place) (y .place) (y .first)
-    (all-walked text inputWord (inl refl) (input-facts .0) (input-facts .1) (input-facts .2) (input-facts .3) (s .input-tokens) (s .inputs) (s .declares-inputs) 0 (x .place) (omega arith) (x .first) (suc (length text)) (omega arith))
-    (all-walked text varWord (inr refl) (var-facts .0) (var-facts .1) (var-facts .2) (var-facts .3) (s .variable-tokens) (s .variables) (s .declares-variables) (x .place) (y .place) mid (x .second) (suc (length text) - length (s .input-tokens)) (omega arith))
+    (all-walked text inputWord (inl refl) (input-facts .0) (input-facts .1) (input-facts .2) (input-facts .3) (s .input-tokens) (s .inputs) (s .declares-inputs) [] 0 (x .place) (omega arith) nothing-before (x .first) (suc (length text)) (omega arith))
+    (λ z. all-walked text varWord (inr refl) (var-facts .0) (var-facts .1) (var-facts .2) (var-facts .3) (s .variable-tokens) (s .variables) (s .declares-variables) (spelled (s .inputs)) (x .place) (y .place) mid z (x .second) (suc (length text) - length (s .input-tokens)) (omega arith))
     (rw left at t))
+
+-- the theorem: of an accepted text without Structured Text, the place is that of the first such name, or of the first timer, and no other is
+pub first-outside : (text : List ℕ) (p : Program) → programOf text ≡ accepted p → hasSt p ≡ false → OutsideAt text (take (firstTimer p) (namesOf p)) (reservedPlace text)
+first-outside text p e lacks =
+    let found = walk-finds text p e lacks in
+    record { first = found; only = λ other h. sole-outside text (take (firstTimer p) (namesOf p)) other (reservedPlace text) h found }

@@ -5,19 +5,16 @@ use mathlib.Core.Bool.{true}
 use mathlib.Core.List.{List, [], _∷_, _++_}
 use mathlib.Core.Logic.{_⊎_}
 use Rattle.lexer.specs.Bytes.{bytes, part}
-use Rattle.lexer.specs.Token.{Kind, name, inputWord, varWord, timerWord}
+use Rattle.lexer.specs.Token.{name, timerWord}
 use Rattle.lexer.specs.Spelling.{Separated, TokenFrom}
 use Rattle.grammar.specs.Derivation.{Tokens, asWritten, Spells}
 use Rattle.st_program.specs.Written.{isStWord, noneStWord}
 
--- a declaration's name stands at the place: `input` or `var` directly before it
-pub record DeclaredAt (text : List ℕ) (place : ℕ) : Type 0 where
-  pub kind : Kind
-  pub declares : (kind ≡ inputWord) ⊎ (kind ≡ varWord)
-  pub start : ℕ
-  pub end : ℕ
-  pub stands : TokenFrom text start end kind
-  pub separated : Separated text end place
+-- the names that the tokens declare, in order: `input` or `var` stands directly before each
+pub data DeclaredIn : Tokens → List (List ℕ) → Type 0 where
+  none : DeclaredIn [] []
+  a-declared : (k w : List ℕ) (ts : Tokens) (names : List (List ℕ)) → (k ≡ bytes "input") ⊎ (k ≡ bytes "var") → DeclaredIn ts names → DeclaredIn (k ∷ w ∷ ts) (w ∷ names)
+  another : (t : List ℕ) (ts : Tokens) (names : List (List ℕ)) → (t ≡ bytes "input" → ⊥) → (t ≡ bytes "var" → ⊥) → DeclaredIn ts names → DeclaredIn (t ∷ ts) names
 
 -- of the names declared, in order: the first that is a word of Structured Text stands at the place, in its declaration
 pub record FirstReserved (text : List ℕ) (names : List (List ℕ)) (place : ℕ) : Type 0 where
@@ -27,10 +24,17 @@ pub record FirstReserved (text : List ℕ) (names : List (List ℕ)) (place : �
   pub in-order : names ≡ earlier ++ word ∷ later
   pub none-earlier : noneStWord earlier ≡ true
   pub reserved : isStWord word ≡ true
+  -- before it stand tokens that declare just the earlier names, then `input` or `var`
+  pub tokens : Tokens
+  pub declare-earlier : DeclaredIn tokens earlier
+  pub declares : List ℕ
+  pub is-declaring : (declares ≡ bytes "input") ⊎ (declares ≡ bytes "var")
+  pub behind : ℕ
+  pub spells-tokens : Spells asWritten text 0 behind (tokens ++ declares ∷ [])
+  pub separated : Separated text behind place
   pub end : ℕ
   pub stands : TokenFrom text place end name
   pub spells : part text place end ≡ word
-  pub declared : DeclaredAt text place
 
 abbrev pub NoneTimer : Tokens → Type 0
 NoneTimer [] = Unit {0}
@@ -51,3 +55,8 @@ pub record FirstTimer (text : List ℕ) (names : List (List ℕ)) (place : ℕ) 
 pub data FirstOutside (text : List ℕ) (names : List (List ℕ)) (place : ℕ) : Type 0 where
   a-name : FirstReserved text names place → FirstOutside text names place
   a-timer : FirstTimer text names place → FirstOutside text names place
+
+-- the claim: the place is such, and no other is
+pub record OutsideAt (text : List ℕ) (names : List (List ℕ)) (place : ℕ) : Type 0 where
+  pub first : FirstOutside text names place
+  pub only : (other : ℕ) → FirstOutside text names other → other ≡ place

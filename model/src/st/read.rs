@@ -74,13 +74,29 @@ fn tokens(text: &str) -> Option<Vec<Token>> {
     Some(list)
 }
 
-/// An identifier is a letter or underline, then letters, digits and underlines, with no two
-/// underlines in a row and none at its end.
+/// The standard's production:
+/// identifier ::= (letter | ('_' (letter | digit))) {['_'] (letter | digit)}
+fn is_identifier(spelled: &[u8]) -> bool {
+    let mut rest = match spelled {
+        [b'_', b, rest @ ..] if b.is_ascii_alphanumeric() => rest,
+        [b, rest @ ..] if b.is_ascii_alphabetic() => rest,
+        _ => return false,
+    };
+    loop {
+        rest = match rest {
+            [] => return true,
+            [b'_', b, more @ ..] | [b, more @ ..] if b.is_ascii_alphanumeric() => more,
+            _ => return false,
+        };
+    }
+}
+
+/// A keyword or an identifier.
 fn word(rest: &str) -> Option<(Token, usize)> {
     let inside = |c: char| c.is_ascii_alphanumeric() || c == '_';
     let length = rest.find(|c| !inside(c)).unwrap_or(rest.len());
     let spelled = &rest[..length];
-    if spelled.contains("__") || spelled.ends_with('_') {
+    if !is_identifier(spelled.as_bytes()) {
         return None;
     }
     let keyword = KEYWORDS
