@@ -9,8 +9,8 @@ use rolvenko::{structured_text, ST_ROOM};
 use std::path::Path;
 
 /// Keywords of the whole standard beside the words used here. (Those that hold a `_`, and OF, are no names of rules.)
-const KEYWORDS: [&str; 57] = [
-    "ACTION", "ANY", "ARRAY", "AT", "BOOL", "BY", "BYTE", "CASE", "CONFIGURATION", "CONSTANT", "DATE", "DO", "DT", "DWORD", "ELSE", "EN", "ENO", "EXIT", "FALSE", "FOR",
+const KEYWORDS: [&str; 56] = [
+    "ACTION", "ARRAY", "AT", "BOOL", "BY", "BYTE", "CASE", "CONFIGURATION", "CONSTANT", "DATE", "DO", "DT", "DWORD", "ELSE", "EN", "ENO", "EXIT", "FALSE", "FOR",
     "FROM", "FUNCTION", "INT", "INTERVAL", "LINT", "LREAL", "LWORD", "ON", "PRIORITY", "PROGRAM", "REAL", "REPEAT", "RESOURCE", "RETAIN", "RETURN", "SINGLE", "SINT",
     "STEP", "STRING", "STRUCT", "TASK", "TIME", "TO", "TOD", "TRANSITION", "TRUE", "TYPE", "UDINT", "UINT", "ULINT", "UNTIL", "USINT", "WHILE", "WITH", "WORD", "WSTRING", "XOR",
 ];
@@ -36,4 +36,18 @@ fn notes(rules: &Rules) -> String {
         Some(format!("{}:{line}:{column}: note: {keyword} is a keyword of IEC 61131-3; a compiler of the whole standard does not take it as a name\n", rules.path.display()))
     };
     declared(&rules.text).iter().filter_map(|d| note(d.at, &d.name)).collect()
+}
+
+#[cfg(test)]
+mod tests {
+    use super::*;
+
+    #[test]
+    fn every_keyword_is_printed_as_a_name() {
+        assert!(KEYWORDS.is_sorted());
+        for word in KEYWORDS {
+            let text = format!("input {word} 0..1;");
+            assert!(structured_text(text.as_bytes(), &mut [0; 256]).is_ok(), "{word}");
+        }
+    }
 }
