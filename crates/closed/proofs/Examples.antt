@@ -14,7 +14,7 @@ use Rattle.bytecode.specs.Instructions.{instructionOf, hasOperand, fetchOne, ti
 use Rattle.bytecode.specs.Check.{checkCounts, checkRange, checkHeader, isTimerRange, checkBody, checkOf}
 use Rattle.bytecode.specs.Parts.{headerOf, codeOf, limitsOf}
 use Rattle.scan.specs.Services.{scanCode, scanOf}
-use Rattle.closed.specs.Closed.{sizeBetween, isSmall, combinationsOf, AfterClosed, leaves, closedIn, closedOf, combinationOf}
+use Rattle.closed.specs.Closed.{sizeBetween, isSmall, combinationsOf, AfterClosed, leaves, closedOf, combinationOf}
 
 -- an image, its answer, the state and the row at the front of the two that are left
 pub record Example : Type 0 where
@@ -65,7 +65,7 @@ examples =
 
 -- the definition gives what the table says
 pub profiles-hold : map (λ (e : Example). closedOf (e .image)) examples ≡ map expected examples
-unfolding examples adds timed unzigzag groups grouped numberIn below32 numberAt signedAt instructionOf hasOperand fetchOne timerAt fetch checkCounts checkRange checkHeader isBinary isTimerRange checkBody checkOf headerOf codeOf limitsOf scanCode scanOf sizeBetween isSmall combinationsOf closedIn closedOf bit yes within moves picked arithmetic compares
+unfolding examples adds timed unzigzag groups grouped numberIn below32 numberAt signedAt instructionOf hasOperand fetchOne timerAt fetch checkCounts checkRange checkHeader isBinary isTimerRange checkBody checkOf headerOf codeOf limitsOf scanCode scanOf sizeBetween isSmall combinationsOf closedOf bit yes within moves picked arithmetic compares
 profiles-hold = refl
 
 -- combinations of `adds` by their numbers: the one that 27 names, the last, one past it; a row too long; 11; a timer

@@ -1,35 +1,36 @@
--- `closed::is_refused` meets its contract. The scan works on a copy of the state. Assumes nothing.
-use mathlib.Core.Path.{_≡_, sym, _∙_}
+-- `closed::is_refused` meets its contract. The run works on a copy of the state that holds the row. Assumes nothing.
+use mathlib.Core.Path.{refl, sym, _∙_}
 use native.Mathlib.Omega.{arith}
-use Rattle.machine.proofs.Copies.{over-all}
-use Rattle.closed.proofs.Scans.{scan-passes, scan-stops}
 use borrow.Author.Needs.{needs}
+use Rattle.machine.proofs.Changes.{names-length}
+use Rattle.closed.proofs.Scans.{scan-passes, scan-stops}
 use Rattle.closed.proofs.is_refused.Statement.{statement}
 use Rattle.closed.proofs.is_refused.Tie as tie
 
--- the copy is the state
-copied : (c : tie.After-fill) → c .fill .last .0 ≡ c .before .before .before .args .state .now
-copied c = c .fill .ensures ∙ over-all (c .before .before .before .args .state .now) (c .before .before .before .args .copy .now) (sym (c .before .before .before .pre .1))
+take-row-requires : tie.Need-take-row-requires
+take-row-requires c κs = (c .before .before .pre .0 .copies, c .before .before .pre .0 .among)
 
-scan-sound-requires : tie.Need-scan-sound-requires
-scan-sound-requires c κs =
-    let k = c .before .before .before .fill .kept .0 in
-    let e = c .before .before .before .before .before .before .pre .1 in
+run-requires : tie.Need-run-requires
+run-requires c κs =
     let f = c .before .before .before .before .before .before .pre .0 in
-    record { among = omega (arith, f .among); lows = f .lows ∙ sym e ∙ sym k; highs = f .highs ∙ sym e ∙ sym k; copies = f .copies ∙ sym e ∙ sym k }
+    (record { few = omega arith; room = c .before .before .before .before .before .before .pre .1 }, record { highs = f .highs ∙ sym (f .lows); previous = sym (f .lows); current = c .before .before .before .take-row .kept .0 ∙ f .copies ∙ sym (f .lows) })
 
 returns : tie.Need-returns
-returns c ns r = scan-passes ns (c .before .before .before .before .before .before .before .before .before .before .before .args .code .now) (c .before .before .before .before .before .before .before .before .before .before .before .args .state .now) (c .before .before .before .before .before .before .before .before .fill .last .0) (c .before .before .before .before .before .before .before .before .before .before .before .args .row .now) _ (c .before .before .before .before .scan-sound .result) (copied (c .before .before .before .before .before .before .before .before)) (c .before .before .before .before .scan-sound .ensures .0 ns r) (c .enum-told .given .0 .0) (c .enum-told .given .1)
+returns c ns r =
+    scan-passes ns (c .before .before .before .before .before .before .before .before .before .before .before .args .code .now) (c .before .before .before .before .before .before .before .before .before .before .before .args .low .now) (c .before .before .before .before .before .before .before .before .before .before .before .args .high .now) (c .before .before .before .before .before .before .before .before .before .before .before .args .state .now) (c .before .before .before .before .before .before .before .before .take-row .last .0) (c .before .before .before .before .before .before .before .before .before .before .before .args .vals .now) (c .before .before .before .before .run .last .1 .1 .1 .1 .1 .0) (c .before .before .before .before .run .last .1 .1 .1 .1 .0) (c .before .before .before .before .before .before .before .before .before .before .before .args .row .now) _ (c .before .before .before .before .run .result) r
+    (record { flags = rw (names-length ns (c .before .before .before .before .before .before .before .before .before .before .before .args .low .now) (c .before .before .before .before .before .before .before .before .before .before .before .args .high .now) r); time = refl }) (c .before .before .before .before .run .ensures .0) (c .before .before .before .before .before .before .before .before .take-row .ensures) _ (c .before .before .before .before .run .kept .1 .1 .1 .1 .0 ∙ c .before .before .before .before .before .before .before .before .take-row .kept .0 ∙ c .before .before .before .before .before .before .before .before .before .before .before .pre .0 .copies) (c .enum-told .given .1)
 
 returns-2 : tie.Need-returns-2
-returns-2 c ns r = scan-stops ns (c .before .before .before .before .before .before .before .before .before .before .before .args .code .now) (c .before .before .before .before .before .before .before .before .before .before .before .args .state .now) (c .before .before .before .before .before .before .before .before .fill .last .0) (c .before .before .before .before .before .before .before .before .before .before .before .args .row .now) _ (c .before .before .before .before .scan-sound .result) (copied (c .before .before .before .before .before .before .before .before)) (c .before .before .before .before .scan-sound .ensures .0 ns r) (c .enum-told2 .given .0 .0) (c .enum-told2 .given .0 .1 .0) (c .enum-told2 .given .0 .1 .1 .0) (c .enum-told2 .given .1)
+returns-2 c ns r =
+    scan-stops ns (c .before .before .before .before .before .before .before .before .before .before .before .args .code .now) (c .before .before .before .before .before .before .before .before .before .before .before .args .low .now) (c .before .before .before .before .before .before .before .before .before .before .before .args .high .now) (c .before .before .before .before .before .before .before .before .before .before .before .args .state .now) (c .before .before .before .before .before .before .before .before .take-row .last .0) (c .before .before .before .before .before .before .before .before .before .before .before .args .vals .now) (c .before .before .before .before .run .last .1 .1 .1 .1 .1 .0) (c .before .before .before .before .run .last .1 .1 .1 .1 .0) (c .before .before .before .before .before .before .before .before .before .before .before .args .row .now) _ (c .before .before .before .before .run .result) r
+    (record { flags = rw (names-length ns (c .before .before .before .before .before .before .before .before .before .before .before .args .low .now) (c .before .before .before .before .before .before .before .before .before .before .before .args .high .now) r); time = refl }) (c .before .before .before .before .run .ensures .0) (c .before .before .before .before .before .before .before .before .take-row .ensures) _ (c .enum-told2 .given .1)
 
 pub is-refused-spec : {M : Type 1} → statement M
 is-refused-spec =
     tie.close
     (tie.spec
-    (λ c κs. search needs)
-    scan-sound-requires
+    take-row-requires
+    run-requires
     (λ c. search needs)
     (λ c. search needs)
     (λ c. search needs)
