@@ -12,18 +12,25 @@ take-row-requires c κs = (c .before .before .pre .0 .copies, c .before .before 
 
 run-requires : tie.Need-run-requires
 run-requires c κs =
-    let f = c .before .before .before .before .before .before .pre .0 in
-    (record { few = omega arith; room = c .before .before .before .before .before .before .pre .1 }, record { highs = f .highs ∙ sym (f .lows); previous = sym (f .lows); current = c .before .before .before .take-row .kept .0 ∙ f .copies ∙ sym (f .lows) })
+    let start = c .before .before .before .before .before .before in
+    let f = start .pre .0 in
+    (record { few = omega arith; room = start .pre .1 }, record { highs = f .highs ∙ sym (f .lows); previous = sym (f .lows); current = c .before .before .before .take-row .kept .0 ∙ f .copies ∙ sym (f .lows) })
 
 returns : tie.Need-returns
 returns c ns r =
-    scan-passes ns (c .before .before .before .before .before .before .before .before .before .before .before .args .code .now) (c .before .before .before .before .before .before .before .before .before .before .before .args .low .now) (c .before .before .before .before .before .before .before .before .before .before .before .args .high .now) (c .before .before .before .before .before .before .before .before .before .before .before .args .state .now) (c .before .before .before .before .before .before .before .before .take-row .last .0) (c .before .before .before .before .before .before .before .before .before .before .before .args .vals .now) (c .before .before .before .before .run .last .1 .1 .1 .1 .1 .0) (c .before .before .before .before .run .last .1 .1 .1 .1 .0) (c .before .before .before .before .before .before .before .before .before .before .before .args .row .now) _ (c .before .before .before .before .run .result) r
-    (record { flags = rw (names-length ns (c .before .before .before .before .before .before .before .before .before .before .before .args .low .now) (c .before .before .before .before .before .before .before .before .before .before .before .args .high .now) r); time = refl }) (c .before .before .before .before .run .ensures .0) (c .before .before .before .before .before .before .before .before .take-row .ensures) _ (c .before .before .before .before .run .kept .1 .1 .1 .1 .0 ∙ c .before .before .before .before .before .before .before .before .take-row .kept .0 ∙ c .before .before .before .before .before .before .before .before .before .before .before .pre .0 .copies) (c .enum-told .given .1)
+    let at-run = c .before .before .before .before in
+    let at-take-row = at-run .before .before .before .before in
+    let start = at-take-row .before .before .before in
+    scan-passes ns (start .args .code .now) (start .args .low .now) (start .args .high .now) (start .args .state .now) (at-take-row .take-row .last .0) (start .args .vals .now) (at-run .run .last .1 .1 .1 .1 .1 .0) (at-run .run .last .1 .1 .1 .1 .0) (start .args .row .now) _ (at-run .run .result) r
+    (record { flags = rw (names-length ns (start .args .low .now) (start .args .high .now) r); time = refl }) (at-run .run .ensures .0) (at-take-row .take-row .ensures) _ (at-run .run .kept .1 .1 .1 .1 .0 ∙ at-take-row .take-row .kept .0 ∙ start .pre .0 .copies) (c .enum-told .given .1)
 
 returns-2 : tie.Need-returns-2
 returns-2 c ns r =
-    scan-stops ns (c .before .before .before .before .before .before .before .before .before .before .before .args .code .now) (c .before .before .before .before .before .before .before .before .before .before .before .args .low .now) (c .before .before .before .before .before .before .before .before .before .before .before .args .high .now) (c .before .before .before .before .before .before .before .before .before .before .before .args .state .now) (c .before .before .before .before .before .before .before .before .take-row .last .0) (c .before .before .before .before .before .before .before .before .before .before .before .args .vals .now) (c .before .before .before .before .run .last .1 .1 .1 .1 .1 .0) (c .before .before .before .before .run .last .1 .1 .1 .1 .0) (c .before .before .before .before .before .before .before .before .before .before .before .args .row .now) _ (c .before .before .before .before .run .result) r
-    (record { flags = rw (names-length ns (c .before .before .before .before .before .before .before .before .before .before .before .args .low .now) (c .before .before .before .before .before .before .before .before .before .before .before .args .high .now) r); time = refl }) (c .before .before .before .before .run .ensures .0) (c .before .before .before .before .before .before .before .before .take-row .ensures) _ (c .enum-told2 .given .1)
+    let at-run = c .before .before .before .before in
+    let at-take-row = at-run .before .before .before .before in
+    let start = at-take-row .before .before .before in
+    scan-stops ns (start .args .code .now) (start .args .low .now) (start .args .high .now) (start .args .state .now) (at-take-row .take-row .last .0) (start .args .vals .now) (at-run .run .last .1 .1 .1 .1 .1 .0) (at-run .run .last .1 .1 .1 .1 .0) (start .args .row .now) _ (at-run .run .result) r
+    (record { flags = rw (names-length ns (start .args .low .now) (start .args .high .now) r); time = refl }) (at-run .run .ensures .0) (at-take-row .take-row .ensures) _ (c .enum-told2 .given .1)
 
 pub is-refused-spec : {M : Type 1} → statement M
 is-refused-spec =
