@@ -353,6 +353,12 @@ struct parts closed(const uint8_t *image, size_t length) {
     PROMISE(equal(lent.own, image, length));
     PROMISE(p.count == 0);
     feature(6, p, image, length);
+    uint32_t cut = c.number == 0 ? scans_in(image, length) / 2 : 3; /* the whole is the first of its parts that is refused, else the last */
+    struct parts part = parts(rolvenko_closed_part(lent.lent, length, 0, cut));
+    if (part.number == 0)
+        part = parts(rolvenko_closed_part(lent.lent, length, cut, ROLVENKO_COMBINATIONS));
+    part_intact(lent);
+    PROMISE(part.number == p.number && part.place == p.place && part.count == p.count);
     if (p.number != 27) {
         check_comes_first(c, p);
         PROMISE(c.number != 0 || p.number == (scans_in(image, length) > ROLVENKO_COMBINATIONS ? 26 : 0));

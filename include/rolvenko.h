@@ -171,9 +171,15 @@ static inline unsigned rolvenko_sixtieths(uint64_t answer) { return (unsigned)(a
  *   9, 11     as rolvenko_check
  *   26        the image has a timer, or the product of all range sizes times the product of the input range sizes is over 65,536
  *   27        a scan is refused; place counts the scans before it, 0 to 65,535, and rolvenko_combination gives its state and row
- * It takes four to five times as long as so many calls of rolvenko_scan.
+ * It takes about as long as so many calls of rolvenko_scan: rolvenko_closed_part does some of them a call.
  */
 uint64_t rolvenko_closed(const uint8_t *image, size_t image_len);
+
+/* The same of a part of these scans: those before which `first`, first + 1, .. scans stand, at most `most` of them; behind the last there are
+ * none, and 0 as a whole is the answer. place of a 27 counts the scans from the first of all. Parts in turn, each from where the one before
+ * ended, answer what rolvenko_closed does: the first refusal, or that of the last.
+ */
+uint64_t rolvenko_closed_part(const uint8_t *image, size_t image_len, size_t first, size_t most);
 
 /* The state and the row of the scan before which `index` scans of rolvenko_closed stand, as place of a 27 counts them. state_len is the
  * count of names, row_len that of inputs; both are written whole. 0 as a whole, or

@@ -8,12 +8,14 @@ use crate::refused_row::row_refused;
 use crate::source::Rules;
 use crate::stop::{tell, Stop};
 use crate::text::count;
-use rolvenko::{closed, combination, meaning, scan, Refusal, COMBINATIONS};
+use rolvenko::{closed_part, combination, meaning, scan, Refusal, COMBINATIONS};
 use std::io::Write;
-use std::sync::mpsc::{channel, RecvTimeoutError};
 use std::time::{Duration, Instant};
 
 const REFUSED_PAIR: u8 = 27;
+/// The time that a part of the scans should take, and how many the first part has.
+const PART: Duration = Duration::from_millis(100);
+const FIRST_PART: usize = 64;
 
 pub fn profile(rules: &Rules) -> Result<(), Stop> {
     let mut farm = Farm::new(rules)?;
@@ -35,32 +37,25 @@ pub fn profile(rules: &Rules) -> Result<(), Stop> {
     Err(Stop::Refused)
 }
 
-/// What `closed` answers; meanwhile how many scans it makes, and for how long.
+/// What `closed` answers, asked part by part up to the most scans that there can be; meanwhile how many are done.
 fn asked(farm: &Farm) -> Result<(), Refusal> {
     let mut progress = Progress::new(false);
-    if !progress.is_shown() {
-        return closed(&farm.image);
+    let scans = usize::try_from(farm.read.scans()).unwrap_or(usize::MAX);
+    let (mut done, mut most) = (0, FIRST_PART);
+    while done < COMBINATIONS {
+        let began = Instant::now();
+        closed_part(&farm.image, done, most)?;
+        done += most;
+        progress.scans(done.min(scans) as u64, scans as u64);
+        most = if done < scans { next_part(most, began.elapsed()) } else { COMBINATIONS };
     }
-    let (scans, instructions) = (farm.read.scans(), farm.read.code.len());
-    let whole = one_scan(farm).as_secs_f64() * scans as f64;
-    let (answer, answered) = channel();
-    std::thread::scope(|work| {
-        work.spawn(move || answer.send(closed(&farm.image)));
-        loop {
-            match answered.recv_timeout(Duration::from_millis(100)) {
-                Err(RecvTimeoutError::Timeout) => progress.say(|seconds| format!("{scans} scans of {instructions} instructions, {seconds} s of about {whole:.0} s")),
-                Ok(found) => return found,
-                Err(RecvTimeoutError::Disconnected) => return closed(&farm.image),
-            }
-        }
-    })
+    Ok(())
 }
 
-/// The time that a scan takes here.
-fn one_scan(farm: &Farm) -> Duration {
-    let began = Instant::now();
-    let _ = scan(&farm.image, &mut farm.state.clone(), &farm.state[..farm.read.inputs]);
-    began.elapsed()
+/// Scans of a part that takes about as long as PART, if a scan takes what one of the part before did.
+fn next_part(most: usize, took: Duration) -> usize {
+    let wanted = most as f64 * PART.as_secs_f64() / took.as_secs_f64().max(1e-9);
+    (wanted as usize).clamp(1, 8 * most)
 }
 
 /// How many scans that would be, and by which ranges; or the timers.

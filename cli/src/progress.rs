@@ -27,10 +27,6 @@ impl Progress {
         Progress { shown, began, next: began + QUIET }
     }
 
-    pub fn is_shown(&self) -> bool {
-        self.shown
-    }
-
     /// Row `number`, of so many where that is known.
     pub fn row(&mut self, number: u64, of: Option<u64>) {
         if self.shown && number % ROWS == 0 {
@@ -41,8 +37,13 @@ impl Progress {
         }
     }
 
+    /// So many of all the scans.
+    pub fn scans(&mut self, done: u64, all: u64) {
+        self.say(|seconds| format!("{done} of {all} scans, {}", left(done, all, seconds)));
+    }
+
     /// Writes what there is to say, if it is time for it.
-    pub fn say(&mut self, words: impl FnOnce(u64) -> String) {
+    fn say(&mut self, words: impl FnOnce(u64) -> String) {
         let now = Instant::now();
         if self.shown && now >= self.next {
             self.next = now + BETWEEN;

@@ -47,6 +47,19 @@ pub fn closed(image: &[u8]) -> Result<(), NotClosed> {
     Ok(())
 }
 
+/// The same of a part of the walk: "those before which `first`, first + 1, .. scans stand,
+/// at most `most` of them; behind the last there are none".
+pub fn closed_part(image: &[u8], first: usize, most: usize) -> Result<(), Refusal> {
+    let profile = Profile::read(image)?;
+    let rows = || every(profile.inputs());
+    let walk = every(&profile.names).flat_map(|state| rows().map(move |row| (state.clone(), row)));
+    for (before, (mut state, row)) in walk.enumerate().skip(first).take(most) {
+        // "place of a 27 counts the scans from the first of all"
+        scan(image, &mut state, &row).map_err(|_| Refusal::new(27, before))?;
+    }
+    Ok(())
+}
+
 /// State and row of the scan that `index` scans of the whole walk come before; 12 where
 /// there are not so many, after 9, 11 and 26.
 pub fn combination(image: &[u8], index: u32) -> Result<Combination, Refusal> {

@@ -28,7 +28,7 @@ pub mod watch;
 pub use charge::{charge, Charge};
 pub use check::{check, check_detail, Breach, Fault, Header, Range};
 pub use clock::clock;
-pub use closed::{closed, combination, write_combination, Combination, NotClosed};
+pub use closed::{closed, closed_part, combination, write_combination, Combination, NotClosed};
 pub use features::Features;
 pub use formula::satisfies;
 pub use image::{instructions, write_image};

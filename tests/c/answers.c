@@ -189,6 +189,23 @@ static void profiles(void) {
     expect("the first scan refused", rolvenko_closed(first, sizeof first), 27, 0, 0);
 }
 
+/* Parts of a closed profile: before the refused scan, with it, behind it and behind the last; then what comes before all scans. */
+static void profile_parts(void) {
+    static uint8_t zeros[ROLVENKO_IMAGE_LIMIT + 1];
+    static const uint8_t large[] = {1, 1, 0, 254, 3, 0, 0, 2, 0, 1, 0, 21, 1}; /* input i 0..255; var v 0..1; v = 0 */
+    expect("a part before", rolvenko_closed_part(ADDS, sizeof ADDS, 0, 7), 0, 0, 0);
+    expect("a part to the refused scan", rolvenko_closed_part(ADDS, sizeof ADDS, 3, 5), 27, 7, 0);
+    expect("the refused scan alone", rolvenko_closed_part(ADDS, sizeof ADDS, 7, 1), 27, 7, 0);
+    expect("the part behind it", rolvenko_closed_part(ADDS, sizeof ADDS, 8, SIZE_MAX), 27, 15, 0);
+    expect("no scans", rolvenko_closed_part(ADDS, sizeof ADDS, 7, 0), 0, 0, 0);
+    expect("behind the last", rolvenko_closed_part(ADDS, sizeof ADDS, 16, 1), 0, 0, 0);
+    expect("far behind the last", rolvenko_closed_part(ADDS, sizeof ADDS, SIZE_MAX, SIZE_MAX), 0, 0, 0);
+    expect("a part over the limit", rolvenko_closed_part(zeros, sizeof zeros, 0, 0), 9, 0, 0);
+    expect("a part of an unsound image", rolvenko_closed_part(ADDS, sizeof ADDS - 1, 9, 9), 11, 13, 0);
+    expect("a part of too many", rolvenko_closed_part(large, sizeof large, 9, 9), 26, 0, 0);
+    expect("a part, NULL image", rolvenko_closed_part(NULL, 0, 0, 1), 11, 0, 0);
+}
+
 /* The pair of a 27, the last pair, and every refusal; numbers behind the lengths stay. */
 static void combinations(void) {
     static uint8_t zeros[ROLVENKO_IMAGE_LIMIT + 1];
@@ -253,6 +270,7 @@ int main(void) {
     charges();
     refused_charges();
     profiles();
+    profile_parts();
     combinations();
     empty();
     printf("%d failures\n", failures);

@@ -70,6 +70,11 @@ static void *profile(void *p) {
     return p;
 }
 
+static void *profile_part(void *p) {
+    answer = rolvenko_closed_part(held, held_len, 0, 1);
+    return p;
+}
+
 static void *combination(void *p) {
     answer = rolvenko_combination(held, held_len, 0, state, names, row, names - 1);
     return p;
@@ -199,7 +204,7 @@ static void lengthen(size_t length) {
     text_len = length;
 }
 
-enum { TRANSLATE, STRUCTURED_TEXT, WATCH, CHECK, START, SCAN, REPLAY, CLOCK, CHARGE, CLOSED, COMBINATION, POST, BEGIN, ADVANCE, FINISH, VISIT, ROUND, SERVICES };
+enum { TRANSLATE, STRUCTURED_TEXT, WATCH, CHECK, START, SCAN, REPLAY, CLOCK, CHARGE, CLOSED, CLOSED_PART, COMBINATION, POST, BEGIN, ADVANCE, FINISH, VISIT, ROUND, SERVICES };
 
 static const struct {
     const char *name;
@@ -210,7 +215,8 @@ static const struct {
     {"start", start},         {"scan", scan},
     {"replay", replay},
     {"clock", local_hour},    {"charge", charge},
-    {"closed", profile},      {"combination", combination},
+    {"closed", profile},      {"closed_part", profile_part},
+    {"combination", combination},
     {"post", post},           {"begin", begin},
     {"advance", advance},     {"finish", finish},
     {"visit", visit},         {"round", eight},
@@ -274,6 +280,7 @@ static void measure_all(void) {
         measure(service);
     hold();
     measure(CLOSED);
+    measure(CLOSED_PART);
     measure(COMBINATION);
     measure_divided();
 }

@@ -1,5 +1,5 @@
 //! The closed profile against the model's, on the images of generated texts, products at the limit, rules that refuse one scan only, and
-//! damaged and random images; then combinations by their numbers, with lengths right and wrong.
+//! damaged and random images; then combinations by their numbers, with lengths right and wrong, and the profile in parts.
 
 use crate::compare::{fence, hex, Options, Table};
 use crate::shrink::{shrink, smaller_bytes};
@@ -101,7 +101,44 @@ fn lengths(image: &[u8]) -> (usize, usize) {
     check_detail(image).map_or((2, 1), |header| (header.state_length(), header.row_length()))
 }
 
-/// The profile of an image with the combination at its refused scan; then wrong lengths, and numbers at and past the last.
+/// Number and place of an answer, 0 at 0 for a success.
+fn told(answer: Result<(), rolvenko::Refusal>) -> (u8, usize) {
+    answer.map_or_else(|r| (r.number, r.place), |()| (0, 0))
+}
+
+/// A part of the profile, from a number on.
+fn part(image: &[u8], first: usize, most: usize, table: &mut Table) -> Result<(u8, usize), String> {
+    let lent = fence(image, 0x5A);
+    let archive = told(rolvenko::closed_part(lent.read(image.len()), first, most));
+    let model = rolvenko_model::closed_part(image, first, most).map_or_else(|r| (r.number, r.place), |()| (0, 0));
+    if archive != model || lent != fence(image, 0x5A) {
+        return Err(format!("image {}\npart of {most} from {first}\narchive {archive:?}\nmodel   {model:?}", hex(image)));
+    }
+    table.count(format!("part {:>2}", model.0));
+    Ok(archive)
+}
+
+/// Parts at random: each against the model, and in turn, up to a refusal, against the whole.
+fn parts(rng: &mut Rng, image: &[u8], closed: (u8, usize), table: &mut Table) -> Result<(), String> {
+    let scans = count(image) as usize;
+    let near = |rng: &mut Rng| rng.below(scans + 2);
+    for (first, most) in [(near(rng), near(rng)), (closed.1, near(rng)), (near(rng), usize::MAX), (rng.bits() as usize, rng.bits() as usize)] {
+        part(image, first, most, table)?;
+    }
+    let (mut first, mut answer) = (0, (0, 0));
+    let largest = 1 + near(rng).max(scans / 50);
+    while first < 65_536 && answer.0 == 0 {
+        let most = 1 + rng.below(largest);
+        answer = told(rolvenko::closed_part(image, first, most));
+        first = if first < scans { first + most } else { 65_536 };
+    }
+    if answer != closed {
+        return Err(format!("image {}\nparts in turn {answer:?}, the whole {closed:?}", hex(image)));
+    }
+    Ok(())
+}
+
+/// The profile of an image with the combination at its refused scan; then wrong lengths, and numbers at and past the last; then parts.
 fn profile(rng: &mut Rng, image: &[u8], table: &mut Table) -> Result<(u8, usize), String> {
     let (names, inputs) = lengths(image);
     let call = Call { image: image.to_vec(), index: 0, names, inputs };
@@ -114,6 +151,7 @@ fn profile(rng: &mut Rng, image: &[u8], table: &mut Table) -> Result<(u8, usize)
     for index in [scans.wrapping_sub(1), scans, rng.bits() as u32 % scans.max(1), rng.bits() as u32] {
         compare(&Call { index, ..call.clone() }, table)?;
     }
+    parts(rng, image, closed, table)?;
     Ok(closed)
 }
 

@@ -3,7 +3,7 @@
 //!     rolvenko-tests [--seed N] [--seconds S] [--least N] [--program PATH] [SERVICE ..]
 //!
 //! Services: translate, structured_text (and scans against it), check, scan (and start), trace (lists of rows), replay (the same in one
-//! call), clock, charge, watch, closed (and combination), instalments, rounds, and program, a trace program at PATH; all by default, S
+//! call), clock, charge, watch, closed (its parts and combination), instalments, rounds, and program, a trace program at PATH; all by default, S
 //! seconds and at least N calls each. Prints how often each answer was met. A difference is shrunk to a small input and printed, and the
 //! exit status is 1.
 

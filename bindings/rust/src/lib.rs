@@ -148,6 +148,7 @@ mod archive {
             rate_above: i32,
         ) -> u64;
         pub fn rolvenko_closed(image: *const u8, image_len: usize) -> u64;
+        pub fn rolvenko_closed_part(image: *const u8, image_len: usize, first: usize, most: usize) -> u64;
         pub fn rolvenko_combination(
             image: *const u8,
             image_len: usize,
@@ -378,6 +379,24 @@ pub fn charge(
 pub fn closed(image: &[u8]) -> Result<(), Refusal> {
     // The function reads `image_len` bytes at `image` and writes nothing.
     counted(unsafe { archive::rolvenko_closed(image.as_ptr(), image.len()) }).map(|_| ())
+}
+
+/// [`closed`] of a part of its scans: those before which `first`, `first + 1`, .. scans stand, at most `most` of them; behind the last there
+/// are none. The place of a 27 counts the scans from the first of all, so parts in turn answer what [`closed`] does.
+///
+/// ```
+/// let text = b"input i 0..1; var v 0..3; v: GX(v = (_v + i));";
+/// let mut image = [0; 64];
+/// let length = rolvenko::translate(text, &mut image)?;
+/// let image = &image[..length];
+/// rolvenko::closed_part(image, 0, 7)?;
+/// assert_eq!(rolvenko::closed_part(image, 7, 1).unwrap_err().place, 7);
+/// rolvenko::closed_part(image, 16, usize::MAX)?;
+/// # Ok::<(), rolvenko::Refusal>(())
+/// ```
+pub fn closed_part(image: &[u8], first: usize, most: usize) -> Result<(), Refusal> {
+    // The function reads `image_len` bytes at `image` and writes nothing.
+    counted(unsafe { archive::rolvenko_closed_part(image.as_ptr(), image.len(), first, most) }).map(|_| ())
 }
 
 /// Writes the state and the row of the scan before which `index` scans of [`closed`] stand. A refusal (9, 11, 26, 12; 12 also where

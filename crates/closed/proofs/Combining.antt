@@ -6,7 +6,7 @@ use mathlib.Core.List.{List, [], _∷_, _++_, map}
 use Prim.Native.Nat.{ℕ, zero, suc, _*_, _≤_, _<_}
 use native.Mathlib.Omega.{arith}
 use lib.IntN.{ℤ, pos, _+ℤ_, _-ℤ_}
-use lib.ListN.{length, drop, length-append, length-map}
+use lib.ListN.{length, take, drop, length-append, length-map}
 use lib.Signed.{leZ, ≤ℤ-refl}
 use Rattle.arith.proofs.Basics.{T-true, and-left, and-right, and-T}
 use Rattle.semantics.specs.Program.{Range, within}
@@ -73,6 +73,21 @@ combinations-next ns i s e h =
     let q = o .starts in
     rw q (follows-at (turned ns) (lows ns) (lows ns) s (o .rest) i (o .follows) (rw q at e) (rw q at h))
 
+follows-last : (f : List ℤ → Turned) (first s t : List ℤ) (l : List (List ℤ)) (i : ℕ) → Follows f first s l → drop i (s ∷ l) ≡ t ∷ drop (suc i) (s ∷ l) → suc i ≡ length (s ∷ l)
+    → f t .values ≡ first
+follows-last f first s t [] zero g e h = let q : s ≡ t = cc in rw (← q, g)
+follows-last f first s t [] (suc i) g e h = let b : ⊥ = omega arith in absurd b
+follows-last f first s t (u ∷ l) zero g e h = let b : ⊥ = omega arith in absurd b
+follows-last f first s t (u ∷ l) (suc i) g e h = follows-last f first u t l i (g .1) e (omega arith)
+
+-- and from the last to the first
+pub combinations-again : (ns : List Range) (i : ℕ) (s : List ℤ) → IsNth ns i s → suc i ≡ length (combinations ns) → IsNth ns 0 (turned ns s .values)
+combinations-again ns i s e h =
+    let o = ordered ns in
+    let q = o .starts in
+    let v : turned ns s .values ≡ lows ns = follows-last (turned ns) (lows ns) (lows ns) s (o .rest) i (o .follows) (rw q at e) (rw q at h) in
+    rw v (combinations-first ns)
+
 -- ---- count
 
 length-upwards : (k : ℕ) (z : ℤ) → length (upwards k z) ≡ k
@@ -111,6 +126,16 @@ all-map P Q f (a ∷ l) g h = (g a (h .0), all-map P Q f l g (h .1))
 pub all-weaker : {A : Type 0} (P Q : A → Type 0) (l : List A) → ((a : A) → P a → Q a) → All P l → All Q l
 all-weaker P Q [] g h = tt
 all-weaker P Q (a ∷ l) g h = (g a (h .0), all-weaker P Q l g (h .1))
+
+pub all-taken : {A : Type 0} (P : A → Type 0) (n : ℕ) (l : List A) → All P l → All P (take n l)
+all-taken P zero l h = tt
+all-taken P (suc n) [] h = tt
+all-taken P (suc n) (a ∷ l) h = (h .0, all-taken P n l (h .1))
+
+pub all-dropped : {A : Type 0} (P : A → Type 0) (n : ℕ) (l : List A) → All P l → All P (drop n l)
+all-dropped P zero l h = h
+all-dropped P (suc n) [] h = tt
+all-dropped P (suc n) (a ∷ l) h = all-dropped P n l (h .1)
 
 -- ---- every combination is within its ranges
 

@@ -29,7 +29,7 @@ use Rattle.machine.proofs.Ranges.{Within}
 use Rattle.machine.proofs.SoundRuns.{sound-by-rules}
 use Rattle.scan.specs.Services.{AfterScan, finished, runOf, scanCode, startOf, scanOf, scansOf}
 use Rattle.scan.proofs.SoundScans.{scan-within}
-use Rattle.closed.specs.Closed.{productOfSizes, inputRanges, isSmall, Combination, combinations, combinationsOf, Walked, everyAccepted, refusedAt, goOn, walked, scanning, closedBy, closedAs, closedIn, closedOf}
+use Rattle.closed.specs.Closed.{productOfSizes, inputRanges, isSmall, Combination, combinations, combinationsOf, Walked, everyAccepted, refusedAt, goOn, walked, scanning, closedBy, closedAs, closedOf}
 use Rattle.closed.specs.Claims.{InRangeState, InRangeRow, Closed, InRangeRows, AllAccepted, FirstRefused}
 use Rattle.closed.proofs.Combining.{All, all-weaker, _∈_, all-in, combinations-complete, in-paired}
 use Rattle.closed.proofs.Order.{Rising, valuesIn, combinations-rise, paired-rise, earlier-accepted}
@@ -115,7 +115,7 @@ combination-of image sound untimed s row w v =
     (combinations-complete (inputRanges (shapeIn image)) row (row-within (headerOf image .inputs) (headerOf image .ranges) (limitsOf image) untimed (inputs-among image sound) row v))
 
 pub closed-exactly : (image : List ℕ) → (closedOf image .answer ≡ accepted tt) ↔ Closed image
-unfolding closedOf closedIn isSmall
+unfolding closedOf isSmall
 closed-exactly image = (forth, back)
   where
     forth : closedOf image .answer ≡ accepted tt → Closed image
@@ -200,7 +200,7 @@ module _ (image : List ℕ) (sound : checkOf image ≡ accepted tt) (untimed : h
   all-rise = paired-rise (combinations (headerOf image .ranges)) (combinations (inputRanges (shapeIn image))) (combinations-rise (headerOf image .ranges)) (combinations-rise (inputRanges (shapeIn image)))
 
   first-from : (n : ℕ) (c : Combination) → isSmall (shapeIn image) ≡ true → walked (scanning image) all 0 ≡ refusedAt n c → FirstRefused image n
-  unfolding closedOf closedIn
+  unfolding closedOf
   first-from n c small e =
       let s = walked-first (scanning image) all 0 n c e in
       let at : s .at ≡ n = let q = s .count in omega arith in
@@ -219,7 +219,7 @@ module _ (image : List ℕ) (sound : checkOf image ≡ accepted tt) (untimed : h
 
 module _ (image : List ℕ) (n : ℕ) (e : closedOf image .answer ≡ refused 27 n) where
   parts : (checkOf image ≡ accepted tt) × (isSmall (shapeIn image) ≡ true) × ((c : Combination) × (walked (scanning image) (combinationsOf (shapeIn image)) 0 ≡ refusedAt n c))
-  unfolding closedOf closedIn
+  unfolding closedOf
   parts = closed-stopped (checkOf image) (isSmall (shapeIn image)) image _ _ n (check-numbers image) e
 
   -- there is no timer, or 26 would come first

@@ -14,7 +14,7 @@ use Rattle.bytecode.specs.Instructions.{instructionOf, hasOperand, fetchOne, ti
 use Rattle.bytecode.specs.Check.{checkCounts, checkRange, checkHeader, isTimerRange, checkBody, checkOf}
 use Rattle.bytecode.specs.Parts.{headerOf, codeOf, limitsOf}
 use Rattle.scan.specs.Services.{scanCode, scanOf}
-use Rattle.closed.specs.Closed.{sizeBetween, isSmall, combinationsOf, AfterClosed, leaves, closedIn, closedOf, combinationOf}
+use Rattle.closed.specs.Closed.{sizeBetween, isSmall, combinationsOf, AfterClosed, leaves, closedOf, partOf, partIn, closedPartOf, combinationOf}
 
 -- an image, its answer, the state and the row at the front of the two that are left
 pub record Example : Type 0 where
@@ -65,7 +65,7 @@ examples =
 
 -- the definition gives what the table says
 pub profiles-hold : map (λ (e : Example). closedOf (e .image)) examples ≡ map expected examples
-unfolding examples adds timed unzigzag groups grouped numberIn below32 numberAt signedAt instructionOf hasOperand fetchOne timerAt fetch checkCounts checkRange checkHeader isBinary isTimerRange checkBody checkOf headerOf codeOf limitsOf scanCode scanOf sizeBetween isSmall combinationsOf closedIn closedOf bit yes within moves picked arithmetic compares
+unfolding examples adds timed unzigzag groups grouped numberIn below32 numberAt signedAt instructionOf hasOperand fetchOne timerAt fetch checkCounts checkRange checkHeader isBinary isTimerRange checkBody checkOf headerOf codeOf limitsOf scanCode scanOf sizeBetween isSmall combinationsOf closedOf bit yes within moves picked arithmetic compares
 profiles-hold = refl
 
 -- combinations of `adds` by their numbers: the one that 27 names, the last, one past it; a row too long; 11; a timer
@@ -77,3 +77,13 @@ pub combinations-hold : (combinationOf adds 7 two one ≡ leaves (accepted tt) (
     × (combinationOf timed 0 two one ≡ leaves (refused 26 0) two one)
 unfolding adds timed unzigzag groups grouped numberIn below32 numberAt signedAt instructionOf hasOperand fetchOne timerAt fetch checkCounts checkRange checkHeader isBinary isTimerRange checkBody checkOf headerOf codeOf limitsOf sizeBetween isSmall combinationsOf combinationOf
 combinations-hold = (refl, refl, refl, refl, refl, refl)
+
+-- parts of `adds`: before the refused scan, with it, behind it, behind the last, none
+pub parts-hold : (closedPartOf adds 0 7 .answer ≡ accepted tt)
+    × (closedPartOf adds 3 5 ≡ closedOf adds)
+    × (closedPartOf adds 8 65536 .answer ≡ refused 27 15)
+    × (closedPartOf adds 16 65536 .answer ≡ accepted tt)
+    × (closedPartOf adds 7 0 .answer ≡ accepted tt)
+    × (closedPartOf timed 7 0 .answer ≡ refused 26 0)
+unfolding adds timed unzigzag groups grouped numberIn below32 numberAt signedAt instructionOf hasOperand fetchOne timerAt fetch checkCounts checkRange checkHeader isBinary isTimerRange checkBody checkOf headerOf codeOf limitsOf scanCode scanOf sizeBetween isSmall combinationsOf closedOf partOf partIn closedPartOf bit yes within moves picked arithmetic compares
+parts-hold = (refl, refl, refl, refl, refl, refl)

@@ -7,5 +7,6 @@ pub mod Walks
 pub mod Profiles
 pub mod Scans
 pub mod Numbering
+pub mod InParts
 pub mod Exactly
 pub mod Examples

@@ -35,7 +35,7 @@ row-at s r [] more (suc j) e = let z : _≡_ {A = ℕ} 0 1 = cc in let b : ⊥ =
 row-at s r (x ∷ rs) more zero e = let q : x ≡ r = cc in rw q
 row-at s r (x ∷ rs) more (suc j) e = row-at s r rs more j e
 
-pair-at : (s r : List ℤ) (ss : List State) (rs : List (List ℤ)) (i j : ℕ) → drop i ss ≡ s ∷ drop (suc i) ss → drop j rs ≡ r ∷ drop (suc j) rs
+pub pair-at : (s r : List ℤ) (ss : List State) (rs : List (List ℤ)) (i j : ℕ) → drop i ss ≡ s ∷ drop (suc i) ss → drop j rs ≡ r ∷ drop (suc j) rs
     → getElem? (paired ss rs) (i * length rs + j) ≡ some (record { state = s; row = r })
 pair-at s r [] rs zero j e f = let z : _≡_ {A = ℕ} 0 1 = cc in let b : ⊥ = omega arith in absurd b
 pair-at s r [] rs (suc i) j e f = let z : _≡_ {A = ℕ} 0 1 = cc in let b : ⊥ = omega arith in absurd b

@@ -1,24 +1,27 @@
 -- The products and the walk of an image's names: the ways of the closed profile. Assumes nothing.
 use mathlib.Core.Path.{_≡_, refl, sym, ap, ap₂, _∙_}
-use mathlib.Core.Bool.{true, false}
+use mathlib.Core.Bool.{Bool, true, false}
 use mathlib.Core.List.{List, [], _∷_, map}
-use Prim.Native.Nat.{ℕ, zero, suc, _*_, _≤_, _<_, min}
+use Prim.Native.Nat.{ℕ, zero, suc, _+_, _-_, _*_, _≤_, _<_, min}
 use native.Mathlib.Nat.{mul-le-mul}
 use native.Mathlib.Omega.{arith}
-use borrow.Author.Tests.{le-leb, lt-leb}
+use borrow.Author.Tests.{le-leb, lt-leb, leb-true, leb-false}
 use lib.Dec.{leb}
 use lib.IntN.{ℤ}
-use lib.ListN.{length, take}
-use lib.Seq.{length-take-le}
+use lib.ListN.{length, take, drop, length-drop, drop-of-length-le}
+use lib.Seq.{length-take-le, take-all, take-nil}
+use Rattle.limits.specs.Limits.{stackLimit}
 use Rattle.semantics.specs.Program.{Range}
 use Rattle.semantics.specs.ReferenceScan.{withInputs}
 use Rattle.machine.specs.Inner.Memory.{RangesIn}
-use Rattle.closed.specs.Closed.{productOfSizes, combinations, paired, everyAccepted, refusedAt, walked}
+use Rattle.closed.specs.Closed.{productOfSizes, combinations, Combination, paired, everyAccepted, refusedAt, walked}
 use Rattle.closed.specs.Results.{afterClosing}
-use Rattle.closed.specs.Inner.Parts.{working, Walking, visitedAs, closedWorking}
+use Rattle.closed.specs.Inner.Parts.{working, Walking, visitedAs, partWorking}
 use Rattle.closed.specs.declared.Visited.{Visited}
 use Rattle.closed.specs.declared.Visited.the-variants as W
 use Rattle.closed.specs.declared.Closing.the-variants as C
+use Rattle.closed.proofs.Combining.{combinations-count, paired-count}
+use Rattle.closed.proofs.Walks.{ahead}
 
 -- ---- the ranges of the inputs
 
@@ -61,30 +64,58 @@ sized P Q p q e f a b h =
 
 -- ---- the walk
 
-module _ (ns : List Range) (inputs : ℕ) (code : List ℕ) (state row : List ℤ) (small : leb (productOfSizes ns * productOfSizes (take inputs ns)) 65536 ≡ true) where
-  pub closed-through : (r : Visited) (s t : List ℤ) → visitedAs r s t ≡ walked (working ns code) (paired (combinations ns) (combinations (take inputs ns))) 0 → r ≡ W.Every
-      → afterClosing C.Closed state row ≡ closedWorking ns inputs code state row
-  closed-through r s t e q = let k : walked (working ns code) (paired (combinations ns) (combinations (take inputs ns))) 0 ≡ everyAccepted = sym e ∙ ap (λ (x : Visited). visitedAs x s t) q in rw (small, k)
+-- no further than the last
+taken-before : (l : List Combination) (first most end all : ℕ) → length l ≡ all → first ≤ all → end ≡ min (first + most) all → take (end - first) (drop first l) ≡ take most (drop first l)
+taken-before l first most end all e h m = by (leb (first + most) all) (leb-true (first + most) all) (leb-false (first + most) all)
+  where
+    by : (t : Bool) → (t ≡ true → first + most ≤ all) → (t ≡ false → all < first + most) → take (end - first) (drop first l) ≡ take most (drop first l)
+    by true y n = let k = y refl in let q : end - first ≡ most = omega arith in rw q
+    by false y n =
+        let k = n refl in
+        let q : length (drop first l) ≡ all - first = length-drop first l ∙ ap (λ (n : ℕ). n - first) e in
+        take-all (end - first) (drop first l) (omega arith) ∙ sym (take-all most (drop first l) (omega arith))
 
-  pub closed-stopped : (r : Visited) (s t left right : List ℤ) (n : ℕ) → visitedAs r s t ≡ walked (working ns code) (paired (combinations ns) (combinations (take inputs ns))) 0 → r ≡ W.Until n
-      → left ≡ withInputs state s → right ≡ withInputs row t → afterClosing (C.Refused 27 n) left right ≡ closedWorking ns inputs code state row
-  closed-stopped r s t left right n e q a b =
-      let k : walked (working ns code) (paired (combinations ns) (combinations (take inputs ns))) 0 ≡ refusedAt n (record { state = s; row = t }) = sym e ∙ ap (λ (x : Visited). visitedAs x s t) q in
-      rw (small, k, a, b)
+module _ (ns : List Range) (inputs : ℕ) (code : List ℕ) (first most : ℕ) (state row : List ℤ) (small : leb (productOfSizes ns * productOfSizes (take inputs ns)) 65536 ≡ true) where
+  abbrev combos : List Combination
+  combos = paired (combinations ns) (combinations (take inputs ns))
+
+  combos-count : length combos ≡ productOfSizes ns * productOfSizes (take inputs ns)
+  combos-count = paired-count (combinations ns) (combinations (take inputs ns)) ∙ ap₂ (λ (m n : ℕ). m * n) (combinations-count ns) (combinations-count (take inputs ns))
+
+  -- a part beyond the last is empty
+  pub closed-beyond : productOfSizes ns * productOfSizes (take inputs ns) ≤ first → afterClosing C.Closed state row ≡ partWorking ns inputs code first most state row
+  closed-beyond h =
+      let k : length combos ≤ first = omega (arith, combos-count) in
+      let d : drop first combos ≡ [] = drop-of-length-le combos k in
+      rw (small, d, take-nil most)
+
+  module _ (end : ℕ) (h : first ≤ productOfSizes ns * productOfSizes (take inputs ns)) (m : end ≡ min (first + most) (productOfSizes ns * productOfSizes (take inputs ns))) where
+    part-is : ahead (working ns code) ns (take inputs ns) end first ≡ walked (working ns code) (take most (drop first combos)) first
+    part-is = ap (λ (l : List Combination). walked (working ns code) l first) (taken-before combos first most end _ combos-count h m)
+
+    pub closed-through : (r : Visited) (s t : List ℤ) → visitedAs r s t ≡ ahead (working ns code) ns (take inputs ns) end first → r ≡ W.Every
+        → afterClosing C.Closed state row ≡ partWorking ns inputs code first most state row
+    closed-through r s t e q = let k : walked (working ns code) (take most (drop first combos)) first ≡ everyAccepted = sym part-is ∙ sym e ∙ ap (λ (x : Visited). visitedAs x s t) q in rw (small, k)
+
+    pub closed-stopped : (r : Visited) (s t left right : List ℤ) (n : ℕ) → visitedAs r s t ≡ ahead (working ns code) ns (take inputs ns) end first → r ≡ W.Until n
+        → left ≡ withInputs state s → right ≡ withInputs row t → afterClosing (C.Refused 27 n) left right ≡ partWorking ns inputs code first most state row
+    closed-stopped r s t left right n e q a b =
+        let k : walked (working ns code) (take most (drop first combos)) first ≡ refusedAt n (record { state = s; row = t }) = sym part-is ∙ sym e ∙ ap (λ (x : Visited). visitedAs x s t) q in
+        rw (small, k, a, b)
 
 -- ---- the lent memory, cut to the names and the inputs
 
-pub parts-walking : (low high s r p w : List ℤ) (names inputs : ℕ) → names ≤ length low → names ≤ length high → names ≤ length s → names ≤ length p → names ≤ length w → inputs ≤ names → inputs ≤ length r
-    → Walking (take names low) (take names high) (take inputs (take names low)) (take inputs (take names high)) (take names s) (take inputs r) (take names p) (take names w)
-parts-walking low high s r p w names inputs a b c d e f g =
+pub parts-walking : (low high s r w v : List ℤ) (names inputs : ℕ) → names ≤ length low → names ≤ length high → names ≤ length s → names ≤ length w → inputs ≤ names → inputs ≤ length r → length v ≡ stackLimit
+    → Walking (take names low) (take names high) (take inputs (take names low)) (take inputs (take names high)) (take names s) (take inputs r) (take names w) v
+parts-walking low high s r w v names inputs a b c e f g h =
     let l = length-take-le names low a in
-    let h = length-take-le names high b in
+    let k = length-take-le names high b in
     let i : length (take inputs (take names low)) ≡ inputs = length-take-le inputs (take names low) (omega arith) in
     record {
-      highs = h ∙ sym l;
+      highs = k ∙ sym l;
       states = length-take-le names s c ∙ sym l;
-      copies = length-take-le names p d ∙ sym l;
       works = length-take-le names w e ∙ sym l;
+      stack = h;
       row-highs = length-take-le inputs (take names high) (omega arith) ∙ sym i;
       rows = length-take-le inputs r g ∙ sym i;
       among = omega arith;

@@ -6,7 +6,7 @@ use Prim.Native.Nat.{ℕ, zero, suc, _+_, _*_, _≤_}
 use native.Mathlib.Omega.{arith}
 use lib.Dec.{T, leb}
 use lib.IntN.{ℤ}
-use lib.ListN.{length, take}
+use lib.ListN.{length, take, drop}
 use lib.Seq.{length-take-le, take-all}
 use lib.Signed.{leZ}
 use Rattle.limits.specs.Answer.{Answer, accepted, refused}
@@ -21,21 +21,25 @@ use Rattle.bytecode.specs.Parts.{headerOf, codeOf, limitsOf, shapeIn}
 use Rattle.bytecode.specs.Translation.{RangesFit}
 use Rattle.bytecode.proofs.Walk.{check-sound}
 use Rattle.bytecode.proofs.SoundHeader.{header-is}
+use Rattle.machine.specs.declared.Registers.{Registers}
+use Rattle.machine.specs.declared.Timing.{Timing}
+use Rattle.machine.specs.declared.Executed.{Executed}
+use Rattle.machine.specs.declared.Stepped.the-variants.{Next, Refused}
+use Rattle.machine.specs.Runs.{run}
+use Rattle.machine.specs.Inner.Memory.{machineOf, ranOf, RangesIn, TimingIn}
 use Rattle.machine.proofs.Ranges.{Within}
 use Rattle.before.specs.Before.{beforeCode}
 use Rattle.scan.specs.Services.{AfterScan, scanCode, scanOf}
-use Rattle.scan.specs.Results.{scanAnswer, afterScan}
-use Rattle.scan.specs.declared.Scanned.{Scanned}
-use Rattle.scan.specs.declared.Scanned.the-variants as R
-use Rattle.scan.specs.Inner.Parts.{scannedOver, scannedCode, scannedBy}
+use Rattle.scan.specs.Inner.Parts.{plainSetting, scannedOver, scannedCode, scannedBy}
+use Rattle.scan.proofs.Scanning.{first as begun, code-done, code-refused}
 use Rattle.scan.proofs.Scans.{scan-is}
 use Rattle.scan.proofs.Images.{plain-passes, setting-untimed}
-use Rattle.closed.specs.Closed.{productOfSizes, inputRanges, isSmall, combinations, Combination, combinationsOf, walked, scanning, leaves, closedBy, closedAs, closedIn, AfterClosed}
+use Rattle.closed.specs.Closed.{productOfSizes, inputRanges, isSmall, combinations, Combination, combinationsOf, walked, scanning, AfterClosed, leaves, closedBy, partOf, partAs, partIn}
 use Rattle.closed.specs.Results.{afterClosing}
 use Rattle.closed.specs.Claims.{InRangeRow}
-use Rattle.closed.specs.Inner.Parts.{isRefused, working, closedWorking}
+use Rattle.closed.specs.Inner.Parts.{isRefused, working, partWorking}
 use Rattle.closed.specs.declared.Closing.the-variants as C
-use Rattle.closed.proofs.Combining.{All, all-weaker, Upright, combinations-within, paired-all}
+use Rattle.closed.proofs.Combining.{All, all-weaker, all-taken, all-dropped, Upright, combinations-within, paired-all}
 
 -- ---- the ranges of a sound image
 
@@ -116,17 +120,18 @@ module _ (image : List ℕ) (sound : checkOf image ≡ accepted tt) (untimed : h
         ∙ ap (λ (k : Setting). scannedOver k (codeOf image) s t .answer) (setting-untimed image row untimed inputs-are)
         ∙ ap (λ (l : List ℤ). scannedCode (headerOf image .ranges) (codeOf image) s l .answer) (take-all (headerOf image .inputs) row (omega (arith, inputs-are)))
 
--- ---- one scan, on a copy of the state
+-- ---- one scan, on a copy of the state that holds the row
 
-module _ (ns : List Range) (code : List ℕ) (state copy : State) (row : List ℤ) (left : State) (r : Scanned) (same : copy ≡ state) (e : afterScan r left ≡ scannedCode ns code copy row) where
-  of-state : (x : Scanned) → r ≡ x → isRefused (scanAnswer x) ≡ isRefused (scannedCode ns code state row .answer)
-  of-state x q = ap (λ (s : AfterScan). isRefused (s .answer)) (ap (λ y. afterScan y left) (sym q) ∙ e ∙ ap (λ s. scannedCode ns code s row) same)
+module _ (ns : List Range) (code : List ℕ) (low high found w vals vs ws : List ℤ) (row : List ℤ) (timing : Timing) (x : Executed) (r : RangesIn ns low high) (k : TimingIn (plainSetting ns) timing)
+    (went : (ns : Setting) → RangesIn (ns .ranges) low high → TimingIn ns timing → ranOf x vs ws ≡ run ns found code (length code) 0 0 (machineOf begun vals w)) (over : w ≡ withInputs found row) where
+  of-row : (a : Answer (Unit {0})) → a ≡ scannedOver (plainSetting ns) code found w .answer → isRefused a ≡ isRefused (scannedCode ns code found row .answer)
+  of-row a e = ap isRefused (e ∙ ap (λ (s : State). scannedOver (plainSetting ns) code found s .answer) over)
 
-  pub scan-passes : (n : ℕ) → r ≡ R.Done n → false ≡ isRefused (scannedCode ns code state row .answer)
-  scan-passes n q = of-state (R.Done n) q
+  pub scan-passes : (t : Registers) → length ws ≡ length found → x .last ≡ Next t → false ≡ isRefused (scannedCode ns code found row .answer)
+  scan-passes t l e = of-row (accepted tt) (ap (λ (s : AfterScan). s .answer) (code-done code low high found w vals vs ws timing x went t (withInputs found ws) e l refl (plainSetting ns) r k))
 
-  pub scan-stops : (number place n : ℕ) → r ≡ R.Refused number place n → true ≡ isRefused (scannedCode ns code state row .answer)
-  scan-stops number place n q = of-state (R.Refused number place n) q
+  pub scan-stops : (number : ℕ) → x .last ≡ Refused number → true ≡ isRefused (scannedCode ns code found row .answer)
+  scan-stops number e = of-row (refused number 0) (ap (λ (s : AfterScan). s .answer) (code-refused code low high found w vals vs ws timing x went number e (plainSetting ns) r k))
 
 -- ---- the walk by the code is the walk by the scans
 
@@ -134,30 +139,36 @@ walked-same : (f g : Combination → Answer (Unit {0})) (cs : List Combination) 
 walked-same f g [] n h = refl
 walked-same f g (c ∷ cs) n h = rw (h .0, walked-same f g cs (n + 1) (h .1))
 
-chosen : (b : Bool) (image : List ℕ) (state row : List ℤ) (x : AfterClosed) → x ≡ closedBy (walked (scanning image) (combinationsOf (shapeIn image)) 0) state row
-    → cond b x (leaves (refused 26 0) state row) ≡ closedAs (accepted tt) b image state row
-chosen true image state row x e = e
-chosen false image state row x e = refl
+chosen : (b : Bool) (image : List ℕ) (first most : ℕ) (state row : List ℤ) (x : AfterClosed) → x ≡ closedBy (walked (scanning image) (partOf (shapeIn image) first most) first) state row
+    → cond b x (leaves (refused 26 0) state row) ≡ partAs (accepted tt) b image first most state row
+chosen true image first most state row x e = e
+chosen false image first most state row x e = refl
 
-pub closed-refused : (image : List ℕ) (state row : List ℤ) (number place : ℕ) → checkOf image ≡ refused number place → afterClosing (C.Refused number place) state row ≡ closedIn image state row
-unfolding closedIn
-closed-refused image state row number place e = rw e
+pub closed-refused : (image : List ℕ) (first most : ℕ) (state row : List ℤ) (number place : ℕ) → checkOf image ≡ refused number place
+    → afterClosing (C.Refused number place) state row ≡ partIn image first most state row
+unfolding partIn
+closed-refused image first most state row number place e = rw e
 
-module _ (image : List ℕ) (sound : checkOf image ≡ accepted tt) where
+module _ (image : List ℕ) (sound : checkOf image ≡ accepted tt) (first most : ℕ) where
   -- 26 a timer
-  pub closed-timed : (state row : List ℤ) → hasTimer (limitsOf image) ≡ true → afterClosing (C.Refused 26 0) state row ≡ closedIn image state row
-  unfolding closedIn isSmall
+  pub closed-timed : (state row : List ℤ) → hasTimer (limitsOf image) ≡ true → afterClosing (C.Refused 26 0) state row ≡ partIn image first most state row
+  unfolding partIn isSmall
   closed-timed state row e = rw (sound, e)
 
   module _ (untimed : hasTimer (limitsOf image) ≡ false) where
-    walk-is : walked (scanning image) (combinationsOf (shapeIn image)) 0 ≡ walked (working (headerOf image .ranges) (codeOf image)) (combinationsOf (shapeIn image)) 0
-    walk-is =
-        walked-same (scanning image) (working (headerOf image .ranges) (codeOf image)) (combinationsOf (shapeIn image)) 0
-        (all-weaker (λ c. Within (headerOf image .ranges) (c .state) × Within (inputRanges (shapeIn image)) (c .row)) (λ c. scanning image c ≡ working (headerOf image .ranges) (codeOf image) c)
-        (combinationsOf (shapeIn image)) (λ c w. scanning-is image sound untimed (c .state) (c .row) (w .0) (w .1)) (combinations-in image sound))
+    abbrev Fits : Combination → Type 0
+    Fits c = Within (headerOf image .ranges) (c .state) × Within (inputRanges (shapeIn image)) (c .row)
 
-    pub closed-from : (inputs : ℕ) (state row : List ℤ) → headerOf image .inputs ≡ inputs → closedWorking (headerOf image .ranges) inputs (codeOf image) state row ≡ closedIn image state row
-    unfolding closedIn isSmall combinationsOf
+    walk-is : walked (scanning image) (partOf (shapeIn image) first most) first ≡ walked (working (headerOf image .ranges) (codeOf image)) (partOf (shapeIn image) first most) first
+    unfolding partOf
+    walk-is =
+        walked-same (scanning image) (working (headerOf image .ranges) (codeOf image)) (partOf (shapeIn image) first most) first
+        (all-weaker Fits (λ c. scanning image c ≡ working (headerOf image .ranges) (codeOf image) c) (partOf (shapeIn image) first most)
+        (λ c w. scanning-is image sound untimed (c .state) (c .row) (w .0) (w .1))
+        (all-taken Fits most (drop first (combinationsOf (shapeIn image))) (all-dropped Fits first (combinationsOf (shapeIn image)) (combinations-in image sound))))
+
+    pub closed-from : (inputs : ℕ) (state row : List ℤ) → headerOf image .inputs ≡ inputs → partWorking (headerOf image .ranges) inputs (codeOf image) first most state row ≡ partIn image first most state row
+    unfolding partIn isSmall partOf combinationsOf
     closed-from inputs state row e =
         rw (sound, untimed, ← e)
-        (chosen (leb (productOfSizes (headerOf image .ranges) * productOfSizes (inputRanges (shapeIn image))) 65536) image state row _ (ap (λ w. closedBy w state row) (sym walk-is)))
+        (chosen (leb (productOfSizes (headerOf image .ranges) * productOfSizes (inputRanges (shapeIn image))) 65536) image first most state row _ (ap (λ w. closedBy w state row) (sym walk-is)))

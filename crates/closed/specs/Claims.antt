@@ -1,5 +1,5 @@
 -- What a closed image is, and what a refusal 27 says, over the scans themselves. Document 02, A.10. Assumes nothing.
-use Prim.Native.Nat.{ℕ, _*_, _≤_}
+use Prim.Native.Nat.{ℕ, _+_, _*_, _≤_}
 use mathlib.Core.Path.{_≡_}
 use mathlib.Core.Bool.{false}
 use mathlib.Core.Logic.{_⊎_}
@@ -10,13 +10,13 @@ use lib.IntN.{ℤ, pos}
 use lib.ListN.{length, replicate, getElem?}
 use lib.Signed.{_<ℤ_}
 use Rattle.limits.specs.Limits.{nameLimit, combinationLimit}
-use Rattle.limits.specs.Answer.{accepted, refused}
+use Rattle.limits.specs.Answer.{Answer, accepted, refused}
 use Rattle.semantics.specs.Formula.{State}
 use Rattle.bytecode.specs.Check.{checkOf}
 use Rattle.bytecode.specs.Parts.{shapeIn}
 use Rattle.semantics.specs.Shape.{Shape, hasTimer, stateLength, rowLength, stateInRange, rowInRange}
 use Rattle.scan.specs.Services.{AfterScan, scanOf}
-use Rattle.closed.specs.Closed.{productOfSizes, inputRanges, Combination, combinationsOf, refusedAt, scanning, closedBy, closedOf}
+use Rattle.closed.specs.Closed.{productOfSizes, inputRanges, Combination, combinationsOf, refusedAt, scanning, AfterClosed, closedBy, closedOf, closedPartOf}
 
 -- an in-range state: neither 12 nor 18
 pub record InRangeState (h : Shape) (s : State) : Type 0 where
@@ -66,3 +66,13 @@ pub record FirstRefused (image : List ℕ) (n : ℕ) : Type 0 where
       → Earlier (scannedValues s row) (scannedValues (combination .state) (combination .row)) → scanOf image s row .answer ≡ accepted tt
   pub stands : getElem? (combinationsOf (shapeIn image)) n ≡ some combination
   pub left : closedOf image ≡ closedBy (refusedAt n combination) (replicate nameLimit (pos 0)) (replicate nameLimit (pos 0))
+
+-- The second part's answer, unless the first is refused.
+abbrev pub unlessRefused : Answer (Unit {0}) → AfterClosed → AfterClosed → AfterClosed
+unlessRefused (refused number place) first second = first
+unlessRefused (accepted u) first second = second
+
+-- The profile in parts (law `closed-in-parts`): the whole is the part of all, and a part is what two parts of it answer in turn.
+pub record InParts (image : List ℕ) : Type 0 where
+  pub whole : (most : ℕ) → combinationLimit ≤ most → closedOf image ≡ closedPartOf image 0 most
+  pub divided : (first k most : ℕ) → closedPartOf image first (k + most) ≡ unlessRefused (closedPartOf image first k .answer) (closedPartOf image first k) (closedPartOf image (first + k) most)

@@ -5,7 +5,7 @@ use mathlib.Core.List.{List, [], _∷_, _++_, map}
 use mathlib.Core.Option.{Option, none, some}
 use lib.Dec.{eqb, leb}
 use lib.IntN.{ℤ, pos, negsuc, _+ℤ_, _-ℤ_}
-use lib.ListN.{length, take, replicate, getElem?}
+use lib.ListN.{length, take, drop, replicate, getElem?}
 use Rattle.limits.specs.Limits.{nameLimit, combinationLimit, wrongLength, notSmall, notClosed}
 use Rattle.limits.specs.Answer.{Answer, accepted, refused}
 use Rattle.semantics.specs.Program.{Range}
@@ -115,12 +115,27 @@ closedAs (refused number place) small image state row = leaves (refused number p
 closedAs (accepted u) false image state row = leaves (refused notSmall 0) state row
 closedAs (accepted u) true image state row = closedBy (walked (scanning image) (combinationsOf (shapeIn image)) 0) state row
 
-unfoldable pub closedIn : List ℕ → List ℤ → List ℤ → AfterClosed
-closedIn image state row = closedAs (checkOf image) (isSmall (shapeIn image)) image state row
-
 -- the profile: of 64 numbers, those behind the state and the row are 0
 unfoldable pub closedOf : List ℕ → AfterClosed
-closedOf image = closedIn image (replicate nameLimit (pos 0)) (replicate nameLimit (pos 0))
+closedOf image = closedAs (checkOf image) (isSmall (shapeIn image)) image (replicate nameLimit (pos 0)) (replicate nameLimit (pos 0))
+
+-- ---- the service in parts
+
+-- the combinations numbered first, first + 1, .., at most `most` of them, and none beyond the last
+unfoldable pub partOf : Shape → ℕ → ℕ → List Combination
+partOf h first most = take most (drop first (combinationsOf h))
+
+-- Errors as of the whole. 27 counts the scans before the refused one from the first of all, so the whole is its parts (law `closed-in-parts`).
+abbrev pub partAs : Answer (Unit {0}) → Bool → List ℕ → ℕ → ℕ → List ℤ → List ℤ → AfterClosed
+partAs (refused number place) small image first most state row = leaves (refused number place) state row
+partAs (accepted u) false image first most state row = leaves (refused notSmall 0) state row
+partAs (accepted u) true image first most state row = closedBy (walked (scanning image) (partOf (shapeIn image) first most) first) state row
+
+unfoldable pub partIn : List ℕ → ℕ → ℕ → List ℤ → List ℤ → AfterClosed
+partIn image first most state row = partAs (checkOf image) (isSmall (shapeIn image)) image first most state row
+
+unfoldable pub closedPartOf : List ℕ → ℕ → ℕ → AfterClosed
+closedPartOf image first most = partIn image first most (replicate nameLimit (pos 0)) (replicate nameLimit (pos 0))
 
 -- ---- one combination by its number
 

@@ -1,19 +1,21 @@
 // The closed profile: every in-range state scanned with every in-range row.
+use machine::Registers;
+use machine::Stepped;
+use machine::Timing;
 use machine::lists;
-use scan::Scanned;
 use shapes::Shaped;
 ghost use mathlib.Core.Path.{_≡_};
 ghost use mathlib.Core.List.{List};
-ghost use Prim.Native.Nat.{_+_, _*_, _^_, _≤_, _<_, min};
-ghost use lib.ListN.{length, take};
-ghost use Rattle.limits.specs.Limits.{nameLimit, combinationLimit};
+ghost use Prim.Native.Nat.{_+_, _-_, _*_, _^_, _≤_, _<_, min};
+ghost use lib.ListN.{length, take, drop};
+ghost use Rattle.limits.specs.Limits.{nameLimit, stackLimit, combinationLimit};
 ghost use Rattle.semantics.specs.Program.{Range};
 ghost use Rattle.machine.specs.Inner.Memory.{RangesIn};
 ghost use Rattle.before.specs.Inner.Memory.{FittingMemory};
 ghost use Rattle.scan.specs.Inner.Parts.{scannedCode};
-ghost use Rattle.closed.specs.Closed.{sizeBetween, productOfSizes, combinations, paired, walked, closedIn, closedOf, combinationOf};
+ghost use Rattle.closed.specs.Closed.{sizeBetween, productOfSizes, combinations, paired, walked, closedOf, partIn, closedPartOf, combinationOf};
 ghost use Rattle.closed.specs.Results.{afterClosing, ClosingWithin, profileOf};
-ghost use Rattle.closed.specs.Inner.Parts.{nextOf, isRefused, working, Walking, visitedAs, VisitedWithin, closedWorking, ClosedRoom, combinedRanges, IsNth};
+ghost use Rattle.closed.specs.Inner.Parts.{nextOf, isRefused, working, Walking, visitedAs, VisitedWithin, partWorking, ClosedRoom, combinedRanges, IsNth};
 
 // How many values a range has.
 fn size(low: i32, high: i32) -> usize
@@ -59,25 +61,50 @@ fn next(low: &[i32], high: &[i32], values: &mut [i32])
     }
 }
 
-// Whether the code refuses a state and a row within their ranges. It works on a copy.
+// Whether the code refuses a state and a row within their ranges.
 fn is_refused(
     code: &[u8],
     low: &[i32],
     high: &[i32],
     state: &[i32],
     row: &[i32],
-    copy: &mut [i32],
     work: &mut [i32],
+    vals: &mut [i32],
 ) -> bool
     requires { ⌜ FittingMemory (length (now row)) (now state) (now low) (now high) (now work) ⌝ }
-    requires { ⌜ length (now copy) ≡ length (now state) ⌝ }
+    requires { ⌜ stackLimit ≤ length (now vals) ⌝ }
     ensures { λ r. ⌜ ((ns : List Range) → RangesIn ns (now (low .entry)) (now (high .entry))
         → r ≡ isRefused (scannedCode ns (now (code .entry)) (now (state .entry)) (now (row .entry)) .answer)) ⌝ }
 {
-    lists::fill(copy, state);
-    match scan::scan_sound(code, copy, row, low, high, work) {
-        Scanned::Done(_) => false,
-        Scanned::Refused(_, _, _) => true,
+    lists::take_row(work, state, row);
+    let timing = Timing {
+        names: low.len(),
+        timers: 0,
+        millis: 0,
+    };
+    let m = Registers {
+        held: 0,
+        picked: false,
+        passing: false,
+    };
+    let ran = machine::run(code, low, high, state, work, vals, timing, 0, m, code.len());
+    let last = ran.last;
+    match last {
+        Stepped::Next(_) => false,
+        Stepped::Refused(_) => true,
+    }
+}
+
+// The combination of a number: the odometer turned so many times.
+fn nth(low: &[i32], high: &[i32], times: usize, values: &mut [i32])
+    requires { ⌜ (length (now high) ≡ length (now low)) × (length (now values) ≡ length (now low)) ⌝ }
+    ensures { λ _. ⌜ ((ns : List Range) → RangesIn ns (now (low .entry)) (now (high .entry)) → times < productOfSizes ns → IsNth ns times (now (values .exit))) ⌝ }
+{
+    lists::fill(values, low);
+    let mut i = 0;
+    while i < times {
+        next(low, high, values);
+        i += 1;
     }
 }
 
@@ -87,45 +114,45 @@ pub enum Visited {
     Until(usize),
 }
 
-// Every combination, rows inside states. It ends at the first scan that is refused, and leaves its state and row.
+// The combinations from `first` on and before `end`, rows inside states. It ends at the first scan that is refused, and leaves its state and row.
 fn walk(
     code: &[u8],
     low: &[i32],
     high: &[i32],
     row_low: &[i32],
     row_high: &[i32],
-    states: usize,
     rows: usize,
+    first: usize,
+    end: usize,
     state: &mut [i32],
     row: &mut [i32],
-    copy: &mut [i32],
     work: &mut [i32],
+    vals: &mut [i32],
 ) -> Visited
-    requires { ⌜ Walking (now low) (now high) (now «row_low») (now «row_high») (now state) (now row) (now copy) (now work) ⌝ }
-    requires { ⌜ states * rows ≤ combinationLimit ⌝ }
+    requires { ⌜ Walking (now low) (now high) (now «row_low») (now «row_high») (now state) (now row) (now work) (now vals) ⌝ }
+    requires { ⌜ (1 ≤ rows) × (first ≤ end) × (end ≤ combinationLimit) ⌝ }
     ensures { λ r. ⌜ ((ns is : List Range) → RangesIn ns (now (low .entry)) (now (high .entry)) → RangesIn is (now («row_low» .entry)) (now («row_high» .entry))
-        → states ≡ productOfSizes ns → rows ≡ productOfSizes is
-        → visitedAs r (now (state .exit)) (now (row .exit)) ≡ walked (working ns (now (code .entry))) (paired (combinations ns) (combinations is)) 0) ⌝ }
+        → rows ≡ productOfSizes is → end ≤ productOfSizes ns * productOfSizes is
+        → visitedAs r (now (state .exit)) (now (row .exit)) ≡ walked (working ns (now (code .entry))) (take (end - first) (drop first (paired (combinations ns) (combinations is)))) first) ⌝ }
     ensures { λ r. ⌜ VisitedWithin r ⌝ }
 {
-    lists::fill(state, low);
-    let mut i = 0;
-    let mut done: usize = 0;
-    'states: while i < states {
-        lists::fill(row, row_low);
-        let mut j = 0;
-        while j < rows {
-            if is_refused(code, low, high, state, row, copy, work) {
+    let mut i = first / rows;
+    nth(low, high, i, state);
+    nth(row_low, row_high, first % rows, row);
+    let mut done = first;
+    'states: while done < end {
+        let stop = lists::behind(i * rows, rows, end);
+        while done < stop {
+            if is_refused(code, low, high, state, row, work, vals) {
                 break 'states;
             }
             next(row_low, row_high, row);
             done += 1;
-            j += 1;
         }
         next(low, high, state);
         i += 1;
     }
-    if i < states {
+    if done < end {
         return Visited::Until(done);
     }
     Visited::Every
@@ -143,37 +170,45 @@ fn closed_ranges(
     inputs: usize,
     low: &[i32],
     high: &[i32],
+    first: usize,
+    most: usize,
     at_state: &mut [i32],
     at_row: &mut [i32],
-    copy: &mut [i32],
     work: &mut [i32],
+    vals: &mut [i32],
     state: &mut [i32],
     row: &mut [i32],
 ) -> Closing
     requires { ⌜ inputs ≤ length (now low) ⌝ }
-    requires { ⌜ Walking (now low) (now high) (take inputs (now low)) (take inputs (now high)) (now «at_state») (now «at_row») (now copy) (now work) ⌝ }
+    requires { ⌜ Walking (now low) (now high) (take inputs (now low)) (take inputs (now high)) (now «at_state») (now «at_row») (now work) (now vals) ⌝ }
     requires { ⌜ (length (now low) ≤ length (now state)) × (inputs ≤ length (now row)) ⌝ }
     ensures { λ r. ⌜ ((ns : List Range) → RangesIn ns (now (low .entry)) (now (high .entry))
-        → afterClosing r (now (state .exit)) (now (row .exit)) ≡ closedWorking ns inputs (now (code .entry)) (now (state .entry)) (now (row .entry))) ⌝ }
+        → afterClosing r (now (state .exit)) (now (row .exit)) ≡ partWorking ns inputs (now (code .entry)) first most (now (state .entry)) (now (row .entry))) ⌝ }
     ensures { λ r. ⌜ ClosingWithin r ⌝ }
 {
     let states = product_of_sizes(low, high);
     let rows = product_of_sizes(&low[..inputs], &high[..inputs]);
-    if limits::COMBINATION_LIMIT < states * rows {
+    let all = states * rows;
+    if limits::COMBINATION_LIMIT < all {
         return Closing::Refused(limits::NOT_SMALL, 0);
     }
+    if all <= first {
+        return Closing::Closed;
+    }
+    let end = lists::behind(first, most, all);
     let ended = walk(
         code,
         low,
         high,
         &low[..inputs],
         &high[..inputs],
-        states,
         rows,
+        first,
+        end,
         at_state,
         at_row,
-        copy,
         work,
+        vals,
     );
     let Visited::Until(done) = ended else {
         return Closing::Closed;
@@ -186,18 +221,20 @@ fn closed_ranges(
 // 9, 11, 26, 27, in lent memory. More numbers in a state than names: there is a timer.
 fn closed_in(
     image: &[u8],
+    first: usize,
+    most: usize,
     low: &mut [i32],
     high: &mut [i32],
     at_state: &mut [i32],
     at_row: &mut [i32],
-    copy: &mut [i32],
     work: &mut [i32],
+    vals: &mut [i32],
     state: &mut [i32],
     row: &mut [i32],
 ) -> Closing
     requires { ⌜ (nameLimit ≤ length (now «at_state»)) × (nameLimit ≤ length (now «at_row»)) ⌝ }
-    requires { ⌜ ClosedRoom (now low) (now high) (now copy) (now work) (now state) (now row) ⌝ }
-    ensures { λ r. ⌜ afterClosing r (now (state .exit)) (now (row .exit)) ≡ closedIn (now (image .entry)) (now (state .entry)) (now (row .entry)) ⌝ }
+    requires { ⌜ ClosedRoom (now low) (now high) (now work) (now vals) (now state) (now row) ⌝ }
+    ensures { λ r. ⌜ afterClosing r (now (state .exit)) (now (row .exit)) ≡ partIn (now (image .entry)) first most (now (state .entry)) (now (row .entry)) ⌝ }
     ensures { λ r. ⌜ ClosingWithin r ⌝ }
 {
     let shaped = shapes::shape(image, low, high);
@@ -215,10 +252,12 @@ fn closed_in(
                 inputs,
                 &low[..names],
                 &high[..names],
+                first,
+                most,
                 &mut at_state[..names],
                 &mut at_row[..inputs],
-                &mut copy[..names],
                 &mut work[..names],
+                vals,
                 state,
                 row,
             )
@@ -233,27 +272,29 @@ pub struct Profile {
     pub row: [i32; limits::NAME_LIMIT],
 }
 
-// Whether no in-range row is ever refused in an in-range state.
-pub fn closed_profile(image: &[u8]) -> Profile
-    ensures { λ r. ⌜ profileOf r ≡ closedOf (now (image .entry)) ⌝ }
+// Whether no scan of a part of the combinations is refused: at most so many, from the one of a number on.
+pub fn closed_part(image: &[u8], first: usize, most: usize) -> Profile
+    ensures { λ r. ⌜ profileOf r ≡ closedPartOf (now (image .entry)) first most ⌝ }
     ensures { λ r. ⌜ ClosingWithin (r .answer) ⌝ }
 {
     let mut low = [0i32; limits::NAME_LIMIT];
     let mut high = [0i32; limits::NAME_LIMIT];
     let mut at_state = [0i32; limits::NAME_LIMIT];
     let mut at_row = [0i32; limits::NAME_LIMIT];
-    let mut copy = [0i32; limits::NAME_LIMIT];
     let mut work = [0i32; limits::NAME_LIMIT];
+    let mut vals = [0i32; limits::STACK_LIMIT];
     let mut state = [0i32; limits::NAME_LIMIT];
     let mut row = [0i32; limits::NAME_LIMIT];
     let answer = closed_in(
         image,
+        first,
+        most,
         &mut low,
         &mut high,
         &mut at_state,
         &mut at_row,
-        &mut copy,
         &mut work,
+        &mut vals,
         &mut state,
         &mut row,
     );
@@ -264,17 +305,12 @@ pub fn closed_profile(image: &[u8]) -> Profile
     }
 }
 
-// The combination of a number: the odometer turned so many times.
-fn nth(low: &[i32], high: &[i32], times: usize, values: &mut [i32])
-    requires { ⌜ (length (now high) ≡ length (now low)) × (length (now values) ≡ length (now low)) ⌝ }
-    ensures { λ _. ⌜ ((ns : List Range) → RangesIn ns (now (low .entry)) (now (high .entry)) → times < productOfSizes ns → IsNth ns times (now (values .exit))) ⌝ }
+// Whether no in-range row is ever refused in an in-range state.
+pub fn closed_profile(image: &[u8]) -> Profile
+    ensures { λ r. ⌜ profileOf r ≡ closedOf (now (image .entry)) ⌝ }
+    ensures { λ r. ⌜ ClosingWithin (r .answer) ⌝ }
 {
-    lists::fill(values, low);
-    let mut i = 0;
-    while i < times {
-        next(low, high, values);
-        i += 1;
-    }
+    closed_part(image, 0, limits::COMBINATION_LIMIT)
 }
 
 // 26, 12, then the state and the row.

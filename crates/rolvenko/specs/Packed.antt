@@ -11,7 +11,7 @@ abbrev pub packedTranslation : Answer ℕ → ℕ
 packedTranslation (accepted length) = packed 0 0 length
 packedTranslation (refused number place) = packed number place 0
 
--- check, start, clock, closed and combination: success is 0 as a whole; a refusal has count 0
+-- check, start, clock, closed, its parts and combination: success is 0 as a whole; a refusal has count 0
 abbrev pub packedCheck : Answer (Unit {0}) → ℕ
 packedCheck (accepted a) = 0
 packedCheck (refused number place) = packed number place 0

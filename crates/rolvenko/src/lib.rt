@@ -6,7 +6,7 @@ ghost use Rattle.replay.specs.Replay.{replayOf, ShownIf};
 ghost use Rattle.replay.specs.Results.{lent};
 ghost use Rattle.clock.specs.Services.{fillOf};
 ghost use Rattle.charge.specs.Charge.{chargeOf};
-ghost use Rattle.closed.specs.Closed.{closedOf, combinationOf};
+ghost use Rattle.closed.specs.Closed.{closedOf, closedPartOf, combinationOf};
 ghost use Rattle.paused.specs.Responses.{packed, packedResponse};
 ghost use Rattle.resumable.specs.Instalment.{advanceOf};
 ghost use Rattle.lifecycle.specs.Calls.{finishOf, beginOf, postOf};
@@ -137,6 +137,18 @@ pub extern "C" fn rolvenko_closed(image: &[u8]) -> u64
     match answer {
         closed::Closing::Closed => 0,
         closed::Closing::Refused(number, at) => paused::pack(number, at, 0),
+    }
+}
+
+#[no_mangle]
+pub extern "C" fn rolvenko_closed_part(image: &[u8], first: usize, most: usize) -> u64
+    ensures { λ r. ⌜ r ≡ packedCheck (closedPartOf (now (image .entry)) first most .answer) ⌝ }
+{
+    let part = closed::closed_part(image, first, most);
+    let answer = part.answer;
+    match answer {
+        closed::Closing::Closed => 0,
+        closed::Closing::Refused(number, place) => paused::pack(number, place, 0),
     }
 }
 

@@ -11,13 +11,12 @@ use shapes::Measured;
 use shapes::Shaped;
 ghost use mathlib.Core.Path.{_≡_};
 ghost use mathlib.Core.Bool.{true, false};
-ghost use mathlib.Core.List.{List, _++_};
+ghost use mathlib.Core.List.{_++_};
 ghost use Prim.Native.Nat.{_-_, _≤_};
 ghost use lib.IntN.{pos};
 ghost use lib.ListN.{length, take, replicate};
 ghost use Rattle.limits.specs.Limits.{imageLimit, nameLimit, stateLimit, stackLimit};
 ghost use Rattle.limits.specs.Answer.{accepted};
-ghost use Rattle.semantics.specs.Program.{Range};
 ghost use Rattle.semantics.specs.Shape.{hasTimer, allWithin, Setting};
 ghost use Rattle.bytecode.specs.Check.{checkOf};
 ghost use Rattle.bytecode.specs.Parts.{headerOf, limitsOf};
@@ -25,7 +24,7 @@ ghost use Rattle.machine.specs.Inner.Memory.{RangesIn, TimingIn};
 ghost use Rattle.before.specs.Inner.Memory.{FittingMemory, Scratch};
 ghost use Rattle.scan.specs.Services.{startOf, refusedScan, scanOf};
 ghost use Rattle.scan.specs.Results.{afterStart, StartedWithin, afterScan, ScannedWithin};
-ghost use Rattle.scan.specs.Inner.Parts.{scannedOver, scannedCode, KnownHeader, KnownImage, Startable, startedWith};
+ghost use Rattle.scan.specs.Inner.Parts.{scannedOver, KnownHeader, KnownImage, Startable, startedWith};
 
 // Done, or the number of a refusal and its place.
 pub enum Started {
@@ -87,29 +86,6 @@ fn run_copy(
 {
     let mut vals = [0i32; limits::STACK_LIMIT];
     run_over(code, state, low, high, work, &mut vals, timing)
-}
-
-// The scan of an image known to be sound and without timers, for a state and a row in range.
-pub fn scan_sound(
-    code: &[u8],
-    state: &mut [i32],
-    row: &[i32],
-    low: &[i32],
-    high: &[i32],
-    work: &mut [i32],
-) -> Scanned
-    requires { ⌜ FittingMemory (length (now row)) (now state) (now low) (now high) (now work) ⌝ }
-    ensures { λ r. ⌜ ((ns : List Range) → RangesIn ns (now (low .entry)) (now (high .entry))
-        → afterScan r (now (state .exit)) ≡ scannedCode ns (now (code .entry)) (now (state .entry)) (now (row .entry))) ⌝ }
-    ensures { λ r. ⌜ ScannedWithin (length (now (code .entry))) r ⌝ }
-{
-    lists::take_row(work, state, row);
-    let timing = Timing {
-        names: low.len(),
-        timers: 0,
-        millis: 0,
-    };
-    run_copy(code, state, low, high, work, timing)
 }
 
 // The scan of an image known to be sound, whose shape was read, on a state of its length: 12 of the row, 18, 13, then the code.

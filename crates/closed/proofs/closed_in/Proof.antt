@@ -30,9 +30,6 @@ high-room c = omega (arith, shaped (c .before .before) .few, c .before .before .
 work-room : (c : tie.Else1) → c .before .before .before .shaped2 .given .0 .0 .names ≤ length (c .before .before .before .before .before .before .before .before .before .before .before .args .work .now)
 work-room c = omega (arith, shaped (c .before .before) .few, c .before .before .before .before .before .before .before .before .before .before .before .pre .1 .works)
 
-copy-room : (c : tie.Else1) → c .before .before .before .shaped2 .given .0 .0 .names ≤ length (c .before .before .before .before .before .before .before .before .before .before .before .args .copy .now)
-copy-room c = omega (arith, shaped (c .before .before) .few, c .before .before .before .before .before .before .before .before .before .before .before .pre .1 .copies)
-
 state-room : (c : tie.Else1) → c .before .before .before .shaped2 .given .0 .0 .names ≤ length (c .before .before .before .before .before .before .before .before .before .before .before .args .at-state .now)
 state-room c = omega (arith, shaped (c .before .before) .few, c .before .before .before .before .before .before .before .before .before .before .before .pre .0 .0)
 
@@ -42,7 +39,7 @@ row-room c = omega (arith, shaped (c .before .before) .few, shaped (c .before .b
 returns : tie.Need-returns
 returns c =
     let s = shaped (c .before .before) in
-    (closed-timed (c .before .before .before .before .before .before .before .before .before .before .before .args .image .now) (s .sound) (c .before .before .before .before .before .before .before .before .before .before .before .args .state .now) (c .before .before .before .before .before .before .before .before .before .before .before .args .row .now) (s .timed ∙ lt-ltb (c .before .before .before .shaped2 .given .0 .0 .names) (c .before .before .before .shaped2 .given .0 .0 .size) (c .if1 .taken)), omega arith)
+    (closed-timed (c .before .before .before .before .before .before .before .before .before .before .before .args .image .now) (s .sound) (c .before .before .before .before .before .before .before .before .before .before .before .args .first) (c .before .before .before .before .before .before .before .before .before .before .before .args .most) (c .before .before .before .before .before .before .before .before .before .before .before .args .state .now) (c .before .before .before .before .before .before .before .before .before .before .before .args .row .now) (s .timed ∙ lt-ltb (c .before .before .before .shaped2 .given .0 .0 .names) (c .before .before .before .shaped2 .given .0 .0 .size) (c .if1 .taken)), omega arith)
 
 sub-closed-ranges : tie.Need-sub-closed-ranges
 sub-closed-ranges c = omega (arith, shaped (c .before .before) .inside)
@@ -75,25 +72,19 @@ slice-aggregate-closed-ranges-4 : tie.Need-slice-aggregate-closed-ranges-4
 slice-aggregate-closed-ranges-4 c = sym (length-take-le _ _ (row-room (c .before .before .before .before .before)))
 
 slice-relend-prefix-closed-ranges-3 : tie.Need-slice-relend-prefix-closed-ranges-3
-slice-relend-prefix-closed-ranges-3 c = copy-room (c .before .before .before .before .before)
+slice-relend-prefix-closed-ranges-3 c = work-room (c .before .before .before .before .before)
 
 slice-aggregate-closed-ranges-5 : tie.Need-slice-aggregate-closed-ranges-5
-slice-aggregate-closed-ranges-5 c = sym (length-take-le _ _ (copy-room (c .before .before .before .before .before .before)))
-
-slice-relend-prefix-closed-ranges-4 : tie.Need-slice-relend-prefix-closed-ranges-4
-slice-relend-prefix-closed-ranges-4 c = work-room (c .before .before .before .before .before .before)
-
-slice-aggregate-closed-ranges-6 : tie.Need-slice-aggregate-closed-ranges-6
-slice-aggregate-closed-ranges-6 c = sym (length-take-le _ _ (work-room (c .before .before .before .before .before .before .before)))
+slice-aggregate-closed-ranges-5 c = sym (length-take-le _ _ (work-room (c .before .before .before .before .before .before)))
 
 closed-ranges-requires : tie.Need-closed-ranges-requires
 closed-ranges-requires c κs =
-    let e = (c .before .before .before .before .before .before .before .before .before) in
+    let e = c .before .before .before .before .before .before .before .before .before in
     let s = shaped (e .before .before) in
     let l = length-take-le (c .before .before .before .before .before .before .before .before .before .before .before .before .shaped2 .given .0 .0 .names) (c .before .before .before .before .before .before .before .before .before .before .before .before .before .before .before .before .shape .last .1 .0) (low-room e) in (
       omega (arith, l, s .among),
       (
-        parts-walking (c .before .before .before .before .before .before .before .before .before .before .before .before .before .before .before .before .shape .last .1 .0) (c .before .before .before .before .before .before .before .before .before .before .before .before .before .before .before .before .shape .last .1 .1 .0) (c .before .before .before .before .before .before .before .before .before .before .before .before .before .before .before .before .before .before .before .before .args .at-state .now) (c .before .before .before .before .before .before .before .before .before .before .before .before .before .before .before .before .before .before .before .before .args .at-row .now) (c .before .before .before .before .before .before .before .before .before .before .before .before .before .before .before .before .before .before .before .before .args .copy .now) (c .before .before .before .before .before .before .before .before .before .before .before .before .before .before .before .before .before .before .before .before .args .work .now) (c .before .before .before .before .before .before .before .before .before .before .before .before .shaped2 .given .0 .0 .names) (c .before .before .before .before .before .before .before .before .before .before .before .before .shaped2 .given .0 .0 .inputs) (low-room e) (high-room e) (state-room e) (copy-room e) (work-room e) (s .among) (row-room e),
+        parts-walking (c .before .before .before .before .before .before .before .before .before .before .before .before .before .before .before .before .shape .last .1 .0) (c .before .before .before .before .before .before .before .before .before .before .before .before .before .before .before .before .shape .last .1 .1 .0) (c .before .before .before .before .before .before .before .before .before .before .before .before .before .before .before .before .before .before .before .before .args .at-state .now) (c .before .before .before .before .before .before .before .before .before .before .before .before .before .before .before .before .before .before .before .before .args .at-row .now) (c .before .before .before .before .before .before .before .before .before .before .before .before .before .before .before .before .before .before .before .before .args .work .now) (c .before .before .before .before .before .before .before .before .before .before .before .before .before .before .before .before .before .before .before .before .args .vals .now) (c .before .before .before .before .before .before .before .before .before .before .before .before .shaped2 .given .0 .0 .names) (c .before .before .before .before .before .before .before .before .before .before .before .before .shaped2 .given .0 .0 .inputs) (low-room e) (high-room e) (state-room e) (work-room e) (s .among) (row-room e) (c .before .before .before .before .before .before .before .before .before .before .before .before .before .before .before .before .before .before .before .before .pre .1 .stack),
         (omega (arith, l, s .few, c .before .before .before .before .before .before .before .before .before .before .before .before .before .before .before .before .before .before .before .before .pre .1 .state-room), omega (arith, s .few, s .among, c .before .before .before .before .before .before .before .before .before .before .before .before .before .before .before .before .before .before .before .before .pre .1 .row-room)),
       ),
     )
@@ -101,12 +92,12 @@ closed-ranges-requires c κs =
 returns-2 : tie.Need-returns-2
 returns-2 c =
     let r = subst (ShapedAs _ _ _ _ _) (c .before .shaped .given .1) (c .before .before .before .before .before .shape .ensures .so) in
-    (closed-refused (c .before .before .before .before .before .before .before .before .before .args .image .now) (c .before .before .before .before .before .before .before .before .before .args .state .now) (c .before .before .before .before .before .before .before .before .before .args .row .now) _ _ (r .0), r .1)
+    (closed-refused (c .before .before .before .before .before .before .before .before .before .args .image .now) (c .before .before .before .before .before .before .before .before .before .args .first) (c .before .before .before .before .before .before .before .before .before .args .most) (c .before .before .before .before .before .before .before .before .before .args .state .now) (c .before .before .before .before .before .before .before .before .before .args .row .now) _ _ (r .0), r .1)
 
 returns-3 : tie.Need-returns-3
 unfolding codeOf
 returns-3 c =
-    let s = shaped ((c .before .before .before .before .before .before .before .before .before .before .before .before .before .before .before .before) .before .before) in
+    let s = shaped (c .before .before .before .before .before .before .before .before .before .before .before .before .before .before .before .before .before .before) in
     let image = c .before .before .before .before .before .before .before .before .before .before .before .before .before .before .before .before .before .before .before .before .before .before .before .before .before .before .before .args .image .now in
     let place = c .before .before .before .before .before .before .before .before .before .before .before .before .before .before .before .before .before .before .before .shaped2 .given .0 .0 .place in
     let untimed = s .timed ∙ le-ltb (c .before .before .before .before .before .before .before .before .before .before .before .before .before .before .before .before .before .before .before .shaped2 .given .0 .0 .names) (c .before .before .before .before .before .before .before .before .before .before .before .before .before .before .before .before .before .before .before .shaped2 .given .0 .0 .size) (c .before .before .before .before .before .before .before .before .before .before .before .before .before .before .before .before .if1 .left) in
@@ -115,7 +106,7 @@ returns-3 c =
     ranges-stored (headerOf image .ranges) (c .before .before .before .before .before .before .before .before .before .before .before .before .before .before .before .before .before .before .before .shaped2 .given .0 .0 .names) (c .before .before .before .before .before .before .before .before .before .before .before .before .before .before .before .before .before .before .before .before .before .before .before .before .before .before .before .args .low .now) (c .before .before .before .before .before .before .before .before .before .before .before .before .before .before .before .before .before .before .before .before .before .before .before .shape .last .1 .0) (c .before .before .before .before .before .before .before .before .before .before .before .before .before .before .before .before .before .before .before .before .before .before .before .before .before .before .before .args .high .now) (c .before .before .before .before .before .before .before .before .before .before .before .before .before .before .before .before .before .before .before .before .before .before .before .shape .last .1 .1 .0) (s .names-are)
     (omega (arith, s .few, c .before .before .before .before .before .before .before .before .before .before .before .before .before .before .before .before .before .before .before .before .before .before .before .before .before .before .before .pre .1 .lows)) (omega (arith, s .few, c .before .before .before .before .before .before .before .before .before .before .before .before .before .before .before .before .before .before .before .before .before .before .before .before .before .before .before .pre .1 .highs)) (rw (← cut) (s .lower)) (rw (← cut) (s .upper)) in
     let rest : take (length image - place) (drop place image) ≡ drop (headerOf image .place) image = rest-of image place ∙ ap (λ (n : ℕ). drop n image) (s .place-is) in
-    ((rw rest at (c .before .before .before .before .before .before .closed-ranges .ensures .0 (headerOf image .ranges) stored)) ∙ closed-from image (s .sound) untimed (c .before .before .before .before .before .before .before .before .before .before .before .before .before .before .before .before .before .before .before .shaped2 .given .0 .0 .inputs) (c .before .before .before .before .before .before .before .before .before .before .before .before .before .before .before .before .before .before .before .before .before .before .before .before .before .before .before .args .state .now) (c .before .before .before .before .before .before .before .before .before .before .before .before .before .before .before .before .before .before .before .before .before .before .before .before .before .before .before .args .row .now) (s .inputs-are), c .before .before .before .before .before .before .closed-ranges .ensures .1)
+    ((rw rest at (c .before .before .before .before .before .before .closed-ranges .ensures .0 (headerOf image .ranges) stored)) ∙ closed-from image (s .sound) (c .before .before .before .before .before .before .before .before .before .before .before .before .before .before .before .before .before .before .before .before .before .before .before .before .before .before .before .args .first) (c .before .before .before .before .before .before .before .before .before .before .before .before .before .before .before .before .before .before .before .before .before .before .before .before .before .before .before .args .most) untimed (c .before .before .before .before .before .before .before .before .before .before .before .before .before .before .before .before .before .before .before .shaped2 .given .0 .0 .inputs) (c .before .before .before .before .before .before .before .before .before .before .before .before .before .before .before .before .before .before .before .before .before .before .before .before .before .before .before .args .state .now) (c .before .before .before .before .before .before .before .before .before .before .before .before .before .before .before .before .before .before .before .before .before .before .before .before .before .before .before .args .row .now) (s .inputs-are), c .before .before .before .before .before .before .closed-ranges .ensures .1)
 
 pub closed-in-spec : {M : Type 1} → statement M
 closed-in-spec =
@@ -140,8 +131,6 @@ closed-in-spec =
     slice-aggregate-closed-ranges-4
     slice-relend-prefix-closed-ranges-3
     slice-aggregate-closed-ranges-5
-    slice-relend-prefix-closed-ranges-4
-    slice-aggregate-closed-ranges-6
     closed-ranges-requires
     (λ c. search needs)
     (λ c. search needs)

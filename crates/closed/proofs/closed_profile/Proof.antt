@@ -1,26 +1,13 @@
--- `closed::closed_profile` meets its contract. Assumes nothing.
-use Rattle.closed.specs.Closed.{closedOf}
+-- `closed::closed_profile` meets its contract: the whole is the part of all (InParts). Assumes nothing.
+use mathlib.Core.Path.{sym, _∙_}
+use native.Mathlib.Omega.{arith}
 use borrow.Author.Needs.{needs}
+use Rattle.closed.proofs.InParts.{closed-in-parts}
 use Rattle.closed.proofs.closed_profile.Statement.{statement}
 use Rattle.closed.proofs.closed_profile.Tie as tie
 
 returns : tie.Need-returns
-unfolding closedOf
-returns c =
-    let at-closed-in = c .before .before .before .before .before .before .before .before in
-    (at-closed-in .closed-in .ensures .0, at-closed-in .closed-in .ensures .1)
+returns c = (c .closed-part .ensures .0 ∙ sym (closed-in-parts (c .before .before .args .image .now) .whole 65536 (omega arith)), c .closed-part .ensures .1)
 
 pub closed-profile-spec : {M : Type 1} → statement M
-closed-profile-spec =
-    tie.close
-    (tie.spec
-    (λ c. search needs)
-    (λ c. search needs)
-    (λ c. search needs)
-    (λ c. search needs)
-    (λ c. search needs)
-    (λ c. search needs)
-    (λ c. search needs)
-    (λ c. search needs)
-    (λ c κs. search needs)
-    returns)
+closed-profile-spec = tie.close (tie.spec (λ c κs. search needs) returns)

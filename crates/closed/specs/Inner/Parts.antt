@@ -7,7 +7,7 @@ use lib.IntN.{ℤ, pos, _+ℤ_}
 use lib.Dec.{eqb, leb}
 use lib.ListN.{length, take, drop, getElem?}
 use lib.Signed.{ltZ}
-use Rattle.limits.specs.Limits.{nameLimit, combinationLimit, wrongLength, notSmall}
+use Rattle.limits.specs.Limits.{nameLimit, stackLimit, combinationLimit, wrongLength, notSmall}
 use Rattle.limits.specs.Answer.{Answer, accepted, refused}
 use Rattle.semantics.specs.Program.{Range}
 use Rattle.scan.specs.Inner.Parts.{scannedCode}
@@ -48,12 +48,12 @@ working ns code c = scannedCode ns code (c .state) (c .row) .answer
 
 -- ---- the walk
 
--- a low, a high, a value and two copies for each name; a low, a high and a value for each input
-pub record Walking (low high rowLow rowHigh state row copy work : List ℤ) : Type 0 where
+-- a low, a high, a value and a copy for each name; a low, a high and a value for each input; a stack
+pub record Walking (low high rowLow rowHigh state row work vals : List ℤ) : Type 0 where
   pub highs : length high ≡ length low
   pub states : length state ≡ length low
-  pub copies : length copy ≡ length low
   pub works : length work ≡ length low
+  pub stack : length vals ≡ stackLimit
   pub row-highs : length rowHigh ≡ length rowLow
   pub rows : length row ≡ length rowLow
   pub among : length rowLow ≤ length low
@@ -70,18 +70,18 @@ VisitedWithin (W.Until n) = n < combinationLimit
 -- ---- the parts of the services
 
 -- 26, then 27, by the code alone
-abbrev pub closedWorking : List Range → ℕ → List ℕ → List ℤ → List ℤ → AfterClosed
-closedWorking ns inputs code state row =
+abbrev pub partWorking : List Range → ℕ → List ℕ → ℕ → ℕ → List ℤ → List ℤ → AfterClosed
+partWorking ns inputs code first most state row =
     cond (leb (productOfSizes ns * productOfSizes (take inputs ns)) combinationLimit)
-    (closedBy (walked (working ns code) (paired (combinations ns) (combinations (take inputs ns))) 0) state row)
+    (closedBy (walked (working ns code) (take most (drop first (paired (combinations ns) (combinations (take inputs ns))))) first) state row)
     (leaves (refused notSmall 0) state row)
 
--- what is lent has room for 64 names
-pub record ClosedRoom (low high copy work state row : List ℤ) : Type 0 where
+-- what is lent has room for 64 names, and for the values held
+pub record ClosedRoom (low high work vals state row : List ℤ) : Type 0 where
   pub lows : nameLimit ≤ length low
   pub highs : nameLimit ≤ length high
-  pub copies : nameLimit ≤ length copy
   pub works : nameLimit ≤ length work
+  pub stack : length vals ≡ stackLimit
   pub state-room : nameLimit ≤ length state
   pub row-room : nameLimit ≤ length row
 
