@@ -24,13 +24,13 @@ use Rattle.machine.specs.Step.{Machine, machine, bit, push, perform}
 use Rattle.machine.specs.Runs.{afterStep, run}
 use Rattle.machine.specs.Inner.Memory.{heldOf, machineOf, stepOutcome, stepped, Few}
 use Rattle.machine.specs.Inner.Groups.{truthOf, performed, worked}
-use Rattle.machine.specs.Inner.Dispatch.{registers, dispatchedOf, overOf, Stops, DispatchedBy, Comparing}
+use Rattle.machine.specs.Inner.Dispatch.{registers, dispatchedOf, Stops, DispatchedBy, Comparing}
 use Rattle.machine.proofs.Laws.{run-broken}
 use Rattle.machine.proofs.Codes.{act-stepped, truth-comparison}
 use Rattle.machine.proofs.Stack.{held-put, push-put}
 use Rattle.machine.proofs.Loop.{run-fetched}
 use Rattle.machine.proofs.Timers.{untimed}
-use Rattle.machine.proofs.Fetches.{read-alone, read-with, read-malformed, short-fetch, second-is, third-is}
+use Rattle.machine.proofs.Fetches.{read-alone, read-with, short-fetch, second-is, third-is}
 
 module _ (code : List ℕ) (settings : Setting → Type 0) (prev : List ℤ) (at : ℕ) where
   -- ---- one instruction
@@ -77,37 +77,9 @@ module _ (code : List ℕ) (settings : Setting → Type 0) (prev : List ℤ) (at
           one-done here vals cur l (instructionOf byte n) next (read-with code at l byte is has n next f) vals₁ cur₁ s few
           (λ ns r. e ns r ∙ act-stepped ns prev (instructionOf byte n) false picked (heldOf vals held) cur refl) d q
 
-  -- ---- passed over
-
-  module _ (held : ℕ) (picked : Bool) (vals cur : List ℤ) (few : held ≤ 40) (l : at < length code) (byte : ℕ) (is : getD code at 0 ≡ byte) where
-    abbrev passing-here : Registers
-    passing-here = registers held picked true
-
-    pub alone-passed : eqb byte 23 ≡ false → hasOperand byte ≡ false
-        → ((ns : Setting) (t : State) → ok (machine true picked (heldOf vals held) t) ≡ stepped ns prev (instructionOf byte 0) (machine true picked (heldOf vals held) t))
-        → DispatchedBy code settings prev at passing-here vals cur vals cur 1 (D.On held picked true (at + 1) 1)
-    alone-passed other has e =
-        one-done passing-here vals cur l (instructionOf byte 0) (at + 1) (read-alone code at l byte is other has) vals cur (S.Next passing-here) few
-        (λ ns r. e ns cur) (D.On held picked true (at + 1) 1) refl
-
-    module _ (has : hasOperand byte ≡ true) (p : Bool)
-        (e : (n : ℕ) (ns : Setting) (t : State) → ok (machine p picked (heldOf vals held) t) ≡ stepped ns prev (instructionOf byte n) (machine true picked (heldOf vals held) t)) where
-      by-operand : (r : Read ℕ) → numberAt code (at + 1) ≡ r → DispatchedBy code settings prev at passing-here vals cur vals cur 1 (overOf held picked p r)
-      by-operand nothing f = none-stops passing-here vals cur l (read-malformed code at l byte is has f)
-      by-operand (got n next) f =
-          one-done passing-here vals cur l (instructionOf byte n) next (read-with code at l byte is has n next f) vals cur (S.Next (registers held picked p)) few
-          (λ ns r. e n ns cur) (D.On held picked p next 1) refl
-
-      pub operand-passed : (d : Dispatched) → d ≡ overOf held picked p (numberAt code (at + 1)) → DispatchedBy code settings prev at passing-here vals cur vals cur 1 d
-      operand-passed d q = subst (λ x. DispatchedBy code settings prev at passing-here vals cur vals cur 1 x) (sym q) (by-operand (numberAt code (at + 1)) refl)
-
   -- ---- a 23
 
   module _ (held : ℕ) (picked : Bool) (vals cur : List ℤ) (few : held ≤ 40) (l : at < length code) (t w n next : ℕ) (f : fetch code at ≡ got (timer t w n) next) where
-    pub timer-passed : DispatchedBy code settings prev at (registers held picked true) vals cur vals cur 1 (D.On held picked true next 1)
-    timer-passed =
-        one-done (registers held picked true) vals cur l (some (timer t w n)) next f vals cur (S.Next (registers held picked true)) few (λ ns q. refl) (D.On held picked true next 1) refl
-
     module _ (b : Bool) (cur₁ : List ℤ) (e : (ns : Setting) → settings ns → worked b picked (heldOf vals held) cur₁ ≡ perform ns prev (timer t w n) picked (heldOf vals held) cur) where
       pub timer-done : b ≡ true → DispatchedBy code settings prev at (registers held picked false) vals cur vals cur₁ 1 (D.On held picked false next 1)
       timer-done is =

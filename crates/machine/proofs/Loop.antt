@@ -1,7 +1,8 @@
 -- What holds at each turn of a run's loop. Assumes nothing.
 use mathlib.Core.Path.{_≡_, refl, sym, ap, subst, _∙_}
-use mathlib.Core.Bool.{Bool, false}
+use mathlib.Core.Bool.{Bool, true, false}
 use mathlib.Core.List.{List}
+use mathlib.Core.Logic.{_⊎_, inl, inr}
 use mathlib.Core.Option.{Option, none, some}
 use Prim.Native.Nat.{ℕ, zero, suc, _+_, _-_, _≤_, _<_}
 use native.Mathlib.Omega.{arith}
@@ -24,7 +25,9 @@ use Rattle.machine.specs.declared.timer.Worked.{Worked}
 use Rattle.machine.specs.declared.timer.Worked.the-variants as W
 use Rattle.machine.specs.declared.dispatch.Dispatched.{Dispatched}
 use Rattle.machine.specs.declared.dispatch.Dispatched.the-variants as D
-use Rattle.machine.specs.Inner.Dispatch.{registers, Continues, Stops, AtTimer, DispatchedBy, WorkedBy, RestsAt, RanTo}
+use Rattle.machine.specs.declared.passing.Passing.the-variants as P
+use Rattle.machine.specs.Inner.Dispatch.{registers, Continues, Stops, AtTimer, DispatchedBy, WorkedBy, restingAt, refusedAt, RestsAt, RanTo}
+use Rattle.machine.specs.Inner.Passing.{FirstBy}
 use Rattle.machine.proofs.Laws.{run-end, run-broken}
 
 -- the memory fits, and what is left to do makes the whole run
@@ -88,6 +91,30 @@ module _ {code : List ℕ} {settings : Setting → Type 0} {low high prev cur₀
               g .goes ns start q ∙ c .goes ns (budget - done) (start + done) q (c .no-more) ∙ rw (e, f);
         }
 
+  pub stands : k .passing ≡ false → Going code settings low high prev cur₀ vals₀ from budget m cur vals (registers (k .held) (k .picked) false) at done
+  stands is = subst (λ (b : Bool). Going code settings low high prev cur₀ vals₀ from budget m cur vals (registers (k .held) (k .picked) b) at done) is g
+
+  -- instructions passed over, where they are
+  module _ (h : done < budget) (p : Bool) (next n : ℕ) where
+    pub passed-by : (passing : Bool) → k .passing ≡ passing → FirstBy code at passing (budget - done) (P.On p next n)
+        → Going code settings low high prev cur₀ vals₀ from budget m cur vals (registers (k .held) (k .picked) p) next (done + n)
+    passed-by true is o =
+        again h vals cur (registers (k .held) (k .picked) p) next n
+        (record { few = g .stack .few; some-done = o .0; no-more = o .1; goes = λ ns left start q l. rw is (o .2 ns prev vals cur (k .held) (k .picked) left start l) })
+        refl refl
+    passed-by false is o =
+        let z : done + n ≡ done = omega (arith, o .2) in
+        rw (z, o .0, o .1) (stands is)
+
+  -- at most the budget; some were, or none is passed over now
+  pub first-far : (p : Bool) (next n : ℕ) (passing : Bool) → FirstBy code at passing (budget - done) (P.On p next n) → (done + n ≤ budget) × ((done < done + n) ⊎ (p ≡ false))
+  first-far p next n true o = (omega (arith, g .within, o .1), inl (omega (arith, o .0)))
+  first-far p next n false o = (omega (arith, g .within, o .2), inr (o .0))
+
+  pub broken-by : (passing : Bool) → k .passing ≡ passing → FirstBy code at passing (budget - done) P.Broken → Stops code settings prev at k vals cur 11
+  broken-by true is o = λ ns left start q l. rw is (o ns prev vals cur (k .held) (k .picked) left start l)
+  broken-by false is o = absurd o
+
   -- a timer at work
   module _ (acting : k .passing ≡ false) (h : done < budget) (cs : List ℤ) (w : Worked) (by : WorkedBy code settings prev at (registers (k .held) (k .picked) false) vals cur cs w) where
     pub timer-on : (next : ℕ) → w ≡ W.Behind next → length cs ≡ length cur → Going code settings low high prev cur₀ vals₀ from budget m cs vals k next (done + 1)
@@ -110,25 +137,19 @@ module _ {code : List ℕ} {settings : Setting → Type 0} {low high prev cur₀
     abbrev Reached : Executed → List ℤ → List ℤ → Type 0
     Reached r vs cs = RanTo code narrow prev vals₀ cur₀ names from budget m r vs cs
 
-    abbrev resting : Executed
-    resting = record { steps = done; place = at; last = S.Next k }
-
-    abbrev refused : ℕ → Executed
-    refused number = record { steps = done + 1; place = at; last = S.Refused number }
-
-    rested : RestsAt code prev names (budget - done) at (S.Next k) → Reached resting vals cur
+    rested : RestsAt code prev names (budget - done) at (S.Next k) → Reached (restingAt done at k) vals cur
     rested r = record { few = g .stack .few; within = g .within; rests = r; goes = λ ns start q. g .goes ns start (sub ns q) }
 
-    pub rests-behind : length code ≤ at → Reached resting vals cur
+    pub rests-behind : length code ≤ at → Reached (restingAt done at k) vals cur
     rests-behind h = rested (λ l i. let b : ⊥ = omega arith in absurd b)
 
-    pub rests-spent : budget ≤ done → Reached resting vals cur
+    pub rests-spent : budget ≤ done → Reached (restingAt done at k) vals cur
     rests-spent h = rested (λ l i. let b : ⊥ = omega arith in absurd b)
 
-    pub rests-timed : (vs cs : List ℤ) → AtTimer code at k vals cur vs cs → names < length prev → Reached resting vs cs
+    pub rests-timed : (vs cs : List ℤ) → AtTimer code at k vals cur vs cs → names < length prev → Reached (restingAt done at k) vs cs
     rests-timed vs cs t h = rw (t .values, t .state) (rested (λ l i. (t .byte, t .acting, h)))
 
-    pub stops : done < budget → (number : ℕ) → Stops code narrow prev at k vals cur number → (vs cs : List ℤ) → Reached (refused number) vs cs
+    pub stops : done < budget → (number : ℕ) → Stops code narrow prev at k vals cur number → (vs cs : List ℤ) → Reached (refusedAt (done + 1) at number) vs cs
     stops h number s vs cs =
         record {
           few = tt;
@@ -180,3 +201,9 @@ module _ {code : List ℕ} {settings : Setting → Type 0} {low high prev cur₀
   refused-on number is ns q =
       let f : 0 + done + r .steps ≡ done + r .steps = omega arith in
       sym (rw (is, f) at (g .goes ns 0 q ∙ t .goes ns (0 + done) (sub ns q)) ∙ rw is)
+
+-- ---- an answer that was handed on
+
+pub so-ran : {code : List ℕ} {settings : Setting → Type 0} {prev vals cur : List ℤ} {names from budget : ℕ} {m : Registers} {r x : Executed} {vs cs : List ℤ} → r ≡ x
+    → RanTo code settings prev vals cur names from budget m x vs cs → RanTo code settings prev vals cur names from budget m r vs cs
+so-ran {code} {settings} {prev} {vals} {cur} {names} {from} {budget} {m} {r} {x} {vs} {cs} e t = subst (λ (y : Executed). RanTo code settings prev vals cur names from budget m y vs cs) (sym e) t

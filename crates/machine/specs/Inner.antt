@@ -2,3 +2,4 @@
 pub mod Dispatch
 pub mod Groups
 pub mod Memory
+pub mod Passing

@@ -1,8 +1,7 @@
-// The instructions at a place of the code, read and done: one match on the code byte, the operand read in its arm. The registers are passed one by
+// The instructions at a place of the code that are not passed over, read and done: one match on the code byte, the operand read in its arm. The registers are passed one by
 // one: a struct that holds flags has a gap, which the loop of a run would copy.
 use crate::Registers;
 use crate::Stepped;
-use crate::timer;
 use crate::values;
 ghost use mathlib.Core.Path.{_≡_};
 ghost use mathlib.Core.Bool.{false};
@@ -12,10 +11,10 @@ ghost use Rattle.limits.specs.Limits.{stackLimit};
 ghost use Rattle.leb128.specs.Numbers.{numberAt};
 ghost use Rattle.leb128.specs.Results.{unsignedRead};
 ghost use Rattle.machine.specs.Inner.Memory.{OneEach, RangedIn};
-ghost use Rattle.machine.specs.Inner.Dispatch.{registers, dispatchedOf, overOf, DispatchedBy, PassedBy, LookaheadBy};
+ghost use Rattle.machine.specs.Inner.Dispatch.{registers, dispatchedOf, DispatchedBy, LookaheadBy};
 
 // How many values are held, whether the variable at hand was picked, whether instructions are passed over; the place behind, and how many
-// instructions were done. Or the number of the first one's refusal. Or the first one is a timer that is not passed over, and nothing was done.
+// instructions were done. Or the number of the first one's refusal. Or the first one is a timer, and nothing was done.
 pub enum Dispatched {
     On(usize, bool, bool, usize, usize),
     Refused(u8),
@@ -49,34 +48,6 @@ fn onward(next: usize, s: Stepped) -> Dispatched
     match s {
         Stepped::Next(t) => Dispatched::On(t.held, t.picked, t.passing, next, 1),
         Stepped::Refused(number) => Dispatched::Refused(number),
-    }
-}
-
-// An instruction with an operand that is passed over.
-fn over(code: &[u8], at: usize, held: usize, picked: bool, passing: bool) -> Dispatched
-    requires { ⌜ at < length (now code) ⌝ }
-    ensures { λ r. ⌜ r ≡ overOf held picked passing (numberAt (now (code .entry)) (at + 1)) ⌝ }
-{
-    let leb128::Unsigned::Number(_, next) = operand(code, at) else {
-        return Dispatched::Refused(limits::BROKEN_IMAGE);
-    };
-    Dispatched::On(held, picked, passing, next, 1)
-}
-
-// Passed over is what stands up to the next pick.
-fn pass_over(code: &[u8], at: usize, held: usize, picked: bool) -> Dispatched
-    requires { ⌜ (at < length (now code)) × (held ≤ stackLimit) ⌝ }
-    ensures { λ r. ⌜ PassedBy (now (code .entry)) at held picked r ⌝ }
-{
-    match code[at] {
-        20 => over(code, at, held, picked, false),
-        23 => timer::pass(code, at, held, picked),
-        24 => over(code, at, held, picked, false),
-        25 => over(code, at, held, picked, false),
-        1..=3 => over(code, at, held, picked, true),
-        4..=19 => Dispatched::On(held, picked, true, at + 1, 1),
-        21..=22 => over(code, at, held, picked, true),
-        _ => Dispatched::Refused(limits::BROKEN_IMAGE),
     }
 }
 
@@ -232,17 +203,13 @@ pub fn dispatch(
     at: usize,
     held: usize,
     picked: bool,
-    passing: bool,
     left: usize,
 ) -> Dispatched
     requires { ⌜ (at < length (now code)) × (held ≤ stackLimit) × (stackLimit ≤ length (now vals)) × (0 < left) ⌝ }
     requires { ⌜ OneEach (now low) (now high) (now prev) (now cur) ⌝ }
-    ensures { λ r. ⌜ DispatchedBy (now (code .entry)) (RangedIn (now (low .entry)) (now (high .entry))) (now (prev .entry)) at (registers held picked passing)
+    ensures { λ r. ⌜ DispatchedBy (now (code .entry)) (RangedIn (now (low .entry)) (now (high .entry))) (now (prev .entry)) at (registers held picked false)
         (now (vals .entry)) (now (cur .entry)) (now (vals .exit)) (now (cur .exit)) left r ⌝ }
 {
-    if passing {
-        return pass_over(code, at, held, picked);
-    }
     let Lookahead::Truth(t) = comparison_at(code, prev, cur, at, held, left) else {
         return dispatch_one(code, low, high, prev, cur, vals, at, held, picked);
     };

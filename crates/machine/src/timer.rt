@@ -1,6 +1,6 @@
 // Timers: the instruction 23, read and worked.
 use crate::Timing;
-use crate::dispatch::Dispatched;
+use crate::passing::Passing;
 ghost use mathlib.Core.Path.{_≡_};
 ghost use mathlib.Core.Bool.{Bool, false};
 ghost use mathlib.Core.List.{List};
@@ -14,7 +14,8 @@ ghost use Rattle.bytecode.specs.Instructions.{timer as timing-of};
 ghost use Rattle.machine.specs.Step.{perform};
 ghost use Rattle.machine.specs.Inner.Memory.{TimingIn, SettingIn};
 ghost use Rattle.machine.specs.Inner.Groups.{worked};
-ghost use Rattle.machine.specs.Inner.Dispatch.{registers, PassedBy, WorkedBy};
+ghost use Rattle.machine.specs.Inner.Dispatch.{registers, WorkedBy};
+ghost use Rattle.machine.specs.Inner.Passing.{PassedBy};
 
 // The place of t's elapsed time: behind the names, by timer id.
 fn place(timing: Timing, t: usize) -> usize
@@ -119,18 +120,18 @@ pub fn run(code: &[u8], prev: &[i32], cur: &mut [i32], timing: Timing, at: usize
 }
 
 // The 23 at a place, passed over: its operands are read, here and not by `fetch`, so that a run calls nothing.
-pub fn pass(code: &[u8], at: usize, held: usize, picked: bool) -> Dispatched
-    requires { ⌜ (at < length (now code)) × (getD (now code) at 0 ≡ 23) × (held ≤ stackLimit) ⌝ }
-    ensures { λ r. ⌜ PassedBy (now (code .entry)) at held picked r ⌝ }
+pub fn pass(code: &[u8], at: usize) -> Passing
+    requires { ⌜ (at < length (now code)) × (getD (now code) at 0 ≡ 23) ⌝ }
+    ensures { λ r. ⌜ PassedBy (now (code .entry)) at 1 r ⌝ }
 {
     let leb128::Unsigned::Number(_, second) = leb128::unsigned_at(code, at + 1) else {
-        return Dispatched::Refused(limits::BROKEN_IMAGE);
+        return Passing::Broken;
     };
     let leb128::Unsigned::Number(_, third) = leb128::unsigned_at(code, second) else {
-        return Dispatched::Refused(limits::BROKEN_IMAGE);
+        return Passing::Broken;
     };
     let leb128::Unsigned::Number(_, next) = leb128::unsigned_at(code, third) else {
-        return Dispatched::Refused(limits::BROKEN_IMAGE);
+        return Passing::Broken;
     };
-    Dispatched::On(held, picked, true, next, 1)
+    Passing::On(true, next, 1)
 }

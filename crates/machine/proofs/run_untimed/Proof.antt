@@ -1,16 +1,32 @@
--- `machine::run_untimed` meets its contract. The loop's invariant: what is left to do makes the whole run (Loop.Going). The measure is
--- the budget left. Assumes nothing.
-use mathlib.Core.Path.{_≡_, refl}
-use Prim.Native.Nat.{_+_, _-_}
+-- `machine::run_untimed` meets its contract. The outer loop's invariant: what is left to do makes the whole run (Loop.Going); the inner loop keeps it. The
+-- measure is the budget left: a turn of the outer loop passes something over, or its inner loop does something. Assumes nothing.
+use mathlib.Core.Path.{_≡_, refl, sym, ap, subst, _∙_}
+use mathlib.Core.Bool.{Bool, false≢true}
+use mathlib.Core.List.{List}
+use mathlib.Core.Logic.{_⊎_, inl, inr, ⊎-elim}
+use Prim.Native.Nat.{_+_, _-_, _≤_, _<_}
 use native.Mathlib.Omega.{arith}
+use lib.IntN.{ℤ}
 use borrow.Author.Needs.{needs}
+use Rattle.machine.specs.declared.Registers.{Registers}
 use Rattle.machine.specs.Inner.Memory.{RangedIn, NamedIn}
-use Rattle.machine.specs.Inner.Dispatch.{registers}
+use Rattle.machine.specs.Inner.Dispatch.{registers, restingAt}
+use Rattle.machine.specs.Inner.Passing.{FirstBy}
 use Rattle.machine.proofs.Changes.{names-length}
-use Rattle.machine.proofs.Loop.{Going, went, halted, timer-at, again, rests-behind, rests-spent, rests-timed, stops}
+use Rattle.machine.proofs.Loop.{Going, stands, passed-by, first-far, broken-by, went, halted, timer-at, again, rests-behind, rests-spent, rests-timed, stops, so-ran}
 use Rattle.machine.proofs.Dispatching.{timer-stops}
 use Rattle.machine.proofs.run_untimed.Statement.{statement}
 use Rattle.machine.proofs.run_untimed.Tie as tie
+
+-- from where the inner loop begins: it goes on, or whether instructions are passed over is as it was
+abbrev Inv-loop2 : tie.InvT-loop2
+Inv-loop2 code low high prev cur₀ vals₀ names from budget held₀ picked₀ passing₀ at₀ done₀ cur vals held picked passing at done =
+    (done₀ ≤ done) × ((done₀ < done) ⊎ (passing ≡ passing₀))
+    × ((cur₁ vals₁ : List ℤ) (m : Registers) → Going code (RangedIn low high) low high prev cur₁ vals₁ from budget m cur₀ vals₀ (registers held₀ picked₀ passing₀) at₀ done₀
+    → Going code (RangedIn low high) low high prev cur₁ vals₁ from budget m cur vals (registers held picked passing) at done)
+
+abbrev μ-loop2 : tie.MeasureT-loop2
+μ-loop2 code low high prev cur₀ vals₀ names from budget held₀ picked₀ passing₀ at₀ done₀ cur vals held picked passing at done = budget - done
 
 abbrev Inv-loop : tie.InvT-loop
 Inv-loop code low high prev cur₀ vals₀ names from budget held₀ picked₀ passing₀ at₀ done₀ cur vals held picked passing at done =
@@ -19,7 +35,7 @@ Inv-loop code low high prev cur₀ vals₀ names from budget held₀ picked₀ p
 abbrev μ-loop : tie.MeasureT-loop
 μ-loop code low high prev cur₀ vals₀ names from budget held₀ picked₀ passing₀ at₀ done₀ cur vals held picked passing at done = budget - done
 
-loop-holds : tie.Need-loop-holds Inv-loop μ-loop
+loop-holds : tie.Need-loop-holds Inv-loop2 μ-loop2 Inv-loop μ-loop
 loop-holds c =
     let a = c .before .args in
     let e : a .budget - 0 ≡ a .budget = omega arith in
@@ -32,51 +48,137 @@ loop-holds c =
       goes = λ ns start r. let f : start + 0 ≡ start = omega arith in rw (e, f);
     }
 
-returns : tie.Need-returns Inv-loop μ-loop
-returns c = rests-behind (c .before .before .loop .inv) _ _ (λ ns q. q .ranged) (c .if1 .taken)
+returns : tie.Need-returns Inv-loop2 μ-loop2 Inv-loop μ-loop
+returns c = so-ran (c .resting .ensures) (rests-behind (c .before .before .before .loop .inv) _ _ (λ ns q. q .ranged) (c .before .if1 .taken))
 
-dispatch-requires : tie.Need-dispatch-requires Inv-loop μ-loop
-dispatch-requires c κs = ((omega (arith, c .before .before .if1 .left), c .before .before .before .before .loop .inv .stack .few, c .before .before .before .before .loop .inv .stack .room, omega (arith, c .before .before .before .loop-test .taken)), c .before .before .before .before .loop .inv .named)
+-- ---- what is passed over
 
-add-done : tie.Need-add-done Inv-loop μ-loop
+pass-first-requires : tie.Need-pass-first-requires Inv-loop2 μ-loop2 Inv-loop μ-loop
+pass-first-requires c κs = (omega (arith, c .if1 .left), omega (arith, c .before .loop-test .taken))
+
+add-done : tie.Need-add-done Inv-loop2 μ-loop2 Inv-loop μ-loop
 add-done c =
-    let d = went (c .before .before .before .before .before .before .before .before .before .before .loop .inv) _ _ (c .before .before .before .before .before .dispatch .result) (c .before .before .before .before .before .dispatch .ensures) _ _ _ _ _ (c .before .d .given .1) in
-    record { fits = omega (arith, d .no-more, c .before .before .before .before .before .before .before .before .before .before .loop .inv .within) }
+    let far = first-far (c .before .before .before .before .before .before .loop .inv) _ _ _ (c .before .before .before .before .before .before .loop .passing) (subst (λ x. FirstBy (c .before .before .before .before .before .before .before .before .args .code .now) (c .before .before .before .before .before .before .loop .at) (c .before .before .before .before .before .before .loop .passing) (c .before .before .before .before .before .before .before .before .args .budget - c .before .before .before .before .before .before .loop .done) x) (c .before .p .given .1) (c .before .before .before .pass-first .ensures)) in
+    record { fits = omega (arith, far .0) }
 
-loop-less : tie.Need-loop-less Inv-loop μ-loop
-loop-less c =
-    let d = went (c .before .before .before .before .before .before .before .before .before .before .loop .inv) _ _ (c .before .before .before .before .before .dispatch .result) (c .before .before .before .before .before .dispatch .ensures) _ _ _ _ _ (c .before .d .given .1) in
-    omega (arith, d .some-done, d .no-more, c .before .before .before .before .before .before .before .before .before .loop-test .taken)
-
-loop-again : tie.Need-loop-again Inv-loop μ-loop
-loop-again c =
-    let d = went (c .before .before .before .before .before .before .before .before .before .before .loop .inv) _ _ (c .before .before .before .before .before .dispatch .result) (c .before .before .before .before .before .dispatch .ensures) _ _ _ _ _ (c .before .d .given .1) in
-    again (c .before .before .before .before .before .before .before .before .before .before .loop .inv) (c .before .before .before .before .before .before .before .before .before .loop-test .taken) _ _ _ _ _ d (c .before .before .before .before .before .dispatch .kept .1 .1 .1 .1 .1 .0) (c .before .before .before .before .before .dispatch .kept .1 .1 .1 .1 .0)
-
-returns-2 : tie.Need-returns-2 Inv-loop μ-loop
+returns-2 : tie.Need-returns-2 Inv-loop2 μ-loop2 Inv-loop μ-loop
 returns-2 c =
-    let d = halted (c .before .before .before .before .before .before .before .before .before .before .loop .inv) _ _ (c .before .before .before .before .before .dispatch .result) (c .before .before .before .before .before .dispatch .ensures) _ (c .before .d2 .given .1) in
-    stops (c .before .before .before .before .before .before .before .before .before .before .loop .inv) _ _ (λ ns q. q .ranged) (c .before .before .before .before .before .before .before .before .before .loop-test .taken) _ (λ ns budget done q. d ns budget done (q .ranged)) _ _
+    let s = broken-by (c .before .before .before .before .before .before .loop .inv) (c .before .before .before .before .before .before .loop .passing) refl (subst (λ x. FirstBy (c .before .before .before .before .before .before .before .before .args .code .now) (c .before .before .before .before .before .before .loop .at) (c .before .before .before .before .before .before .loop .passing) (c .before .before .before .before .before .before .before .before .args .budget - c .before .before .before .before .before .before .loop .done) x) (c .before .enum-told .given .1) (c .before .before .before .pass-first .ensures)) in
+    so-ran (c .refused .ensures) (stops (c .before .before .before .before .before .before .loop .inv) _ _ (λ ns q. q .ranged) (c .before .before .before .before .before .loop-test .taken) _ (λ ns budget done q. s ns budget done (q .ranged)) _ _)
 
-returns-3 : tie.Need-returns-3 Inv-loop μ-loop
+-- ---- the inner loop
+
+loop2-holds : tie.Need-loop2-holds Inv-loop2 μ-loop2 Inv-loop μ-loop
+loop2-holds c = (omega arith, inr refl, λ cur₁ vals₁ m g. g)
+
+-- it ends with the budget
+loop-less : tie.Need-loop-less Inv-loop2 μ-loop2 Inv-loop μ-loop
+loop-less c = omega (arith, c .loop2-test .left, c .before .before .before .before .before .before .before .loop-test .taken)
+
+loop-again : tie.Need-loop-again Inv-loop2 μ-loop2 Inv-loop μ-loop
+loop-again c = c .before .loop2 .inv .2 _ _ _ (passed-by (c .before .before .before .before .before .before .before .before .loop .inv) (c .before .before .before .before .before .before .before .loop-test .taken) _ _ _ (c .before .before .before .before .before .before .before .before .loop .passing) refl (subst (λ x. FirstBy (c .before .before .before .before .before .before .before .before .before .before .args .code .now) (c .before .before .before .before .before .before .before .before .loop .at) (c .before .before .before .before .before .before .before .before .loop .passing) (c .before .before .before .before .before .before .before .before .before .before .args .budget - c .before .before .before .before .before .before .before .before .loop .done) x) (c .before .before .before .p .given .1) (c .before .before .before .before .before .pass-first .ensures)))
+
+-- or where instructions are passed over
+loop-less-2 : tie.Need-loop-less-2 Inv-loop2 μ-loop2 Inv-loop μ-loop
+loop-less-2 c =
+    let far = first-far (c .before .before .before .before .before .before .before .before .before .loop .inv) _ _ _ (c .before .before .before .before .before .before .before .before .before .loop .passing) (subst (λ x. FirstBy (c .before .before .before .before .before .before .before .before .before .before .before .args .code .now) (c .before .before .before .before .before .before .before .before .before .loop .at) (c .before .before .before .before .before .before .before .before .before .loop .passing) (c .before .before .before .before .before .before .before .before .before .before .before .args .budget - c .before .before .before .before .before .before .before .before .before .loop .done) x) (c .before .before .before .before .p .given .1) (c .before .before .before .before .before .before .pass-first .ensures)) in
+    let less : c .before .before .before .before .before .before .before .before .before .loop .done < c .before .before .loop2 .done =
+    ⊎-elim (λ l. omega (arith, l, c .before .before .loop2 .inv .0)) (λ e. ⊎-elim (λ l. omega (arith, l)) (λ p. absurd (false≢true (sym e ∙ sym p ∙ c .if2 .taken))) (c .before .before .loop2 .inv .1)) (far .1) in
+    omega (arith, less, c .before .loop2-test .taken)
+
+loop-again-2 : tie.Need-loop-again-2 Inv-loop2 μ-loop2 Inv-loop μ-loop
+loop-again-2 c = c .before .before .loop2 .inv .2 _ _ _ (passed-by (c .before .before .before .before .before .before .before .before .before .loop .inv) (c .before .before .before .before .before .before .before .before .loop-test .taken) _ _ _ (c .before .before .before .before .before .before .before .before .before .loop .passing) refl (subst (λ x. FirstBy (c .before .before .before .before .before .before .before .before .before .before .before .args .code .now) (c .before .before .before .before .before .before .before .before .before .loop .at) (c .before .before .before .before .before .before .before .before .before .loop .passing) (c .before .before .before .before .before .before .before .before .before .before .before .args .budget - c .before .before .before .before .before .before .before .before .before .loop .done) x) (c .before .before .before .before .p .given .1) (c .before .before .before .before .before .before .pass-first .ensures)))
+
+returns-3 : tie.Need-returns-3 Inv-loop2 μ-loop2 Inv-loop μ-loop
 returns-3 c =
-    let a = c .before .before .before .before .before .before .before .before .before .before .before .before .args in
-    let t = timer-at (c .before .before .before .before .before .before .before .before .before .before .loop .inv) _ _ (c .before .before .before .before .before .dispatch .result) (c .before .before .before .before .before .dispatch .ensures) (c .before .enum-told .given .1) in
-    stops (c .before .before .before .before .before .before .before .before .before .before .loop .inv) _ _ (λ ns q. q .ranged) (c .before .before .before .before .before .before .before .before .before .loop-test .taken) _
-    (timer-stops (a .code .now) (NamedIn (a .low .now) (a .high .now) (a .names)) (a .prev .now) (c .before .before .before .before .before .before .before .before .before .before .loop .at) _ _ _ (omega (arith, c .before .before .before .before .before .before .before .before .if1 .left)) (t .byte) (t .acting) (λ ns q. omega (arith, names-length (ns .ranges) (a .low .now) (a .high .now) (q .ranged), q .named, c .before .before .before .before .before .before .before .before .before .before .loop .inv .named .previous, c .if2 .taken))) _ _
+    let g = c .before .before .before .before .loop2 .inv .2 _ _ _ (passed-by (c .before .before .before .before .before .before .before .before .before .before .before .loop .inv) (c .before .before .before .before .before .before .before .before .before .before .loop-test .taken) _ _ _ (c .before .before .before .before .before .before .before .before .before .before .before .loop .passing) refl (subst (λ x. FirstBy (c .before .before .before .before .before .before .before .before .before .before .before .before .before .args .code .now) (c .before .before .before .before .before .before .before .before .before .before .before .loop .at) (c .before .before .before .before .before .before .before .before .before .before .before .loop .passing) (c .before .before .before .before .before .before .before .before .before .before .before .before .before .args .budget - c .before .before .before .before .before .before .before .before .before .before .before .loop .done) x) (c .before .before .before .before .before .before .p .given .1) (c .before .before .before .before .before .before .before .before .pass-first .ensures))) in
+    so-ran (c .resting2 .ensures) (rests-behind g _ _ (λ ns q. q .ranged) (c .before .if3 .taken))
 
-returns-4 : tie.Need-returns-4 Inv-loop μ-loop
+dispatch-requires : tie.Need-dispatch-requires Inv-loop2 μ-loop2 Inv-loop μ-loop
+dispatch-requires c κs =
+    let g = stands (c .before .before .before .before .before .loop2 .inv .2 _ _ _ (passed-by (c .before .before .before .before .before .before .before .before .before .before .before .before .loop .inv) (c .before .before .before .before .before .before .before .before .before .before .before .loop-test .taken) _ _ _ (c .before .before .before .before .before .before .before .before .before .before .before .before .loop .passing) refl (subst (λ x. FirstBy (c .before .before .before .before .before .before .before .before .before .before .before .before .before .before .args .code .now) (c .before .before .before .before .before .before .before .before .before .before .before .before .loop .at) (c .before .before .before .before .before .before .before .before .before .before .before .before .loop .passing) (c .before .before .before .before .before .before .before .before .before .before .before .before .before .before .args .budget - c .before .before .before .before .before .before .before .before .before .before .before .before .loop .done) x) (c .before .before .before .before .before .before .before .p .given .1) (c .before .before .before .before .before .before .before .before .before .pass-first .ensures)))) (c .before .before .before .if2 .left) in
+    ((omega (arith, c .before .before .if3 .left), g .stack .few, g .stack .room, omega (arith, c .before .before .before .before .loop2-test .taken)), g .named)
+
+add-done-2 : tie.Need-add-done-2 Inv-loop2 μ-loop2 Inv-loop μ-loop
+add-done-2 c =
+    let g = stands (c .before .before .before .before .before .before .before .before .before .before .before .loop2 .inv .2 _ _ _ (passed-by (c .before .before .before .before .before .before .before .before .before .before .before .before .before .before .before .before .before .before .loop .inv) (c .before .before .before .before .before .before .before .before .before .before .before .before .before .before .before .before .before .loop-test .taken) _ _ _ (c .before .before .before .before .before .before .before .before .before .before .before .before .before .before .before .before .before .before .loop .passing) refl (subst (λ x. FirstBy (c .before .before .before .before .before .before .before .before .before .before .before .before .before .before .before .before .before .before .before .before .args .code .now) (c .before .before .before .before .before .before .before .before .before .before .before .before .before .before .before .before .before .before .loop .at) (c .before .before .before .before .before .before .before .before .before .before .before .before .before .before .before .before .before .before .loop .passing) (c .before .before .before .before .before .before .before .before .before .before .before .before .before .before .before .before .before .before .before .before .args .budget - c .before .before .before .before .before .before .before .before .before .before .before .before .before .before .before .before .before .before .loop .done) x) (c .before .before .before .before .before .before .before .before .before .before .before .before .before .p .given .1) (c .before .before .before .before .before .before .before .before .before .before .before .before .before .before .before .pass-first .ensures)))) (c .before .before .before .before .before .before .before .before .before .if2 .left) in
+    let d = went g _ _ (c .before .before .before .before .before .dispatch .result) (c .before .before .before .before .before .dispatch .ensures) _ _ _ _ _ (c .before .h .given .1) in
+    let w : c .before .before .before .before .before .before .before .before .before .before .before .loop2 .done + c .before .h .given .0 .1 .1 .1 .1 .0 ≤ c .before .before .before .before .before .before .before .before .before .before .before .before .before .before .before .before .before .before .before .before .args .budget = omega (arith, d .no-more, g .within) in
+    record { fits = omega (arith, w, c .before .before .before .before .before .before .before .before .before .before .before .before .before .before .before .before .before .before .before .before .good .1 .1 .1 .1 .1 .1 .1 .1 .1) }
+
+loop2-less : tie.Need-loop2-less Inv-loop2 μ-loop2 Inv-loop μ-loop
+loop2-less c =
+    let g = stands (c .before .before .before .before .before .before .before .before .before .before .before .loop2 .inv .2 _ _ _ (passed-by (c .before .before .before .before .before .before .before .before .before .before .before .before .before .before .before .before .before .before .loop .inv) (c .before .before .before .before .before .before .before .before .before .before .before .before .before .before .before .before .before .loop-test .taken) _ _ _ (c .before .before .before .before .before .before .before .before .before .before .before .before .before .before .before .before .before .before .loop .passing) refl (subst (λ x. FirstBy (c .before .before .before .before .before .before .before .before .before .before .before .before .before .before .before .before .before .before .before .before .args .code .now) (c .before .before .before .before .before .before .before .before .before .before .before .before .before .before .before .before .before .before .loop .at) (c .before .before .before .before .before .before .before .before .before .before .before .before .before .before .before .before .before .before .loop .passing) (c .before .before .before .before .before .before .before .before .before .before .before .before .before .before .before .before .before .before .before .before .args .budget - c .before .before .before .before .before .before .before .before .before .before .before .before .before .before .before .before .before .before .loop .done) x) (c .before .before .before .before .before .before .before .before .before .before .before .before .before .p .given .1) (c .before .before .before .before .before .before .before .before .before .before .before .before .before .before .before .pass-first .ensures)))) (c .before .before .before .before .before .before .before .before .before .if2 .left) in
+    let d = went g _ _ (c .before .before .before .before .before .dispatch .result) (c .before .before .before .before .before .dispatch .ensures) _ _ _ _ _ (c .before .h .given .1) in
+    omega (arith, d .some-done, d .no-more, c .before .before .before .before .before .before .before .before .before .before .loop2-test .taken)
+
+loop2-again : tie.Need-loop2-again Inv-loop2 μ-loop2 Inv-loop μ-loop
+loop2-again c =
+    let g = stands (c .before .before .before .before .before .before .before .before .before .before .before .loop2 .inv .2 _ _ _ (passed-by (c .before .before .before .before .before .before .before .before .before .before .before .before .before .before .before .before .before .before .loop .inv) (c .before .before .before .before .before .before .before .before .before .before .before .before .before .before .before .before .before .loop-test .taken) _ _ _ (c .before .before .before .before .before .before .before .before .before .before .before .before .before .before .before .before .before .before .loop .passing) refl (subst (λ x. FirstBy (c .before .before .before .before .before .before .before .before .before .before .before .before .before .before .before .before .before .before .before .before .args .code .now) (c .before .before .before .before .before .before .before .before .before .before .before .before .before .before .before .before .before .before .loop .at) (c .before .before .before .before .before .before .before .before .before .before .before .before .before .before .before .before .before .before .loop .passing) (c .before .before .before .before .before .before .before .before .before .before .before .before .before .before .before .before .before .before .before .before .args .budget - c .before .before .before .before .before .before .before .before .before .before .before .before .before .before .before .before .before .before .loop .done) x) (c .before .before .before .before .before .before .before .before .before .before .before .before .before .p .given .1) (c .before .before .before .before .before .before .before .before .before .before .before .before .before .before .before .pass-first .ensures)))) (c .before .before .before .before .before .before .before .before .before .if2 .left) in
+    let d = went g _ _ (c .before .before .before .before .before .dispatch .result) (c .before .before .before .before .before .dispatch .ensures) _ _ _ _ _ (c .before .h .given .1) in (
+      omega (arith, c .before .before .before .before .before .before .before .before .before .before .before .loop2 .inv .0),
+      inl (omega (arith, c .before .before .before .before .before .before .before .before .before .before .before .loop2 .inv .0, d .some-done)),
+      λ cur₁ vals₁ m g₀.
+          let k = stands (c .before .before .before .before .before .before .before .before .before .before .before .loop2 .inv .2 cur₁ vals₁ m g₀) (c .before .before .before .before .before .before .before .before .before .if2 .left) in
+          again k (c .before .before .before .before .before .before .before .before .before .before .loop2-test .taken) _ _ _ _ _ (went k _ _ (c .before .before .before .before .before .dispatch .result) (c .before .before .before .before .before .dispatch .ensures) _ _ _ _ _ (c .before .h .given .1)) (c .before .before .before .before .before .dispatch .kept .1 .1 .1 .1 .1 .0) (c .before .before .before .before .before .dispatch .kept .1 .1 .1 .1 .0),
+    )
+
+returns-4 : tie.Need-returns-4 Inv-loop2 μ-loop2 Inv-loop μ-loop
 returns-4 c =
-    let t = timer-at (c .before .before .before .before .before .before .before .before .before .before .loop .inv) _ _ (c .before .before .before .before .before .dispatch .result) (c .before .before .before .before .before .dispatch .ensures) (c .before .enum-told .given .1) in
-    rests-timed (c .before .before .before .before .before .before .before .before .before .before .loop .inv) _ _ (λ ns q. q .ranged) _ _ t (c .if2 .left)
+    let g = stands (c .before .before .before .before .before .before .before .before .before .before .before .before .loop2 .inv .2 _ _ _ (passed-by (c .before .before .before .before .before .before .before .before .before .before .before .before .before .before .before .before .before .before .before .loop .inv) (c .before .before .before .before .before .before .before .before .before .before .before .before .before .before .before .before .before .before .loop-test .taken) _ _ _ (c .before .before .before .before .before .before .before .before .before .before .before .before .before .before .before .before .before .before .before .loop .passing) refl (subst (λ x. FirstBy (c .before .before .before .before .before .before .before .before .before .before .before .before .before .before .before .before .before .before .before .before .before .args .code .now) (c .before .before .before .before .before .before .before .before .before .before .before .before .before .before .before .before .before .before .before .loop .at) (c .before .before .before .before .before .before .before .before .before .before .before .before .before .before .before .before .before .before .before .loop .passing) (c .before .before .before .before .before .before .before .before .before .before .before .before .before .before .before .before .before .before .before .before .before .args .budget - c .before .before .before .before .before .before .before .before .before .before .before .before .before .before .before .before .before .before .before .loop .done) x) (c .before .before .before .before .before .before .before .before .before .before .before .before .before .before .p .given .1) (c .before .before .before .before .before .before .before .before .before .before .before .before .before .before .before .before .pass-first .ensures)))) (c .before .before .before .before .before .before .before .before .before .before .if2 .left) in
+    let d = halted g _ _ (c .before .before .before .before .before .before .dispatch .result) (c .before .before .before .before .before .before .dispatch .ensures) _ (c .before .before .number .given .1) in
+    so-ran (c .refused2 .ensures) (stops g _ _ (λ ns q. q .ranged) (c .before .before .before .before .before .before .before .before .before .before .before .loop2-test .taken) _ (λ ns budget done q. d ns budget done (q .ranged)) _ _)
 
-returns-5 : tie.Need-returns-5 Inv-loop μ-loop
-returns-5 c = rests-spent (c .before .loop .inv) _ _ (λ ns q. q .ranged) (c .loop-test .left)
+returns-5 : tie.Need-returns-5 Inv-loop2 μ-loop2 Inv-loop μ-loop
+returns-5 c =
+    let a = c .before .before .before .before .before .before .before .before .before .before .before .before .before .before .before .before .before .before .before .before .before .args in
+    let g = stands (c .before .before .before .before .before .before .before .before .before .before .before .before .loop2 .inv .2 _ _ _ (passed-by (c .before .before .before .before .before .before .before .before .before .before .before .before .before .before .before .before .before .before .before .loop .inv) (c .before .before .before .before .before .before .before .before .before .before .before .before .before .before .before .before .before .before .loop-test .taken) _ _ _ (c .before .before .before .before .before .before .before .before .before .before .before .before .before .before .before .before .before .before .before .loop .passing) refl (subst (λ x. FirstBy (c .before .before .before .before .before .before .before .before .before .before .before .before .before .before .before .before .before .before .before .before .before .args .code .now) (c .before .before .before .before .before .before .before .before .before .before .before .before .before .before .before .before .before .before .before .loop .at) (c .before .before .before .before .before .before .before .before .before .before .before .before .before .before .before .before .before .before .before .loop .passing) (c .before .before .before .before .before .before .before .before .before .before .before .before .before .before .before .before .before .before .before .before .before .args .budget - c .before .before .before .before .before .before .before .before .before .before .before .before .before .before .before .before .before .before .before .loop .done) x) (c .before .before .before .before .before .before .before .before .before .before .before .before .before .before .p .given .1) (c .before .before .before .before .before .before .before .before .before .before .before .before .before .before .before .before .pass-first .ensures)))) (c .before .before .before .before .before .before .before .before .before .before .if2 .left) in
+    let t = timer-at g _ _ (c .before .before .before .before .before .before .dispatch .result) (c .before .before .before .before .before .before .dispatch .ensures) (c .before .before .enum-told2 .given .1) in
+    so-ran (c .refused3 .ensures) (stops g _ _ (λ ns q. q .ranged) (c .before .before .before .before .before .before .before .before .before .before .before .loop2-test .taken) _
+    (timer-stops (a .code .now) (NamedIn (a .low .now) (a .high .now) (a .names)) (a .prev .now) (c .before .before .before .before .before .before .before .before .before .before .before .before .loop2 .at) _ _ _ (omega (arith, c .before .before .before .before .before .before .before .before .before .if3 .left)) (t .byte) (t .acting) (λ ns q. omega (arith, names-length (ns .ranges) (a .low .now) (a .high .now) (q .ranged), q .named, g .named .previous, c .before .if4 .taken))) _ _)
+
+returns-6 : tie.Need-returns-6 Inv-loop2 μ-loop2 Inv-loop μ-loop
+returns-6 c =
+    let g = stands (c .before .before .before .before .before .before .before .before .before .before .before .before .loop2 .inv .2 _ _ _ (passed-by (c .before .before .before .before .before .before .before .before .before .before .before .before .before .before .before .before .before .before .before .loop .inv) (c .before .before .before .before .before .before .before .before .before .before .before .before .before .before .before .before .before .before .loop-test .taken) _ _ _ (c .before .before .before .before .before .before .before .before .before .before .before .before .before .before .before .before .before .before .before .loop .passing) refl (subst (λ x. FirstBy (c .before .before .before .before .before .before .before .before .before .before .before .before .before .before .before .before .before .before .before .before .before .args .code .now) (c .before .before .before .before .before .before .before .before .before .before .before .before .before .before .before .before .before .before .before .loop .at) (c .before .before .before .before .before .before .before .before .before .before .before .before .before .before .before .before .before .before .before .loop .passing) (c .before .before .before .before .before .before .before .before .before .before .before .before .before .before .before .before .before .before .before .before .before .args .budget - c .before .before .before .before .before .before .before .before .before .before .before .before .before .before .before .before .before .before .before .loop .done) x) (c .before .before .before .before .before .before .before .before .before .before .before .before .before .before .p .given .1) (c .before .before .before .before .before .before .before .before .before .before .before .before .before .before .before .before .pass-first .ensures)))) (c .before .before .before .before .before .before .before .before .before .before .if2 .left) in
+    let t = timer-at g _ _ (c .before .before .before .before .before .before .dispatch .result) (c .before .before .before .before .before .before .dispatch .ensures) (c .before .before .enum-told2 .given .1) in
+    so-ran (c .resting3 .ensures ∙ ap (λ (b : Bool). restingAt (c .before .before .before .before .before .before .before .before .before .before .before .before .loop2 .done) (c .before .before .before .before .before .before .before .before .before .before .before .before .loop2 .at) (registers (c .before .before .before .before .before .before .before .before .before .before .before .before .loop2 .held) (c .before .before .before .before .before .before .before .before .before .before .before .before .loop2 .picked) b)) (c .before .before .before .before .before .before .before .before .before .before .if2 .left)) (rests-timed g _ _ (λ ns q. q .ranged) _ _ t (c .before .if4 .left))
+
+returns-7 : tie.Need-returns-7 Inv-loop2 μ-loop2 Inv-loop μ-loop
+returns-7 c = so-ran (c .resting4 .ensures) (rests-spent (c .before .before .loop .inv) _ _ (λ ns q. q .ranged) (c .before .loop-test .left))
+
+-- lengths stay
+
+same-length-5 : tie.Need-same-length-5 Inv-loop2 μ-loop2 Inv-loop μ-loop
+same-length-5 c = let g = c .before .before .before .before .loop2 .inv .2 _ _ _ (passed-by (c .before .before .before .before .before .before .before .before .before .before .before .loop .inv) (c .before .before .before .before .before .before .before .before .before .before .loop-test .taken) _ _ _ (c .before .before .before .before .before .before .before .before .before .before .before .loop .passing) refl (subst (λ x. FirstBy (c .before .before .before .before .before .before .before .before .before .before .before .before .before .args .code .now) (c .before .before .before .before .before .before .before .before .before .before .before .loop .at) (c .before .before .before .before .before .before .before .before .before .before .before .loop .passing) (c .before .before .before .before .before .before .before .before .before .before .before .before .before .args .budget - c .before .before .before .before .before .before .before .before .before .before .before .loop .done) x) (c .before .before .before .before .before .before .p .given .1) (c .before .before .before .before .before .before .before .before .pass-first .ensures))) in g .wide
+
+same-length-6 : tie.Need-same-length-6 Inv-loop2 μ-loop2 Inv-loop μ-loop
+same-length-6 c = let g = c .before .before .before .before .loop2 .inv .2 _ _ _ (passed-by (c .before .before .before .before .before .before .before .before .before .before .before .loop .inv) (c .before .before .before .before .before .before .before .before .before .before .loop-test .taken) _ _ _ (c .before .before .before .before .before .before .before .before .before .before .before .loop .passing) refl (subst (λ x. FirstBy (c .before .before .before .before .before .before .before .before .before .before .before .before .before .args .code .now) (c .before .before .before .before .before .before .before .before .before .before .before .loop .at) (c .before .before .before .before .before .before .before .before .before .before .before .loop .passing) (c .before .before .before .before .before .before .before .before .before .before .before .before .before .args .budget - c .before .before .before .before .before .before .before .before .before .before .before .loop .done) x) (c .before .before .before .before .before .before .p .given .1) (c .before .before .before .before .before .before .before .before .pass-first .ensures))) in g .deep
+
+same-length-7 : tie.Need-same-length-7 Inv-loop2 μ-loop2 Inv-loop μ-loop
+same-length-7 c = let g = c .before .before .before .before .before .before .before .before .before .before .before .before .loop2 .inv .2 _ _ _ (passed-by (c .before .before .before .before .before .before .before .before .before .before .before .before .before .before .before .before .before .before .before .loop .inv) (c .before .before .before .before .before .before .before .before .before .before .before .before .before .before .before .before .before .before .loop-test .taken) _ _ _ (c .before .before .before .before .before .before .before .before .before .before .before .before .before .before .before .before .before .before .before .loop .passing) refl (subst (λ x. FirstBy (c .before .before .before .before .before .before .before .before .before .before .before .before .before .before .before .before .before .before .before .before .before .args .code .now) (c .before .before .before .before .before .before .before .before .before .before .before .before .before .before .before .before .before .before .before .loop .at) (c .before .before .before .before .before .before .before .before .before .before .before .before .before .before .before .before .before .before .before .loop .passing) (c .before .before .before .before .before .before .before .before .before .before .before .before .before .before .before .before .before .before .before .before .before .args .budget - c .before .before .before .before .before .before .before .before .before .before .before .before .before .before .before .before .before .before .before .loop .done) x) (c .before .before .before .before .before .before .before .before .before .before .before .before .before .before .p .given .1) (c .before .before .before .before .before .before .before .before .before .before .before .before .before .before .before .before .pass-first .ensures))) in c .before .before .before .before .before .before .dispatch .kept .1 .1 .1 .1 .0 ∙ g .wide
+
+same-length-8 : tie.Need-same-length-8 Inv-loop2 μ-loop2 Inv-loop μ-loop
+same-length-8 c = let g = c .before .before .before .before .before .before .before .before .before .before .before .before .loop2 .inv .2 _ _ _ (passed-by (c .before .before .before .before .before .before .before .before .before .before .before .before .before .before .before .before .before .before .before .loop .inv) (c .before .before .before .before .before .before .before .before .before .before .before .before .before .before .before .before .before .before .loop-test .taken) _ _ _ (c .before .before .before .before .before .before .before .before .before .before .before .before .before .before .before .before .before .before .before .loop .passing) refl (subst (λ x. FirstBy (c .before .before .before .before .before .before .before .before .before .before .before .before .before .before .before .before .before .before .before .before .before .args .code .now) (c .before .before .before .before .before .before .before .before .before .before .before .before .before .before .before .before .before .before .before .loop .at) (c .before .before .before .before .before .before .before .before .before .before .before .before .before .before .before .before .before .before .before .loop .passing) (c .before .before .before .before .before .before .before .before .before .before .before .before .before .before .before .before .before .before .before .before .before .args .budget - c .before .before .before .before .before .before .before .before .before .before .before .before .before .before .before .before .before .before .before .loop .done) x) (c .before .before .before .before .before .before .before .before .before .before .before .before .before .before .p .given .1) (c .before .before .before .before .before .before .before .before .before .before .before .before .before .before .before .before .pass-first .ensures))) in c .before .before .before .before .before .before .dispatch .kept .1 .1 .1 .1 .1 .0 ∙ g .deep
+
+same-length-9 : tie.Need-same-length-9 Inv-loop2 μ-loop2 Inv-loop μ-loop
+same-length-9 c = let g = c .before .before .before .before .before .before .before .before .before .before .before .before .loop2 .inv .2 _ _ _ (passed-by (c .before .before .before .before .before .before .before .before .before .before .before .before .before .before .before .before .before .before .before .loop .inv) (c .before .before .before .before .before .before .before .before .before .before .before .before .before .before .before .before .before .before .loop-test .taken) _ _ _ (c .before .before .before .before .before .before .before .before .before .before .before .before .before .before .before .before .before .before .before .loop .passing) refl (subst (λ x. FirstBy (c .before .before .before .before .before .before .before .before .before .before .before .before .before .before .before .before .before .before .before .before .before .args .code .now) (c .before .before .before .before .before .before .before .before .before .before .before .before .before .before .before .before .before .before .before .loop .at) (c .before .before .before .before .before .before .before .before .before .before .before .before .before .before .before .before .before .before .before .loop .passing) (c .before .before .before .before .before .before .before .before .before .before .before .before .before .before .before .before .before .before .before .before .before .args .budget - c .before .before .before .before .before .before .before .before .before .before .before .before .before .before .before .before .before .before .before .loop .done) x) (c .before .before .before .before .before .before .before .before .before .before .before .before .before .before .p .given .1) (c .before .before .before .before .before .before .before .before .before .before .before .before .before .before .before .before .pass-first .ensures))) in c .before .before .before .before .before .before .dispatch .kept .1 .1 .1 .1 .0 ∙ g .wide
+
+same-length-10 : tie.Need-same-length-10 Inv-loop2 μ-loop2 Inv-loop μ-loop
+same-length-10 c = let g = c .before .before .before .before .before .before .before .before .before .before .before .before .loop2 .inv .2 _ _ _ (passed-by (c .before .before .before .before .before .before .before .before .before .before .before .before .before .before .before .before .before .before .before .loop .inv) (c .before .before .before .before .before .before .before .before .before .before .before .before .before .before .before .before .before .before .loop-test .taken) _ _ _ (c .before .before .before .before .before .before .before .before .before .before .before .before .before .before .before .before .before .before .before .loop .passing) refl (subst (λ x. FirstBy (c .before .before .before .before .before .before .before .before .before .before .before .before .before .before .before .before .before .before .before .before .before .args .code .now) (c .before .before .before .before .before .before .before .before .before .before .before .before .before .before .before .before .before .before .before .loop .at) (c .before .before .before .before .before .before .before .before .before .before .before .before .before .before .before .before .before .before .before .loop .passing) (c .before .before .before .before .before .before .before .before .before .before .before .before .before .before .before .before .before .before .before .before .before .args .budget - c .before .before .before .before .before .before .before .before .before .before .before .before .before .before .before .before .before .before .before .loop .done) x) (c .before .before .before .before .before .before .before .before .before .before .before .before .before .before .p .given .1) (c .before .before .before .before .before .before .before .before .before .before .before .before .before .before .before .before .pass-first .ensures))) in c .before .before .before .before .before .before .dispatch .kept .1 .1 .1 .1 .1 .0 ∙ g .deep
+
+same-length-11 : tie.Need-same-length-11 Inv-loop2 μ-loop2 Inv-loop μ-loop
+same-length-11 c = let g = c .before .before .before .before .before .before .before .before .before .before .before .before .loop2 .inv .2 _ _ _ (passed-by (c .before .before .before .before .before .before .before .before .before .before .before .before .before .before .before .before .before .before .before .loop .inv) (c .before .before .before .before .before .before .before .before .before .before .before .before .before .before .before .before .before .before .loop-test .taken) _ _ _ (c .before .before .before .before .before .before .before .before .before .before .before .before .before .before .before .before .before .before .before .loop .passing) refl (subst (λ x. FirstBy (c .before .before .before .before .before .before .before .before .before .before .before .before .before .before .before .before .before .before .before .before .before .args .code .now) (c .before .before .before .before .before .before .before .before .before .before .before .before .before .before .before .before .before .before .before .loop .at) (c .before .before .before .before .before .before .before .before .before .before .before .before .before .before .before .before .before .before .before .loop .passing) (c .before .before .before .before .before .before .before .before .before .before .before .before .before .before .before .before .before .before .before .before .before .args .budget - c .before .before .before .before .before .before .before .before .before .before .before .before .before .before .before .before .before .before .before .loop .done) x) (c .before .before .before .before .before .before .before .before .before .before .before .before .before .before .p .given .1) (c .before .before .before .before .before .before .before .before .before .before .before .before .before .before .before .before .pass-first .ensures))) in c .before .before .before .before .before .before .dispatch .kept .1 .1 .1 .1 .0 ∙ g .wide
+
+same-length-12 : tie.Need-same-length-12 Inv-loop2 μ-loop2 Inv-loop μ-loop
+same-length-12 c = let g = c .before .before .before .before .before .before .before .before .before .before .before .before .loop2 .inv .2 _ _ _ (passed-by (c .before .before .before .before .before .before .before .before .before .before .before .before .before .before .before .before .before .before .before .loop .inv) (c .before .before .before .before .before .before .before .before .before .before .before .before .before .before .before .before .before .before .loop-test .taken) _ _ _ (c .before .before .before .before .before .before .before .before .before .before .before .before .before .before .before .before .before .before .before .loop .passing) refl (subst (λ x. FirstBy (c .before .before .before .before .before .before .before .before .before .before .before .before .before .before .before .before .before .before .before .before .before .args .code .now) (c .before .before .before .before .before .before .before .before .before .before .before .before .before .before .before .before .before .before .before .loop .at) (c .before .before .before .before .before .before .before .before .before .before .before .before .before .before .before .before .before .before .before .loop .passing) (c .before .before .before .before .before .before .before .before .before .before .before .before .before .before .before .before .before .before .before .before .before .args .budget - c .before .before .before .before .before .before .before .before .before .before .before .before .before .before .before .before .before .before .before .loop .done) x) (c .before .before .before .before .before .before .before .before .before .before .before .before .before .before .p .given .1) (c .before .before .before .before .before .before .before .before .before .before .before .before .before .before .before .before .pass-first .ensures))) in c .before .before .before .before .before .before .dispatch .kept .1 .1 .1 .1 .1 .0 ∙ g .deep
 
 pub run-untimed-spec : {M : Type 1} → statement M
 run-untimed-spec =
     tie.close
-    (tie.spec Inv-loop μ-loop loop-holds (λ c. search needs) (λ c. search needs) returns (λ c. search needs) dispatch-requires (λ c. search needs)
-    add-done loop-less loop-again (λ c. search needs) (λ c. search needs) (λ c. search needs) (λ c. search needs) returns-2 (λ c. search needs)
-    (λ c. search needs) (λ c. search needs) (λ c. search needs) returns-3 (λ c. search needs) (λ c. search needs) returns-4 (λ c. search needs)
-    (λ c. search needs) returns-5)
+    (tie.spec Inv-loop2 μ-loop2 Inv-loop μ-loop loop-holds (λ c κs. search needs) (λ c. search needs) (λ c. search needs) returns (λ c. search needs)
+    pass-first-requires (λ c. search needs) add-done (λ c. search needs) (λ c. search needs) (λ c κs. search needs) (λ c. search needs)
+    (λ c. search needs) returns-2 loop2-holds loop-less loop-again loop-less-2 loop-again-2 (λ c κs. search needs) same-length-5 same-length-6
+    returns-3 (λ c. search needs) dispatch-requires (λ c. search needs) add-done-2 loop2-less loop2-again (λ c. search needs) (λ c. search needs)
+    (λ c κs. search needs) same-length-7 same-length-8 returns-4 (λ c. search needs) (λ c. search needs) (λ c κs. search needs) same-length-9
+    same-length-10 returns-5 (λ c κs. search needs) same-length-11 same-length-12 returns-6 (λ c κs. search needs) (λ c. search needs)
+    (λ c. search needs) returns-7)

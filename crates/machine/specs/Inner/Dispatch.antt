@@ -1,6 +1,6 @@
 -- Instructions that a run does at once, and what it is then left with: auxiliary definitions for proofs. Assumes nothing.
 use mathlib.Core.Path.{_≡_}
-use mathlib.Core.Bool.{Bool, true, false}
+use mathlib.Core.Bool.{Bool, false}
 use mathlib.Core.List.{List}
 use Prim.Native.Nat.{ℕ, _+_, _-_, _≤_, _<_}
 use lib.IntN.{ℤ}
@@ -8,7 +8,7 @@ use lib.ListN.{length, getD}
 use Rattle.limits.specs.Limits.{stackLimit, brokenImage}
 use Rattle.arith.specs.Values.{refusal, Comparison, compares}
 use Rattle.semantics.specs.Shape.{Setting}
-use Rattle.leb128.specs.Numbers.{Read, got, nothing, unzigzag}
+use Rattle.leb128.specs.Numbers.{got, unzigzag}
 use Rattle.bytecode.specs.Instructions.{Instruction, constant, comparison, fetchOne}
 use Rattle.machine.specs.declared.Registers.{Registers}
 use Rattle.machine.specs.declared.Stepped.{Stepped}
@@ -22,7 +22,7 @@ use Rattle.machine.specs.declared.dispatch.Lookahead.{Lookahead}
 use Rattle.machine.specs.declared.dispatch.Lookahead.the-variants as C
 use Rattle.machine.specs.Step.{push, perform}
 use Rattle.machine.specs.Runs.{ran, run, resume}
-use Rattle.machine.specs.Inner.Memory.{machineOf, stepOutcome, RangedIn, Few}
+use Rattle.machine.specs.Inner.Memory.{machineOf, stepOutcome, Few}
 
 abbrev pub registers : ℕ → Bool → Bool → Registers
 registers h c p = record { held = h; picked = c; passing = p }
@@ -33,11 +33,6 @@ registers h c p = record { held = h; picked = c; passing = p }
 abbrev pub dispatchedOf : ℕ → Stepped → Dispatched
 dispatchedOf next (S.Next t) = D.On (t .held) (t .picked) (t .passing) next 1
 dispatchedOf next (S.Refused number) = D.Refused number
-
--- passed over, with its operand read
-abbrev pub overOf : ℕ → Bool → Bool → Read ℕ → Dispatched
-overOf h c p (got n next) = D.On h c p next 1
-overOf h c p nothing = D.Refused brokenImage
 
 -- ---- what is done, in every setting of a kind
 
@@ -66,16 +61,19 @@ DispatchedBy code settings prev at m vals cur vals₁ cur₁ most (D.On h c p ne
 DispatchedBy code settings prev at m vals cur vals₁ cur₁ most (D.Refused number) = Stops code settings prev at m vals cur number
 DispatchedBy code settings prev at m vals cur vals₁ cur₁ most D.Timed = AtTimer code at m vals cur vals₁ cur₁
 
--- passed over: whatever the memory holds
-abbrev pub PassedBy : List ℕ → ℕ → ℕ → Bool → Dispatched → Type 0
-PassedBy code at h c r = (low high prev vals cur : List ℤ) → DispatchedBy code (RangedIn low high) prev at (registers h c true) vals cur vals cur 1 r
-
 -- a timer at work: only current values move
 abbrev pub WorkedBy : List ℕ → (Setting → Type 0) → List ℤ → ℕ → Registers → List ℤ → List ℤ → List ℤ → Worked → Type 0
 WorkedBy code settings prev at m vals cur cur₁ (W.Behind next) = Continues code settings prev at m vals cur vals cur₁ 1 m next 1
 WorkedBy code settings prev at m vals cur cur₁ W.Broken = Stops code settings prev at m vals cur brokenImage
 
 -- ---- a run up to a timer
+
+abbrev pub restingAt : ℕ → ℕ → Registers → Executed
+restingAt n place k = record { steps = n; place = place; last = S.Next k }
+
+-- refused by the instruction at a place
+abbrev pub refusedAt : ℕ → ℕ → ℕ → Executed
+refusedAt n place number = record { steps = n; place = place; last = S.Refused number }
 
 -- a run that is neither at its end nor refused stands at a timer that is not passed over, in a state with elapsed times
 abbrev pub RestsAt : List ℕ → List ℤ → ℕ → ℕ → ℕ → Stepped → Type 0

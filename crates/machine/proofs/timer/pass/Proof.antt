@@ -1,12 +1,10 @@
 -- `machine::timer::pass` meets its contract. Assumes nothing.
 use Prim.Native.Nat.{_+_}
 use mathlib.Core.Path.{sym, ap, _∙_}
-use mathlib.Core.Bool.{true}
+use native.Mathlib.Omega.{arith}
 use Rattle.leb128.specs.Results.{unsignedRead}
 use Rattle.bytecode.proofs.Fetching.{timer-first, timer-second, timer-third, timer-read, timer-fetched}
-use Rattle.machine.specs.Inner.Memory.{RangedIn}
-use Rattle.machine.specs.Inner.Dispatch.{registers}
-use Rattle.machine.proofs.Dispatching.{none-stops, timer-passed}
+use Rattle.machine.proofs.PassingOver.{broken-over, timer-over}
 use borrow.Author.Needs.{needs}
 use Rattle.machine.proofs.timer.pass.Statement.{statement}
 use Rattle.machine.proofs.timer.pass.Tie as tie
@@ -15,7 +13,7 @@ returns : tie.Need-returns
 returns c =
     let a = c .before .before .before .before .args in
     let p = c .before .before .before .before .pre in
-    λ low high prev vals cur. none-stops (a .code .now) (RangedIn low high) prev (a .at) (registers (a .held) (a .picked) true) vals cur (p .0)
+    broken-over (a .code .now) (a .at) (p .0)
     (timer-fetched (a .code .now) (a .at) (p .1) ∙ timer-first (a .code .now) (a .at + 1) (sym (c .before .before .unsigned-at .ensures) ∙ ap unsignedRead (c .enum-told .given .1)))
 
 returns-2 : tie.Need-returns-2
@@ -23,22 +21,25 @@ returns-2 c =
     let a = c .before .before .before .before .before .before .before .before .args in
     let p = c .before .before .before .before .before .before .before .before .pre in
     let t = c .before .before .before .before .second .given in
-    λ low high prev vals cur. none-stops (a .code .now) (RangedIn low high) prev (a .at) (registers (a .held) (a .picked) true) vals cur (p .0)
+    broken-over (a .code .now) (a .at) (p .0)
     (timer-fetched (a .code .now) (a .at) (p .1) ∙ timer-second (a .code .now) (a .at + 1) _ _ (sym (c .before .before .before .before .before .before .unsigned-at .ensures) ∙ ap unsignedRead (t .1)) (sym (c .before .before .unsigned-at2 .ensures) ∙ ap unsignedRead (c .enum-told2 .given .1)))
 
 returns-3 : tie.Need-returns-3
 returns-3 c =
     let a = c .before .before .before .before .before .before .before .before .before .before .before .before .args in
     let p = c .before .before .before .before .before .before .before .before .before .before .before .before .pre in
-    λ low high prev vals cur. none-stops (a .code .now) (RangedIn low high) prev (a .at) (registers (a .held) (a .picked) true) vals cur (p .0)
+    broken-over (a .code .now) (a .at) (p .0)
     (timer-fetched (a .code .now) (a .at) (p .1) ∙ timer-third (a .code .now) (a .at + 1) _ _ (sym (c .before .before .before .before .before .before .before .before .before .before .unsigned-at .ensures) ∙ ap unsignedRead (c .before .before .before .before .before .before .before .before .second .given .1)) _ _ (sym (c .before .before .before .before .before .before .unsigned-at2 .ensures) ∙ ap unsignedRead (c .before .before .before .before .third .given .1)) (sym (c .before .before .unsigned-at3 .ensures) ∙ ap unsignedRead (c .enum-told3 .given .1)))
 
 returns-4 : tie.Need-returns-4
 returns-4 c =
     let a = c .before .before .before .before .before .before .before .before .before .before .before .before .before .args in
-    let p = c .before .before .before .before .before .before .before .before .before .before .before .before .before .pre in
-    λ low high prev vals cur. timer-passed (a .code .now) (RangedIn low high) prev (a .at) (a .held) (a .picked) vals cur (p .2) (p .0) _ _ _ _
-    (timer-fetched (a .code .now) (a .at) (p .1) ∙ timer-read (a .code .now) (a .at + 1) _ _ (sym (c .before .before .before .before .before .before .before .before .before .before .before .unsigned-at .ensures) ∙ ap unsignedRead (c .before .before .before .before .before .before .before .before .before .second .given .1)) _ _ (sym (c .before .before .before .before .before .before .before .unsigned-at2 .ensures) ∙ ap unsignedRead (c .before .before .before .before .before .third .given .1)) _ _ (sym (c .before .before .before .unsigned-at3 .ensures) ∙ ap unsignedRead (c .before .next .given .1)))
+    let p = c .before .before .before .before .before .before .before .before .before .before .before .before .before .pre in (
+      omega arith,
+      omega arith,
+      timer-over (a .code .now) (a .at) (p .0) _ _ _ _
+          (timer-fetched (a .code .now) (a .at) (p .1) ∙ timer-read (a .code .now) (a .at + 1) _ _ (sym (c .before .before .before .before .before .before .before .before .before .before .before .unsigned-at .ensures) ∙ ap unsignedRead (c .before .before .before .before .before .before .before .before .before .second .given .1)) _ _ (sym (c .before .before .before .before .before .before .before .unsigned-at2 .ensures) ∙ ap unsignedRead (c .before .before .before .before .before .third .given .1)) _ _ (sym (c .before .before .before .unsigned-at3 .ensures) ∙ ap unsignedRead (c .before .next .given .1))),
+    )
 
 pub pass-spec : {M : Type 1} → statement M
 pass-spec =
