@@ -62,9 +62,16 @@ abbrev wanted : List Example → List (Answer (Unit {0}))
 wanted [] = []
 wanted (e ∷ es) = e .answer ∷ wanted es
 
-hold : (es : List Example) → answersOf es ≡ wanted es → Every Holds es
+abbrev Computed : List Example → Type 0
+Computed es = answersOf es ≡ wanted es
+
+hold : (es : List Example) → Computed es → Every Holds es
 hold [] h = tt
 hold (e ∷ es) h = (heads h, hold es (tails h))
+
+all-hold : (ess : List (List Example)) → Every Computed ess → Every (Every Holds) ess
+all-hold [] h = tt
+all-hold (es ∷ ess) h = (hold es (h .0), all-hold ess (h .1))
 
 -- ---- the table of answers
 
@@ -73,108 +80,78 @@ opened : Unit {0}
 unfolding isSpace isDigit isLetter isAlphanumeric runOn runEnd capital capitals sameName sameBytes grammarWord exactWord wordOf overLong pairOf signOf readOf signAt wordAt digitsAt previousAt tokenOf tokenPast tokenAt sameSpelling sameToken valueOn valueOf is kindNumber idFrom idOf expected phrase followed rest chain withId currentAt previousIn constantAt primary negative factor productOf sumOf term expression bracket wholeExpression comparisonBy compared comparisonAt opposite inverted atom connect andOf orOf conjunction condition square wholeCondition listed inRange signedDigits boundAt newName startAt declaration declarationsFrom declarations isBinary isWatchable watchedAt limitAt timerDeclaration timersFrom caseAt casesFrom listFrom plainList partFrom kindAt partsFrom firstFound agreeingList functionAt changeAt pairAt formulaAt formulas ruleAt rulesFrom laterAt afterFirst watchAt watchesFrom endAt program parse programOf imageOf number groups zigzag
 opened = tt
 
-numberOrder-computed : answersOf numberOrder ≡ wanted numberOrder
+numberOrder-computed : Computed numberOrder
 unfolding opened
 numberOrder-computed = refl
 
-afterChange-computed : answersOf afterChange ≡ wanted afterChange
+afterChange-computed : Computed afterChange
 unfolding opened
 afterChange-computed = refl
 
-otherTokens-computed : answersOf otherTokens ≡ wanted otherTokens
+otherTokens-computed : Computed otherTokens
 unfolding opened
 otherTokens-computed = refl
 
-longNames-computed : answersOf longNames ≡ wanted longNames
+longNames-computed : Computed longNames
 unfolding opened
 longNames-computed = refl
 
-manyNames-computed : answersOf manyNames ≡ wanted manyNames
+manyNames-computed : Computed manyNames
 unfolding opened
 manyNames-computed = refl
 
-missingRules-computed : answersOf missingRules ≡ wanted missingRules
+missingRules-computed : Computed missingRules
 unfolding opened
 missingRules-computed = refl
 
-numbers-computed : answersOf numbers ≡ wanted numbers
+numbers-computed : Computed numbers
 unfolding opened
 numbers-computed = refl
 
-longestMatch-computed : answersOf longestMatch ≡ wanted longestMatch
+longestMatch-computed : Computed longestMatch
 unfolding opened
 longestMatch-computed = refl
 
-manyBrackets-computed : answersOf manyBrackets ≡ wanted manyBrackets
+manyBrackets-computed : Computed manyBrackets
 unfolding opened
 manyBrackets-computed = refl
 
-manyCases-computed : answersOf manyCases ≡ wanted manyCases
+manyCases-computed : Computed manyCases
 unfolding opened
 manyCases-computed = refl
 
-letterCases-computed : answersOf letterCases ≡ wanted letterCases
+letterCases-computed : Computed letterCases
 unfolding opened
 letterCases-computed = refl
 
-pairTexts-computed : answersOf pairTexts ≡ wanted pairTexts
+pairTexts-computed : Computed pairTexts
 unfolding opened
 pairTexts-computed = refl
 
 pub examples-hold : Every (Every Holds) examples
-examples-hold = (
-  hold numberOrder numberOrder-computed,
-  (
-    hold afterChange afterChange-computed,
-    (
-      hold otherTokens otherTokens-computed,
-      (
-        hold longNames longNames-computed,
-        (
-          hold manyNames manyNames-computed,
-          (
-            hold missingRules missingRules-computed,
-            (
-              hold numbers numbers-computed,
-              (
-                hold longestMatch longestMatch-computed,
-                (
-                  hold manyBrackets manyBrackets-computed,
-                  (
-                    hold manyCases manyCases-computed,
-                    (hold letterCases letterCases-computed, (hold pairTexts pairTexts-computed, tt)),
-                  ),
-                ),
-              ),
-            ),
-          ),
-        ),
-      ),
-    ),
-  ),
-)
+examples-hold = all-hold examples (numberOrder-computed, (afterChange-computed, (otherTokens-computed, (longNames-computed, (manyNames-computed, (missingRules-computed, (numbers-computed, (longestMatch-computed, (manyBrackets-computed, (manyCases-computed, (letterCases-computed, (pairTexts-computed, tt))))))))))))
 
-watchTexts-computed : answersOf watchTexts ≡ wanted watchTexts
+watchTexts-computed : Computed watchTexts
 unfolding opened
 watchTexts-computed = refl
 
 pub watch-texts-hold : Every Holds watchTexts
 watch-texts-hold = hold watchTexts watchTexts-computed
 
-wrongTimers-computed : answersOf wrongTimers ≡ wanted wrongTimers
+wrongTimers-computed : Computed wrongTimers
 unfolding opened
 wrongTimers-computed = refl
 
-timerForms-computed : answersOf timerForms ≡ wanted timerForms
+timerForms-computed : Computed timerForms
 unfolding opened
 timerForms-computed = refl
 
-timerRules-computed : answersOf timerRules ≡ wanted timerRules
+timerRules-computed : Computed timerRules
 unfolding opened
 timerRules-computed = refl
 
 pub timer-texts-hold : Every (Every Holds) (wrongTimers ∷ timerForms ∷ timerRules ∷ [])
-timer-texts-hold = (hold wrongTimers wrongTimers-computed, (hold timerForms timerForms-computed, (hold timerRules timerRules-computed, tt)))
+timer-texts-hold = all-hold (wrongTimers ∷ timerForms ∷ timerRules ∷ []) (wrongTimers-computed, (timerForms-computed, (timerRules-computed, tt)))
 
 -- ---- the limit of a text
 

@@ -1,12 +1,13 @@
--- Words of the grammar by their number of bytes. Assumes nothing.
-use mathlib.Core.Path.{_≡_}
-use mathlib.Core.List.{List}
-use mathlib.Core.Bool.{true, false, cond}
+-- Words of the grammar by their number of bytes, and by the table of their kinds. Assumes nothing.
+use mathlib.Core.Path.{_≡_, sym, _∙_}
+use mathlib.Core.List.{List, _∷_}
+use mathlib.Core.Bool.{Bool, true, false, cond}
 use Prim.Native.Nat.{ℕ}
 use native.Mathlib.Omega.{arith}
 use lib.ListN.{length}
-use Rattle.lexer.specs.Bytes.{bytes}
-use Rattle.lexer.specs.Lexer.{sameName, grammarWord}
+use Rattle.lexer.specs.Token.{Kind, otherCase, spellingOf}
+use Rattle.lexer.specs.Bytes.{bytes, sameBytes}
+use Rattle.lexer.specs.Lexer.{sameName, kindIn, grammarWord}
 use Rattle.lexer.proofs.Laws.{choice-itself}
 use Rattle.lexer.proofs.Same.{name-length}
 
@@ -80,3 +81,12 @@ module _ (w : List ℕ) where
       let f = not-4 f4 in
       let g = not-5 f5 in
       rw (g .0, d .0, f, d .1, b .0, g .1, a .0, a .1, g .2, b .1, g .3)
+
+-- ---- by the table: t says whether w is the spelling of its first kind
+
+module _ (k : Kind) (ks : List Kind) (w : List ℕ) {t : Bool} (e : t ≡ sameBytes w (spellingOf k)) where
+  pub kind-here : t ≡ true → kindIn (k ∷ ks) w otherCase ≡ k
+  kind-here f = rw (sym e ∙ f)
+
+  pub kind-later : t ≡ false → kindIn (k ∷ ks) w otherCase ≡ kindIn ks w otherCase
+  kind-later f = rw (sym e ∙ f)
