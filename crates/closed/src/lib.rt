@@ -1,7 +1,6 @@
 // The closed profile: every in-range state scanned with every in-range row.
 use machine::Registers;
 use machine::Stepped;
-use machine::Timing;
 use machine::lists;
 use shapes::Shaped;
 ghost use mathlib.Core.Path.{_≡_};
@@ -77,17 +76,13 @@ fn is_refused(
         → r ≡ isRefused (scannedCode ns (now (code .entry)) (now (state .entry)) (now (row .entry)) .answer)) ⌝ }
 {
     lists::take_row(work, state, row);
-    let timing = Timing {
-        names: low.len(),
-        timers: 0,
-        millis: 0,
-    };
+    let names = low.len();
     let m = Registers {
         held: 0,
         picked: false,
         passing: false,
     };
-    let ran = machine::run(code, low, high, state, work, vals, timing, 0, m, code.len());
+    let ran = machine::run_untimed(code, low, high, state, work, vals, names, 0, m, code.len());
     let last = ran.last;
     match last {
         Stepped::Next(_) => false,

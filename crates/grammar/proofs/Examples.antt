@@ -62,16 +62,9 @@ abbrev wanted : List Example → List (Answer (Unit {0}))
 wanted [] = []
 wanted (e ∷ es) = e .answer ∷ wanted es
 
-abbrev Computed : List Example → Type 0
-Computed es = answersOf es ≡ wanted es
-
-hold : (es : List Example) → Computed es → Every Holds es
+hold : (es : List Example) → answersOf es ≡ wanted es → Every Holds es
 hold [] h = tt
 hold (e ∷ es) h = (heads h, hold es (tails h))
-
-all-hold : (ess : List (List Example)) → Every Computed ess → Every (Every Holds) ess
-all-hold [] h = tt
-all-hold (es ∷ ess) h = (hold es (h .0), all-hold ess (h .1))
 
 -- ---- the table of answers
 
@@ -80,78 +73,108 @@ opened : Unit {0}
 unfolding isSpace isDigit isLetter isAlphanumeric runOn runEnd capital capitals sameName sameBytes grammarWord exactWord wordOf overLong pairOf signOf readOf signAt wordAt digitsAt previousAt tokenOf tokenPast tokenAt sameSpelling sameToken valueOn valueOf is kindNumber idFrom idOf expected phrase followed rest chain withId currentAt previousIn constantAt primary negative factor productOf sumOf term expression bracket wholeExpression comparisonBy compared comparisonAt opposite inverted atom connect andOf orOf conjunction condition square wholeCondition listed inRange signedDigits boundAt newName startAt declaration declarationsFrom declarations isBinary isWatchable watchedAt limitAt timerDeclaration timersFrom caseAt casesFrom listFrom plainList partFrom kindAt partsFrom firstFound agreeingList functionAt changeAt pairAt formulaAt formulas ruleAt rulesFrom laterAt afterFirst watchAt watchesFrom endAt program parse programOf imageOf number groups zigzag
 opened = tt
 
-numberOrder-computed : Computed numberOrder
+numberOrder-computed : answersOf numberOrder ≡ wanted numberOrder
 unfolding opened
 numberOrder-computed = refl
 
-afterChange-computed : Computed afterChange
+afterChange-computed : answersOf afterChange ≡ wanted afterChange
 unfolding opened
 afterChange-computed = refl
 
-otherTokens-computed : Computed otherTokens
+otherTokens-computed : answersOf otherTokens ≡ wanted otherTokens
 unfolding opened
 otherTokens-computed = refl
 
-longNames-computed : Computed longNames
+longNames-computed : answersOf longNames ≡ wanted longNames
 unfolding opened
 longNames-computed = refl
 
-manyNames-computed : Computed manyNames
+manyNames-computed : answersOf manyNames ≡ wanted manyNames
 unfolding opened
 manyNames-computed = refl
 
-missingRules-computed : Computed missingRules
+missingRules-computed : answersOf missingRules ≡ wanted missingRules
 unfolding opened
 missingRules-computed = refl
 
-numbers-computed : Computed numbers
+numbers-computed : answersOf numbers ≡ wanted numbers
 unfolding opened
 numbers-computed = refl
 
-longestMatch-computed : Computed longestMatch
+longestMatch-computed : answersOf longestMatch ≡ wanted longestMatch
 unfolding opened
 longestMatch-computed = refl
 
-manyBrackets-computed : Computed manyBrackets
+manyBrackets-computed : answersOf manyBrackets ≡ wanted manyBrackets
 unfolding opened
 manyBrackets-computed = refl
 
-manyCases-computed : Computed manyCases
+manyCases-computed : answersOf manyCases ≡ wanted manyCases
 unfolding opened
 manyCases-computed = refl
 
-letterCases-computed : Computed letterCases
+letterCases-computed : answersOf letterCases ≡ wanted letterCases
 unfolding opened
 letterCases-computed = refl
 
-pairTexts-computed : Computed pairTexts
+pairTexts-computed : answersOf pairTexts ≡ wanted pairTexts
 unfolding opened
 pairTexts-computed = refl
 
 pub examples-hold : Every (Every Holds) examples
-examples-hold = all-hold examples (numberOrder-computed, (afterChange-computed, (otherTokens-computed, (longNames-computed, (manyNames-computed, (missingRules-computed, (numbers-computed, (longestMatch-computed, (manyBrackets-computed, (manyCases-computed, (letterCases-computed, (pairTexts-computed, tt))))))))))))
+examples-hold = (
+  hold numberOrder numberOrder-computed,
+  (
+    hold afterChange afterChange-computed,
+    (
+      hold otherTokens otherTokens-computed,
+      (
+        hold longNames longNames-computed,
+        (
+          hold manyNames manyNames-computed,
+          (
+            hold missingRules missingRules-computed,
+            (
+              hold numbers numbers-computed,
+              (
+                hold longestMatch longestMatch-computed,
+                (
+                  hold manyBrackets manyBrackets-computed,
+                  (
+                    hold manyCases manyCases-computed,
+                    (hold letterCases letterCases-computed, (hold pairTexts pairTexts-computed, tt)),
+                  ),
+                ),
+              ),
+            ),
+          ),
+        ),
+      ),
+    ),
+  ),
+)
 
-watchTexts-computed : Computed watchTexts
+watchTexts-computed : answersOf watchTexts ≡ wanted watchTexts
 unfolding opened
 watchTexts-computed = refl
 
 pub watch-texts-hold : Every Holds watchTexts
 watch-texts-hold = hold watchTexts watchTexts-computed
 
-wrongTimers-computed : Computed wrongTimers
+wrongTimers-computed : answersOf wrongTimers ≡ wanted wrongTimers
 unfolding opened
 wrongTimers-computed = refl
 
-timerForms-computed : Computed timerForms
+timerForms-computed : answersOf timerForms ≡ wanted timerForms
 unfolding opened
 timerForms-computed = refl
 
-timerRules-computed : Computed timerRules
+timerRules-computed : answersOf timerRules ≡ wanted timerRules
 unfolding opened
 timerRules-computed = refl
 
 pub timer-texts-hold : Every (Every Holds) (wrongTimers ∷ timerForms ∷ timerRules ∷ [])
-timer-texts-hold = all-hold (wrongTimers ∷ timerForms ∷ timerRules ∷ []) (wrongTimers-computed, (timerForms-computed, (timerRules-computed, tt)))
+timer-texts-hold = (hold wrongTimers wrongTimers-computed, (hold timerForms timerForms-computed, (hold timerRules timerRules-computed, tt)))
 
 -- ---- the limit of a text
 

@@ -1,29 +1,24 @@
 -- A run from what stands in the memory. Assumes nothing.
-use Prim.Native.Nat.{ℕ, _+_, _-_, _≤_, _<_}
+use Prim.Native.Nat.{ℕ, _+_, _≤_}
 use native.Mathlib.Omega.{arith}
 use mathlib.Core.Path.{_≡_, refl, sym, ap, subst, _∙_}
-use mathlib.Core.Bool.{Bool, true, false}
 use mathlib.Core.List.{List, [], _∷_}
-use borrow.Author.Tests.{ltb-true, ltb-false}
-use lib.Dec.{ltb}
 use lib.IntN.{ℤ}
 use lib.ListN.{length, length-take, length-drop}
 use Rattle.resumable.specs.Inner.Room.{RoomToRun, Short}
 use Rattle.limits.specs.Limits.{imageLimit, stackLimit}
 use Rattle.semantics.specs.Shape.{Setting}
 use Rattle.semantics.specs.ReferenceScan.{withInputs}
-use Rattle.arith.specs.Values.{ok}
 use Rattle.arith.proofs.Flags.{length-flags}
-use Rattle.machine.specs.Runs.{Ran, ran, run}
+use Rattle.machine.specs.Runs.{Ran, run}
 use Rattle.machine.specs.Inner.Memory.{machineOf, stepOutcome, ranOf, RangesIn, TimingIn, NamedIn, Few}
-use Rattle.machine.specs.Inner.Dispatch.{RestsAt, RanTo}
-use Rattle.machine.specs.declared.Registers.{Registers}
-use Rattle.machine.proofs.Laws.{run-end}
+use Rattle.machine.specs.Inner.Dispatch.{RanTo}
 use Rattle.machine.specs.declared.Executed.{Executed}
 use Rattle.machine.specs.declared.Timing.{Timing}
 use Rattle.machine.specs.declared.Stepped.{Stepped}
 use Rattle.machine.specs.declared.Stepped.the-variants.{Next, Refused}
 use Rattle.machine.proofs.Stack.{length-held}
+use Rattle.machine.proofs.Untimed.{whole-run}
 use Rattle.runs.proofs.Divided.{run-place}
 use Rattle.runs.proofs.Sizes.{Sized, SizedIn, run-sized}
 use Rattle.paused.specs.declared.Response.the-variants as R
@@ -63,31 +58,6 @@ module _ {memory cur vals : List ℤ} {p : Checkpoint} (f : Layout) (y : RoomToR
       let z₁ : vals₁ ≡ slice heldPlace stackLimit memory = z ∙ over-all (slice heldPlace stackLimit memory) vals (h ∙ sym (y .room)) in
       let r = ranges-between (slice lowPlace (f .size) memory) (slice highPlace (f .size) memory) (length-list lowPlace (omega arith) ∙ sym (length-list highPlace (omega arith))) in
       e (settingIn f memory) (rw (qa, qb) r) (record { flags = refl; time = refl }) ∙ rw (qc, x₁, z₁)
-
--- a run in a state without elapsed times is whole
-module _ {code : List ℕ} {settings : Setting → Type 0} {prev vals cur : List ℤ} {names from budget : ℕ} {m : Registers} {r : Executed} {vs cs : List ℤ}
-    (t : RanTo code settings prev vals cur names from budget m r vs cs) (h : length prev ≤ names) (ns : Setting) (q : settings ns) where
-  from-zero : 0 + r .steps ≡ r .steps
-  from-zero = omega arith
-
-  inside : (k : Registers) → r .last ≡ Next k → r .steps < budget → (b : Bool) → ltb (r .place) (length code) ≡ b
-      → run ns prev code (budget - r .steps) (r .place) (r .steps) (machineOf k vs cs) ≡ ran (r .steps) (r .place) (ok (machineOf k vs cs))
-  inside k e less true i =
-      let w = subst (λ x. RestsAt code prev names (budget - r .steps) (r .place) x) e (t .rests) (omega arith) (ltb-true (r .place) (length code) i) in
-      let b : ⊥ = omega (arith, w .2) in absurd b
-  inside k e less false i = run-end ns prev code (budget - r .steps) (r .place) (r .steps) (machineOf k vs cs) (ltb-false (r .place) (length code) i)
-
-  left-over : (k : Registers) → r .last ≡ Next k → (b : Bool) → ltb (r .steps) budget ≡ b
-      → run ns prev code (budget - r .steps) (r .place) (r .steps) (machineOf k vs cs) ≡ ran (r .steps) (r .place) (ok (machineOf k vs cs))
-  left-over k e true i = inside k e (ltb-true (r .steps) budget i) (ltb (r .place) (length code)) refl
-  left-over k e false i = let z : budget - r .steps ≡ 0 = omega (arith, ltb-false (r .steps) budget i) in rw z
-
-  by-last : (o : Stepped) → r .last ≡ o → ran (r .steps) (r .place) (stepOutcome o vs cs) ≡ run ns prev code budget from 0 (machineOf m vals cur)
-  by-last (Refused k) e = sym (rw (e, from-zero) at (t .goes ns 0 q))
-  by-last (Next k) e = sym (rw (e, from-zero) at (t .goes ns 0 q) ∙ left-over k e (ltb (r .steps) budget) refl)
-
-  pub whole-run : ranOf r vs cs ≡ run ns prev code budget from 0 (machineOf m vals cur)
-  whole-run = by-last (r .last) refl
 
 module _ {memory cur vals : List ℤ} {p : Checkpoint} (f : Layout) (y : RoomToRun memory cur vals p (f .size)) (even : f .size ≡ f .names) where
   pub ran-untimed : (code : List ℕ) (n : ℕ) (r : Executed) (vs cs cur₁ vals₁ : List ℤ) → cur₁ ≡ withInputs cur (slice currentPlace (f .size) memory) → vals₁ ≡ withInputs vals (slice heldPlace stackLimit memory)
