@@ -67,6 +67,27 @@ fusing-begins code low high prev inputs cur vals named l m room =
       few = omega arith;
     }
 
+-- ---- the memory still fits
+
+pub moves-ready : {code : List ℕ} {low high prev cur vals : List ℤ} {b : Progress} → Ready low high prev cur vals b → (vals₁ cur₁ : List ℤ) (k : Progress) → Moves code low high prev b vals cur vals₁ cur₁ k → length vals₁ ≡ length vals → length cur₁ ≡ length cur
+    → Ready low high prev cur₁ vals₁ k
+moves-ready {b = b} r vals₁ cur₁ k m deeper wider =
+    let i = m .instruction in
+    let names : length (flagsOf (k .walk .names) (k .walk .known)) ≡ length (flagsOf (b .walk .names) (b .walk .known)) = advance-small i (knownOf (b .walk)) (knownOf (k .walk)) (omega (arith, length-flags (b .walk .names) (b .walk .known), r .small .few-names)) (m .advanced) .1 in
+    record {
+      small = m .small;
+      sized = sym (length-flags (k .walk .names) (k .walk .known)) ∙ names ∙ length-flags (b .walk .names) (b .walk .known) ∙ r .sized;
+      room = omega (arith, r .room);
+      named = record { highs = r .named .highs; previous = r .named .previous; current = wider ∙ r .named .current };
+      opened = m .opened;
+    }
+
+pub goes-ready : {code : List ℕ} {low high prev : List ℤ} (n : ℕ) (b : Progress) (vals cur : List ℤ) (k : Progress) (vals₁ cur₁ : List ℤ) → Goes code low high prev n b vals cur k vals₁ cur₁ → Ready low high prev cur vals b
+    → length vals₁ ≡ length vals → length cur₁ ≡ length cur → Ready low high prev cur₁ vals₁ k
+goes-ready _ _ _ _ _ _ _ (lastly b vals cur vals₁ cur₁ k m) r deeper wider = moves-ready r vals₁ cur₁ k m deeper wider
+goes-ready _ _ _ _ _ _ _ (first n b vals cur vals₁ cur₁ m vals₂ cur₂ k o deep wide rest) r deeper wider =
+    goes-ready n m vals₁ cur₁ k vals₂ cur₂ rest (moves-ready r vals₁ cur₁ m o deep wide) (deeper ∙ sym deep) (wider ∙ sym wide)
+
 few-held : (p : Bool) (n : ℕ) → n ≤ 40 → cond p 0 n ≤ 40
 few-held true n h = omega arith
 few-held false n h = h
@@ -88,17 +109,10 @@ module _ {code : List ℕ} {low high prev : List ℤ} {inputs : ℕ} {cur₀ val
   fusing-goes vals₁ cur₁ k l m deeper wider =
       let i = m .instruction in
       let behind : b .at < k .at = one-next code (b .at) i (k .at) (m .fetched) .1 in
-      let names : length (flagsOf (k .walk .names) (k .walk .known)) ≡ length (flagsOf (b .walk .names) (b .walk .known)) = advance-small i (knownOf (b .walk)) (knownOf (k .walk)) (omega (arith, length-flags (b .walk .names) (b .walk .known), f .ready .small .few-names)) (m .advanced) .1 in
       let c = one-done code (Settings low high) prev (b .at) (registersOf b) vals cur l (some i) (k .at) (one-fetched code (b .at) i (k .at) (m .fetched)) vals₁ cur₁ (Next (registersOf k)) (few-held (k .passing) (k .walk .held) (m .small .few-held))
       (λ ns q. sym (m .acted ns q)) (dispatchedOf (k .at) (Next (registersOf k))) refl in
       record {
-        ready = record {
-          small = m .small;
-          sized = sym (length-flags (k .walk .names) (k .walk .known)) ∙ names ∙ length-flags (b .walk .names) (b .walk .known) ∙ f .ready .sized;
-          room = omega (arith, f .ready .room);
-          named = record { highs = f .ready .named .highs; previous = f .ready .named .previous; current = wider ∙ f .ready .named .current };
-          opened = m .opened;
-        };
+        ready = moves-ready (f .ready) vals₁ cur₁ k m deeper wider;
         walks = walks-on code 0 _ _ _ _ _ (f .walks) (walks-step code (b .at) _ l (some i) (k .at) (m .fetched) _ (m .advanced) behind);
         going = again (f .going) (omega (arith, f .few)) vals₁ cur₁ (registersOf k) (k .at) 1 (record { few = c .few; some-done = omega arith; no-more = omega (arith, f .few); goes = c .goes }) deeper wider;
         few = omega (arith, f .few);

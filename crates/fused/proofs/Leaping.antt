@@ -42,10 +42,10 @@ use Rattle.fused.proofs.Joining.{arrives}
 
 module _ (w : Walk) (i : ℕ) (l : i < w .names) where
   module _ (ns : Setting) (s t : State) (c : Bool) (vs : List ℤ) (e : length (ns .ranges) ≡ w .names) where
-    previous-loaded : perform ns s (previous i) c vs t ≡ push (valueAt s i) c vs t
+    pub previous-loaded : perform ns s (previous i) c vs t ≡ push (valueAt s i) c vs t
     previous-loaded = rw (e, lt-ltb i (w .names) l)
 
-    current-loaded : perform ns s (current i) c vs t ≡ push (valueAt t i) c vs t
+    pub current-loaded : perform ns s (current i) c vs t ≡ push (valueAt t i) c vs t
     current-loaded = rw (e, lt-ltb i (w .names) l)
 
 module _ (code : List ℕ) (prev cur : List ℤ) (at : ℕ) (w : Walk) (small : Small w) (found : Bool) (l : at + 4 < length code) (one : getD code (at + 2) 0 ≡ 1)

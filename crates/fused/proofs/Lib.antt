@@ -3,3 +3,4 @@ pub mod Passing
 pub mod Skipping
 pub mod Fusing
 pub mod Leaping
+pub mod Acting

@@ -2,6 +2,7 @@
 // up to the pick. Anything else, and whatever would break soundness or be refused, goes one instruction at a time.
 use crate::Moved;
 use crate::Progress;
+use crate::act;
 use checker::advance;
 use checker::advance::Walk;
 use machine::values;
@@ -33,7 +34,7 @@ fn wide(x: u8) -> u64
 }
 
 // A current or previous value, a constant and a comparison, with operands of one byte, that the walk lets pass.
-fn comparison_ahead(code: &[u8], prev: &[i32], cur: &[i32], at: usize, w: Walk) -> Seen
+pub fn comparison_ahead(code: &[u8], prev: &[i32], cur: &[i32], at: usize, w: Walk) -> Seen
     requires { ⌜ Small w × (at < length (now code)) × (w .names ≤ length (now prev)) × (w .names ≤ length (now cur)) ⌝ }
     ensures { λ r. ⌜ SeenBy (now (code .entry)) (now (prev .entry)) (now (cur .entry)) at w r ⌝ }
 {
@@ -207,7 +208,7 @@ fn single(m: Moved) -> Leap
     }
 }
 
-// The instructions at hand, where none are passed over: those that stand ahead together, else one.
+// One instruction, where none are passed over. Most gates are on a no and tested first.
 pub fn advance_ahead(
     code: &[u8],
     low: &[i32],
@@ -221,23 +222,8 @@ pub fn advance_ahead(
     requires { ⌜ (b .at < length (now code)) × (b .passing ≡ false) ⌝ }
     ensures { λ r. ⌜ LeapsBy (now (code .entry)) (now (low .entry)) (now (high .entry)) (now (prev .entry)) b (now (vals .entry)) (now (cur .entry)) (now (vals .exit)) (now (cur .exit)) r ⌝ }
 {
-    let at = b.at;
-    let w = b.walk;
-    let Seen::Truth(t) = comparison_ahead(code, prev, cur, at, w) else {
-        return single(crate::advance_one(code, low, high, prev, cur, vals, b));
-    };
-    let h = w.held as usize;
-    vals[h] = values::bit_of(t);
-    let mut k = w;
-    k.held = w.held + 1;
-    k.sorts = w.sorts * 2 + 1;
-    Leap::On(
-        Progress {
-            walk: k,
-            at: at + 5,
-            picked: b.picked,
-            passing: false,
-        },
-        3,
-    )
+    if act::shuts(code, vals, b) {
+        return Leap::On(act::shut(b), 1);
+    }
+    single(crate::advance_one(code, low, high, prev, cur, vals, b))
 }

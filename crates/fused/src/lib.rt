@@ -20,6 +20,7 @@ ghost use Rattle.checker.specs.Inner.Walk.{openOf, Small};
 ghost use Rattle.machine.specs.Inner.Memory.{OneEach};
 ghost use Rattle.fused.specs.Inner.Passes.{PassesBy, Ready, MovesBy, RefusedBy, BrokenBy, RunBy};
 
+pub mod act;
 pub mod ahead;
 pub mod moves;
 
@@ -335,6 +336,12 @@ fn run_in(
         }
         while b.at < code.len() {
             if b.passing {
+                break;
+            }
+            let s = act::act(code, low, high, prev, cur, vals, b);
+            b = s.progress;
+            steps += s.steps;
+            if code.len() <= b.at {
                 break;
             }
             let m = ahead::advance_ahead(code, low, high, prev, cur, vals, b);

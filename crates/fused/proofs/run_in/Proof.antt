@@ -10,6 +10,7 @@ use lib.IntN.{ℤ}
 use lib.ListN.{length}
 use Rattle.fused.specs.Inner.Leaps.{LeapsFirst}
 use Rattle.fused.proofs.Fusing.{Fusing, leapt, leapt-refused, leapt-broken, fusing-first, first-far, fusing-begins, fusing-broken, fusing-stops, fusing-ends, fusing-misses, goes-far, fusing-leaps}
+use Rattle.fused.proofs.Acting.{fusing-stretches, stretch-far, stretch-inside}
 use Rattle.fused.proofs.run_in.Statement.{statement}
 use Rattle.fused.proofs.run_in.Tie as tie
 
@@ -70,73 +71,88 @@ code-less-2 c =
 code-again-2 : tie.Need-code-again-2 Inv-loop μ-loop Inv-code μ-code
 code-again-2 c = c .before .before .before .loop .inv .2 _ _ (fusing-first (c .before .before .before .before .before .before .before .before .before .before .code .inv) (c .before .before .before .before .before .before .before .pass-first .result) _ _ (c .before .before .before .before .before .before .before .pass-first .ensures) (c .before .before .before .before .before .k .given .1))
 
--- a turn of the inner loop
-advance-ahead-requires : tie.Need-advance-ahead-requires Inv-loop μ-loop Inv-code μ-code
-advance-ahead-requires c κs = (c .before .before .before .before .before .loop .inv .2 _ _ (fusing-first (c .before .before .before .before .before .before .before .before .before .before .before .before .code .inv) (c .before .before .before .before .before .before .before .before .before .pass-first .result) _ _ (c .before .before .before .before .before .before .before .before .before .pass-first .ensures) (c .before .before .before .before .before .before .before .k .given .1)) .ready, (c .before .before .before .if2 .taken, c .before .before .if3 .left))
+-- what is done together
+act-requires : tie.Need-act-requires Inv-loop μ-loop Inv-code μ-code
+act-requires c κs = ((c .before .before .before .before .before .loop .inv .2 _ _ (fusing-first (c .before .before .before .before .before .before .before .before .before .before .before .before .code .inv) (c .before .before .before .before .before .before .before .before .before .pass-first .result) _ _ (c .before .before .before .before .before .before .before .before .before .pass-first .ensures) (c .before .before .before .before .before .before .before .k .given .1))) .ready, c .before .before .if3 .left)
 
 add-steps-2 : tie.Need-add-steps-2 Inv-loop μ-loop Inv-code μ-code
 add-steps-2 c =
-    let inv = c .before .before .before .before .before .before .before .before .before .before .before .loop .inv .2 _ _ (fusing-first (c .before .before .before .before .before .before .before .before .before .before .before .before .before .before .before .before .before .before .code .inv) (c .before .before .before .before .before .before .before .before .before .before .before .before .before .before .before .pass-first .result) _ _ (c .before .before .before .before .before .before .before .before .before .before .before .before .before .before .before .pass-first .ensures) (c .before .before .before .before .before .before .before .before .before .before .before .before .before .k .given .1)) in
+    let inside = stretch-inside (c .before .before .before .act .ensures) (omega (arith, c .before .before .before .before .before .before .before .if2 .taken)) in
+    omega (arith, (c .before .before .before .before .before .before .before .before .before .loop .inv .2 _ _ (fusing-first (c .before .before .before .before .before .before .before .before .before .before .before .before .before .before .before .before .code .inv) (c .before .before .before .before .before .before .before .before .before .before .before .before .before .pass-first .result) _ _ (c .before .before .before .before .before .before .before .before .before .before .before .before .before .pass-first .ensures) (c .before .before .before .before .before .before .before .before .before .before .before .k .given .1))) .few, stretch-far (c .before .before .before .act .ensures), inside, c .before .before .before .before .before .before .before .before .before .before .before .before .before .before .before .before .before .before .before .good .0)
+
+code-less-3 : tie.Need-code-less-3 Inv-loop μ-loop Inv-code μ-code
+code-less-3 c = omega (arith, c .if4 .taken, c .before .before .before .before .before .before .before .before .before .before .before .before .before .before .before .before .if1 .taken)
+
+code-again-3 : tie.Need-code-again-3 Inv-loop μ-loop Inv-code μ-code
+code-again-3 c = fusing-stretches (c .before .before .before .before .before .before .before .before .before .before .before .loop .inv .2 _ _ (fusing-first (c .before .before .before .before .before .before .before .before .before .before .before .before .before .before .before .before .before .before .code .inv) (c .before .before .before .before .before .before .before .before .before .before .before .before .before .before .before .pass-first .result) _ _ (c .before .before .before .before .before .before .before .before .before .before .before .before .before .before .before .pass-first .ensures) (c .before .before .before .before .before .before .before .before .before .before .before .before .before .k .given .1))) (c .before .before .before .before .before .act .ensures)
+
+-- a turn of the inner loop
+advance-ahead-requires : tie.Need-advance-ahead-requires Inv-loop μ-loop Inv-code μ-code
+advance-ahead-requires c κs = ((fusing-stretches (c .before .before .before .before .before .before .before .before .before .before .before .before .before .loop .inv .2 _ _ (fusing-first (c .before .before .before .before .before .before .before .before .before .before .before .before .before .before .before .before .before .before .before .before .code .inv) (c .before .before .before .before .before .before .before .before .before .before .before .before .before .before .before .before .before .pass-first .result) _ _ (c .before .before .before .before .before .before .before .before .before .before .before .before .before .before .before .before .before .pass-first .ensures) (c .before .before .before .before .before .before .before .before .before .before .before .before .before .before .before .k .given .1))) (c .before .before .before .before .before .before .before .act .ensures)) .ready, (c .before .before .if4 .left, c .before .before .before .before .before .before .before .act .ensures .acting))
+
+add-steps-3 : tie.Need-add-steps-3 Inv-loop μ-loop Inv-code μ-code
+add-steps-3 c =
+    let inv = fusing-stretches (c .before .before .before .before .before .before .before .before .before .before .before .before .before .before .before .before .before .before .before .loop .inv .2 _ _ (fusing-first (c .before .before .before .before .before .before .before .before .before .before .before .before .before .before .before .before .before .before .before .before .before .before .before .before .before .before .code .inv) (c .before .before .before .before .before .before .before .before .before .before .before .before .before .before .before .before .before .before .before .before .before .before .before .pass-first .result) _ _ (c .before .before .before .before .before .before .before .before .before .before .before .before .before .before .before .before .before .before .before .before .before .before .before .pass-first .ensures) (c .before .before .before .before .before .before .before .before .before .before .before .before .before .before .before .before .before .before .before .before .before .k .given .1))) (c .before .before .before .before .before .before .before .before .before .before .before .before .before .act .ensures) in
     let far = goes-far _ _ _ _ _ _ _ (leapt inv _ _ (c .before .before .before .before .before .advance-ahead .result) _ _ (c .before .before .before .before .before .advance-ahead .ensures) (c .before .m .given .1)) in
-    omega (arith, inv .few, far .0, far .1, c .before .before .before .before .before .before .before .before .before .before .before .before .before .before .before .before .before .before .before .before .before .good .0)
+    omega (arith, inv .few, far .0, far .1, c .before .before .before .before .before .before .before .before .before .before .before .before .before .before .before .before .before .before .before .before .before .before .before .before .before .before .before .before .before .good .0)
 
 loop-less : tie.Need-loop-less Inv-loop μ-loop Inv-code μ-code
 loop-less c =
-    let far = goes-far _ _ _ _ _ _ _ (leapt (c .before .before .before .before .before .before .before .before .before .before .before .loop .inv .2 _ _ (fusing-first (c .before .before .before .before .before .before .before .before .before .before .before .before .before .before .before .before .before .before .code .inv) (c .before .before .before .before .before .before .before .before .before .before .before .before .before .before .before .pass-first .result) _ _ (c .before .before .before .before .before .before .before .before .before .before .before .before .before .before .before .pass-first .ensures) (c .before .before .before .before .before .before .before .before .before .before .before .before .before .k .given .1))) _ _ (c .before .before .before .before .before .advance-ahead .result) _ _ (c .before .before .before .before .before .advance-ahead .ensures) (c .before .m .given .1)) in
-    omega (arith, far .0, far .2, c .before .before .before .before .before .before .before .before .before .if2 .taken)
+    let far = goes-far _ _ _ _ _ _ _ (leapt (fusing-stretches (c .before .before .before .before .before .before .before .before .before .before .before .before .before .before .before .before .before .before .before .loop .inv .2 _ _ (fusing-first (c .before .before .before .before .before .before .before .before .before .before .before .before .before .before .before .before .before .before .before .before .before .before .before .before .before .before .code .inv) (c .before .before .before .before .before .before .before .before .before .before .before .before .before .before .before .before .before .before .before .before .before .before .before .pass-first .result) _ _ (c .before .before .before .before .before .before .before .before .before .before .before .before .before .before .before .before .before .before .before .before .before .before .before .pass-first .ensures) (c .before .before .before .before .before .before .before .before .before .before .before .before .before .before .before .before .before .before .before .before .before .k .given .1))) (c .before .before .before .before .before .before .before .before .before .before .before .before .before .act .ensures)) _ _ (c .before .before .before .before .before .advance-ahead .result) _ _ (c .before .before .before .before .before .advance-ahead .ensures) (c .before .m .given .1)) in
+    omega (arith, stretch-far (c .before .before .before .before .before .before .before .before .before .before .before .before .before .act .ensures), far .0, far .2, c .before .before .before .before .before .before .before .before .if4 .left)
 
 loop-again : tie.Need-loop-again Inv-loop μ-loop Inv-code μ-code
 loop-again c =
-    let goes = leapt (c .before .before .before .before .before .before .before .before .before .before .before .loop .inv .2 _ _ (fusing-first (c .before .before .before .before .before .before .before .before .before .before .before .before .before .before .before .before .before .before .code .inv) (c .before .before .before .before .before .before .before .before .before .before .before .before .before .before .before .pass-first .result) _ _ (c .before .before .before .before .before .before .before .before .before .before .before .before .before .before .before .pass-first .ensures) (c .before .before .before .before .before .before .before .before .before .before .before .before .before .k .given .1))) _ _ (c .before .before .before .before .before .advance-ahead .result) _ _ (c .before .before .before .before .before .advance-ahead .ensures) (c .before .m .given .1) in
+    let goes = leapt (fusing-stretches (c .before .before .before .before .before .before .before .before .before .before .before .before .before .before .before .before .before .before .before .loop .inv .2 _ _ (fusing-first (c .before .before .before .before .before .before .before .before .before .before .before .before .before .before .before .before .before .before .before .before .before .before .before .before .before .before .code .inv) (c .before .before .before .before .before .before .before .before .before .before .before .before .before .before .before .before .before .before .before .before .before .before .before .pass-first .result) _ _ (c .before .before .before .before .before .before .before .before .before .before .before .before .before .before .before .before .before .before .before .before .before .before .before .pass-first .ensures) (c .before .before .before .before .before .before .before .before .before .before .before .before .before .before .before .before .before .before .before .before .before .k .given .1))) (c .before .before .before .before .before .before .before .before .before .before .before .before .before .act .ensures)) _ _ (c .before .before .before .before .before .advance-ahead .result) _ _ (c .before .before .before .before .before .advance-ahead .ensures) (c .before .m .given .1) in
     let far = goes-far _ _ _ _ _ _ _ goes in
-    (omega (arith, c .before .before .before .before .before .before .before .before .before .before .before .loop .inv .0, far .0), inl (omega (arith, c .before .before .before .before .before .before .before .before .before .before .before .loop .inv .0, far .0, far .2)), λ cur₁ vals₁ f. fusing-leaps _ _ _ _ _ _ _ goes (c .before .before .before .before .before .before .before .before .before .before .before .loop .inv .2 cur₁ vals₁ f) (c .before .before .before .before .before .advance-ahead .kept .1 .1 .1 .1 .1 .0) (c .before .before .before .before .before .advance-ahead .kept .1 .1 .1 .1 .0))
+    (omega (arith, c .before .before .before .before .before .before .before .before .before .before .before .before .before .before .before .before .before .before .before .loop .inv .0, stretch-far (c .before .before .before .before .before .before .before .before .before .before .before .before .before .act .ensures), far .0), inl (omega (arith, c .before .before .before .before .before .before .before .before .before .before .before .before .before .before .before .before .before .before .before .loop .inv .0, stretch-far (c .before .before .before .before .before .before .before .before .before .before .before .before .before .act .ensures), far .0, far .2)), λ cur₁ vals₁ f. fusing-leaps _ _ _ _ _ _ _ goes (fusing-stretches (c .before .before .before .before .before .before .before .before .before .before .before .before .before .before .before .before .before .before .before .loop .inv .2 cur₁ vals₁ f) (c .before .before .before .before .before .before .before .before .before .before .before .before .before .act .ensures)) (c .before .before .before .before .before .advance-ahead .kept .1 .1 .1 .1 .1 .0) (c .before .before .before .before .before .advance-ahead .kept .1 .1 .1 .1 .0))
 
 -- that the machine refuses
 add-refused : tie.Need-add-refused Inv-loop μ-loop Inv-code μ-code
-add-refused c = omega (arith, c .before .before .before .before .before .before .before .before .before .before .before .before .loop .inv .2 _ _ (fusing-first (c .before .before .before .before .before .before .before .before .before .before .before .before .before .before .before .before .before .before .before .code .inv) (c .before .before .before .before .before .before .before .before .before .before .before .before .before .before .before .before .pass-first .result) _ _ (c .before .before .before .before .before .before .before .before .before .before .before .before .before .before .before .before .pass-first .ensures) (c .before .before .before .before .before .before .before .before .before .before .before .before .before .before .k .given .1)) .few, c .before .before .before .before .before .before .before .before .before .before .if2 .taken, c .before .before .before .before .before .before .before .before .before .before .before .before .before .before .before .before .before .before .before .before .before .before .good .0)
+add-refused c = omega (arith, (fusing-stretches (c .before .before .before .before .before .before .before .before .before .before .before .before .before .before .before .before .before .before .before .before .loop .inv .2 _ _ (fusing-first (c .before .before .before .before .before .before .before .before .before .before .before .before .before .before .before .before .before .before .before .before .before .before .before .before .before .before .before .code .inv) (c .before .before .before .before .before .before .before .before .before .before .before .before .before .before .before .before .before .before .before .before .before .before .before .before .pass-first .result) _ _ (c .before .before .before .before .before .before .before .before .before .before .before .before .before .before .before .before .before .before .before .before .before .before .before .before .pass-first .ensures) (c .before .before .before .before .before .before .before .before .before .before .before .before .before .before .before .before .before .before .before .before .before .before .k .given .1))) (c .before .before .before .before .before .before .before .before .before .before .before .before .before .before .act .ensures)) .few, c .before .before .before .before .before .before .before .before .before .if4 .left, c .before .before .before .before .before .before .before .before .before .before .before .before .before .before .before .before .before .before .before .before .before .before .before .before .before .before .before .before .before .before .good .0)
 
 refused-requires : tie.Need-refused-requires Inv-loop μ-loop Inv-code μ-code
-refused-requires c κs = leapt-refused (c .before .before .before .before .before .before .before .before .before .before .before .before .loop .inv .2 _ _ (fusing-first (c .before .before .before .before .before .before .before .before .before .before .before .before .before .before .before .before .before .before .before .code .inv) (c .before .before .before .before .before .before .before .before .before .before .before .before .before .before .before .before .pass-first .result) _ _ (c .before .before .before .before .before .before .before .before .before .before .before .before .before .before .before .before .pass-first .ensures) (c .before .before .before .before .before .before .before .before .before .before .before .before .before .before .k .given .1))) _ _ (c .before .before .before .before .before .before .advance-ahead .result) _ _ (c .before .before .before .before .before .before .advance-ahead .ensures) (c .before .before .m2 .given .1) .small
+refused-requires c κs = leapt-refused (fusing-stretches (c .before .before .before .before .before .before .before .before .before .before .before .before .before .before .before .before .before .before .before .before .loop .inv .2 _ _ (fusing-first (c .before .before .before .before .before .before .before .before .before .before .before .before .before .before .before .before .before .before .before .before .before .before .before .before .before .before .before .code .inv) (c .before .before .before .before .before .before .before .before .before .before .before .before .before .before .before .before .before .before .before .before .before .before .before .before .pass-first .result) _ _ (c .before .before .before .before .before .before .before .before .before .before .before .before .before .before .before .before .before .before .before .before .before .before .before .before .pass-first .ensures) (c .before .before .before .before .before .before .before .before .before .before .before .before .before .before .before .before .before .before .before .before .before .before .k .given .1))) (c .before .before .before .before .before .before .before .before .before .before .before .before .before .before .act .ensures)) _ _ (c .before .before .before .before .before .before .advance-ahead .result) _ _ (c .before .before .before .before .before .before .advance-ahead .ensures) (c .before .before .m2 .given .1) .small
 
 returns-3 : tie.Need-returns-3 Inv-loop μ-loop Inv-code μ-code
 returns-3 c =
-    let inv = c .before .before .before .before .before .before .before .before .before .before .before .before .before .loop .inv .2 _ _ (fusing-first (c .before .before .before .before .before .before .before .before .before .before .before .before .before .before .before .before .before .before .before .before .code .inv) (c .before .before .before .before .before .before .before .before .before .before .before .before .before .before .before .before .before .pass-first .result) _ _ (c .before .before .before .before .before .before .before .before .before .before .before .before .before .before .before .before .before .pass-first .ensures) (c .before .before .before .before .before .before .before .before .before .before .before .before .before .before .before .k .given .1)) in
-    fusing-stops inv _ _ (c .before .before .before .before .before .before .before .before .before .before .before .if2 .taken) (leapt-refused inv _ _ (c .before .before .before .before .before .before .before .advance-ahead .result) _ _ (c .before .before .before .before .before .before .before .advance-ahead .ensures) (c .before .before .before .m2 .given .1)) _ (c .refused .result) (c .refused .ensures)
+    let inv = fusing-stretches (c .before .before .before .before .before .before .before .before .before .before .before .before .before .before .before .before .before .before .before .before .before .loop .inv .2 _ _ (fusing-first (c .before .before .before .before .before .before .before .before .before .before .before .before .before .before .before .before .before .before .before .before .before .before .before .before .before .before .before .before .code .inv) (c .before .before .before .before .before .before .before .before .before .before .before .before .before .before .before .before .before .before .before .before .before .before .before .before .before .pass-first .result) _ _ (c .before .before .before .before .before .before .before .before .before .before .before .before .before .before .before .before .before .before .before .before .before .before .before .before .before .pass-first .ensures) (c .before .before .before .before .before .before .before .before .before .before .before .before .before .before .before .before .before .before .before .before .before .before .before .k .given .1))) (c .before .before .before .before .before .before .before .before .before .before .before .before .before .before .before .act .ensures) in
+    fusing-stops inv _ _ (c .before .before .before .before .before .before .before .before .before .before .if4 .left) (leapt-refused inv _ _ (c .before .before .before .before .before .before .before .advance-ahead .result) _ _ (c .before .before .before .before .before .before .before .advance-ahead .ensures) (c .before .before .before .m2 .given .1)) _ (c .refused .result) (c .refused .ensures)
 
 -- that breaks soundness
 returns-4 : tie.Need-returns-4 Inv-loop μ-loop Inv-code μ-code
 returns-4 c =
-    let inv = c .before .before .before .before .before .before .before .before .before .before .before .loop .inv .2 _ _ (fusing-first (c .before .before .before .before .before .before .before .before .before .before .before .before .before .before .before .before .before .before .code .inv) (c .before .before .before .before .before .before .before .before .before .before .before .before .before .before .before .pass-first .result) _ _ (c .before .before .before .before .before .before .before .before .before .before .before .before .before .before .before .pass-first .ensures) (c .before .before .before .before .before .before .before .before .before .before .before .before .before .k .given .1)) in
-    fusing-broken inv (leapt-broken inv _ _ (c .before .before .before .before .before .advance-ahead .result) (c .before .before .before .before .before .advance-ahead .ensures) (c .before .enum-told2 .given .1)) (omega (arith, c .before .before .before .before .before .before .before .before .before .if2 .taken)) _ (c .broken2 .result) (c .broken2 .ensures)
+    let inv = fusing-stretches (c .before .before .before .before .before .before .before .before .before .before .before .before .before .before .before .before .before .before .before .loop .inv .2 _ _ (fusing-first (c .before .before .before .before .before .before .before .before .before .before .before .before .before .before .before .before .before .before .before .before .before .before .before .before .before .before .code .inv) (c .before .before .before .before .before .before .before .before .before .before .before .before .before .before .before .before .before .before .before .before .before .before .before .pass-first .result) _ _ (c .before .before .before .before .before .before .before .before .before .before .before .before .before .before .before .before .before .before .before .before .before .before .before .pass-first .ensures) (c .before .before .before .before .before .before .before .before .before .before .before .before .before .before .before .before .before .before .before .before .before .k .given .1))) (c .before .before .before .before .before .before .before .before .before .before .before .before .before .act .ensures) in
+    fusing-broken inv (leapt-broken inv _ _ (c .before .before .before .before .before .advance-ahead .result) (c .before .before .before .before .before .advance-ahead .ensures) (c .before .enum-told2 .given .1)) (omega (arith, c .before .before .before .before .before .before .before .before .if4 .left)) _ (c .broken2 .result) (c .broken2 .ensures)
 
 -- the code ends
 complete-requires : tie.Need-complete-requires Inv-loop μ-loop Inv-code μ-code
 complete-requires c κs = c .before .before .before .code .inv .ready .small
 
 returns-5 : tie.Need-returns-5 Inv-loop μ-loop Inv-code μ-code
-returns-5 c = fusing-ends (c .before .before .before .before .before .code .inv) (c .before .before .before .if1 .left) (sym (c .if4 .taken) ∙ c .before .complete .ensures)
+returns-5 c = fusing-ends (c .before .before .before .before .before .code .inv) (c .before .before .before .if1 .left) (sym (c .if5 .taken) ∙ c .before .complete .ensures)
 
 returns-6 : tie.Need-returns-6 Inv-loop μ-loop Inv-code μ-code
-returns-6 c = (fusing-misses (c .before .before .before .before .before .code .inv) (c .before .before .before .if1 .left) (sym (c .if4 .left) ∙ c .before .complete .ensures), omega arith)
+returns-6 c = (fusing-misses (c .before .before .before .before .before .code .inv) (c .before .before .before .if1 .left) (sym (c .if5 .left) ∙ c .before .complete .ensures), omega arith)
 
 -- the slices stay as long as they are
 same-length-5 : tie.Need-same-length-5 Inv-loop μ-loop Inv-code μ-code
-same-length-5 c = let inv = c .before .before .before .before .before .before .before .before .before .before .before .before .before .loop .inv .2 _ _ (fusing-first (c .before .before .before .before .before .before .before .before .before .before .before .before .before .before .before .before .before .before .before .before .code .inv) (c .before .before .before .before .before .before .before .before .before .before .before .before .before .before .before .before .before .pass-first .result) _ _ (c .before .before .before .before .before .before .before .before .before .before .before .before .before .before .before .before .before .pass-first .ensures) (c .before .before .before .before .before .before .before .before .before .before .before .before .before .before .before .k .given .1)) in search (needs, inv .going .wide, inv .going .deep)
+same-length-5 c = let inv = fusing-stretches (c .before .before .before .before .before .before .before .before .before .before .before .before .before .before .before .before .before .before .before .before .before .loop .inv .2 _ _ (fusing-first (c .before .before .before .before .before .before .before .before .before .before .before .before .before .before .before .before .before .before .before .before .before .before .before .before .before .before .before .before .code .inv) (c .before .before .before .before .before .before .before .before .before .before .before .before .before .before .before .before .before .before .before .before .before .before .before .before .before .pass-first .result) _ _ (c .before .before .before .before .before .before .before .before .before .before .before .before .before .before .before .before .before .before .before .before .before .before .before .before .before .pass-first .ensures) (c .before .before .before .before .before .before .before .before .before .before .before .before .before .before .before .before .before .before .before .before .before .before .before .k .given .1))) (c .before .before .before .before .before .before .before .before .before .before .before .before .before .before .before .act .ensures) in search (needs, inv .going .wide, inv .going .deep)
 
 same-length-6 : tie.Need-same-length-6 Inv-loop μ-loop Inv-code μ-code
-same-length-6 c = let inv = c .before .before .before .before .before .before .before .before .before .before .before .before .before .loop .inv .2 _ _ (fusing-first (c .before .before .before .before .before .before .before .before .before .before .before .before .before .before .before .before .before .before .before .before .code .inv) (c .before .before .before .before .before .before .before .before .before .before .before .before .before .before .before .before .before .pass-first .result) _ _ (c .before .before .before .before .before .before .before .before .before .before .before .before .before .before .before .before .before .pass-first .ensures) (c .before .before .before .before .before .before .before .before .before .before .before .before .before .before .before .k .given .1)) in search (needs, inv .going .wide, inv .going .deep)
+same-length-6 c = let inv = fusing-stretches (c .before .before .before .before .before .before .before .before .before .before .before .before .before .before .before .before .before .before .before .before .before .loop .inv .2 _ _ (fusing-first (c .before .before .before .before .before .before .before .before .before .before .before .before .before .before .before .before .before .before .before .before .before .before .before .before .before .before .before .before .code .inv) (c .before .before .before .before .before .before .before .before .before .before .before .before .before .before .before .before .before .before .before .before .before .before .before .before .before .pass-first .result) _ _ (c .before .before .before .before .before .before .before .before .before .before .before .before .before .before .before .before .before .before .before .before .before .before .before .before .before .pass-first .ensures) (c .before .before .before .before .before .before .before .before .before .before .before .before .before .before .before .before .before .before .before .before .before .before .before .k .given .1))) (c .before .before .before .before .before .before .before .before .before .before .before .before .before .before .before .act .ensures) in search (needs, inv .going .wide, inv .going .deep)
 
 same-length-7 : tie.Need-same-length-7 Inv-loop μ-loop Inv-code μ-code
-same-length-7 c = let inv = c .before .before .before .before .before .before .before .before .before .before .before .loop .inv .2 _ _ (fusing-first (c .before .before .before .before .before .before .before .before .before .before .before .before .before .before .before .before .before .before .code .inv) (c .before .before .before .before .before .before .before .before .before .before .before .before .before .before .before .pass-first .result) _ _ (c .before .before .before .before .before .before .before .before .before .before .before .before .before .before .before .pass-first .ensures) (c .before .before .before .before .before .before .before .before .before .before .before .before .before .k .given .1)) in search (needs, inv .going .wide, inv .going .deep)
+same-length-7 c = let inv = fusing-stretches (c .before .before .before .before .before .before .before .before .before .before .before .before .before .before .before .before .before .before .before .loop .inv .2 _ _ (fusing-first (c .before .before .before .before .before .before .before .before .before .before .before .before .before .before .before .before .before .before .before .before .before .before .before .before .before .before .code .inv) (c .before .before .before .before .before .before .before .before .before .before .before .before .before .before .before .before .before .before .before .before .before .before .before .pass-first .result) _ _ (c .before .before .before .before .before .before .before .before .before .before .before .before .before .before .before .before .before .before .before .before .before .before .before .pass-first .ensures) (c .before .before .before .before .before .before .before .before .before .before .before .before .before .before .before .before .before .before .before .before .before .k .given .1))) (c .before .before .before .before .before .before .before .before .before .before .before .before .before .act .ensures) in search (needs, inv .going .wide, inv .going .deep)
 
 same-length-8 : tie.Need-same-length-8 Inv-loop μ-loop Inv-code μ-code
-same-length-8 c = let inv = c .before .before .before .before .before .before .before .before .before .before .before .loop .inv .2 _ _ (fusing-first (c .before .before .before .before .before .before .before .before .before .before .before .before .before .before .before .before .before .before .code .inv) (c .before .before .before .before .before .before .before .before .before .before .before .before .before .before .before .pass-first .result) _ _ (c .before .before .before .before .before .before .before .before .before .before .before .before .before .before .before .pass-first .ensures) (c .before .before .before .before .before .before .before .before .before .before .before .before .before .k .given .1)) in search (needs, inv .going .wide, inv .going .deep)
+same-length-8 c = let inv = fusing-stretches (c .before .before .before .before .before .before .before .before .before .before .before .before .before .before .before .before .before .before .before .loop .inv .2 _ _ (fusing-first (c .before .before .before .before .before .before .before .before .before .before .before .before .before .before .before .before .before .before .before .before .before .before .before .before .before .before .code .inv) (c .before .before .before .before .before .before .before .before .before .before .before .before .before .before .before .before .before .before .before .before .before .before .before .pass-first .result) _ _ (c .before .before .before .before .before .before .before .before .before .before .before .before .before .before .before .before .before .before .before .before .before .before .before .pass-first .ensures) (c .before .before .before .before .before .before .before .before .before .before .before .before .before .before .before .before .before .before .before .before .before .k .given .1))) (c .before .before .before .before .before .before .before .before .before .before .before .before .before .act .ensures) in search (needs, inv .going .wide, inv .going .deep)
 
 pub run-in-spec : {M : Type 1} → statement M
 run-in-spec =
     tie.close
     (tie.spec Inv-loop μ-loop Inv-code μ-code
     initial-requires code-holds pass-first-requires (λ c. search needs) add-steps (λ c. search needs) (λ c. search needs) (λ c. search needs) returns (λ c. search needs) (λ c κs. search needs) (λ c. search needs) (λ c. search needs) returns-2
-    loop-holds code-less code-again code-less-2 code-again-2 advance-ahead-requires (λ c. search needs) add-steps-2 loop-less loop-again
+    loop-holds code-less code-again code-less-2 code-again-2 act-requires add-steps-2 code-less-3 code-again-3 advance-ahead-requires (λ c. search needs) add-steps-3 loop-less loop-again
     (λ c. search needs) add-refused refused-requires same-length-5 same-length-6 returns-3 (λ c. search needs) (λ c κs. search needs) same-length-7 same-length-8 returns-4 complete-requires
     (λ c. search needs) (λ c. search needs) returns-5 (λ c. search needs) (λ c. search needs) returns-6)
