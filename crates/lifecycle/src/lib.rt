@@ -18,7 +18,7 @@ ghost use Rattle.limits.specs.Limits.{imageLimit, nameLimit, stateLimit, wrongL
 ghost use Rattle.limits.specs.Answer.{accepted};
 ghost use Rattle.resumable.specs.Instalment.{afterCall};
 ghost use Rattle.lifecycle.specs.Calls.{sameValues, afterFinish, finishOf, orRefused, beginOf, withRow, postOf};
-ghost use Rattle.lifecycle.specs.Inner.Parts.{finishEnded, keptStart, layoutWith, StartKeepable, Beginning, FullScratch};
+ghost use Rattle.lifecycle.specs.Inner.Parts.{finishEnded, keptStart, layoutWith, StartKeepable, Beginning, FullScratch, RowWaits};
 
 // One more than its length is kept of a row that waits.
 const BEFORE_ROW: usize = paused::ROW - 1;
@@ -162,8 +162,39 @@ fn begin_in(
     low: &mut [i32],
     high: &mut [i32],
     work: &mut [i32],
+    w: usize,
 ) -> Response
     requires { ⌜ FullScratch (now low) (now high) (now work) ⌝ }
+    requires { ⌜ RowWaits (now paused) w ⌝ }
+    ensures { λ r. ⌜ afterCall r (now (paused .exit)) ≡ beginOf (now (image .entry)) (now (state .entry)) (now (paused .entry)) ⌝ }
+    ensures { λ r. ⌜ ResponseWithin imageLimit r ⌝ }
+{
+    let end = BEFORE_ROW + w;
+    let tried = before::before_code(image, state, &paused[paused::ROW..end], low, high, work);
+    put(paused, paused::WAITING, 0);
+    match tried {
+        Before::Refused(number, place) => Response::Refused(number, place, 0),
+        Before::Code(place, timing) => {
+            begin_code(paused, image.len(), place, timing, state, low, high, work)
+        }
+    }
+}
+
+// Unfinished before the last scan is over, idle without a waiting row; then 9, 11, 12, 18, 13.
+// With memory of its own.
+fn begin_row(paused: &mut [i32], image: &[u8], state: &[i32], w: usize) -> Response
+    requires { ⌜ RowWaits (now paused) w ⌝ }
+    ensures { λ r. ⌜ afterCall r (now (paused .exit)) ≡ beginOf (now (image .entry)) (now (state .entry)) (now (paused .entry)) ⌝ }
+    ensures { λ r. ⌜ ResponseWithin imageLimit r ⌝ }
+{
+    let mut low = [0i32; limits::STATE_LIMIT];
+    let mut high = [0i32; limits::STATE_LIMIT];
+    let mut work = [0i32; limits::STATE_LIMIT];
+    begin_in(paused, image, state, &mut low, &mut high, &mut work, w)
+}
+
+// A row is looked for before any memory is cleared.
+pub fn begin(paused: &mut [i32], image: &[u8], state: &[i32]) -> Response
     ensures { λ r. ⌜ afterCall r (now (paused .exit)) ≡ beginOf (now (image .entry)) (now (state .entry)) (now (paused .entry)) ⌝ }
     ensures { λ r. ⌜ ResponseWithin imageLimit r ⌝ }
 {
@@ -179,26 +210,7 @@ fn begin_in(
     if w == 0 {
         return Response::Idle;
     }
-    let end = BEFORE_ROW + w;
-    let tried = before::before_code(image, state, &paused[paused::ROW..end], low, high, work);
-    put(paused, paused::WAITING, 0);
-    match tried {
-        Before::Refused(number, place) => Response::Refused(number, place, 0),
-        Before::Code(place, timing) => {
-            begin_code(paused, image.len(), place, timing, state, low, high, work)
-        }
-    }
-}
-
-// Unfinished before the last scan is over, idle without a waiting row; then 9, 11, 12, 18, 13.
-pub fn begin(paused: &mut [i32], image: &[u8], state: &[i32]) -> Response
-    ensures { λ r. ⌜ afterCall r (now (paused .exit)) ≡ beginOf (now (image .entry)) (now (state .entry)) (now (paused .entry)) ⌝ }
-    ensures { λ r. ⌜ ResponseWithin imageLimit r ⌝ }
-{
-    let mut low = [0i32; limits::STATE_LIMIT];
-    let mut high = [0i32; limits::STATE_LIMIT];
-    let mut work = [0i32; limits::STATE_LIMIT];
-    begin_in(paused, image, state, &mut low, &mut high, &mut work)
+    begin_row(paused, image, state, w)
 }
 
 // The numbers of a row: the milliseconds too, where states have elapsed times.

@@ -12,7 +12,7 @@ use Rattle.semantics.specs.Formula.{State}
 use Rattle.paused.specs.declared.Layout.{Layout}
 use Rattle.paused.specs.declared.Response.the-variants as R
 use Rattle.machine.specs.declared.Timing.{Timing}
-use Rattle.paused.specs.Memory.{startPlace, currentPlace, lowPlace, highPlace, slice, withLayout, checkpointCells}
+use Rattle.paused.specs.Memory.{checkpointOf, waitingLength, startPlace, currentPlace, lowPlace, highPlace, slice, withLayout, checkpointCells}
 use Rattle.lifecycle.specs.Calls.{sameValues, AfterFinish, afterFinish, withoutScan}
 
 -- a finish at the end of the code
@@ -61,3 +61,10 @@ pub record FullScratch (low high work : List ℤ) : Type 0 where
   pub lows : length low ≡ stateLimit
   pub highs : length high ≡ stateLimit
   pub copies : length work ≡ stateLimit
+
+-- no scan is there, and a row waits
+pub record RowWaits (cells : List ℤ) (w : ℕ) : Type 0 where
+  pub sized : length cells ≡ pausedLength
+  pub no-scan : checkpointOf cells .phase ≡ 0
+  pub waits : w ≡ waitingLength cells
+  pub some : w ≡ 0 → ⊥

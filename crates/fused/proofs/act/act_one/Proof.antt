@@ -1,5 +1,4 @@
 -- `fused::act::act_one` meets its contract: each arm is the instruction of its code byte. Assumes nothing.
-use Prim.Native.Nat.{_+_}
 use native.Mathlib.Omega.{arith}
 use mathlib.Core.Path.{refl, sym, ap, _∙_}
 use lib.IntN.{pos}
