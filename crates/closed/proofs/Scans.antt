@@ -25,13 +25,12 @@ use Rattle.machine.specs.declared.Registers.{Registers}
 use Rattle.machine.specs.declared.Timing.{Timing}
 use Rattle.machine.specs.declared.Executed.{Executed}
 use Rattle.machine.specs.declared.Stepped.the-variants.{Next, Refused}
-use Rattle.machine.specs.Runs.{run}
-use Rattle.machine.specs.Inner.Memory.{machineOf, ranOf, RangesIn, TimingIn}
+use Rattle.machine.specs.Inner.Memory.{ranOf, RangesIn, TimingIn}
 use Rattle.machine.proofs.Ranges.{Within}
 use Rattle.before.specs.Before.{beforeCode}
 use Rattle.scan.specs.Services.{AfterScan, scanCode, scanOf}
-use Rattle.scan.specs.Inner.Parts.{plainSetting, scannedOver, scannedCode, scannedBy}
-use Rattle.scan.proofs.Scanning.{first as begun, code-done, code-refused}
+use Rattle.scan.specs.Inner.Parts.{plainSetting, ranOver, scannedOver, scannedCode, scannedBy}
+use Rattle.scan.proofs.Scanning.{code-done, code-refused}
 use Rattle.scan.proofs.Scans.{scan-is}
 use Rattle.scan.proofs.Images.{plain-passes, setting-untimed}
 use Rattle.closed.specs.Closed.{productOfSizes, inputRanges, isSmall, combinations, Combination, combinationsOf, walked, scanning, AfterClosed, leaves, closedBy, partOf, partAs, partIn}
@@ -122,16 +121,16 @@ module _ (image : List ℕ) (sound : checkOf image ≡ accepted tt) (untimed : h
 
 -- ---- one scan, on a copy of the state that holds the row
 
-module _ (ns : List Range) (code : List ℕ) (low high found w vals vs ws : List ℤ) (row : List ℤ) (timing : Timing) (x : Executed) (r : RangesIn ns low high) (k : TimingIn (plainSetting ns) timing)
-    (went : (ns : Setting) → RangesIn (ns .ranges) low high → TimingIn ns timing → ranOf x vs ws ≡ run ns found code (length code) 0 0 (machineOf begun vals w)) (over : w ≡ withInputs found row) where
+module _ (ns : List Range) (code : List ℕ) (low high found w vs ws : List ℤ) (row : List ℤ) (timing : Timing) (x : Executed) (r : RangesIn ns low high) (k : TimingIn (plainSetting ns) timing)
+    (went : (ns : Setting) → RangesIn (ns .ranges) low high → TimingIn ns timing → ranOf x vs ws ≡ ranOver ns code found w) (over : w ≡ withInputs found row) where
   of-row : (a : Answer (Unit {0})) → a ≡ scannedOver (plainSetting ns) code found w .answer → isRefused a ≡ isRefused (scannedCode ns code found row .answer)
   of-row a e = ap isRefused (e ∙ ap (λ (s : State). scannedOver (plainSetting ns) code found s .answer) over)
 
   pub scan-passes : (t : Registers) → length ws ≡ length found → x .last ≡ Next t → false ≡ isRefused (scannedCode ns code found row .answer)
-  scan-passes t l e = of-row (accepted tt) (ap (λ (s : AfterScan). s .answer) (code-done code low high found w vals vs ws timing x went t (withInputs found ws) e l refl (plainSetting ns) r k))
+  scan-passes t l e = of-row (accepted tt) (ap (λ (s : AfterScan). s .answer) (code-done code low high found w vs ws timing x went t (withInputs found ws) e l refl (plainSetting ns) r k))
 
   pub scan-stops : (number : ℕ) → x .last ≡ Refused number → true ≡ isRefused (scannedCode ns code found row .answer)
-  scan-stops number e = of-row (refused number 0) (ap (λ (s : AfterScan). s .answer) (code-refused code low high found w vals vs ws timing x went number e (plainSetting ns) r k))
+  scan-stops number e = of-row (refused number 0) (ap (λ (s : AfterScan). s .answer) (code-refused code low high found w vs ws timing x went number e (plainSetting ns) r k))
 
 -- ---- the walk by the code is the walk by the scans
 

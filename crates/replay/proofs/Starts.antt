@@ -8,15 +8,16 @@ use lib.Dec.{eqb}
 use lib.IntN.{ℤ}
 use lib.ListN.{length, take}
 use borrow.Author.Tests.{eqb-true}
+use Rattle.limits.specs.Limits.{stackLimit}
 use Rattle.limits.specs.Answer.{Answer, accepted, refused}
 use Rattle.semantics.specs.Formula.{State}
 use Rattle.bytecode.specs.Check.{checkOf}
 use Rattle.bytecode.specs.Parts.{shapeIn}
 use Rattle.shapes.specs.declared.Measured.{Measured}
 use Rattle.shapes.specs.Results.{Measures}
-use Rattle.semantics.specs.Shape.{cells, stateLength, startingState}
+use Rattle.semantics.specs.Shape.{stateLength, startingState}
 use Rattle.scan.specs.Services.{AfterStart, started, startOf}
-use Rattle.before.proofs.Stored.{ranges-stored}
+use Rattle.scan.proofs.Scans.{known-image}
 use Rattle.replay.specs.Inner.Records.{KnownBy}
 
 -- a start is accepted for a sound image and a state of one length only
@@ -37,35 +38,17 @@ module _ (image : List ℕ) (s : State) where
 
 -- ---- what the rows need
 
-pub known-kept : {image : List ℕ} {m : Measured} {low high work₀ state₀ : List ℤ} → KnownBy image m low high work₀ state₀ → (work state : List ℤ) → length work ≡ length work₀ → length state ≡ length state₀
-    → KnownBy image m low high work state
-known-kept x work state a b =
+pub known-kept : {image : List ℕ} {m : Measured} {low high work₀ vals₀ state₀ : List ℤ} → KnownBy image m low high work₀ vals₀ state₀ → (work vals state : List ℤ) → length work ≡ length work₀ → length vals ≡ length vals₀
+    → length state ≡ length state₀ → KnownBy image m low high work vals state
+known-kept x work vals state a v b =
     let k = x .image-known in
     record {
       image-known = record { sound = k .sound; code = k .code; inside = k .inside; shape = k .shape; numbers = b ∙ k .numbers };
       copies = a ∙ x .copies ∙ sym b;
+      stack = omega (arith, v, x .stack);
     }
 
 -- the shape that was read, at the front of lent memory
-pub known-by : (image : List ℕ) (s work : List ℤ) {low₀ high₀ low high : List ℤ} {m : Measured} → Measures image low₀ high₀ low high m → length s ≡ m .size
-    → m .size ≤ length low₀ → m .size ≤ length high₀ → length work ≡ m .size → KnownBy image m (take (m .size) low) (take (m .size) high) work s
-known-by image s work {m = m} h e l u w =
-    let n : length (cells (shapeIn image)) ≡ m .size = sym (h .size-is) in
-    record {
-      image-known =
-          record {
-            sound = h .sound;
-            code = h .place-is;
-            inside = h .inside;
-            shape =
-                record {
-                  inputs-are = h .inputs-are;
-                  names-are = h .names-are;
-                  among = h .among;
-                  flags = sym (h .timers-are);
-                  ranges = ranges-stored (cells (shapeIn image)) (m .size) _ _ _ _ n l u (h .lower) (h .upper);
-                };
-            numbers = e ∙ h .size-is;
-          };
-      copies = w ∙ sym e;
-    }
+pub known-by : (image : List ℕ) (s work vals : List ℤ) {low₀ high₀ low high : List ℤ} {m : Measured} → Measures image low₀ high₀ low high m → length s ≡ m .size
+    → m .size ≤ length low₀ → m .size ≤ length high₀ → length work ≡ m .size → stackLimit ≤ length vals → KnownBy image m (take (m .size) low) (take (m .size) high) work vals s
+known-by image s work vals h e l u w v = record { image-known = known-image image s h e l u; copies = w ∙ sym e; stack = v }

@@ -8,7 +8,7 @@ ghost use mathlib.Core.Path.{_≡_};
 ghost use mathlib.Core.List.{List};
 ghost use Prim.Native.Nat.{ℕ, _≤_};
 ghost use lib.ListN.{length, set};
-ghost use Rattle.limits.specs.Limits.{stateLimit};
+ghost use Rattle.limits.specs.Limits.{stateLimit, stackLimit};
 ghost use Rattle.scan.specs.Services.{startOf};
 ghost use Rattle.before.specs.Inner.Memory.{Scratch};
 ghost use Rattle.replay.specs.Replay.{rowsOf, replayRows, replayOf};
@@ -54,6 +54,7 @@ fn scan_row(
     low: &[i32],
     high: &[i32],
     work: &mut [i32],
+    vals: &mut [i32],
     state: &mut [i32],
     cells: &[i32],
     lengths: &[usize],
@@ -63,7 +64,7 @@ fn scan_row(
     trace: &mut [i32],
 ) -> Cursor
     requires { ⌜ RecordWithin cursor (now cells) (now lengths) (now trace) ⌝ }
-    requires { ⌜ KnownBy (now image) m (now low) (now high) (now work) (now state) ⌝ }
+    requires { ⌜ KnownBy (now image) m (now low) (now high) (now work) (now vals) (now state) ⌝ }
     ensures { λ r. ⌜ RowScanned (now (image .entry)) (now (cells .entry)) (now (lengths .entry)) cursor r
         (records (now (state .entry)) (now (numbers .entry)) (now (steps .entry)) (now (trace .entry)) (cursor .place))
         (records (now (state .exit)) (now (numbers .exit)) (now (steps .exit)) (now (trace .exit)) (r .place)) ⌝ }
@@ -73,7 +74,7 @@ fn scan_row(
     let place = cursor.place;
     let end = lists::behind(cell, lengths[row], cells.len());
     let next = row + 1;
-    let scanned = scan::scan_known(image, m, state, &cells[cell..end], low, high, work);
+    let scanned = scan::scan_known(image, m, state, &cells[cell..end], low, high, work, vals);
     match scanned {
         Scanned::Done(n) => {
             store_number(numbers, row, 0);
@@ -104,6 +105,7 @@ fn scan_rows(
     low: &[i32],
     high: &[i32],
     work: &mut [i32],
+    vals: &mut [i32],
     state: &mut [i32],
     cells: &[i32],
     lengths: &[usize],
@@ -113,7 +115,7 @@ fn scan_rows(
     trace: &mut [i32],
 ) -> usize
     requires { ⌜ at ≤ length (now trace) ⌝ }
-    requires { ⌜ KnownBy (now image) m (now low) (now high) (now work) (now state) ⌝ }
+    requires { ⌜ KnownBy (now image) m (now low) (now high) (now work) (now vals) (now state) ⌝ }
     ensures { λ r. ⌜ records (now (state .exit)) (now (numbers .exit)) (now (steps .exit)) (now (trace .exit)) r
         ≡ scanRows (now (image .entry)) 0 (rowsOf (now (cells .entry)) (now (lengths .entry)))
         (records (now (state .entry)) (now (numbers .entry)) (now (steps .entry)) (now (trace .entry)) at) ⌝ }
@@ -130,6 +132,7 @@ fn scan_rows(
             low,
             high,
             work,
+            vals,
             state,
             cells,
             lengths,
@@ -154,8 +157,10 @@ fn replay_in(
     low: &mut [i32],
     high: &mut [i32],
     work: &mut [i32],
+    vals: &mut [i32],
 ) -> Replayed
     requires { ⌜ Scratch stateLimit (now state) (now low) (now high) (now work) ⌝ }
+    requires { ⌜ stackLimit ≤ length (now vals) ⌝ }
     ensures { λ r. ⌜ ((buffer : List ℕ) → afterReplay r (lent buffer (now (state .exit)) (now (numbers .exit)) (now (steps .exit)) (now (trace .exit)))
         ≡ replayRows (startOf (now (image .entry)) (now (state .entry))) (length (now (image .entry))) (now (image .entry)) (rowsOf (now (cells .entry)) (now (lengths .entry)))
         (lent buffer (now (state .entry)) (now (numbers .entry)) (now (steps .entry)) (now (trace .entry)))) ⌝ }
@@ -177,6 +182,7 @@ fn replay_in(
                 &low[..size],
                 &high[..size],
                 &mut work[..size],
+                vals,
                 state,
                 cells,
                 lengths,
@@ -208,6 +214,7 @@ fn replay_image(
     let mut low = [0i32; limits::STATE_LIMIT];
     let mut high = [0i32; limits::STATE_LIMIT];
     let mut work = [0i32; limits::STATE_LIMIT];
+    let mut vals = [0i32; limits::STACK_LIMIT];
     replay_in(
         image,
         state,
@@ -219,6 +226,7 @@ fn replay_image(
         &mut low,
         &mut high,
         &mut work,
+        &mut vals,
     )
 }
 

@@ -3,6 +3,7 @@ use before::Before;
 use bytecode::Headed;
 use checker::Surveyed;
 use fused::Ended;
+use machine::Executed;
 use machine::Registers;
 use machine::Stepped;
 use machine::Timing;
@@ -20,11 +21,11 @@ ghost use Rattle.limits.specs.Answer.{accepted};
 ghost use Rattle.semantics.specs.Shape.{hasTimer, allWithin, Setting};
 ghost use Rattle.bytecode.specs.Check.{checkOf};
 ghost use Rattle.bytecode.specs.Parts.{headerOf, limitsOf};
-ghost use Rattle.machine.specs.Inner.Memory.{RangesIn, TimingIn};
+ghost use Rattle.machine.specs.Inner.Memory.{ranOf, RangesIn, TimingIn, OneEach};
 ghost use Rattle.before.specs.Inner.Memory.{FittingMemory, Scratch};
 ghost use Rattle.scan.specs.Services.{startOf, refusedScan, scanOf};
 ghost use Rattle.scan.specs.Results.{afterStart, StartedWithin, afterScan, ScannedWithin};
-ghost use Rattle.scan.specs.Inner.Parts.{scannedOver, KnownHeader, KnownImage, Startable, startedWith};
+ghost use Rattle.scan.specs.Inner.Parts.{ranOver, scannedOver, KnownHeader, KnownImage, Startable, startedWith};
 
 // Done, or the number of a refusal and its place.
 pub enum Started {
@@ -36,6 +37,34 @@ pub enum Started {
 pub enum Scanned {
     Done(usize),
     Refused(u8, usize, usize),
+}
+
+// The whole run of a code; in a state without elapsed times by the loop that works no timers.
+fn run_whole(
+    code: &[u8],
+    low: &[i32],
+    high: &[i32],
+    prev: &[i32],
+    cur: &mut [i32],
+    vals: &mut [i32],
+    timing: Timing,
+) -> Executed
+    requires { ⌜ stackLimit ≤ length (now vals) ⌝ }
+    requires { ⌜ OneEach (now low) (now high) (now prev) (now cur) ⌝ }
+    ensures { λ r. ⌜ ((ns : Setting) → RangesIn (ns .ranges) (now (low .entry)) (now (high .entry)) → TimingIn ns timing
+        → ranOf r (now (vals .exit)) (now (cur .exit)) ≡ ranOver ns (now (code .entry)) (now (prev .entry)) (now (cur .entry))) ⌝ }
+    ensures { λ r. ⌜ r .steps ≤ length (now (code .entry)) ⌝ }
+{
+    let names = timing.names;
+    let m = Registers {
+        held: 0,
+        picked: false,
+        passing: false,
+    };
+    if prev.len() <= names {
+        return machine::run_untimed(code, low, high, prev, cur, vals, names, 0, m, code.len());
+    }
+    machine::run(code, low, high, prev, cur, vals, timing, 0, m, code.len())
 }
 
 // The run of a code over a copy of the state that holds the row's inputs; the state is written once, at success.
@@ -54,12 +83,7 @@ fn run_over(
         → afterScan r (now (state .exit)) ≡ scannedOver ns (now (code .entry)) (now (state .entry)) (now (work .entry))) ⌝ }
     ensures { λ r. ⌜ ScannedWithin (length (now (code .entry))) r ⌝ }
 {
-    let m = Registers {
-        held: 0,
-        picked: false,
-        passing: false,
-    };
-    let ran = machine::run(code, low, high, state, work, vals, timing, 0, m, code.len());
+    let ran = run_whole(code, low, high, state, work, vals, timing);
     let last = ran.last;
     match last {
         Stepped::Next(_) => {
@@ -68,24 +92,6 @@ fn run_over(
         }
         Stepped::Refused(number) => Scanned::Refused(number, 0, ran.steps),
     }
-}
-
-// The same, with a stack of its own for the values held.
-fn run_copy(
-    code: &[u8],
-    state: &mut [i32],
-    low: &[i32],
-    high: &[i32],
-    work: &mut [i32],
-    timing: Timing,
-) -> Scanned
-    requires { ⌜ FittingMemory 0 (now state) (now low) (now high) (now work) ⌝ }
-    ensures { λ r. ⌜ ((ns : Setting) → RangesIn (ns .ranges) (now (low .entry)) (now (high .entry)) → TimingIn ns timing
-        → afterScan r (now (state .exit)) ≡ scannedOver ns (now (code .entry)) (now (state .entry)) (now (work .entry))) ⌝ }
-    ensures { λ r. ⌜ ScannedWithin (length (now (code .entry))) r ⌝ }
-{
-    let mut vals = [0i32; limits::STACK_LIMIT];
-    run_over(code, state, low, high, work, &mut vals, timing)
 }
 
 // The scan of an image known to be sound, whose shape was read, on a state of its length: 12 of the row, 18, 13, then the code.
@@ -97,9 +103,11 @@ pub fn scan_known(
     low: &[i32],
     high: &[i32],
     work: &mut [i32],
+    vals: &mut [i32],
 ) -> Scanned
     requires { ⌜ KnownImage (now image) m (now state) (now low) (now high) ⌝ }
     requires { ⌜ length (now work) ≡ length (now state) ⌝ }
+    requires { ⌜ stackLimit ≤ length (now vals) ⌝ }
     ensures { λ r. ⌜ afterScan r (now (state .exit)) ≡ scanOf (now (image .entry)) (now (state .entry)) (now (row .entry)) ⌝ }
     ensures { λ r. ⌜ ScannedWithin imageLimit r ⌝ }
 {
@@ -107,11 +115,11 @@ pub fn scan_known(
     let tested = before::before_known(m, low, high, state, row, work);
     match tested {
         Before::Refused(number, _) => Scanned::Refused(number, 0, 0),
-        Before::Code(_, timing) => run_copy(&image[place..], state, low, high, work, timing),
+        Before::Code(_, timing) => run_over(&image[place..], state, low, high, work, vals, timing),
     }
 }
 
-// Any scan, the slow way: the tests before the code, then the code.
+// Any scan, the slow way: 9 and 11, 12 of the state, then the scan of an image known to be sound.
 fn scan_begun(
     image: &[u8],
     state: &mut [i32],
@@ -119,23 +127,30 @@ fn scan_begun(
     low: &mut [i32],
     high: &mut [i32],
     work: &mut [i32],
+    vals: &mut [i32],
 ) -> Scanned
     requires { ⌜ Scratch stateLimit (now state) (now low) (now high) (now work) ⌝ }
+    requires { ⌜ stackLimit ≤ length (now vals) ⌝ }
     ensures { λ r. ⌜ afterScan r (now (state .exit)) ≡ scanOf (now (image .entry)) (now (state .entry)) (now (row .entry)) ⌝ }
     ensures { λ r. ⌜ ScannedWithin imageLimit r ⌝ }
 {
-    let begun = before::before_code(image, state, row, low, high, work);
-    match begun {
-        Before::Refused(number, place) => Scanned::Refused(number, place, 0),
-        Before::Code(place, timing) => {
-            let n = state.len();
-            run_copy(
-                &image[place..],
+    let shaped = shapes::shape(image, low, high);
+    match shaped {
+        Shaped::Refused(number, place) => Scanned::Refused(number, place, 0),
+        Shaped::Shape(m) => {
+            let size = m.size;
+            if state.len() != size {
+                return Scanned::Refused(limits::WRONG_LENGTH, 0, 0);
+            }
+            scan_known(
+                image,
+                m,
                 state,
-                &low[..n],
-                &high[..n],
-                &mut work[..n],
-                timing,
+                row,
+                &low[..size],
+                &high[..size],
+                &mut work[..size],
+                vals,
             )
         }
     }
@@ -149,7 +164,8 @@ fn scan_other(image: &[u8], state: &mut [i32], row: &[i32]) -> Scanned
     let mut low = [0i32; limits::STATE_LIMIT];
     let mut high = [0i32; limits::STATE_LIMIT];
     let mut work = [0i32; limits::STATE_LIMIT];
-    scan_begun(image, state, row, &mut low, &mut high, &mut work)
+    let mut vals = [0i32; limits::STACK_LIMIT];
+    scan_begun(image, state, row, &mut low, &mut high, &mut work, &mut vals)
 }
 
 // What the check of the image answers; where it is sound and has no timers, this refusal.

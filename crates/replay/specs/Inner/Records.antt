@@ -5,6 +5,7 @@ use mathlib.Core.List.{List, [], _∷_}
 use lib.IntN.{ℤ}
 use lib.ListN.{length, getD, take, drop, set}
 use lib.Seq.{sets}
+use Rattle.limits.specs.Limits.{stackLimit}
 use Rattle.limits.specs.Answer.{Answer, accepted, refused}
 use Rattle.semantics.specs.Formula.{State}
 use Rattle.scan.specs.Services.{AfterScan, scanOf}
@@ -59,7 +60,8 @@ pub record RowScanned (image : List ℕ) (cells : List ℤ) (lengths : List ℕ)
 
 -- ---- an image whose shape was read
 
--- it is sound, and what was read of it is at hand; as many current values as the state has numbers
-pub record KnownBy (image : List ℕ) (m : Measured) (low high work state : List ℤ) : Type 0 where
+-- it is sound, and what was read of it is at hand; as many current values as the state has numbers, and room for the values held
+pub record KnownBy (image : List ℕ) (m : Measured) (low high work vals state : List ℤ) : Type 0 where
   pub image-known : KnownImage image m state low high
   pub copies : length work ≡ length state
+  pub stack : stackLimit ≤ length vals

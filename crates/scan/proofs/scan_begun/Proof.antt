@@ -1,87 +1,79 @@
--- `scan::scan_begun` meets its contract: the tests before the code, then the code. Assumes nothing.
+-- `scan::scan_begun` meets its contract: the shape, then the scan of an image known to be sound. Assumes nothing.
 use Prim.Native.Nat.{_≤_}
-use mathlib.Core.Path.{_≡_, sym, ap, subst, _∙_}
+use mathlib.Core.Path.{sym, subst, _∙_}
 use native.Mathlib.Omega.{arith}
 use lib.ListN.{length}
 use lib.Seq.{length-take-le}
-use Rattle.limits.specs.Answer.{accepted}
-use Rattle.semantics.specs.Shape.{settingOf}
-use Rattle.bytecode.specs.Parts.{shapeIn}
-use Rattle.checker.proofs.Checking.{rest-of}
-use Rattle.before.specs.Before.{beforeCode}
-use Rattle.before.specs.Inner.Known.{beforeAnswer, Begun, BegunBy}
-use Rattle.scan.proofs.Scans.{tests-refuse, tests-pass, tests-sound, within-image}
+use Rattle.shapes.specs.Results.{ShapedAs, Measures}
+use Rattle.before.proofs.Begins.{before-refused, before-state}
+use Rattle.scan.proofs.Scans.{tests-refuse, known-image}
 use borrow.Author.Needs.{needs}
 use Rattle.scan.proofs.scan_begun.Statement.{statement}
 use Rattle.scan.proofs.scan_begun.Tie as tie
 
-before-code-requires : tie.Need-before-code-requires
-before-code-requires c κs = c .before .before .before .before .before .pre
-
--- what the tests leave
-has : (c : tie.After-known-told2) → Begun (c .before .before .before .before .before .before .before .before .before .before .before .before .args .image .now) (c .before .before .before .before .before .before .before .before .before .before .before .before .args .state .now) (c .before .before .before .before .before .before .before .before .before .before .before .before .args .row .now) (c .before .before .before .before .before .before .before-code .last .1 .1 .1 .0) (c .before .before .before .before .before .before .before-code .last .1 .1 .1 .1 .0) (c .before .before .before .before .before .before .before-code .last .1 .1 .1 .1 .1 .0) (c .before .begun2 .given .0 .0) (c .before .begun2 .given .0 .1 .0)
-has c = subst (BegunBy (c .before .before .before .before .before .before .before .before .before .before .before .before .args .image .now) (c .before .before .before .before .before .before .before .before .before .before .before .before .args .state .now) (c .before .before .before .before .before .before .before .before .before .before .before .before .args .row .now) (c .before .before .before .before .before .before .before-code .last .1 .1 .1 .0) (c .before .before .before .before .before .before .before-code .last .1 .1 .1 .1 .0) (c .before .before .before .before .before .before .before-code .last .1 .1 .1 .1 .1 .0)) (c .before .begun2 .given .1) (c .before .before .before .before .before .before .before-code .ensures .1)
-
-low-room : (c : tie.After-known-told2) → length (c .before .before .before .before .before .before .before .before .before .before .before .before .args .state .now) ≤ length (c .before .before .before .before .before .before .before-code .last .1 .1 .1 .0)
-low-room c = omega (arith, c .before .before .before .before .before .before .before .before .before .before .before .before .pre .lows (has c .few), c .before .before .before .before .before .before .before-code .kept .1 .1 .1 .0)
-
-high-room : (c : tie.After-known-told2) → length (c .before .before .before .before .before .before .before .before .before .before .before .before .args .state .now) ≤ length (c .before .before .before .before .before .before .before-code .last .1 .1 .1 .1 .0)
-high-room c = omega (arith, c .before .before .before .before .before .before .before .before .before .before .before .before .pre .highs (has c .few), c .before .before .before .before .before .before .before-code .kept .1 .1 .1 .1 .0)
-
-work-room : (c : tie.After-known-told2) → length (c .before .before .before .before .before .before .before .before .before .before .before .before .args .state .now) ≤ length (c .before .before .before .before .before .before .before-code .last .1 .1 .1 .1 .1 .0)
-work-room c = omega (arith, c .before .before .before .before .before .before .before .before .before .before .before .before .pre .copies (has c .few), c .before .before .before .before .before .before .before-code .kept .1 .1 .1 .1 .1 .0)
-
-sub-run-copy : tie.Need-sub-run-copy
-sub-run-copy c = has c .inside
-
-part-run-copy-start : tie.Need-part-run-copy-start
-part-run-copy-start c = let h = has c .inside in search needs
-
-slice-reshare-prefix-run-copy : tie.Need-slice-reshare-prefix-run-copy
-slice-reshare-prefix-run-copy c = low-room (c .before .before)
-
-slice-aggregate-run-copy : tie.Need-slice-aggregate-run-copy
-slice-aggregate-run-copy c = sym (length-take-le _ _ (low-room (c .before .before .before)))
-
-slice-reshare-prefix-run-copy-2 : tie.Need-slice-reshare-prefix-run-copy-2
-slice-reshare-prefix-run-copy-2 c = high-room (c .before .before .before)
-
-slice-aggregate-run-copy-2 : tie.Need-slice-aggregate-run-copy-2
-slice-aggregate-run-copy-2 c = sym (length-take-le _ _ (high-room (c .before .before .before .before)))
-
-slice-relend-prefix-run-copy : tie.Need-slice-relend-prefix-run-copy
-slice-relend-prefix-run-copy c = work-room (c .before .before .before .before)
-
-slice-aggregate-run-copy-3 : tie.Need-slice-aggregate-run-copy-3
-slice-aggregate-run-copy-3 c = sym (length-take-le _ _ (work-room (c .before .before .before .before .before)))
-
-run-copy-requires : tie.Need-run-copy-requires
-run-copy-requires c κs =
-    let d = c .before .before .before .before .before in
-    record { among = omega arith; lows = length-take-le _ _ (low-room d); highs = length-take-le _ _ (high-room d); copies = length-take-le _ _ (work-room d) }
+-- the shape that was read
+measured : (c : tie.After-known-told2) → Measures (c .before .before .before .before .before .before .before .before .before .args .image .now) (c .before .before .before .before .before .before .before .before .before .args .low .now) (c .before .before .before .before .before .before .before .before .before .args .high .now) (c .before .before .before .before .before .shape .last .1 .0) (c .before .before .before .before .before .shape .last .1 .1 .0) (c .before .shaped2 .given .0 .0)
+measured c = subst (ShapedAs _ _ _ _ _) (c .before .shaped2 .given .1) (c .before .before .before .before .before .shape .ensures .so)
 
 returns : tie.Need-returns
 returns c =
-    let told = c .before .begun .given in (
-      tests-refuse (c .before .before .before .before .before .before .before .before .before .before .before .before .args .image .now) (c .before .before .before .before .before .before .before .before .before .before .before .before .args .state .now) (c .before .before .before .before .before .before .before .before .before .before .before .before .args .row .now) (told .0 .0) (told .0 .1 .0) (sym (ap beforeAnswer (told .1)) ∙ c .before .before .before .before .before .before .before-code .ensures .0),
-      (subst (BegunBy (c .before .before .before .before .before .before .before .before .before .before .before .before .args .image .now) (c .before .before .before .before .before .before .before .before .before .before .before .before .args .state .now) (c .before .before .before .before .before .before .before .before .before .before .before .before .args .row .now) (c .before .before .before .before .before .before .before-code .last .1 .1 .1 .0) (c .before .before .before .before .before .before .before-code .last .1 .1 .1 .1 .0) (c .before .before .before .before .before .before .before-code .last .1 .1 .1 .1 .1 .0)) (told .1) (c .before .before .before .before .before .before .before-code .ensures .1), omega arith),
-    )
+    let x = measured (c .before) in
+    (tests-refuse (c .before .before .before .before .before .before .before .before .before .before .args .image .now) (c .before .before .before .before .before .before .before .before .before .before .args .state .now) (c .before .before .before .before .before .before .before .before .before .before .args .row .now) 12 0 (before-state (c .before .before .before .before .before .before .before .before .before .before .args .image .now) (c .before .before .before .before .before .before .before .before .before .before .args .state .now) (c .before .before .before .before .before .before .before .before .before .before .args .row .now) (x .sound) (λ e. c .if1 .taken (e ∙ sym (x .size-is)))), (omega arith, omega arith))
+
+-- there is room for as many numbers as the state has
+few : (c : tie.Else1) → length (c .before .before .before .before .before .before .before .before .before .before .args .state .now) ≤ 127
+few c = omega (arith, c .if1 .left, measured (c .before) .size-most)
+
+low-room : (c : tie.Else1) → c .before .before .shaped2 .given .0 .0 .size ≤ length (c .before .before .before .before .before .before .before .before .before .before .args .low .now)
+low-room c = omega (arith, c .if1 .left, c .before .before .before .before .before .before .before .before .before .before .pre .0 .lows (few c))
+
+high-room : (c : tie.Else1) → c .before .before .shaped2 .given .0 .0 .size ≤ length (c .before .before .before .before .before .before .before .before .before .before .args .high .now)
+high-room c = omega (arith, c .if1 .left, c .before .before .before .before .before .before .before .before .before .before .pre .0 .highs (few c))
+
+low-kept : (c : tie.Else1) → c .before .before .shaped2 .given .0 .0 .size ≤ length (c .before .before .before .before .before .before .shape .last .1 .0)
+low-kept c = omega (arith, low-room c, c .before .before .before .before .before .before .shape .kept .1 .0)
+
+high-kept : (c : tie.Else1) → c .before .before .shaped2 .given .0 .0 .size ≤ length (c .before .before .before .before .before .before .shape .last .1 .1 .0)
+high-kept c = omega (arith, high-room c, c .before .before .before .before .before .before .shape .kept .1 .1 .0)
+
+work-room : (c : tie.Else1) → c .before .before .shaped2 .given .0 .0 .size ≤ length (c .before .before .before .before .before .before .before .before .before .before .args .work .now)
+work-room c = omega (arith, c .if1 .left, c .before .before .before .before .before .before .before .before .before .before .pre .0 .copies (few c))
+
+slice-reshare-prefix-scan-known : tie.Need-slice-reshare-prefix-scan-known
+slice-reshare-prefix-scan-known c = low-kept (c .before)
+
+slice-aggregate-scan-known : tie.Need-slice-aggregate-scan-known
+slice-aggregate-scan-known c = sym (length-take-le _ _ (low-kept (c .before .before)))
+
+slice-reshare-prefix-scan-known-2 : tie.Need-slice-reshare-prefix-scan-known-2
+slice-reshare-prefix-scan-known-2 c = high-kept (c .before .before)
+
+slice-aggregate-scan-known-2 : tie.Need-slice-aggregate-scan-known-2
+slice-aggregate-scan-known-2 c = sym (length-take-le _ _ (high-kept (c .before .before .before)))
+
+slice-relend-prefix-scan-known : tie.Need-slice-relend-prefix-scan-known
+slice-relend-prefix-scan-known c = work-room (c .before .before .before)
+
+slice-aggregate-scan-known-3 : tie.Need-slice-aggregate-scan-known-3
+slice-aggregate-scan-known-3 c = sym (length-take-le _ _ (work-room (c .before .before .before .before)))
+
+scan-known-requires : tie.Need-scan-known-requires
+scan-known-requires c κs =
+    let d = c .before .before .before .before .before in
+    (known-image (c .before .before .before .before .before .before .before .before .before .before .before .before .before .before .before .args .image .now) (c .before .before .before .before .before .before .before .before .before .before .before .before .before .before .before .args .state .now) (measured (d .before)) (d .if1 .left) (low-room d) (high-room d), (length-take-le _ _ (work-room d) ∙ sym (d .if1 .left), c .before .before .before .before .before .before .before .before .before .before .before .before .before .before .before .pre .1))
 
 returns-2 : tie.Need-returns-2
 returns-2 c =
-    let image = c .before .before .before .before .before .before .before .before .before .before .before .before .before .before .before .before .before .before .before .before .args .image .now in
-    let state = c .before .before .before .before .before .before .before .before .before .before .before .before .before .before .before .before .before .before .before .before .args .state .now in
-    let row = c .before .before .before .before .before .before .before .before .before .before .before .before .before .before .before .before .before .before .before .before .args .row .now in
-    let place = c .before .before .before .before .before .before .before .before .before .begun2 .given .0 .0 in
-    let x = has (c .before .before .before .before .before .before .before .before) in
-    let passes : accepted tt ≡ beforeCode image state row = sym (ap beforeAnswer (c .before .before .before .before .before .before .before .before .before .begun2 .given .1)) ∙ c .before .before .before .before .before .before .before .before .before .before .before .before .before .before .before-code .ensures .0 in (
-      (rw (rest-of image place) at (c .before .before .run-copy .ensures .0 (settingOf (shapeIn image) row) (record { lows = sym (x .lowest); highs = sym (x .highest) }) (x .timed))) ∙ tests-pass image state row passes place _ (x .code) (x .copied),
-      within-image image place (tests-sound image state row passes) (c .before .before .run-copy .result) (rw (rest-of image place) at (c .before .before .run-copy .ensures .1)),
-    )
+    let b = subst (ShapedAs (c .before .before .before .before .before .before .before .before .before .args .image .now) _ _ _ _) (c .before .shaped .given .1) (c .before .before .before .before .before .shape .ensures .so) in
+    (tests-refuse (c .before .before .before .before .before .before .before .before .before .args .image .now) (c .before .before .before .before .before .before .before .before .before .args .state .now) (c .before .before .before .before .before .before .before .before .before .args .row .now) (c .before .shaped .given .0 .0) (c .before .shaped .given .0 .1 .0) (before-refused (c .before .before .before .before .before .before .before .before .before .args .image .now) (c .before .before .before .before .before .before .before .before .before .args .state .now) (c .before .before .before .before .before .before .before .before .before .args .row .now) (c .before .shaped .given .0 .0) (c .before .shaped .given .0 .1 .0) (sym (b .0))), (b .1, omega arith))
+
+returns-3 : tie.Need-returns-3
+returns-3 c = c .before .before .before .scan-known .ensures
 
 pub scan-begun-spec : {M : Type 1} → statement M
 scan-begun-spec =
     tie.close
-    (tie.spec before-code-requires (λ c. search needs) (λ c. search needs) sub-run-copy part-run-copy-start (λ c. search needs)
-    slice-reshare-prefix-run-copy slice-aggregate-run-copy slice-reshare-prefix-run-copy-2 slice-aggregate-run-copy-2 slice-relend-prefix-run-copy slice-aggregate-run-copy-3
-    run-copy-requires (λ c. search needs) (λ c. search needs) (λ c. search needs) (λ c. search needs) returns (λ c. search needs) (λ c. search needs) (λ c. search needs) (λ c. search needs) returns-2)
+    (tie.spec (λ c κs. search needs) (λ c. search needs) (λ c. search needs) (λ c. search needs) (λ c. search needs) returns
+    slice-reshare-prefix-scan-known slice-aggregate-scan-known slice-reshare-prefix-scan-known-2 slice-aggregate-scan-known-2
+    slice-relend-prefix-scan-known slice-aggregate-scan-known-3 scan-known-requires (λ c. search needs) (λ c. search needs) returns-2
+    (λ c. search needs) (λ c. search needs) (λ c. search needs) (λ c. search needs) (λ c. search needs) returns-3)
