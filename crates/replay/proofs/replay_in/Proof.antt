@@ -15,46 +15,46 @@ use Rattle.replay.proofs.replay_in.Statement.{statement}
 use Rattle.replay.proofs.replay_in.Tie as tie
 
 -- the shape that was read
-measured : (c : tie.After-known-told2) → Measures (@args .image .now) (@args .low .now) (@args .high .now) (@shape .last .1 .0) (@shape .last .1 .1 .0) (@shaped2 .given .0 .0)
-measured c = subst (ShapedAs _ _ _ _ _) (@shaped2 .given .1) (@shape .ensures .so)
+measured : (c : tie.After-known-told2) → Measures (c .before .before .before .before .before .before .before .before .before .before .before .before .args .image .now) (c .before .before .before .before .before .before .before .before .before .before .before .before .args .low .now) (c .before .before .before .before .before .before .before .before .before .before .before .before .args .high .now) (c .before .before .before .before .before .shape .last .1 .0) (c .before .before .before .before .before .shape .last .1 .1 .0) (c .before .shaped2 .given .0 .0)
+measured c = subst (ShapedAs _ _ _ _ _) (c .before .shaped2 .given .1) (c .before .before .before .before .before .shape .ensures .so)
 
 returns : tie.Need-returns
 returns c =
     let x = measured (c .before) in (
-      λ buffer. replay-refused _ _ (rowsOf (@args .cells .now) (@args .lengths .now)) _ _ _ _ _ _ _ _ (start-wrong-length (@args .image .now) (@args .state .now) (x .sound) (λ e. c .if1 .taken (e ∙ sym (x .size-is)))),
+      λ buffer. replay-refused _ _ (rowsOf (c .before .before .before .before .before .before .before .before .before .before .before .before .before .args .cells .now) (c .before .before .before .before .before .before .before .before .before .before .before .before .before .args .lengths .now)) _ _ _ _ _ _ _ _ (start-wrong-length (c .before .before .before .before .before .before .before .before .before .before .before .before .before .args .image .now) (c .before .before .before .before .before .before .before .before .before .before .before .before .before .args .state .now) (x .sound) (λ e. c .if1 .taken (e ∙ sym (x .size-is)))),
       omega arith,
     )
 
 returns-2 : tie.Need-returns-2
 returns-2 c =
-    let b = subst (ShapedAs (@args .image .now) _ _ _ _) (@shaped .given .1) (@shape .ensures .so) in (
-      λ buffer. replay-refused _ _ (rowsOf (@args .cells .now) (@args .lengths .now)) _ _ _ _ _ _ _ _ (start-refused (@args .image .now) (@args .state .now) (@shaped .given .0 .0) (@shaped .given .0 .1 .0) (sym (b .0))),
+    let b = subst (ShapedAs (c .before .before .before .before .before .before .before .before .before .before .before .before .args .image .now) _ _ _ _) (c .before .shaped .given .1) (c .before .before .before .before .before .shape .ensures .so) in (
+      λ buffer. replay-refused _ _ (rowsOf (c .before .before .before .before .before .before .before .before .before .before .before .before .args .cells .now) (c .before .before .before .before .before .before .before .before .before .before .before .before .args .lengths .now)) _ _ _ _ _ _ _ _ (start-refused (c .before .before .before .before .before .before .before .before .before .before .before .before .args .image .now) (c .before .before .before .before .before .before .before .before .before .before .before .before .args .state .now) (c .before .shaped .given .0 .0) (c .before .shaped .given .0 .1 .0) (sym (b .0))),
       b .1,
     )
 
 start-known-requires : tie.Need-start-known-requires
 start-known-requires c κs =
     let x = measured (c .before .before) in
-    record { sound = x .sound; counted = x .names-are; numbers = @if1 .left ∙ x .size-is }
+    record { sound = x .sound; counted = x .names-are; numbers = c .before .if1 .left ∙ x .size-is }
 
 -- there is room for as many numbers as the state has
-few : (c : tie.After-start-known-arg) → length (@args .state .now) ≤ 127
-few c = omega (arith, @if1 .left, measured (c .before .before) .size-most)
+few : (c : tie.After-start-known-arg) → length (c .before .before .before .before .before .before .before .before .before .before .before .before .before .before .args .state .now) ≤ 127
+few c = omega (arith, c .before .if1 .left, measured (c .before .before) .size-most)
 
-low-room : (c : tie.After-start-known-arg) → @shaped2 .given .0 .0 .size ≤ length (@args .low .now)
-low-room c = omega (arith, @if1 .left, @pre .0 .lows (few c))
+low-room : (c : tie.After-start-known-arg) → c .before .before .before .shaped2 .given .0 .0 .size ≤ length (c .before .before .before .before .before .before .before .before .before .before .before .before .before .before .args .low .now)
+low-room c = omega (arith, c .before .if1 .left, c .before .before .before .before .before .before .before .before .before .before .before .before .before .before .pre .0 .lows (few c))
 
-high-room : (c : tie.After-start-known-arg) → @shaped2 .given .0 .0 .size ≤ length (@args .high .now)
-high-room c = omega (arith, @if1 .left, @pre .0 .highs (few c))
+high-room : (c : tie.After-start-known-arg) → c .before .before .before .shaped2 .given .0 .0 .size ≤ length (c .before .before .before .before .before .before .before .before .before .before .before .before .before .before .args .high .now)
+high-room c = omega (arith, c .before .if1 .left, c .before .before .before .before .before .before .before .before .before .before .before .before .before .before .pre .0 .highs (few c))
 
-low-kept : (c : tie.After-start-known-arg) → @shaped2 .given .0 .0 .size ≤ length (@shape .last .1 .0)
-low-kept c = omega (arith, low-room c, @shape .kept .1 .0)
+low-kept : (c : tie.After-start-known-arg) → c .before .before .before .shaped2 .given .0 .0 .size ≤ length (c .before .before .before .before .before .before .before .shape .last .1 .0)
+low-kept c = omega (arith, low-room c, c .before .before .before .before .before .before .before .shape .kept .1 .0)
 
-high-kept : (c : tie.After-start-known-arg) → @shaped2 .given .0 .0 .size ≤ length (@shape .last .1 .1 .0)
-high-kept c = omega (arith, high-room c, @shape .kept .1 .1 .0)
+high-kept : (c : tie.After-start-known-arg) → c .before .before .before .shaped2 .given .0 .0 .size ≤ length (c .before .before .before .before .before .before .before .shape .last .1 .1 .0)
+high-kept c = omega (arith, high-room c, c .before .before .before .before .before .before .before .shape .kept .1 .1 .0)
 
-work-room : (c : tie.After-start-known-arg) → @shaped2 .given .0 .0 .size ≤ length (@args .work .now)
-work-room c = omega (arith, @if1 .left, @pre .0 .copies (few c))
+work-room : (c : tie.After-start-known-arg) → c .before .before .before .shaped2 .given .0 .0 .size ≤ length (c .before .before .before .before .before .before .before .before .before .before .before .before .before .before .args .work .now)
+work-room c = omega (arith, c .before .if1 .left, c .before .before .before .before .before .before .before .before .before .before .before .before .before .before .pre .0 .copies (few c))
 
 slice-reshare-prefix-scan-rows : tie.Need-slice-reshare-prefix-scan-rows
 slice-reshare-prefix-scan-rows c = low-kept (c .before .before .before .before .before .before)
@@ -76,15 +76,15 @@ slice-aggregate-scan-rows-3 c = sym (length-take-le _ _ (work-room (c .before .b
 
 scan-rows-requires : tie.Need-scan-rows-requires
 scan-rows-requires c κs =
-    let k = c .before .before .before .before .before .before .before .before .before .before .before .before .before in (
-      omega (arith, @store .ensures .0, @store .kept .0),
-      known-by (@args .image .now) (@start-known .last .1 .1 .0) _ _ (measured (k .before .before)) (@start-known .kept .1 .1 .0 ∙ @if1 .left) (low-room k) (high-room k) (length-take-le _ _ (work-room k)) (@pre .1),
+    let k = c .before .before .before .before .before .before .before .before .before .before .before .before .before .before in (
+      omega (arith, c .before .before .before .before .before .before .before .before .before .store .ensures .0, c .before .before .before .before .before .before .before .before .before .store .kept .0),
+      known-by (c .before .before .before .before .before .before .before .before .before .before .before .before .before .before .before .before .before .before .before .before .before .before .before .before .before .before .before .before .args .image .now) (c .before .before .before .before .before .before .before .before .before .before .before .before .before .start-known .last .1 .1 .0) _ _ (measured (k .before .before)) (c .before .before .before .before .before .before .before .before .before .before .before .before .before .start-known .kept .1 .1 .0 ∙ c .before .before .before .before .before .before .before .before .before .before .before .before .before .before .before .if1 .left) (low-room k) (high-room k) (length-take-le _ _ (work-room k)) (c .before .before .before .before .before .before .before .before .before .before .before .before .before .before .before .before .before .before .before .before .before .before .before .before .before .before .before .before .pre .1),
     )
 
 returns-3 : tie.Need-returns-3
 returns-3 c = (
-  λ buffer. replay-done _ _ (rowsOf (@args .cells .now) (@args .lengths .now)) _ _ (@args .numbers .now) (@args .steps .now) _ _ _ _ _ _ _ _ _ (@start-known .ensures) (@store .ensures .1) (@store .ensures .0) (@scan-rows .ensures),
-  check-sound (@args .image .now) (measured (c .before .before .before .before .before .before .before .before .before .before .before .before .before .before .before .before .before .before .before .before .before .before .before) .sound) .short,
+  λ buffer. replay-done _ _ (rowsOf (c .before .before .before .before .before .before .before .before .before .before .before .before .before .before .before .before .before .before .before .before .before .before .before .before .before .before .before .before .before .before .before .before .before .before .before .before .before .args .cells .now) (c .before .before .before .before .before .before .before .before .before .before .before .before .before .before .before .before .before .before .before .before .before .before .before .before .before .before .before .before .before .before .before .before .before .before .before .before .before .args .lengths .now)) _ _ (c .before .before .before .before .before .before .before .before .before .before .before .before .before .before .before .before .before .before .before .before .before .before .before .before .before .before .before .before .before .before .before .before .before .before .before .before .before .args .numbers .now) (c .before .before .before .before .before .before .before .before .before .before .before .before .before .before .before .before .before .before .before .before .before .before .before .before .before .before .before .before .before .before .before .before .before .before .before .before .before .args .steps .now) _ _ _ _ _ _ _ _ _ (c .before .before .before .before .before .before .before .before .before .before .before .before .before .before .before .before .before .before .before .before .before .before .start-known .ensures) (c .before .before .before .before .before .before .before .before .before .before .before .before .before .before .before .before .before .before .store .ensures .1) (c .before .before .before .before .before .before .before .before .before .before .before .before .before .before .before .before .before .before .store .ensures .0) (c .before .before .before .before .before .before .before .before .scan-rows .ensures),
+  check-sound (c .before .before .before .before .before .before .before .before .before .before .before .before .before .before .before .before .before .before .before .before .before .before .before .before .before .before .before .before .before .before .before .before .before .before .before .before .before .args .image .now) (measured (c .before .before .before .before .before .before .before .before .before .before .before .before .before .before .before .before .before .before .before .before .before .before .before .before .before) .sound) .short,
 )
 
 pub replay-in-spec : {M : Type 1} → statement M
@@ -93,4 +93,4 @@ replay-in-spec =
     (tie.spec (λ c κs. search needs) (λ c. search needs) (λ c. search needs) (λ c. search needs) (λ c. search needs) returns start-known-requires
     (λ c κs. search needs) slice-reshare-prefix-scan-rows slice-aggregate-scan-rows slice-reshare-prefix-scan-rows-2 slice-aggregate-scan-rows-2
     slice-relend-prefix-scan-rows slice-aggregate-scan-rows-3 scan-rows-requires (λ c. search needs) (λ c. search needs) returns-2 (λ c. search needs)
-    (λ c. search needs) (λ c. search needs) (λ c. search needs) (λ c. search needs) (λ c. search needs) (λ c. search needs) returns-3)
+    (λ c. search needs) (λ c. search needs) (λ c. search needs) (λ c. search needs) (λ c. search needs) (λ c. search needs) (λ c. search needs) returns-3)

@@ -20,27 +20,27 @@ abbrev μ-loop : tie.MeasureT-loop
     length lengths - cursor .row
 
 loop-holds : tie.Need-loop-holds Inv-loop μ-loop
-loop-holds c = (record { inside = omega arith; room = @pre .0; so = refl }, refl, refl, refl, refl, refl, refl)
+loop-holds c = (record { inside = omega arith; room = c .before .before .before .before .pre .0; so = refl }, refl, refl, refl, refl, refl, refl)
 
 scan-row-requires : tie.Need-scan-row-requires Inv-loop μ-loop
 scan-row-requires c κs =
-    let v = @loop .inv in
-    (record { row = @if1 .taken; cell = v .0 .inside; place = v .0 .room }, known-kept (@pre .1) _ _ _ (v .5) (v .6) (v .1))
+    let v = c .before .before .before .before .before .before .before .before .loop .inv in
+    (record { row = c .before .before .before .before .before .before .if1 .taken; cell = v .0 .inside; place = v .0 .room }, known-kept (c .before .before .before .before .before .before .before .before .before .before .before .before .before .pre .1) _ _ _ (v .5) (v .6) (v .1))
 
 loop-less : tie.Need-loop-less Inv-loop μ-loop
-loop-less c = omega (arith, @scan-row .ensures .row)
+loop-less c = omega (arith, c .before .before .before .before .before .before .before .before .scan-row .ensures .row)
 
 loop-again : tie.Need-loop-again Inv-loop μ-loop
 loop-again c =
-    let v = @loop .inv in
-    let r = @scan-row in
-    (scanning-goes (v .0) (r .result) _ (@if1 .taken) (r .ensures), r .kept .1 .1 .1 .1 .1 .1 .0 ∙ v .1, r .kept .1 .1 .1 .1 .1 .1 .1 .1 .1 .1 .0 ∙ v .2, r .kept .1 .1 .1 .1 .1 .1 .1 .1 .1 .1 .1 .0 ∙ v .3, r .kept .1 .1 .1 .1 .1 .1 .1 .1 .1 .1 .1 .1 .0 ∙ v .4, r .kept .1 .1 .1 .1 .0 ∙ v .5, r .kept .1 .1 .1 .1 .1 .0 ∙ v .6)
+    let v = c .before .before .before .before .before .before .before .before .before .before .before .before .before .before .before .before .before .loop .inv in
+    let r = c .before .before .before .before .before .before .before .before .scan-row in
+    (scanning-goes (v .0) (r .result) _ (c .before .before .before .before .before .before .before .before .before .before .before .before .before .before .before .if1 .taken) (r .ensures), r .kept .1 .1 .1 .1 .1 .1 .0 ∙ v .1, r .kept .1 .1 .1 .1 .1 .1 .1 .1 .1 .1 .0 ∙ v .2, r .kept .1 .1 .1 .1 .1 .1 .1 .1 .1 .1 .1 .0 ∙ v .3, r .kept .1 .1 .1 .1 .1 .1 .1 .1 .1 .1 .1 .1 .0 ∙ v .4, r .kept .1 .1 .1 .1 .0 ∙ v .5, r .kept .1 .1 .1 .1 .1 .0 ∙ v .6)
 
 returns : tie.Need-returns Inv-loop μ-loop
-returns c = scanning-ends (@loop .inv .0) (c .if1 .left)
+returns c = scanning-ends (c .before .before .loop .inv .0) (c .if1 .left)
 
 pub scan-rows-spec : {M : Type 1} → statement M
 scan-rows-spec =
     tie.close
     (tie.spec Inv-loop μ-loop loop-holds scan-row-requires loop-less loop-again (λ c. search needs) (λ c. search needs) (λ c. search needs)
-    (λ c. search needs) (λ c. search needs) returns)
+    (λ c. search needs) (λ c. search needs) (λ c. search needs) returns)
