@@ -140,7 +140,7 @@ abbrev pub combined : Option Combination → List ℤ → List ℤ → AfterClos
 combined none state row = leaves (refused wrongLength 0) state row
 combined (some c) state row = leaves (accepted tt) (c .state) (c .row)
 
--- 12, a state or row of wrong length
+-- Then 12, a state or row of wrong length.
 abbrev pub combinedIn : Shape → ℕ → List ℤ → List ℤ → AfterClosed
 combinedIn h index state row =
     cond (eqb (length state) (stateLength h) && eqb (length row) (rowLength h))
