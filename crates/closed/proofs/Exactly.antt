@@ -1,6 +1,6 @@
 -- The closed profile accepts exactly the closed images; a closed image never refuses a row; 27 names the first refused scan. Assumes nothing.
 use mathlib.Core.Path.{_≡_, refl, sym, ap, subst, _∙_}
-use mathlib.Core.Bool.{Bool, true, false, not, _&&_}
+use mathlib.Core.Bool.{true, false, not, _&&_}
 use mathlib.Core.Logic.{_↔_}
 use mathlib.Core.List.{List, [], _∷_, map}
 use mathlib.Core.Option.{some}
@@ -21,7 +21,6 @@ use Rattle.bytecode.specs.Check.{checkOf}
 use Rattle.bytecode.specs.Parts.{headerOf, codeOf, limitsOf, shapeIn}
 use Rattle.bytecode.specs.Translation.{RangesFit}
 use Rattle.bytecode.proofs.Limits.{no-times}
-use Rattle.bytecode.proofs.CheckNumbers.{CheckRefusal, too-long, broken, check-numbers}
 use Rattle.semantics.specs.Shape.{hasTimer, allWithin, stateLength}
 use Rattle.machine.specs.Step.{Machine, machine}
 use Rattle.machine.proofs.Refusals.{ByRules, RefusedByRules}
@@ -29,9 +28,10 @@ use Rattle.machine.proofs.Ranges.{Within}
 use Rattle.machine.proofs.SoundRuns.{sound-by-rules}
 use Rattle.scan.specs.Services.{AfterScan, finished, runOf, scanCode, startOf, scanOf, scansOf}
 use Rattle.scan.proofs.SoundScans.{scan-within}
-use Rattle.closed.specs.Closed.{productOfSizes, inputRanges, isSmall, Combination, combinations, combinationsOf, Walked, everyAccepted, refusedAt, goOn, walked, scanning, closedBy, closedAs, closedOf}
+use Rattle.closed.specs.Closed.{productOfSizes, inputRanges, isSmall, Combination, combinations, combinationsOf, Walked, everyAccepted, refusedAt, goOn, walked, scanning, closedBy, closedOf}
 use Rattle.closed.specs.Claims.{InRangeState, InRangeRow, Closed, InRangeRows, AllAccepted, FirstRefused}
 use Rattle.closed.proofs.Combining.{All, all-weaker, _∈_, all-in, combinations-complete, in-paired}
+use Rattle.closed.proofs.Profiles.{ways}
 use Rattle.closed.proofs.Order.{Rising, valuesIn, combinations-rise, paired-rise, earlier-accepted}
 use Rattle.closed.proofs.Scans.{header-fits, inputs-among, combinations-in, row-within, row-in-range, scanning-code}
 
@@ -77,25 +77,18 @@ accepted-by : (w : Walked) (state row : List ℤ) → closedBy w state row .answ
 accepted-by everyAccepted state row e = refl
 accepted-by (refusedAt n c) state row e = let z : _≡_ {A = ℕ} 0 1 = cc in let b : ⊥ = omega arith in absurd b
 
-closed-accepted : (a : Answer (Unit {0})) (small : Bool) (image : List ℕ) (state row : List ℤ) → closedAs a small image state row .answer ≡ accepted tt
-    → (a ≡ accepted tt) × (small ≡ true) × (walked (scanning image) (combinationsOf (shapeIn image)) 0 ≡ everyAccepted)
-closed-accepted (refused number place) small image state row e = let z : _≡_ {A = ℕ} 0 1 = cc in let b : ⊥ = omega arith in absurd b
-closed-accepted (accepted u) false image state row e = let z : _≡_ {A = ℕ} 0 1 = cc in let b : ⊥ = omega arith in absurd b
-closed-accepted (accepted u) true image state row e = (refl, refl, accepted-by (walked (scanning image) (combinationsOf (shapeIn image)) 0) state row e)
-
 refused-by : (w : Walked) (state row : List ℤ) (n : ℕ) → closedBy w state row .answer ≡ refused 27 n → (c : Combination) × (w ≡ refusedAt n c)
 refused-by everyAccepted state row n e = let z : _≡_ {A = ℕ} 0 1 = cc in let b : ⊥ = omega arith in absurd b
 refused-by (refusedAt m c) state row n e = let q : m ≡ n = cc in (c, ap (λ (k : ℕ). refusedAt k c) q)
 
-not-check : (number : ℕ) → CheckRefusal number → number ≡ 27 → ⊥
-not-check number too-long e = omega arith
-not-check number broken e = omega arith
+abbrev wholeWalk : List ℕ → Walked
+wholeWalk image = walked (scanning image) (combinationsOf (shapeIn image)) 0
 
-closed-stopped : (a : Answer (Unit {0})) (small : Bool) (image : List ℕ) (state row : List ℤ) (n : ℕ) → ((number place : ℕ) → a ≡ refused number place → CheckRefusal number)
-    → closedAs a small image state row .answer ≡ refused 27 n → (a ≡ accepted tt) × (small ≡ true) × ((c : Combination) × (walked (scanning image) (combinationsOf (shapeIn image)) 0 ≡ refusedAt n c))
-closed-stopped (refused number place) small image state row n h e = let q : number ≡ 27 = cc in absurd (not-check number (h number place refl) q)
-closed-stopped (accepted u) false image state row n h e = let q : _≡_ {A = ℕ} 26 27 = cc in let b : ⊥ = omega arith in absurd b
-closed-stopped (accepted u) true image state row n h e = (refl, refl, refused-by (walked (scanning image) (combinationsOf (shapeIn image)) 0) state row n e)
+closed-accepted : (image : List ℕ) → closedOf image .answer ≡ accepted tt → (checkOf image ≡ accepted tt) × (isSmall (shapeIn image) ≡ true) × (wholeWalk image ≡ everyAccepted)
+unfolding closedOf
+closed-accepted image =
+    ways image _ _ (λ x. x (closedBy (wholeWalk image)) .answer ≡ accepted tt → (checkOf image ≡ accepted tt) × (isSmall (shapeIn image) ≡ true) × (wholeWalk image ≡ everyAccepted))
+    (λ number place d e. let z : _≡_ {A = ℕ} 0 1 = cc in let b : ⊥ = omega arith in absurd b) (λ sound small e. (sound, small, accepted-by (wholeWalk image) _ _ e))
 
 -- ---- exactly
 
@@ -120,7 +113,7 @@ closed-exactly image = (forth, back)
   where
     forth : closedOf image .answer ≡ accepted tt → Closed image
     forth e =
-        let p = closed-accepted (checkOf image) (isSmall (shapeIn image)) image _ _ e in
+        let p = closed-accepted image e in
         let all = walked-through (scanning image) (combinationsOf (shapeIn image)) 0 (p .2) in
         let b = and-both (not (hasTimer (limitsOf image))) (leb (productOfSizes (headerOf image .ranges) * productOfSizes (inputRanges (shapeIn image))) 65536) (p .1) in
         let untimed = not-true (hasTimer (limitsOf image)) (b .0) in
@@ -218,9 +211,11 @@ module _ (image : List ℕ) (sound : checkOf image ≡ accepted tt) (untimed : h
       }
 
 module _ (image : List ℕ) (n : ℕ) (e : closedOf image .answer ≡ refused 27 n) where
-  parts : (checkOf image ≡ accepted tt) × (isSmall (shapeIn image) ≡ true) × ((c : Combination) × (walked (scanning image) (combinationsOf (shapeIn image)) 0 ≡ refusedAt n c))
+  parts : (checkOf image ≡ accepted tt) × (isSmall (shapeIn image) ≡ true) × ((c : Combination) × (wholeWalk image ≡ refusedAt n c))
   unfolding closedOf
-  parts = closed-stopped (checkOf image) (isSmall (shapeIn image)) image _ _ n (check-numbers image) e
+  parts =
+      ways image _ _ (λ x. x (closedBy (wholeWalk image)) .answer ≡ refused 27 n → (checkOf image ≡ accepted tt) × (isSmall (shapeIn image) ≡ true) × ((c : Combination) × (wholeWalk image ≡ refusedAt n c)))
+      (λ number place d q. let k : number ≡ 27 = cc in absurd (d k)) (λ sound small q. (sound, small, refused-by (wholeWalk image) _ _ n q)) e
 
   -- there is no timer, or 26 would come first
   untimed-by : hasTimer (limitsOf image) ≡ false

@@ -1,6 +1,6 @@
 -- The closed profile in parts: the whole is its parts. Assumes nothing.
 use mathlib.Core.Path.{_≡_, refl, sym, ap, _∙_}
-use mathlib.Core.Bool.{Bool, true, false, not}
+use mathlib.Core.Bool.{true, not}
 use mathlib.Core.List.{List, [], _∷_}
 use Prim.Native.Nat.{ℕ, zero, suc, _+_, _*_, _≤_}
 use native.Mathlib.Omega.{arith}
@@ -12,11 +12,11 @@ use lib.Seq.{take-all, take-nil, drop-drop}
 use Rattle.limits.specs.Answer.{Answer, accepted, refused}
 use Rattle.arith.proofs.Basics.{and-both}
 use Rattle.semantics.specs.Shape.{Shape, hasTimer}
-use Rattle.bytecode.specs.Check.{checkOf}
 use Rattle.bytecode.specs.Parts.{shapeIn}
-use Rattle.closed.specs.Closed.{productOfSizes, inputRanges, isSmall, combinations, Combination, combinationsOf, Walked, everyAccepted, refusedAt, goOn, walked, scanning, closedBy, closedAs, closedOf, partOf, partAs, partIn, closedPartOf}
+use Rattle.closed.specs.Closed.{productOfSizes, inputRanges, isSmall, combinations, Combination, combinationsOf, Walked, everyAccepted, refusedAt, goOn, walked, scanning, AfterClosed, closedBy, closedOf, partOf, partIn, closedPartOf}
 use Rattle.closed.specs.Claims.{unlessRefused, InParts}
 use Rattle.closed.proofs.Combining.{combinations-count, paired-count}
+use Rattle.closed.proofs.Profiles.{ways}
 
 -- ---- the whole
 
@@ -27,14 +27,6 @@ small-count h e =
     let s : productOfSizes (h .ranges) * productOfSizes (inputRanges h) ≤ 65536 = leb-true _ 65536 (and-both (not (hasTimer (h .limits))) (leb (productOfSizes (h .ranges) * productOfSizes (inputRanges h)) 65536) e .1) in
     let n : length (combinationsOf h) ≡ productOfSizes (h .ranges) * productOfSizes (inputRanges h) = paired-count (combinations (h .ranges)) (combinations (inputRanges h)) ∙ rw (combinations-count (h .ranges), combinations-count (inputRanges h)) in
     omega arith
-
-all-of : (a : Answer (Unit {0})) (small : Bool) (image : List ℕ) (most : ℕ) (state row : List ℤ) → isSmall (shapeIn image) ≡ small → 65536 ≤ most → closedAs a small image state row ≡ partAs a small image 0 most state row
-unfolding partOf
-all-of (refused number place) small image most state row e h = refl
-all-of (accepted u) false image most state row e h = refl
-all-of (accepted u) true image most state row e h =
-    let n = small-count (shapeIn image) e in
-    rw (take-all most (combinationsOf (shapeIn image)) (omega arith))
 
 -- ---- two parts
 
@@ -64,25 +56,28 @@ closed-after : (v w : Walked) (state row : List ℤ) → closedBy (after v w) st
 closed-after everyAccepted w state row = refl
 closed-after (refusedAt n c) w state row = refl
 
-two-parts : (a : Answer (Unit {0})) (small : Bool) (image : List ℕ) (first k most : ℕ) (state row : List ℤ)
-    → partAs a small image first (k + most) state row ≡ unlessRefused (partAs a small image first k state row .answer) (partAs a small image first k state row) (partAs a small image (first + k) most state row)
-unfolding partOf
-two-parts (refused number place) small image first k most state row = refl
-two-parts (accepted u) false image first k most state row = refl
-two-parts (accepted u) true image first k most state row =
-    let all = combinationsOf (shapeIn image) in
-    ap (λ (w : Walked). closedBy w state row) (walked-divided (scanning image) (drop first all) k most first)
-    ∙ closed-after (walked (scanning image) (take k (drop first all)) first) (walked (scanning image) (take most (drop k (drop first all))) (first + k)) state row
-    ∙ rw (drop-drop k first all)
-
 -- ---- the law
 
-pub closed-in-parts : (image : List ℕ) → InParts image
-unfolding closedOf closedPartOf partIn
-closed-in-parts image = record {
-  whole = λ most h. all-of (checkOf image) (isSmall (shapeIn image)) image most _ _ refl h;
-  divided = λ first k most. two-parts (checkOf image) (isSmall (shapeIn image)) image first k most _ _;
-}
+module _ (image : List ℕ) where
+  abbrev all : List Combination
+  all = combinationsOf (shapeIn image)
+
+  abbrev part : ℕ → ℕ → List ℤ → List ℤ → AfterClosed
+  part first most = closedBy (walked (scanning image) (partOf (shapeIn image) first most) first)
+
+  two-parts : (first k most : ℕ) (state row : List ℤ) → part first (k + most) state row ≡ unlessRefused (part first k state row .answer) (part first k state row) (part (first + k) most state row)
+  unfolding partOf
+  two-parts first k most state row =
+      ap (λ (w : Walked). closedBy w state row) (walked-divided (scanning image) (drop first all) k most first)
+      ∙ closed-after (walked (scanning image) (take k (drop first all)) first) (walked (scanning image) (take most (drop k (drop first all))) (first + k)) state row
+      ∙ rw (drop-drop k first all)
+
+  pub closed-in-parts : InParts image
+  unfolding closedOf closedPartOf partIn partOf
+  closed-in-parts = record {
+    whole = λ most h. ways image _ _ (λ x. x (closedBy (walked (scanning image) all 0)) ≡ x (part 0 most)) (λ number place n. refl) (λ sound small. let n = small-count (shapeIn image) small in rw (take-all most all (omega arith)));
+    divided = λ first k most. ways image _ _ (λ x. x (part first (k + most)) ≡ unlessRefused (x (part first k) .answer) (x (part first k)) (x (part (first + k) most))) (λ number place n. refl) (λ sound small. two-parts first k most _ _);
+  }
 
 -- Cut in two anywhere, the whole is what the first part answers if it is refused, else what the second does.
 pub closed-cut : (image : List ℕ) (k : ℕ) → closedOf image ≡ unlessRefused (closedPartOf image 0 k .answer) (closedPartOf image 0 k) (closedPartOf image k 65536)

@@ -1,23 +1,18 @@
 -- A combination by its number. Assumes nothing.
 use mathlib.Core.Path.{_≡_, refl, _∙_}
-use mathlib.Core.Bool.{Bool, true, false, _&&_, cond}
+use mathlib.Core.Bool.{Bool, true, false}
 use mathlib.Core.List.{List, [], _∷_, _++_}
 use mathlib.Core.Option.{none, some}
 use Prim.Native.Nat.{ℕ, zero, suc, _+_, _*_, _/_, _%_, _≤_, _<_}
 use native.Mathlib.Nat.{mul-le-mul-right, div-add-mod'}
 use native.Mathlib.Omega.{arith}
 use borrow.Author.Tests.{eq-eqb, ne-eqb, ltb-true, ltb-false}
-use lib.Dec.{eqb, leb, ltb}
+use lib.Dec.{leb, ltb}
 use lib.IntN.{ℤ}
 use lib.ListN.{length, take, drop, getElem?, length-map}
-use Rattle.limits.specs.Answer.{accepted, refused}
 use Rattle.semantics.specs.Program.{Range}
 use Rattle.semantics.specs.Formula.{State}
-use Rattle.bytecode.specs.Check.{checkOf}
-use Rattle.semantics.specs.Shape.{hasTimer}
-use Rattle.bytecode.specs.Parts.{headerOf, limitsOf, shapeIn}
-use Rattle.bytecode.proofs.Limits.{no-times}
-use Rattle.closed.specs.Closed.{productOfSizes, inputRanges, isSmall, combinations, Combination, withRows, paired, combinationsOf, leaves, combined, combinedAs, combinationOf}
+use Rattle.closed.specs.Closed.{productOfSizes, combinations, Combination, withRows, paired}
 use Rattle.closed.specs.Results.{afterClosing}
 use Rattle.closed.specs.Inner.Parts.{IsNth, combinedRanges}
 use Rattle.closed.specs.declared.Closing.the-variants as C
@@ -85,23 +80,3 @@ module _ (ns : List Range) (inputs index : ℕ) (state row : List ℤ) (small : 
         let n : index / rows * length (combinations (take inputs ns)) + index % rows ≡ index = rw (combinations-count (take inputs ns), ← q) (div-add-mod' index rows) in
         let k : getElem? (paired (combinations ns) (combinations (take inputs ns))) index ≡ some (record { state = s; row = r }) = rw n at (pair-at s r (combinations ns) (combinations (take inputs ns)) (index / rows) (index % rows) a b) in
         rw (small, eq-eqb (length state) (length ns) e, eq-eqb (length row) inputs f, k)
-
-pub combination-refused : (image : List ℕ) (index : ℕ) (state row : List ℤ) (number place : ℕ) → checkOf image ≡ refused number place
-    → afterClosing (C.Refused number place) state row ≡ combinationOf image index state row
-unfolding combinationOf
-combination-refused image index state row number place e = rw e
-
-module _ (image : List ℕ) (sound : checkOf image ≡ accepted tt) (index : ℕ) (state row : List ℤ) where
-  -- 26 a timer
-  pub combination-timed : hasTimer (limitsOf image) ≡ true → afterClosing (C.Refused 26 0) state row ≡ combinationOf image index state row
-  unfolding combinationOf isSmall
-  combination-timed e = rw (sound, e)
-
-  pub combination-from : (inputs : ℕ) → headerOf image .inputs ≡ inputs → hasTimer (limitsOf image) ≡ false → combinedRanges (headerOf image .ranges) inputs index state row ≡ combinationOf image index state row
-  unfolding combinationOf isSmall combinationsOf
-  combination-from inputs e untimed = rw (sound, untimed, ← e) (by (leb (productOfSizes (headerOf image .ranges) * productOfSizes (inputRanges (shapeIn image))) 65536))
-    where
-      by : (b : Bool) → cond b (cond (eqb (length state) (length (headerOf image .ranges)) && eqb (length row) (headerOf image .inputs)) (combined (getElem? (paired (combinations (headerOf image .ranges)) (combinations (inputRanges (shapeIn image)))) index) state row) (leaves (refused 12 0) state row)) (leaves (refused 26 0) state row)
-          ≡ combinedAs (accepted tt) b (shapeIn image) index state row
-      by true = rw (no-times image untimed, untimed)
-      by false = refl

@@ -1,6 +1,6 @@
--- The products and the walk of an image's names: the ways of the closed profile. Assumes nothing.
+-- The ways of the services: the tests before the combinations, the products and the walk of an image's names. Assumes nothing.
 use mathlib.Core.Path.{_≡_, refl, sym, ap, ap₂, _∙_}
-use mathlib.Core.Bool.{Bool, true, false}
+use mathlib.Core.Bool.{Bool, true, false, cond}
 use mathlib.Core.List.{List, [], _∷_, map}
 use Prim.Native.Nat.{ℕ, zero, suc, _+_, _-_, _*_, _≤_, _<_, min}
 use native.Mathlib.Nat.{mul-le-mul}
@@ -11,17 +11,65 @@ use lib.IntN.{ℤ}
 use lib.ListN.{length, take, drop, length-drop, drop-of-length-le}
 use lib.Seq.{length-take-le, take-all, take-nil}
 use Rattle.limits.specs.Limits.{stackLimit}
+use Rattle.limits.specs.Answer.{Answer, accepted, refused}
 use Rattle.semantics.specs.Program.{Range}
 use Rattle.semantics.specs.ReferenceScan.{withInputs}
+use Rattle.semantics.specs.Shape.{hasTimer}
+use Rattle.bytecode.specs.Check.{checkOf}
+use Rattle.bytecode.specs.Parts.{headerOf, limitsOf, shapeIn}
+use Rattle.bytecode.proofs.Limits.{no-times}
+use Rattle.bytecode.proofs.CheckNumbers.{CheckRefusal, too-long, broken, check-numbers}
 use Rattle.machine.specs.Inner.Memory.{RangesIn}
-use Rattle.closed.specs.Closed.{productOfSizes, combinations, Combination, paired, everyAccepted, refusedAt, walked}
+use Rattle.closed.specs.Closed.{productOfSizes, inputRanges, isSmall, combinations, Combination, paired, combinationsOf, everyAccepted, refusedAt, walked, AfterClosed, leaves, ifSmall, combinedIn, combinationOf}
 use Rattle.closed.specs.Results.{afterClosing}
-use Rattle.closed.specs.Inner.Parts.{working, Walking, visitedAs, partWorking}
+use Rattle.closed.specs.Inner.Parts.{working, Walking, visitedAs, partWorking, combinedRanges}
 use Rattle.closed.specs.declared.Visited.{Visited}
 use Rattle.closed.specs.declared.Visited.the-variants as W
 use Rattle.closed.specs.declared.Closing.the-variants as C
 use Rattle.closed.proofs.Combining.{combinations-count, paired-count}
 use Rattle.closed.proofs.Walks.{ahead}
+
+-- ---- 9, 11 and 26 leave state and row as found, else the combinations answer
+
+not-check : (number : ℕ) → CheckRefusal number → number ≡ 27 → ⊥
+not-check number too-long e = omega arith
+not-check number broken e = omega arith
+
+module _ (image : List ℕ) (state row : List ℤ) where
+  -- what holds of each way holds of a service; none but the combinations answers 27
+  pub ways : (P : ((List ℤ → List ℤ → AfterClosed) → AfterClosed) → Type 0) → ((number place : ℕ) → (number ≡ 27 → ⊥) → P (λ f. leaves (refused number place) state row))
+      → (checkOf image ≡ accepted tt → isSmall (shapeIn image) ≡ true → P (λ f. f state row)) → P (λ f. ifSmall (checkOf image) (shapeIn image) f state row)
+  ways P before small = by (checkOf image) refl
+    where
+      tested : (b : Bool) → checkOf image ≡ accepted tt → isSmall (shapeIn image) ≡ b → P (λ f. cond b (f state row) (leaves (refused 26 0) state row))
+      tested true e q = small e q
+      tested false e q = before 26 0 (λ n. omega arith)
+
+      by : (a : Answer (Unit {0})) → checkOf image ≡ a → P (λ f. ifSmall a (shapeIn image) f state row)
+      by (refused number place) e = before number place (not-check number (check-numbers image number place e))
+      by (accepted u) e = tested (isSmall (shapeIn image)) e refl
+
+  module _ (f : List ℤ → List ℤ → AfterClosed) where
+    -- 9 and 11
+    pub small-refused : (number place : ℕ) → checkOf image ≡ refused number place → afterClosing (C.Refused number place) state row ≡ ifSmall (checkOf image) (shapeIn image) f state row
+    small-refused number place e = rw e
+
+    module _ (sound : checkOf image ≡ accepted tt) where
+      -- 26 a timer
+      pub small-timed : hasTimer (limitsOf image) ≡ true → afterClosing (C.Refused 26 0) state row ≡ ifSmall (checkOf image) (shapeIn image) f state row
+      unfolding isSmall
+      small-timed e = rw (sound, e)
+
+      -- 26 too large a product, else the combinations
+      pub small-untimed : hasTimer (limitsOf image) ≡ false
+          → cond (leb (productOfSizes (headerOf image .ranges) * productOfSizes (inputRanges (shapeIn image))) 65536) (f state row) (leaves (refused 26 0) state row) ≡ ifSmall (checkOf image) (shapeIn image) f state row
+      unfolding isSmall
+      small-untimed e = rw (sound, e)
+
+  pub combination-from : (index inputs : ℕ) → checkOf image ≡ accepted tt → headerOf image .inputs ≡ inputs → hasTimer (limitsOf image) ≡ false
+      → combinedRanges (headerOf image .ranges) inputs index state row ≡ combinationOf image index state row
+  unfolding combinationOf combinationsOf
+  combination-from index inputs sound e untimed = rw (← e) (rw (no-times image untimed, untimed) at (small-untimed (combinedIn (shapeIn image) index) sound untimed))
 
 -- ---- the ranges of the inputs
 

@@ -1,10 +1,10 @@
 -- The scans of a sound image without timers within its ranges are the runs of its code. Assumes nothing.
 use mathlib.Core.Path.{_≡_, refl, sym, ap, _∙_}
-use mathlib.Core.Bool.{Bool, true, false, cond}
+use mathlib.Core.Bool.{true, false}
 use mathlib.Core.List.{List, [], _∷_}
-use Prim.Native.Nat.{ℕ, zero, suc, _+_, _*_, _≤_}
+use Prim.Native.Nat.{ℕ, zero, suc, _+_, _≤_}
 use native.Mathlib.Omega.{arith}
-use lib.Dec.{T, leb}
+use lib.Dec.{T}
 use lib.IntN.{ℤ}
 use lib.ListN.{length, take, drop}
 use lib.Seq.{length-take-le, take-all}
@@ -33,11 +33,10 @@ use Rattle.scan.specs.Inner.Parts.{plainSetting, ranOver, scannedOver, scannedC
 use Rattle.scan.proofs.Scanning.{code-done, code-refused}
 use Rattle.scan.proofs.Scans.{scan-is}
 use Rattle.scan.proofs.Images.{plain-passes, setting-untimed}
-use Rattle.closed.specs.Closed.{productOfSizes, inputRanges, isSmall, combinations, Combination, combinationsOf, walked, scanning, AfterClosed, leaves, closedBy, partOf, partAs, partIn}
-use Rattle.closed.specs.Results.{afterClosing}
+use Rattle.closed.specs.Closed.{inputRanges, combinations, Combination, combinationsOf, walked, scanning, closedBy, partOf, partIn}
 use Rattle.closed.specs.Claims.{InRangeRow}
 use Rattle.closed.specs.Inner.Parts.{isRefused, working, partWorking}
-use Rattle.closed.specs.declared.Closing.the-variants as C
+use Rattle.closed.proofs.Profiles.{small-untimed}
 use Rattle.closed.proofs.Combining.{All, all-weaker, all-taken, all-dropped, Upright, combinations-within, paired-all}
 
 -- ---- the ranges of a sound image
@@ -138,36 +137,18 @@ walked-same : (f g : Combination → Answer (Unit {0})) (cs : List Combination) 
 walked-same f g [] n h = refl
 walked-same f g (c ∷ cs) n h = rw (h .0, walked-same f g cs (n + 1) (h .1))
 
-chosen : (b : Bool) (image : List ℕ) (first most : ℕ) (state row : List ℤ) (x : AfterClosed) → x ≡ closedBy (walked (scanning image) (partOf (shapeIn image) first most) first) state row
-    → cond b x (leaves (refused 26 0) state row) ≡ partAs (accepted tt) b image first most state row
-chosen true image first most state row x e = e
-chosen false image first most state row x e = refl
+module _ (image : List ℕ) (sound : checkOf image ≡ accepted tt) (first most : ℕ) (untimed : hasTimer (limitsOf image) ≡ false) where
+  abbrev Fits : Combination → Type 0
+  Fits c = Within (headerOf image .ranges) (c .state) × Within (inputRanges (shapeIn image)) (c .row)
 
-pub closed-refused : (image : List ℕ) (first most : ℕ) (state row : List ℤ) (number place : ℕ) → checkOf image ≡ refused number place
-    → afterClosing (C.Refused number place) state row ≡ partIn image first most state row
-unfolding partIn
-closed-refused image first most state row number place e = rw e
+  walk-is : walked (scanning image) (partOf (shapeIn image) first most) first ≡ walked (working (headerOf image .ranges) (codeOf image)) (partOf (shapeIn image) first most) first
+  unfolding partOf
+  walk-is =
+      walked-same (scanning image) (working (headerOf image .ranges) (codeOf image)) (partOf (shapeIn image) first most) first
+      (all-weaker Fits (λ c. scanning image c ≡ working (headerOf image .ranges) (codeOf image) c) (partOf (shapeIn image) first most)
+      (λ c w. scanning-is image sound untimed (c .state) (c .row) (w .0) (w .1))
+      (all-taken Fits most (drop first (combinationsOf (shapeIn image))) (all-dropped Fits first (combinationsOf (shapeIn image)) (combinations-in image sound))))
 
-module _ (image : List ℕ) (sound : checkOf image ≡ accepted tt) (first most : ℕ) where
-  -- 26 a timer
-  pub closed-timed : (state row : List ℤ) → hasTimer (limitsOf image) ≡ true → afterClosing (C.Refused 26 0) state row ≡ partIn image first most state row
-  unfolding partIn isSmall
-  closed-timed state row e = rw (sound, e)
-
-  module _ (untimed : hasTimer (limitsOf image) ≡ false) where
-    abbrev Fits : Combination → Type 0
-    Fits c = Within (headerOf image .ranges) (c .state) × Within (inputRanges (shapeIn image)) (c .row)
-
-    walk-is : walked (scanning image) (partOf (shapeIn image) first most) first ≡ walked (working (headerOf image .ranges) (codeOf image)) (partOf (shapeIn image) first most) first
-    unfolding partOf
-    walk-is =
-        walked-same (scanning image) (working (headerOf image .ranges) (codeOf image)) (partOf (shapeIn image) first most) first
-        (all-weaker Fits (λ c. scanning image c ≡ working (headerOf image .ranges) (codeOf image) c) (partOf (shapeIn image) first most)
-        (λ c w. scanning-is image sound untimed (c .state) (c .row) (w .0) (w .1))
-        (all-taken Fits most (drop first (combinationsOf (shapeIn image))) (all-dropped Fits first (combinationsOf (shapeIn image)) (combinations-in image sound))))
-
-    pub closed-from : (inputs : ℕ) (state row : List ℤ) → headerOf image .inputs ≡ inputs → partWorking (headerOf image .ranges) inputs (codeOf image) first most state row ≡ partIn image first most state row
-    unfolding partIn isSmall partOf combinationsOf
-    closed-from inputs state row e =
-        rw (sound, untimed, ← e)
-        (chosen (leb (productOfSizes (headerOf image .ranges) * productOfSizes (inputRanges (shapeIn image))) 65536) image first most state row _ (ap (λ w. closedBy w state row) (sym walk-is)))
+  pub closed-from : (inputs : ℕ) (state row : List ℤ) → headerOf image .inputs ≡ inputs → partWorking (headerOf image .ranges) inputs (codeOf image) first most state row ≡ partIn image first most state row
+  unfolding partIn partOf combinationsOf
+  closed-from inputs state row e = rw (← e, ← walk-is) (small-untimed image state row (closedBy (walked (scanning image) (partOf (shapeIn image) first most) first)) sound untimed)

@@ -1,6 +1,6 @@
 -- The closed profile: the walk over every in-range state with every in-range row, for every input. Document 02, A.10. Assumes nothing.
 use Prim.Native.Nat.{ℕ, zero, suc, _+_, _*_}
-use mathlib.Core.Bool.{Bool, true, false, not, _&&_, cond}
+use mathlib.Core.Bool.{Bool, not, _&&_, cond}
 use mathlib.Core.List.{List, [], _∷_, _++_, map}
 use mathlib.Core.Option.{Option, none, some}
 use lib.Dec.{eqb, leb}
@@ -93,7 +93,7 @@ walked scans (c ∷ cs) n = goOn (scans c) (walked scans cs (n + 1)) (refusedAt 
 abbrev pub scanning : List ℕ → Combination → Answer (Unit {0})
 scanning image c = scanOf image (c .state) (c .row) .answer
 
--- ---- the service
+-- ---- the services
 
 -- the answer, with a state and a row left
 pub record AfterClosed : Type 0 where
@@ -104,35 +104,31 @@ pub record AfterClosed : Type 0 where
 abbrev pub leaves : Answer (Unit {0}) → List ℤ → List ℤ → AfterClosed
 leaves a state row = record { answer = a; state = state; row = row }
 
--- 27 has the number of scans before the refused one as its place; its state and row stand at the front of the two.
+-- Errors: 9, 11, then 26 a timer or too large a product, which leave state and row as found; then what the combinations answer.
+abbrev pub ifSmall : Answer (Unit {0}) → Shape → (List ℤ → List ℤ → AfterClosed) → List ℤ → List ℤ → AfterClosed
+ifSmall (refused number place) h answered state row = leaves (refused number place) state row
+ifSmall (accepted u) h answered state row = cond (isSmall h) (answered state row) (leaves (refused notSmall 0) state row)
+
+-- ---- the profile
+
+-- 27 has the number of scans before the refused one as its place; its state and row stand at the front of the two. Every other answer leaves them as found.
 abbrev pub closedBy : Walked → List ℤ → List ℤ → AfterClosed
 closedBy everyAccepted state row = leaves (accepted tt) state row
 closedBy (refusedAt n c) state row = leaves (refused notClosed n) (withInputs state (c .state)) (withInputs row (c .row))
 
--- Errors: 9, 11, then 26 a timer or too large a product, then 27. Every answer but 27 leaves state and row as found.
-abbrev pub closedAs : Answer (Unit {0}) → Bool → List ℕ → List ℤ → List ℤ → AfterClosed
-closedAs (refused number place) small image state row = leaves (refused number place) state row
-closedAs (accepted u) false image state row = leaves (refused notSmall 0) state row
-closedAs (accepted u) true image state row = closedBy (walked (scanning image) (combinationsOf (shapeIn image)) 0) state row
-
--- the profile: of 64 numbers, those behind the state and the row are 0
+-- of 64 numbers, those behind the state and the row are 0
 unfoldable pub closedOf : List ℕ → AfterClosed
-closedOf image = closedAs (checkOf image) (isSmall (shapeIn image)) image (replicate nameLimit (pos 0)) (replicate nameLimit (pos 0))
+closedOf image = ifSmall (checkOf image) (shapeIn image) (closedBy (walked (scanning image) (combinationsOf (shapeIn image)) 0)) (replicate nameLimit (pos 0)) (replicate nameLimit (pos 0))
 
--- ---- the service in parts
+-- ---- the profile in parts
 
 -- the combinations numbered first, first + 1, .., at most `most` of them, and none beyond the last
 unfoldable pub partOf : Shape → ℕ → ℕ → List Combination
 partOf h first most = take most (drop first (combinationsOf h))
 
--- Errors as of the whole. 27 counts the scans before the refused one from the first of all, so the whole is its parts (law `closed-in-parts`).
-abbrev pub partAs : Answer (Unit {0}) → Bool → List ℕ → ℕ → ℕ → List ℤ → List ℤ → AfterClosed
-partAs (refused number place) small image first most state row = leaves (refused number place) state row
-partAs (accepted u) false image first most state row = leaves (refused notSmall 0) state row
-partAs (accepted u) true image first most state row = closedBy (walked (scanning image) (partOf (shapeIn image) first most) first) state row
-
+-- 27 counts the scans before the refused one from the first of all, so the whole is its parts (law `closed-in-parts`).
 unfoldable pub partIn : List ℕ → ℕ → ℕ → List ℤ → List ℤ → AfterClosed
-partIn image first most state row = partAs (checkOf image) (isSmall (shapeIn image)) image first most state row
+partIn image first most state row = ifSmall (checkOf image) (shapeIn image) (closedBy (walked (scanning image) (partOf (shapeIn image) first most) first)) state row
 
 unfoldable pub closedPartOf : List ℕ → ℕ → ℕ → AfterClosed
 closedPartOf image first most = partIn image first most (replicate nameLimit (pos 0)) (replicate nameLimit (pos 0))
@@ -144,14 +140,12 @@ abbrev pub combined : Option Combination → List ℤ → List ℤ → AfterClos
 combined none state row = leaves (refused wrongLength 0) state row
 combined (some c) state row = leaves (accepted tt) (c .state) (c .row)
 
--- 9, 11, 26, then 12
-abbrev pub combinedAs : Answer (Unit {0}) → Bool → Shape → ℕ → List ℤ → List ℤ → AfterClosed
-combinedAs (refused number place) small h index state row = leaves (refused number place) state row
-combinedAs (accepted u) false h index state row = leaves (refused notSmall 0) state row
-combinedAs (accepted u) true h index state row =
+-- Then 12, a state or row of wrong length.
+abbrev pub combinedIn : Shape → ℕ → List ℤ → List ℤ → AfterClosed
+combinedIn h index state row =
     cond (eqb (length state) (stateLength h) && eqb (length row) (rowLength h))
     (combined (getElem? (combinationsOf h) index) state row)
     (leaves (refused wrongLength 0) state row)
 
 unfoldable pub combinationOf : List ℕ → ℕ → List ℤ → List ℤ → AfterClosed
-combinationOf image index state row = combinedAs (checkOf image) (isSmall (shapeIn image)) (shapeIn image) index state row
+combinationOf image index state row = ifSmall (checkOf image) (shapeIn image) (combinedIn (shapeIn image) index) state row

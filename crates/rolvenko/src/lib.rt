@@ -148,7 +148,7 @@ pub extern "C" fn rolvenko_closed_part(image: &[u8], first: usize, most: usize) 
     let answer = part.answer;
     match answer {
         closed::Closing::Closed => 0,
-        closed::Closing::Refused(number, place) => paused::pack(number, place, 0),
+        closed::Closing::Refused(number, position) => paused::pack(number, position, 0),
     }
 }
 

@@ -10,8 +10,9 @@ use Rattle.bytecode.proofs.Limits.{cells-untimed}
 use Rattle.checker.proofs.Checking.{rest-of}
 use Rattle.shapes.specs.Results.{ShapedAs, Measures}
 use Rattle.before.proofs.Stored.{ranges-stored}
-use Rattle.closed.proofs.Scans.{closed-refused, closed-timed, closed-from}
-use Rattle.closed.proofs.Profiles.{parts-walking}
+use Rattle.closed.specs.Closed.{partIn}
+use Rattle.closed.proofs.Scans.{closed-from}
+use Rattle.closed.proofs.Profiles.{small-refused, small-timed, parts-walking}
 use borrow.Author.Needs.{needs}
 use Rattle.closed.proofs.closed_in.Statement.{statement}
 use Rattle.closed.proofs.closed_in.Tie as tie
@@ -37,9 +38,10 @@ row-room : (c : tie.Else1) → c .before .before .before .shaped2 .given .0 .0 .
 row-room c = omega (arith, shaped (c .before .before) .few, shaped (c .before .before) .among, c .before .before .before .before .before .before .before .before .before .before .before .pre .0 .1)
 
 returns : tie.Need-returns
+unfolding partIn
 returns c =
     let s = shaped (c .before .before) in
-    (closed-timed (c .before .before .before .before .before .before .before .before .before .before .before .args .image .now) (s .sound) (c .before .before .before .before .before .before .before .before .before .before .before .args .first) (c .before .before .before .before .before .before .before .before .before .before .before .args .most) (c .before .before .before .before .before .before .before .before .before .before .before .args .state .now) (c .before .before .before .before .before .before .before .before .before .before .before .args .row .now) (s .timed ∙ lt-ltb (c .before .before .before .shaped2 .given .0 .0 .names) (c .before .before .before .shaped2 .given .0 .0 .size) (c .if1 .taken)), omega arith)
+    (small-timed (c .before .before .before .before .before .before .before .before .before .before .before .args .image .now) (c .before .before .before .before .before .before .before .before .before .before .before .args .state .now) (c .before .before .before .before .before .before .before .before .before .before .before .args .row .now) _ (s .sound) (s .timed ∙ lt-ltb (c .before .before .before .shaped2 .given .0 .0 .names) (c .before .before .before .shaped2 .given .0 .0 .size) (c .if1 .taken)), omega arith)
 
 sub-closed-ranges : tie.Need-sub-closed-ranges
 sub-closed-ranges c = omega (arith, shaped (c .before .before) .inside)
@@ -90,9 +92,10 @@ closed-ranges-requires c κs =
     )
 
 returns-2 : tie.Need-returns-2
+unfolding partIn
 returns-2 c =
     let r = subst (ShapedAs _ _ _ _ _) (c .before .shaped .given .1) (c .before .before .before .before .before .shape .ensures .so) in
-    (closed-refused (c .before .before .before .before .before .before .before .before .before .args .image .now) (c .before .before .before .before .before .before .before .before .before .args .first) (c .before .before .before .before .before .before .before .before .before .args .most) (c .before .before .before .before .before .before .before .before .before .args .state .now) (c .before .before .before .before .before .before .before .before .before .args .row .now) _ _ (r .0), r .1)
+    (small-refused (c .before .before .before .before .before .before .before .before .before .args .image .now) (c .before .before .before .before .before .before .before .before .before .args .state .now) (c .before .before .before .before .before .before .before .before .before .args .row .now) _ _ _ (r .0), r .1)
 
 returns-3 : tie.Need-returns-3
 unfolding codeOf

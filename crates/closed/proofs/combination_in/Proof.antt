@@ -9,7 +9,8 @@ use Rattle.bytecode.specs.Parts.{headerOf}
 use Rattle.bytecode.proofs.Limits.{cells-untimed}
 use Rattle.shapes.specs.Results.{ShapedAs, Measures}
 use Rattle.before.proofs.Stored.{ranges-stored}
-use Rattle.closed.proofs.Numbering.{combination-refused, combination-timed, combination-from}
+use Rattle.closed.specs.Closed.{combinationOf}
+use Rattle.closed.proofs.Profiles.{small-refused, small-timed, combination-from}
 use borrow.Author.Needs.{needs}
 use Rattle.closed.proofs.combination_in.Statement.{statement}
 use Rattle.closed.proofs.combination_in.Tie as tie
@@ -26,9 +27,10 @@ high-room : (c : tie.Else1) → c .before .before .before .shaped2 .given .0 .0 
 high-room c = omega (arith, shaped (c .before .before) .few, c .before .before .before .before .before .before .before .before .before .before .before .pre .1, c .before .before .before .before .before .before .before .shape .kept .1 .1 .0)
 
 returns : tie.Need-returns
+unfolding combinationOf
 returns c =
     let s = shaped (c .before .before) in
-    (combination-timed (c .before .before .before .before .before .before .before .before .before .before .before .args .image .now) (s .sound) (c .before .before .before .before .before .before .before .before .before .before .before .args .index) (c .before .before .before .before .before .before .before .before .before .before .before .args .state .now) (c .before .before .before .before .before .before .before .before .before .before .before .args .row .now) (s .timed ∙ lt-ltb (c .before .before .before .shaped2 .given .0 .0 .names) (c .before .before .before .shaped2 .given .0 .0 .size) (c .if1 .taken)), omega arith)
+    (small-timed (c .before .before .before .before .before .before .before .before .before .before .before .args .image .now) (c .before .before .before .before .before .before .before .before .before .before .before .args .state .now) (c .before .before .before .before .before .before .before .before .before .before .before .args .row .now) _ (s .sound) (s .timed ∙ lt-ltb (c .before .before .before .shaped2 .given .0 .0 .names) (c .before .before .before .shaped2 .given .0 .0 .size) (c .if1 .taken)), omega arith)
 
 slice-reshare-prefix-combination-ranges : tie.Need-slice-reshare-prefix-combination-ranges
 slice-reshare-prefix-combination-ranges c = low-room c
@@ -49,9 +51,10 @@ combination-ranges-requires c κs =
     (omega (arith, k, shaped (e .before .before) .among), length-take-le _ _ (high-room e) ∙ sym k)
 
 returns-2 : tie.Need-returns-2
+unfolding combinationOf
 returns-2 c =
     let r = subst (ShapedAs _ _ _ _ _) (c .before .shaped .given .1) (c .before .before .before .before .before .shape .ensures .so) in
-    (combination-refused (c .before .before .before .before .before .before .before .before .before .args .image .now) (c .before .before .before .before .before .before .before .before .before .args .index) (c .before .before .before .before .before .before .before .before .before .args .state .now) (c .before .before .before .before .before .before .before .before .before .args .row .now) _ _ (r .0), r .1)
+    (small-refused (c .before .before .before .before .before .before .before .before .before .args .image .now) (c .before .before .before .before .before .before .before .before .before .args .state .now) (c .before .before .before .before .before .before .before .before .before .args .row .now) _ _ _ (r .0), r .1)
 
 returns-3 : tie.Need-returns-3
 returns-3 c =
@@ -62,7 +65,7 @@ returns-3 c =
     let stored =
     ranges-stored (headerOf image .ranges) (c .before .before .before .before .before .before .before .before .before .before .shaped2 .given .0 .0 .names) (c .before .before .before .before .before .before .before .before .before .before .before .before .before .before .before .before .before .before .args .low .now) (c .before .before .before .before .before .before .before .before .before .before .before .before .before .before .shape .last .1 .0) (c .before .before .before .before .before .before .before .before .before .before .before .before .before .before .before .before .before .before .args .high .now) (c .before .before .before .before .before .before .before .before .before .before .before .before .before .before .shape .last .1 .1 .0) (s .names-are)
     (omega (arith, s .few, c .before .before .before .before .before .before .before .before .before .before .before .before .before .before .before .before .before .before .pre .0)) (omega (arith, s .few, c .before .before .before .before .before .before .before .before .before .before .before .before .before .before .before .before .before .before .pre .1)) (rw (← cut) (s .lower)) (rw (← cut) (s .upper)) in
-    (c .before .before .combination-ranges .ensures .0 (headerOf image .ranges) stored ∙ combination-from image (s .sound) (c .before .before .before .before .before .before .before .before .before .before .before .before .before .before .before .before .before .before .args .index) (c .before .before .before .before .before .before .before .before .before .before .before .before .before .before .before .before .before .before .args .state .now) (c .before .before .before .before .before .before .before .before .before .before .before .before .before .before .before .before .before .before .args .row .now) (c .before .before .before .before .before .before .before .before .before .before .shaped2 .given .0 .0 .inputs) (s .inputs-are) untimed, c .before .before .combination-ranges .ensures .1)
+    (c .before .before .combination-ranges .ensures .0 (headerOf image .ranges) stored ∙ combination-from image (c .before .before .before .before .before .before .before .before .before .before .before .before .before .before .before .before .before .before .args .state .now) (c .before .before .before .before .before .before .before .before .before .before .before .before .before .before .before .before .before .before .args .row .now) (c .before .before .before .before .before .before .before .before .before .before .before .before .before .before .before .before .before .before .args .index) (c .before .before .before .before .before .before .before .before .before .before .shaped2 .given .0 .0 .inputs) (s .sound) (s .inputs-are) untimed, c .before .before .combination-ranges .ensures .1)
 
 pub combination-in-spec : {M : Type 1} → statement M
 combination-in-spec =
