@@ -43,9 +43,6 @@ module _ (ns : List Range) (last : Option Instruction) (t w n : ℕ) (s : T (sui
   pub suits-own : T (isTimerRange (rangeAt ns t))
   suits-own = and-left (isTimerRange (rangeAt ns t)) (isBinary (rangeAt ns w)) (and-left (isTimerRange (rangeAt ns t) && isBinary (rangeAt ns w)) (leb 1 n && leb n timeLimit) fitting)
 
-  pub suits-watched : T (isBinary (rangeAt ns w))
-  suits-watched = and-right (isTimerRange (rangeAt ns t)) (isBinary (rangeAt ns w)) (and-left (isTimerRange (rangeAt ns t) && isBinary (rangeAt ns w)) (leb 1 n && leb n timeLimit) fitting)
-
   suits-follows : T (follows last t w)
   suits-follows = and-right (isTimerRange (rangeAt ns t) && isBinary (rangeAt ns w) && (leb 1 n && leb n timeLimit)) (follows last t w) s
 

@@ -261,11 +261,6 @@ in-either a (b ∷ k) l (inr i) = later (in-either a k l i) where
   later (inl x) = inl (inr x)
   later (inr x) = inr x
 
-pub in-at : {A : Type 0} (l : List A) (i : ℕ) (d : A) → i < length l → In (getD l i d) l
-in-at [] i d h = absurd (omega arith)
-in-at (a ∷ l) zero d h = inl refl
-in-at (a ∷ l) (suc i) d h = inr (in-at l i d (omega arith))
-
 -- apart from all is apart from one
 pub apart-in : (w u : Identifier) (ws : List Identifier) → Apart w ws → In u ws → sameName w u ≡ false
 apart-in w u [] a i = absurd i

@@ -240,9 +240,6 @@ text-session InLine t cells s e = refl
 text-session Hash t cells s e = refl
 text-session Rows t cells s e = absurd (true≢false e)
 
-pub refused-session : (stage : Stage) (t : List ℕ) (cells : List ℤ) → isRows stage ≡ true → ifText stage t cells passedOver ≡ passedOver
-refused-session stage t cells e = rw (rows-of stage e)
-
 -- ---- a call, by where the program stands
 
 pub part-within : {A : Type 0} (n : ℕ) (l : List A) → length l ≡ stateLimit → length (take n l) ≤ stateLimit

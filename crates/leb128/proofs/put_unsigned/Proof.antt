@@ -1,7 +1,7 @@
 -- `leb128::put_unsigned` meets its contract. The loop's invariant: the groups of what is left, stored from here, make the whole.
 -- Assumes nothing.
 use mathlib.Core.Path.{_≡_, refl, ap, _∙_}
-use Prim.Native.Nat.{ℕ, _+_, _/_, _^_, _≤_, _<_}
+use Prim.Native.Nat.{_+_, _/_, _^_, _<_}
 use native.Mathlib.Numerals.{add-one}
 use native.Mathlib.Omega.{arith}
 use lib.ListN.{length}
@@ -18,10 +18,6 @@ Inv-loop out₀ at n rest₀ i₀ out rest i =
 
 abbrev μ-loop : tie.MeasureT-loop
 μ-loop out₀ at n rest₀ i₀ out rest i = rest
-
--- the place is small
-place : (at i a b : ℕ) → at < 2 ^ 31 → b ≤ 5 → i + a ≡ at + b → i < 2 ^ 32
-place at i a b h l e = omega arith
 
 loop-holds : tie.Need-loop-holds Inv-loop μ-loop
 loop-holds c = (search needs, refl, refl)
