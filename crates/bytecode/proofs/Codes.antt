@@ -67,6 +67,11 @@ pub above : (code : ℕ) → 16 ≤ code → (code ≡ 16 → ⊥) → (code ≡
     → 22 < code
 above code l a b c d e f g = past 22 code (past 21 code (past 20 code (past 19 code (past 18 code (past 17 code (past 16 code l a) b) c) d) e) f) g
 
+-- no operand behind the codes 4 to 19
+pub no-operand : (code : ℕ) → 4 ≤ code → code < 20 → hasOperand code ≡ false
+unfolding hasOperand
+no-operand code l h = rw (le-leb 1 code (omega arith), lt-leb code 3 (omega arith), lt-leb 20 code h, lt-leb 24 code (omega arith))
+
 -- ---- each code listed
 
 -- what holds of a code and of some behind it

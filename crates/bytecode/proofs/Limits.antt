@@ -72,7 +72,7 @@ all-zero [] h = refl
 all-zero (zero ∷ ls) h = ap (λ (l : List ℕ). zero ∷ l) (all-zero ls h)
 all-zero (suc n ∷ ls) h = let z : _≡_ {A = ℕ} 0 1 = cc in let f : ⊥ = omega arith in absurd f
 
-none-timed : (n : ℕ) → hasTimer (replicate n 0) ≡ false
+pub none-timed : (n : ℕ) → hasTimer (replicate n 0) ≡ false
 none-timed zero = refl
 none-timed (suc n) = none-timed n
 

@@ -23,7 +23,7 @@ use Rattle.bytecode.specs.Check.{Known, advance, suits, complete, tested, item,
 use Rattle.bytecode.specs.Sound.{RangesAt, Sound}
 use Rattle.bytecode.specs.Allowed.{leftBy, Allowed, Finished}
 use Rattle.bytecode.proofs.Fetching.{number-within}
-use Rattle.bytecode.proofs.Heading.{signed-within}
+use Rattle.bytecode.proofs.Heading.{ranges-inside}
 use Rattle.bytecode.proofs.RoundTrip.{fetch-next}
 use Rattle.bytecode.proofs.Soundness.{none≢some}
 use Rattle.bytecode.proofs.Exactly.{kept-by, allowed-advances, finished-by, complete-if, item-passes, range-passes, ranges-pass, counts-pass}
@@ -269,15 +269,10 @@ module _ (ns : List Range) (base : ℕ) (code : List ℕ) where
 
 -- ---- the image
 
--- the code begins within the image
-ranges-within : (bytes : List ℕ) (at : ℕ) (ns : List Range) (to : ℕ) → at ≤ length bytes → RangesAt bytes at ns to → to ≤ length bytes
-ranges-within bytes at [] to h r = subst (λ (x : ℕ). x ≤ length bytes) r h
-ranges-within bytes at (n ∷ ns) to h r = ranges-within bytes (r .2) ns to (signed-within bytes (r .1) (n .start) (r .2) (r .5) .inside) (r .6)
-
 ends-at : (bytes : List ℕ) (h : Header) → HeaderKept bytes h → h .place + length (drop (h .place) bytes) ≡ length bytes
 ends-at bytes h x =
     let r = x .ranges in
-    let w = ranges-within bytes (r .at₂) (h .ranges) (h .place) (number-within bytes (r .at₁) (x .variables) (r .at₂) (r .variables-read) .inside) (r .ranges-read) in
+    let w = ranges-inside bytes (h .ranges) (r .at₂) (h .place) (r .ranges-read) (number-within bytes (r .at₁) (x .variables) (r .at₂) (r .variables-read) .inside) in
     omega (arith, length-drop (h .place) bytes)
 
 body-fails : (bytes : List ℕ) (place : ℕ) (h : Header) → HeaderKept bytes h → checkBody bytes h ≡ refused 11 place → Breaks bytes place

@@ -11,15 +11,11 @@ use borrow.Author.Tests.{le-leb, lt-leb, eq-eqb, ne-eqb}
 use Rattle.leb128.specs.Numbers.{Read, got, nothing, numberAt, unzigzag}
 use Rattle.leb128.proofs.Laws.{one-group}
 use Rattle.bytecode.specs.Instructions.{Instruction, constant, comparison, comparisonOf, instructionOf, hasOperand, decoded, fetchOne, fetch}
-use Rattle.bytecode.proofs.Codes.{comparison-of}
+use Rattle.bytecode.proofs.Codes.{comparison-of, no-operand}
 use Rattle.bytecode.proofs.Fetching.{fetch-alone, fetch-number, fetch-malformed, fetch-other, timer-unfetched}
 use Rattle.bytecode.proofs.Timeless.{code-timeless, timeless-one}
 
 -- ---- which codes have an operand
-
-pub no-operand : (code : ℕ) → 4 ≤ code → code < 20 → hasOperand code ≡ false
-unfolding hasOperand
-no-operand code l h = rw (le-leb 1 code (omega arith), lt-leb code 3 (omega arith), lt-leb 20 code h, lt-leb 24 code (omega arith))
 
 pub low-operand : (code : ℕ) → 1 ≤ code → code ≤ 3 → hasOperand code ≡ true
 unfolding hasOperand

@@ -13,7 +13,7 @@ use Rattle.semantics.specs.Shape.{Shape, cells, stateLength, rowLength, stateIn
 use Rattle.semantics.specs.ReferenceScan.{withInputs}
 use Rattle.bytecode.specs.Check.{checkOf}
 use Rattle.bytecode.specs.Parts.{headerOf, codeOf, shapeIn}
-use Rattle.bytecode.proofs.Walk.{check-sound, refused≢accepted}
+use Rattle.bytecode.proofs.Walk.{check-sound}
 use Rattle.shapes.specs.declared.Measured.{Measured}
 use Rattle.machine.proofs.Changes.{names-length}
 use Rattle.before.specs.Before.{testedBefore, mayScan, beforeCode}
@@ -49,15 +49,6 @@ module _ (image : List ℕ) (found : State) (row : List ℤ) where
       → scannedOver (settingOf (shapeIn image) row) (drop place image) found cur ≡ scanOf image found row
   unfolding scanCode codeOf
   tests-pass e place cur p c = sym (scan-is image found row ∙ rw (← e, p, c))
-
--- an image that passes the tests is sound
-pub tests-sound : (image : List ℕ) (found : State) (row : List ℤ) → accepted tt ≡ beforeCode image found row → checkOf image ≡ accepted tt
-unfolding beforeCode
-tests-sound image found row e = go (checkOf image) refl (sym e)
-  where
-    go : (a : Answer (Unit {0})) → checkOf image ≡ a → mayScan a (shapeIn image) found row ≡ accepted tt → checkOf image ≡ accepted tt
-    go (accepted tt) h q = h
-    go (refused n p) h q = refused≢accepted tt n p q
 
 -- the memory of an image known to be sound
 pub known-fits : {image : List ℕ} {m : Measured} {state low high work : List ℤ} → KnownImage image m state low high → length work ≡ length state → FittingMemory (m .inputs) state low high work

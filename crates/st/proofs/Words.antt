@@ -6,7 +6,7 @@ use mathlib.Core.Bool.{Bool, true, false, not, _&&_, _||_, cond, false≢true}
 use mathlib.Core.List.{List, [], _∷_}
 use lib.Dec.{eqb, leb, ltb}
 use lib.ListN.{length}
-use borrow.Author.Tests.{ne-eqb, eqb-true, leb-true, ltb-true}
+use borrow.Author.Tests.{ne-eqb, eqb-true, leb-true, ltb-true, not-true}
 use Rattle.arith.proofs.Basics.{and-both}
 use Rattle.lexer.specs.Bytes.{bytes, sameBytes, capital, capitals}
 use Rattle.lexer.specs.Lexer.{isDigit, isLetter, isAlphanumeric, sameName}
@@ -118,10 +118,6 @@ neither : (s t : Bool) → (s || t) ≡ false → (s ≡ false) × (t ≡ false)
 neither true t e = absurd (false≢true (sym e))
 neither false t e = (refl, e)
 
-untrue : (t : Bool) → not t ≡ true → t ≡ false
-untrue true e = absurd (false≢true e)
-untrue false e = refl
-
 -- the first byte of an identifier is a part, and no digit
 begins-word : (a : ℕ) → (isLetter a || eqb a 95) ≡ true → (isPart a ≡ true) × (isDigit a ≡ false)
 unfolding isLetter isDigit
@@ -168,7 +164,7 @@ unfolding isIdentifier
 identifier-word a l h e =
     let x = and-both (isProduced (a ∷ l)) (not (isAny keywords (a ∷ l))) e in
     let b = begins-word a (produced-begins a l (x .0)) in
-    let k₀ = neither (sameName (a ∷ l) (bytes "VAR")) _ (untrue (isAny keywords (a ∷ l)) (x .1)) in
+    let k₀ = neither (sameName (a ∷ l) (bytes "VAR")) _ (not-true (isAny keywords (a ∷ l)) (x .1)) in
     let k₁ = neither (sameName (a ∷ l) (bytes "VAR_INPUT")) _ (k₀ .1) in
     let k₂ = neither (sameName (a ∷ l) (bytes "END_VAR")) _ (k₁ .1) in
     let k₃ = neither (sameName (a ∷ l) (bytes "DINT")) _ (k₂ .1) in

@@ -7,9 +7,9 @@ use lib.ListN.{length, take, drop}
 use lib.Seq.{length-take-le}
 use Rattle.bytecode.specs.Parts.{headerOf, codeOf}
 use Rattle.bytecode.proofs.Limits.{cells-untimed}
-use Rattle.checker.proofs.Checking.{rest-of}
 use Rattle.shapes.specs.Results.{ShapedAs, Measures}
 use Rattle.before.proofs.Stored.{ranges-stored}
+use Rattle.leb128.proofs.Stores.{rest-of}
 use Rattle.closed.proofs.Scans.{closed-refused, closed-timed, closed-from}
 use Rattle.closed.proofs.Profiles.{parts-walking}
 use borrow.Author.Needs.{needs}

@@ -2,14 +2,14 @@
 use mathlib.Core.Path.{refl, sym, ap, _∙_}
 use mathlib.Core.Logic.{⊎-elim}
 use Prim.Native.Nat.{_-_, _%_, _<_}
-use native.Mathlib.Nat.{mod-lt}
+use native.Mathlib.Nat.{mod-lt, div-mul-le-self}
 use native.Mathlib.Omega.{arith}
 use borrow.Author.Needs.{needs}
 use lib.ListN.{length}
 use Rattle.closed.specs.Closed.{productOfSizes}
 use Rattle.closed.specs.Inner.Parts.{working, Walking}
 use Rattle.closed.proofs.Numbering.{quotient-below}
-use Rattle.closed.proofs.Walks.{AtState, AtRow, walking-kept, outer-begins, outer-ends, inner-begins, inner-stops, inner-goes, inner-ends, begins-before, begins-behind, few-states}
+use Rattle.closed.proofs.Walks.{AtState, AtRow, walking-kept, outer-begins, outer-ends, inner-begins, inner-stops, inner-goes, inner-ends, begins-behind, few-states}
 use Rattle.closed.proofs.walk.Statement.{statement}
 use Rattle.closed.proofs.walk.Tie as tie
 
@@ -48,7 +48,7 @@ states-holds c =
     record {
       memory = walking-kept (at-nth .nth .kept .1 .1 .1 .0) (c .before .nth2 .kept .1 .1 .1 .0) refl refl (start .pre .0);
       among = start .pre .1 .1;
-      begun = λ h. begins-before (start .args .first) (start .args .rows);
+      begun = λ h. div-mul-le-self (start .args .first) (start .args .rows);
       open-yet = λ h. begins-behind (start .args .first) (start .args .rows) (start .pre .1 .0);
       whole = λ ns is r q e f.
           outer-begins (working ns (start .args .code .now)) ns is (start .args .rows) (start .args .first) (start .args .end) e (at-nth .nth .last .1 .1 .1 .0) (c .before .nth2 .last .1 .1 .1 .0)

@@ -7,10 +7,11 @@ use lib.Seq.{length-take-le}
 use Rattle.limits.specs.Answer.{accepted}
 use Rattle.semantics.specs.Shape.{settingOf}
 use Rattle.bytecode.specs.Parts.{shapeIn}
-use Rattle.checker.proofs.Checking.{rest-of}
 use Rattle.before.specs.Before.{beforeCode}
 use Rattle.before.specs.Inner.Known.{beforeAnswer, Begun, BegunBy}
-use Rattle.scan.proofs.Scans.{tests-refuse, tests-pass, tests-sound, within-image}
+use Rattle.before.proofs.Begins.{tests-sound}
+use Rattle.leb128.proofs.Stores.{rest-of}
+use Rattle.scan.proofs.Scans.{tests-refuse, tests-pass, within-image}
 use borrow.Author.Needs.{needs}
 use Rattle.scan.proofs.scan_begun.Statement.{statement}
 use Rattle.scan.proofs.scan_begun.Tie as tie

@@ -8,7 +8,7 @@ use lib.Seq.{length-take-le}
 use borrow.Author.Needs.{needs}
 use Rattle.bytecode.specs.Parts.{limitsFrom}
 use Rattle.bytecode.proofs.SoundHeader.{headed-stands, headed-broken, header-not-broken}
-use Rattle.checker.proofs.Checking.{rest-of}
+use Rattle.leb128.proofs.Stores.{rest-of}
 use Rattle.shapes.proofs.Measuring.{table-long, table-zeros, same-times, limits-are, limits-fit, timed-measures}
 use Rattle.shapes.proofs.shape_times.Statement.{statement}
 use Rattle.shapes.proofs.shape_times.Tie as tie

@@ -5,8 +5,9 @@ use lib.ListN.{length-drop}
 use lib.Seq.{length-take-le}
 use borrow.Author.Needs.{needs}
 use Rattle.bytecode.proofs.SoundHeader.{headed-stands, headed-broken}
+use Rattle.leb128.proofs.Stores.{rest-of}
 use Rattle.checker.specs.Results.{checkedAnswer, CheckedWithin}
-use Rattle.checker.proofs.Checking.{rest-of, broken-header, room-low, room-high, room-start, timed-walked}
+use Rattle.checker.proofs.Checking.{broken-header, room-low, room-high, room-start, timed-walked}
 use Rattle.checker.proofs.timed.survey_ranges.Statement.{statement}
 use Rattle.checker.proofs.timed.survey_ranges.Tie as tie
 

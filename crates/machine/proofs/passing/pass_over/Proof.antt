@@ -5,9 +5,9 @@ use native.Mathlib.Omega.{arith}
 use lib.ListN.{getD}
 use borrow.Author.Tests.{ne-eqb}
 use Rattle.bytecode.specs.Instructions.{instructionOf, hasOperand}
-use Rattle.bytecode.proofs.Codes.{none-below, none-above}
+use Rattle.bytecode.proofs.Codes.{none-below, none-above, no-operand}
 use Rattle.machine.proofs.Codes.{pass-other}
-use Rattle.machine.proofs.Fetches.{no-operand, low-operand, high-operand, fetch-unlisted}
+use Rattle.machine.proofs.Fetches.{low-operand, high-operand, fetch-unlisted}
 use Rattle.machine.proofs.PassingOver.{broken-over, alone-over, operand-over}
 use borrow.Author.Needs.{needs}
 use Rattle.machine.proofs.passing.pass_over.Statement.{statement}
