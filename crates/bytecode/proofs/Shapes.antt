@@ -135,9 +135,6 @@ module _ (k : Setting) (n first : ℕ) (owner : ℕ → ℕ) (ts : List Timer) (
     h .size,
     h .names,
     each-map (λ x. Placed k n first owner x × (getD ls (x .id) 0 ≡ cond (getD known (x .watched) false) (x .limit) 0)) (λ x. getD ls (x .id) 0 ≡ x .limit) (λ x q.
-        let a = q .0 .watches in
-        let b = q .0 .after in
-        let c = q .0 .below in
         let e : getD known (x .watched) false ≡ true = all-true known o (x .watched) (omega arith) in
         rw e at (q .1)) ts (each-both (Placed k n first owner) (λ x. getD ls (x .id) 0 ≡ cond (getD known (x .watched) false) (x .limit) 0) ts placed (h .timers)),
   )

@@ -87,7 +87,6 @@ module _ (bytes : List ℕ) {low₀ high₀ start₀ low high start : List ℤ} 
 
     ranges-stand : RangesStand (x .ranges) (take names low) (take names high) (take names start)
     ranges-stand =
-        let few = x .extends .few in
         record {
           lower = stored (λ n. n .low) (x .ranges) names low₀ low (x .many) (omega arith) (x .lower);
           upper = stored (λ n. n .high) (x .ranges) names high₀ high (x .many) (omega arith) (x .upper);

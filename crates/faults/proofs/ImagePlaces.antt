@@ -57,7 +57,6 @@ item-fails {A} {B} (got a next) at test k P place f e = go (test a) refl e
     go : (t : Bool) → test a ≡ t → tested t at (k a next) ≡ refused 11 place → Fails (got a next) at test k P place
     go true h q = later a next refl (true-T (test a) h) q
     go false h q = here (cc) (λ x.
-        let r = x .read in
         let i : x .what ≡ a = cc in
         let j : T (test a) = subst (λ (y : A). T (test y)) i (f (x .what) (x .kept)) in
         subst T h j)
@@ -154,8 +153,6 @@ header-fails bytes place e = go (checkCounts bytes) refl e
     go (accepted c) h f =
         let x = counts-fit bytes c h in
         let y = ranges-fail bytes (c .names) (c .place) place (headerWith (c .inputs)) (λ ns next q. refused≢accepted (record { inputs = c .inputs; ranges = ns; place = next }) 11 place (sym q)) f in
-        let s = x .size in
-        let w = x .few in
         I.range (c .inputs) (x .variables) (y .ranges) (y .to)
         (record { at₁ = x .at₁; at₂ = c .place; inputs-read = x .inputs-read; variables-read = x .variables-read; few = omega arith; ranges-read = y .stands; fit = y .fit }) (omega (arith, y .short)) (y .breaks)
 

@@ -116,7 +116,6 @@ ahead-spells text n m (t ∷ ts) us h (n1, st, g) ah = λ k s m2 e.
     let q : token (st .kind) (st .start) n1 ≡ token k s m2 = sym (is-read st) ∙ e in
     let i : st .start ≡ s = cc in
     let j : n1 ≡ m2 = cc in
-    let b = st .is-token .some-bytes in
     let w : t ≡ normal (part text s m2) = sym (st .spelled) ∙ rw (i, j) refl in
     (λ z. let p = end-place text n s m2 h (e ∙ ap (λ (x : Kind). token x s m2) z) in absurd (omega (arith, p .0, p .1)), λ z. (ts ++ us, ap (λ (v : List ℕ). v ∷ (ts ++ us)) w))
 

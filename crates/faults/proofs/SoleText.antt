@@ -212,7 +212,6 @@ begins-after text at n e w ts k place next h st sp q =
     let i = stands-in normally text at n w h st .1 in
     let j = spells-in normally text n e ts i sp in
     let m = token-at-moved text e k place next (j .1) q in
-    let b = st .is-token .some-bytes in
     omega (arith, j .0, m .0)
 
 same-before : (text : List ℕ) (place : ℕ) (k : Kind) (next end : ℕ) (k2 : Kind) (next2 end2 : ℕ) (at : ℕ) (ts us : Tokens) → at ≤ length text → Spells normal text at end ts → tokenAt text end ≡ token k place next → Spells normal text at end2 us → tokenAt text end2 ≡ token k2 place next2 → (ts ≡ us) × (end ≡ end2)

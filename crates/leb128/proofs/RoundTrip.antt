@@ -9,8 +9,8 @@ use native.Mathlib.Numerals.{add-one}
 use native.Mathlib.Omega.{arith}
 use lib.Dec.{T, leb, ltb, lit<}
 use lib.IntN.{ℤ}
-use lib.ListN.{length, take, drop, set, take-append-drop}
-use lib.Seq.{sets, drop-drop, drop-append-seam, getD-drop}
+use lib.ListN.{length, take, drop, take-append-drop}
+use lib.Seq.{drop-drop, drop-append-seam, getD-drop}
 use borrow.Author.Tests.{lt-ltb, le-ltb, leb-true, leb-false, ltb-true, ltb-false}
 use Rattle.leb128.specs.Numbers.{groups, number, Found, found, none, grouped, numberIn, got, nothing, below32, numberAt, zigzag, signedAt}
 use Rattle.arith.specs.Values.{isInt32}
@@ -75,11 +75,6 @@ spelled (b ∷ s) h =
 pub shortest : (s : List ℕ) (v k : ℕ) → Bytes s → numberIn s ≡ found v k → k ≤ 5 → number v ≡ take k s
 unfolding number
 shortest s v k h e g = subst (Spelled s) e (spelled s h) 4 g
-
--- ---- two runs of stores, one behind the other, are one run
-pub sets-join : {A : Type 0} (l : List A) (i : ℕ) (a b : List A) → sets (sets l i a) (i + length a) b ≡ sets l i (a ++ b)
-sets-join l i [] b = ap (λ (k : ℕ). sets l k b) (omega arith)
-sets-join l i (x ∷ a) b = ap (λ (k : ℕ). sets (sets (set l i x) (suc i) a) k b) (omega arith) ∙ sets-join (set l i x) (suc i) a b
 
 -- ---- numbers at a place of an image
 

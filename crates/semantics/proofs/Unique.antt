@@ -367,9 +367,6 @@ module _ (k : Setting) (s : State) (n first : ℕ) (owner : ℕ → ℕ) (ts : L
     (λ i h. rw (ok-inj e)),
     tt,
     each-map (Placed k n first owner) (ToCome k s u known) (λ x p h.
-        let a = p .watches in
-        let b = p .after in
-        let c = p .below in
         absurd (false≢true (sym h ∙ all-true known o (x .watched) (omega arith)))) ts placed,
   )
   scan-new (r ∷ rs) known t u l m waiting o e =

@@ -58,7 +58,6 @@ module _ {room : ℕ} {before : Session} {part : List ℕ} {taken : ℕ} {s : Se
       let c : taken + suc (takenWith ((length out - put) - length (putBy s b)) (after s b) (drop (suc taken) part)) ≡ takenWith room before part =
       rw (d, le-ltb (length out - put) lineRoom r) at (h .count)
       in
-      let q = p .place in
       let m : length more - behind ≡ (length out - put) - length (putBy s b) = omega arith in
       let i : putOver before (take taken part) ++ (putBy s b ++ []) ≡ putOver before (take (taken + 1) part) =
       rw t (ap (λ (x : Session). putOver before (take taken part) ++ (putBy x b ++ [])) (h .session) ∙ sym (put-append before (take taken part) (b ∷ [])))

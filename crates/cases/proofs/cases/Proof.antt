@@ -72,10 +72,9 @@ unfolding kindOf
 returns-3 c =
     let at-read = c .before .before .before .before in
     let at-token-at = at-read .before .before in
-    let at-loop = at-token-at .before in
     let f = found-token _ _ (at-token-at .token-at .ensures) (at-read .read .given .1) in
     let i = same-kinds _ 19 (c .before .if1 .left) in
-    casing-full (at-loop .loop .inv .0) f i (c .if2 .taken)
+    casing-full (at-token-at .before .loop .inv .0) f i (c .if2 .taken)
 
 case-requires : tie.Need-case-requires Inv-loop μ-loop
 unfolding kindOf
@@ -97,8 +96,7 @@ same-length-11 c = c .before .before .before .before .before .before .before .be
 same-length-12 : tie.Need-same-length-12 Inv-loop μ-loop
 same-length-12 c =
     let at-case = c .before .before .before .before in
-    let at-loop = at-case .before .before .before .before .before .before .before .before .before in
-    at-case .case .kept .1 .1 .1 .1 .1 .1 .1 .0 ∙ at-loop .loop .inv .3
+    at-case .case .kept .1 .1 .1 .1 .1 .1 .1 .0 ∙ (at-case .before .before .before .before .before .before .before .before .before) .loop .inv .3
 
 returns-4 : tie.Need-returns-4 Inv-loop μ-loop
 unfolding kindOf
@@ -122,8 +120,7 @@ same-length-14 c = simp length-set (c .before .before .before .before .before .b
 same-length-15 : tie.Need-same-length-15 Inv-loop μ-loop
 same-length-15 c =
     let at-case = c .before .before .before .before .before .before .before .before in
-    let at-loop = at-case .before .before .before .before .before .before .before .before .before in
-    at-case .case .kept .1 .1 .1 .1 .1 .1 .1 .0 ∙ at-loop .loop .inv .3
+    at-case .case .kept .1 .1 .1 .1 .1 .1 .1 .0 ∙ (at-case .before .before .before .before .before .before .before .before .before) .loop .inv .3
 
 returns-5 : tie.Need-returns-5 Inv-loop μ-loop
 unfolding kindOf
@@ -149,8 +146,7 @@ same-length-17 c = simp length-set (c .before .before .before .before .before .b
 same-length-18 : tie.Need-same-length-18 Inv-loop μ-loop
 same-length-18 c =
     let at-case = c .before .before .before .before .before .before .before .before .before .before .before .before in
-    let at-loop = at-case .before .before .before .before .before .before .before .before .before in
-    at-case .case .kept .1 .1 .1 .1 .1 .1 .1 .0 ∙ at-loop .loop .inv .3
+    at-case .case .kept .1 .1 .1 .1 .1 .1 .1 .0 ∙ (at-case .before .before .before .before .before .before .before .before .before) .loop .inv .3
 
 returns-6 : tie.Need-returns-6 Inv-loop μ-loop
 unfolding kindOf

@@ -54,8 +54,7 @@ begins-among c ns r = let z = sized-by (c .before) ns r in rw (← z .first, ←
 
 slice-aggregate-walk : tie.Need-slice-aggregate-walk
 slice-aggregate-walk c =
-    let start = c .before .before .before .before .before .before .before .before .before in
-    sym (length-take-le _ _ (start .pre .0))
+    sym (length-take-le _ _ (c .before .before .before .before .before .before .before .before .before .pre .0))
 
 slice-aggregate-walk-2 : tie.Need-slice-aggregate-walk-2
 slice-aggregate-walk-2 c =

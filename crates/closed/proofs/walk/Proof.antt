@@ -81,8 +81,7 @@ is-refused-requires c κs =
 
 next-requires : tie.Need-next-requires Inv-loop μ-loop Inv-states μ-states
 next-requires c κs =
-    let at-loop = c .before .before .before .before .before .before .before .before .before .before in
-    let m = at-loop .loop .inv .memory in (m .row-highs, m .rows)
+    let m = c .before .before .before .before .before .before .before .before .before .before .loop .inv .memory in (m .row-highs, m .rows)
 
 add-done : tie.Need-add-done Inv-loop μ-loop Inv-states μ-states
 add-done c =
@@ -157,23 +156,19 @@ left c =
 
 same-length : tie.Need-same-length Inv-loop μ-loop Inv-states μ-states
 same-length c =
-    let start = c .before .before .before .before .before .before .before .before .before .before in
-    left (c .before) .states ∙ sym (start .pre .0 .states)
+    left (c .before) .states ∙ sym (c .before .before .before .before .before .before .before .before .before .before .pre .0 .states)
 
 same-length-2 : tie.Need-same-length-2 Inv-loop μ-loop Inv-states μ-states
 same-length-2 c =
-    let start = c .before .before .before .before .before .before .before .before .before .before in
-    left (c .before) .rows ∙ sym (start .pre .0 .rows)
+    left (c .before) .rows ∙ sym (c .before .before .before .before .before .before .before .before .before .before .pre .0 .rows)
 
 same-length-3 : tie.Need-same-length-3 Inv-loop μ-loop Inv-states μ-states
 same-length-3 c =
-    let start = c .before .before .before .before .before .before .before .before .before .before in
-    left (c .before) .works ∙ sym (start .pre .0 .works)
+    left (c .before) .works ∙ sym (c .before .before .before .before .before .before .before .before .before .before .pre .0 .works)
 
 same-length-4 : tie.Need-same-length-4 Inv-loop μ-loop Inv-states μ-states
 same-length-4 c =
-    let start = c .before .before .before .before .before .before .before .before .before .before in
-    left (c .before) .stack ∙ sym (start .pre .0 .stack)
+    left (c .before) .stack ∙ sym (c .before .before .before .before .before .before .before .before .before .before .pre .0 .stack)
 
 -- left by the label: the loop's own end has none left
 returns : tie.Need-returns Inv-loop μ-loop Inv-states μ-states
@@ -192,23 +187,19 @@ returns c =
 
 same-length-5 : tie.Need-same-length-5 Inv-loop μ-loop Inv-states μ-states
 same-length-5 c =
-    let start = c .before .before .before .before .before .before .before .before .before .before in
-    left (c .before) .states ∙ sym (start .pre .0 .states)
+    left (c .before) .states ∙ sym (c .before .before .before .before .before .before .before .before .before .before .pre .0 .states)
 
 same-length-6 : tie.Need-same-length-6 Inv-loop μ-loop Inv-states μ-states
 same-length-6 c =
-    let start = c .before .before .before .before .before .before .before .before .before .before in
-    left (c .before) .rows ∙ sym (start .pre .0 .rows)
+    left (c .before) .rows ∙ sym (c .before .before .before .before .before .before .before .before .before .before .pre .0 .rows)
 
 same-length-7 : tie.Need-same-length-7 Inv-loop μ-loop Inv-states μ-states
 same-length-7 c =
-    let start = c .before .before .before .before .before .before .before .before .before .before in
-    left (c .before) .works ∙ sym (start .pre .0 .works)
+    left (c .before) .works ∙ sym (c .before .before .before .before .before .before .before .before .before .before .pre .0 .works)
 
 same-length-8 : tie.Need-same-length-8 Inv-loop μ-loop Inv-states μ-states
 same-length-8 c =
-    let start = c .before .before .before .before .before .before .before .before .before .before in
-    left (c .before) .stack ∙ sym (start .pre .0 .stack)
+    left (c .before) .stack ∙ sym (c .before .before .before .before .before .before .before .before .before .before .pre .0 .stack)
 
 returns-2 : tie.Need-returns-2 Inv-loop μ-loop Inv-states μ-states
 returns-2 c =

@@ -38,7 +38,6 @@ returns c =
 returns-2 : tie.Need-returns-2 Inv-loop μ-loop
 returns-2 c =
     let l = c .before .before .before .before .before .loop in
-    let e = c .before .before .wide .ensures in
     sym (l .inv .2 ∙ joined-at _ _ _ _ (c .before .before .before .before .loop-test .taken) (omega arith) ∙ joined-over _ _ _ _ (omega arith))
 
 -- what the groups so far count stays below what a 1 of the next counts
@@ -47,7 +46,6 @@ stays-below : (c : tie.Else2 Inv-loop μ-loop) →
     l .low + (c .before .before .wide .result - 128) * l .scale < l .scale * 128
 stays-below c =
     let l = c .before .before .before .before .before .loop in
-    let e = c .before .before .wide .ensures in
     low-below _ _ _ (l .inv .0) (omega (arith, c .before .before .before .shared-slice-known2 .given (l .i)))
 
 mul-low : tie.Need-mul-low Inv-loop μ-loop

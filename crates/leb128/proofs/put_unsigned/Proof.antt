@@ -63,7 +63,6 @@ same-length c = ap length (stored c) ∙ simp length-sets
 returns : tie.Need-returns Inv-loop μ-loop
 returns c =
     let l = c .before .before .before .before .before .loop in
-    let p = c .before .before .put-byte2 in
     let e = groups-one (l .rest) (c .before .before .before .before .loop-test .left) in
     let one : length (number (l .rest)) ≡ 1 = rw e in
     (omega arith, stored c)

@@ -22,8 +22,7 @@ returns c = ap signed (sym (ap unsignedRead (c .enum-told .given .1)) ∙ c .bef
 
 unzigzag-requires : tie.Need-unzigzag-requires
 unzigzag-requires c κs =
-    let r = c .before .before .before in
-    subst Below32 (sym (r .unsigned-at .ensures) ∙ ap unsignedRead (c .before .u .given .1)) (below _ _)
+    subst Below32 (sym (c .before .before .before .unsigned-at .ensures) ∙ ap unsignedRead (c .before .u .given .1)) (below _ _)
 
 returns-2 : tie.Need-returns-2
 unfolding signedAt

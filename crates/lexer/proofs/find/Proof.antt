@@ -39,8 +39,7 @@ returns : tie.Need-returns Inv-loop μ-loop
 returns c =
     let l = c .before .before .before .before .before in
     let at-loop = l .before in
-    let start = at-loop .before .before .before .before .before in
-    sym (id-here _ _ _ _ _ (start .pre) _ (l .loop-test .taken)
+    sym (id-here _ _ _ _ _ (at-loop .before .before .before .before .before .pre) _ (l .loop-test .taken)
     (ap (sameName _) (sym (c .before .before .name .ensures)) ∙ sym (c .before .same-name .ensures) ∙ c .if1 .taken)) ∙ at-loop .loop .inv
 
 add-i : tie.Need-add-i Inv-loop μ-loop
@@ -53,8 +52,7 @@ loop-again : tie.Need-loop-again Inv-loop μ-loop
 loop-again c =
     let l = c .before .before .before .before .before in
     let at-loop = l .before in
-    let start = at-loop .before .before .before .before .before in
-    sym (id-next _ _ _ _ _ (start .pre) _ (l .loop-test .taken)
+    sym (id-next _ _ _ _ _ (at-loop .before .before .before .before .before .pre) _ (l .loop-test .taken)
     (ap (sameName _) (sym (c .before .before .name .ensures)) ∙ sym (c .before .same-name .ensures) ∙ c .if1 .left)) ∙ at-loop .loop .inv
 
 returns-2 : tie.Need-returns-2 Inv-loop μ-loop

@@ -15,9 +15,8 @@ returns c = header-unbroken (c .before .before .before .before .before .before .
 
 has-st-requires : tie.Need-has-st-requires
 has-st-requires c κs =
-    let k = c .before .before .before .before .before .before .before .before .before .before .before .before .before .before .before .before .pre .0 in
     let h = headed-stands (c .before .before .before .before .before .before .header .ensures) (c .before .headed .given .1) in
-    count-held k h
+    count-held (c .before .before .before .before .before .before .before .before .before .before .before .before .before .before .before .before .pre .0) h
 
 returns-2 : tie.Need-returns-2
 returns-2 c =

@@ -20,7 +20,6 @@ clip-requires c κs = tt
 
 loop-holds : tie.Need-loop-holds Inv-loop μ-loop
 loop-holds c =
-    let e = c .clip .ensures in
     record { stages = refl; put = putting _ _ _ (omega arith); place = refl }
 
 is-rows-requires : tie.Need-is-rows-requires Inv-loop μ-loop
@@ -48,8 +47,7 @@ loop-again c =
     let at-if1 = c .before .before .before .before .before .before in
     let at-is-rows = at-if1 .before in
     let at-loop-test = at-is-rows .before in
-    let at-loop = at-loop-test .before in
-    divide-byte (at-loop .loop .inv) (at-loop-test .loop-test .taken) (sym (at-is-rows .is-rows .ensures) ∙ at-if1 .if1 .left) (c .stage-after .ensures) (c .before .before .before .put-text .ensures)
+    divide-byte (at-loop-test .before .loop .inv) (at-loop-test .loop-test .taken) (sym (at-is-rows .is-rows .ensures) ∙ at-if1 .if1 .left) (c .stage-after .ensures) (c .before .before .before .put-text .ensures)
 
 same-length-2 : tie.Need-same-length-2 Inv-loop μ-loop
 same-length-2 c = c .before .loop .inv .put .same

@@ -21,8 +21,7 @@ returns-4 : tie.Need-returns-4
 returns-4 c =
     let at-holds-only = c .before .before .before .before .before in
     let at-if1 = at-holds-only .before in
-    let start = at-if1 .before .before in
-    (rw (pick-is, open-yes (start .args .w .gate) (at-if1 .if1 .left), sym (at-holds-only .holds-only .ensures) ∙ not-false _ (c .before .before .before .before .if2 .left), sym (c .before .before .before .is-unset .ensures) ∙ not-false _ (c .before .before .if3 .left), sym (c .before .may-pick .ensures) ∙ not-true _ (c .if4 .taken)), tt)
+    (rw (pick-is, open-yes (at-if1 .before .before .args .w .gate) (at-if1 .if1 .left), sym (at-holds-only .holds-only .ensures) ∙ not-false _ (c .before .before .before .before .if2 .left), sym (c .before .before .before .is-unset .ensures) ∙ not-false _ (c .before .before .if3 .left), sym (c .before .may-pick .ensures) ∙ not-true _ (c .if4 .taken)), tt)
 
 returns-5 : tie.Need-returns-5
 returns-5 c =

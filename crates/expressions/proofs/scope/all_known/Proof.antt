@@ -35,8 +35,7 @@ loop-again c =
 
 returns : tie.Need-returns Inv-loop μ-loop
 returns c =
-    let at-loop = c .before .before .before .before in
-    all-stop _ _ _ (c .before .before .if1 .taken) (sym (c .before .is-known .ensures) ∙ c .if2 .left) ∙ at-loop .loop .inv .1
+    all-stop _ _ _ (c .before .before .if1 .taken) (sym (c .before .is-known .ensures) ∙ c .if2 .left) ∙ (c .before .before .before .before) .loop .inv .1
 
 returns-2 : tie.Need-returns-2 Inv-loop μ-loop
 returns-2 c = all-end _ _ _ (c .if1 .left) ∙ c .before .before .loop .inv .1
