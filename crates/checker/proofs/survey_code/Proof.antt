@@ -33,17 +33,5 @@ returns-2 c =
 pub survey-code-spec : {M : Type 1} → statement M
 survey-code-spec =
     tie.close
-    (tie.spec
-    (λ c. search needs)
-    (λ c. search needs)
-    (λ c. search needs)
-    (λ c κs. search needs)
-    walk-from-requires
-    (λ c. search needs)
-    (λ c. search needs)
-    add-t13
-    (λ c. search needs)
-    (λ c κs. search needs)
-    returns
-    returns-2
-    (λ c. search needs))
+    (tie.spec (λ c. search needs) (λ c. search needs) (λ c. search needs) (λ c κs. search needs) walk-from-requires (λ c. search needs)
+    (λ c. search needs) add-t13 (λ c. search needs) (λ c κs. search needs) returns returns-2 (λ c. search needs))

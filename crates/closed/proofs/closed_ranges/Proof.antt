@@ -111,31 +111,8 @@ returns-4 c =
 pub closed-ranges-spec : {M : Type 1} → statement M
 closed-ranges-spec =
     tie.close
-    (tie.spec
-    (λ c κs. search needs)
-    slice-aggregate-product-of-sizes
-    slice-aggregate-product-of-sizes-2
-    (λ c κs. search needs)
-    mul-all
-    returns
-    returns-2
-    (λ c κs. search needs)
-    slice-aggregate-walk
-    slice-aggregate-walk-2
-    walk-requires
-    (λ c. search needs)
-    (λ c. search needs)
-    (λ c. search needs)
-    (λ c. search needs)
-    (λ c. search needs)
-    (λ c. search needs)
-    returns-3
-    fill-requires
-    fill-requires-2
-    (λ c. search needs)
-    (λ c. search needs)
-    (λ c. search needs)
-    (λ c. search needs)
-    (λ c. search needs)
-    (λ c. search needs)
+    (tie.spec (λ c κs. search needs) slice-aggregate-product-of-sizes slice-aggregate-product-of-sizes-2 (λ c κs. search needs) mul-all
+    returns returns-2 (λ c κs. search needs) slice-aggregate-walk slice-aggregate-walk-2 walk-requires (λ c. search needs)
+    (λ c. search needs) (λ c. search needs) (λ c. search needs) (λ c. search needs) (λ c. search needs) returns-3 fill-requires
+    fill-requires-2 (λ c. search needs) (λ c. search needs) (λ c. search needs) (λ c. search needs) (λ c. search needs) (λ c. search needs)
     returns-4)

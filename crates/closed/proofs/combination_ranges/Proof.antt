@@ -99,23 +99,6 @@ returns-5 c =
 pub combination-ranges-spec : {M : Type 1} → statement M
 combination-ranges-spec =
     tie.close
-    (tie.spec
-    (λ c κs. search needs)
-    slice-aggregate-product-of-sizes
-    slice-aggregate-product-of-sizes-2
-    product-requires-2
-    mul-if1
-    returns
-    returns-2
-    returns-3
-    (λ c. search needs)
-    returns-4
-    (λ c. search needs)
-    (λ c κs. search needs)
-    slice-aggregate-nth
-    slice-aggregate-nth-2
-    (λ c. search needs)
-    nth-requires-2
-    (λ c. search needs)
-    (λ c. search needs)
-    returns-5)
+    (tie.spec (λ c κs. search needs) slice-aggregate-product-of-sizes slice-aggregate-product-of-sizes-2 product-requires-2 mul-if1 returns
+    returns-2 returns-3 (λ c. search needs) returns-4 (λ c. search needs) (λ c κs. search needs) slice-aggregate-nth slice-aggregate-nth-2
+    (λ c. search needs) nth-requires-2 (λ c. search needs) (λ c. search needs) returns-5)

@@ -65,16 +65,4 @@ returns c =
     subst (λ (n : ℕ). IsNth ns n (c .before .loop .values)) e (c .before .loop .inv .2 ns r (omega (arith, e, h)))
 
 pub nth-spec : {M : Type 1} → statement M
-nth-spec =
-    tie.close
-    (tie.spec
-    Inv-loop
-    μ-loop
-    fill-requires
-    loop-holds
-    next-requires
-    add-i
-    loop-less
-    loop-again
-    same-length
-    returns)
+nth-spec = tie.close (tie.spec Inv-loop μ-loop fill-requires loop-holds next-requires add-i loop-less loop-again same-length returns)

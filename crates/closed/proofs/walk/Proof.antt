@@ -27,14 +27,8 @@ Inv-states code low high row-low row-high rows first end state₀ row₀ work₀
 abbrev μ-states : tie.MeasureT-states
 μ-states code low high row-low row-high rows first end state₀ row₀ work₀ vals₀ i₀ done₀ state row work vals i done = end - done
 
-div-i : tie.Need-div-i Inv-loop μ-loop Inv-states μ-states
-div-i c = search needs
-
 nth-requires : tie.Need-nth-requires Inv-loop μ-loop Inv-states μ-states
 nth-requires c κs = (c .before .before .pre .0 .highs, c .before .before .pre .0 .states)
-
-rem-nth : tie.Need-rem-nth Inv-loop μ-loop Inv-states μ-states
-rem-nth c = search needs
 
 nth-requires-2 : tie.Need-nth-requires-2 Inv-loop μ-loop Inv-states μ-states
 nth-requires-2 c κs =
@@ -212,4 +206,4 @@ returns-2 c =
 pub walk-spec : {M : Type 1} → statement M
 walk-spec =
     tie.close
-    (tie.spec Inv-loop μ-loop Inv-states μ-states div-i nth-requires rem-nth nth-requires-2 states-holds mul-behind behind-requires loop-holds is-refused-requires next-requires add-done loop-less loop-again next-requires-2 add-i states-less states-again same-length same-length-2 same-length-3 same-length-4 returns same-length-5 same-length-6 same-length-7 same-length-8 returns-2)
+    (tie.spec Inv-loop μ-loop Inv-states μ-states (λ c. search needs) nth-requires (λ c. search needs) nth-requires-2 states-holds mul-behind behind-requires loop-holds is-refused-requires next-requires add-done loop-less loop-again next-requires-2 add-i states-less states-again same-length same-length-2 same-length-3 same-length-4 returns same-length-5 same-length-6 same-length-7 same-length-8 returns-2)

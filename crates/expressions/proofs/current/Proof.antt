@@ -54,16 +54,5 @@ returns-4 c =
 pub current-spec : {M : Type 1} → statement M
 current-spec =
     tie.close
-    (tie.spec
-    (λ c κs. search needs)
-    returns
-    (λ c κs. search needs)
-    (λ c κs. search needs)
-    (λ c. search needs)
-    (λ c. search needs)
-    returns-2
-    is-known-requires
-    instruction-requires
-    (λ c. search needs)
-    returns-3
-    returns-4)
+    (tie.spec (λ c κs. search needs) returns (λ c κs. search needs) (λ c κs. search needs) (λ c. search needs) (λ c. search needs) returns-2
+    is-known-requires instruction-requires (λ c. search needs) returns-3 returns-4)

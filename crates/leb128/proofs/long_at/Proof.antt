@@ -48,12 +48,6 @@ stays-below c =
     let l = c .before .before .before .before .before .loop in
     low-below _ _ _ (l .inv .0) (omega (arith, c .before .before .before .shared-slice-known2 .given (l .i)))
 
-mul-low : tie.Need-mul-low Inv-loop μ-loop
-mul-low c = omega (arith, stays-below c)
-
-add-low : tie.Need-add-low Inv-loop μ-loop
-add-low c = omega (arith, stays-below c)
-
 loop-again : tie.Need-loop-again Inv-loop μ-loop
 loop-again c =
     let l = c .before .before .before .before .before .loop in
@@ -68,19 +62,6 @@ returns-3 c = sym (c .before .loop .inv .2 ∙ rw (at-end _ _ (c .loop-test .lef
 pub long-at-spec : {M : Type 1} → statement M
 long-at-spec =
     tie.close
-    (tie.spec
-    Inv-loop
-    μ-loop
-    loop-holds
-    (λ c. search needs)
-    (λ c κs. search needs)
-    last-requires
-    returns
-    returns-2
-    mul-low
-    add-low
-    (λ c. search needs)
-    (λ c. search needs)
-    (λ c. search needs)
-    loop-again
-    returns-3)
+    (tie.spec Inv-loop μ-loop loop-holds (λ c. search needs) (λ c κs. search needs) last-requires returns returns-2
+    (λ c. omega (arith, stays-below c)) (λ c. omega (arith, stays-below c)) (λ c. search needs) (λ c. search needs) (λ c. search needs)
+    loop-again returns-3)

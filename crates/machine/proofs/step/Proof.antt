@@ -19,6 +19,4 @@ returns-2 c =
     (λ ns q. r .0 ns q ∙ act-stepped ns (a .prev .now) (instructionOf (a .code) (a .n)) (a .m .passing) (a .m .picked) _ (a .cur .now) (at-if1 .if1 .left), r .1)
 
 pub step-spec : {M : Type 1} → statement M
-step-spec =
-    tie.close
-    (tie.spec (λ c κs. search needs) returns (λ c κs. search needs) (λ c. search needs) (λ c. search needs) returns-2)
+step-spec = tie.close (tie.spec (λ c κs. search needs) returns (λ c κs. search needs) (λ c. search needs) (λ c. search needs) returns-2)

@@ -65,17 +65,6 @@ pub +in-limit-spec : {M : Type 1} → statement M
     close
     μ-in-limit
     λ t. in-limit-lts.spec
-    (claims t)
-    (in-limit-at t)
-    in-limit.Post
-    (in-limit-returns t)
-    (in-limit-returns-2 t)
-    (in-limit-returns-3 t)
-    (in-limit-shared-slice-read-share-fits t)
-    (in-limit-share-fits-requires t)
-    (in-limit-returns-4 t)
-    (in-limit-sub-in-limit t)
-    (in-limit-part-in-limit-start t)
-    (in-limit-part-in-limit-end t)
-    (in-limit-in-limit-requires t)
-    (in-limit-returns-5 t)
+    (claims t) (in-limit-at t) in-limit.Post (in-limit-returns t) (in-limit-returns-2 t) (in-limit-returns-3 t)
+    (in-limit-shared-slice-read-share-fits t) (in-limit-share-fits-requires t) (in-limit-returns-4 t) (in-limit-sub-in-limit t)
+    (in-limit-part-in-limit-start t) (in-limit-part-in-limit-end t) (in-limit-in-limit-requires t) (in-limit-returns-5 t)

@@ -32,9 +32,6 @@ high-room c = omega (arith, c .before .before .before .before .before .before .b
 work-room : (c : tie.After-known-told2) → length (c .before .before .before .before .before .before .before .before .before .before .before .before .args .state .now) ≤ length (c .before .before .before .before .before .before .before-code .last .1 .1 .1 .1 .1 .0)
 work-room c = omega (arith, c .before .before .before .before .before .before .before .before .before .before .before .before .pre .copies (has c .few), c .before .before .before .before .before .before .before-code .kept .1 .1 .1 .1 .1 .0)
 
-sub-run-copy : tie.Need-sub-run-copy
-sub-run-copy c = has c .inside
-
 part-run-copy-start : tie.Need-part-run-copy-start
 part-run-copy-start c = let h = has c .inside in search needs
 
@@ -83,6 +80,6 @@ returns-2 c =
 pub scan-begun-spec : {M : Type 1} → statement M
 scan-begun-spec =
     tie.close
-    (tie.spec before-code-requires (λ c. search needs) (λ c. search needs) sub-run-copy part-run-copy-start (λ c. search needs)
+    (tie.spec before-code-requires (λ c. search needs) (λ c. search needs) (λ c. has c .inside) part-run-copy-start (λ c. search needs)
     slice-reshare-prefix-run-copy slice-aggregate-run-copy slice-reshare-prefix-run-copy-2 slice-aggregate-run-copy-2 slice-relend-prefix-run-copy slice-aggregate-run-copy-3
     run-copy-requires (λ c. search needs) (λ c. search needs) (λ c. search needs) (λ c. search needs) returns (λ c. search needs) (λ c. search needs) (λ c. search needs) (λ c. search needs) returns-2)

@@ -49,21 +49,6 @@ returns-2 c =
 pub shape-times-spec : {M : Type 1} → statement M
 shape-times-spec =
     tie.close
-    (tie.spec
-    (λ c. search needs)
-    (λ c κs. search needs)
-    (λ c. search needs)
-    (λ c. search needs)
-    sub-measure-times
-    part-measure-times-start
-    (λ c. search needs)
-    slice-relend-prefix-measure-times
-    slice-aggregate-measure-times
-    measure-times-requires
-    (λ c. search needs)
-    (λ c. search needs)
-    returns
-    (λ c. search needs)
-    (λ c. search needs)
-    (λ c. search needs)
-    returns-2)
+    (tie.spec (λ c. search needs) (λ c κs. search needs) (λ c. search needs) (λ c. search needs) sub-measure-times part-measure-times-start
+    (λ c. search needs) slice-relend-prefix-measure-times slice-aggregate-measure-times measure-times-requires (λ c. search needs)
+    (λ c. search needs) returns (λ c. search needs) (λ c. search needs) (λ c. search needs) returns-2)

@@ -70,16 +70,7 @@ decimal-before-returns-2 t c = decimal-front _ _ _ _ _ _ _ (c .before .before .b
 
 pub +decimal-before-spec : {M : Type 1} → statement M
 +decimal-before-spec = close μ-decimal-before λ t. decimal-before-lts.spec (claims t)
-    (decimal-before-at t)
-    decimal-before.Post
-    (decimal-before-add-byte-before t)
-    (decimal-before-cast-byte-before t)
-    (decimal-before-byte-before-requires t)
-    (decimal-before-same-length t)
-    (decimal-before-returns t)
-    (decimal-before-add-byte-before-2 t)
-    (decimal-before-cast-byte-before-2 t)
-    (decimal-before-byte-before-requires-2 t)
-    (decimal-before-decimal-before-requires t)
-    (decimal-before-same-length-2 t)
-    (decimal-before-returns-2 t)
+    (decimal-before-at t) decimal-before.Post (decimal-before-add-byte-before t) (decimal-before-cast-byte-before t)
+    (decimal-before-byte-before-requires t) (decimal-before-same-length t) (decimal-before-returns t) (decimal-before-add-byte-before-2 t)
+    (decimal-before-cast-byte-before-2 t) (decimal-before-byte-before-requires-2 t) (decimal-before-decimal-before-requires t)
+    (decimal-before-same-length-2 t) (decimal-before-returns-2 t)

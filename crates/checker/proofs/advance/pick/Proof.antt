@@ -8,9 +8,6 @@ use native.Mathlib.Omega.{arith}
 use Rattle.checker.proofs.advance.pick.Statement.{statement}
 use Rattle.checker.proofs.advance.pick.Tie as tie
 
-returns : tie.Need-returns
-returns c = (rw (pick-is, c .if1 .taken), tt)
-
 returns-2 : tie.Need-returns-2
 returns-2 c = (rw (pick-is, open-yes (c .before .before .before .before .args .w .gate) (c .before .before .if1 .left), sym (c .before .holds-only .ensures) ∙ not-true _ (c .if2 .taken)), tt)
 
@@ -36,5 +33,5 @@ returns-5 c =
 pub pick-spec : {M : Type 1} → statement M
 pick-spec =
     tie.close
-    (tie.spec returns (λ c κs. search needs) returns-2 (λ c κs. search needs) returns-3 (λ c κs. search needs) returns-4 (λ c. search needs)
+    (tie.spec (λ c. (rw (pick-is, c .if1 .taken), tt)) (λ c κs. search needs) returns-2 (λ c κs. search needs) returns-3 (λ c κs. search needs) returns-4 (λ c. search needs)
     (λ c. search needs) (λ c. search needs) returns-5)

@@ -59,31 +59,8 @@ returns-3 c =
 pub survey-ranges-spec : {M : Type 1} → statement M
 survey-ranges-spec =
     tie.close
-    (tie.spec
-    (λ c κs. search needs)
-    (λ c. search needs)
-    (λ c. search needs)
-    sub-code
-    part-code-start
-    (λ c. search needs)
-    slice-reshare-prefix-walk
-    slice-aggregate-walk
-    slice-reshare-prefix-walk-2
-    slice-aggregate-walk-2
-    slice-reshare-prefix-walk-3
-    slice-aggregate-walk-3
-    walk-requires
-    (λ c. search needs)
-    (λ c. search needs)
-    (λ c. search needs)
-    (λ c. search needs)
-    (λ c. search needs)
-    returns
-    (λ c. search needs)
-    (λ c. search needs)
-    (λ c. search needs)
-    returns-2
-    (λ c. search needs)
-    (λ c. search needs)
-    (λ c. search needs)
-    returns-3)
+    (tie.spec (λ c κs. search needs) (λ c. search needs) (λ c. search needs) sub-code part-code-start (λ c. search needs)
+    slice-reshare-prefix-walk slice-aggregate-walk slice-reshare-prefix-walk-2 slice-aggregate-walk-2 slice-reshare-prefix-walk-3
+    slice-aggregate-walk-3 walk-requires (λ c. search needs) (λ c. search needs) (λ c. search needs) (λ c. search needs) (λ c. search needs)
+    returns (λ c. search needs) (λ c. search needs) (λ c. search needs) returns-2 (λ c. search needs) (λ c. search needs)
+    (λ c. search needs) returns-3)

@@ -21,6 +21,4 @@ returns-2 c =
     (λ t. c .before .push .ensures .0 (record { ranges = []; timers = []; millis = 0 }) [] t ∙ rw (toZ-ofZ f, lt-ltb _ _ (c .before .before .before .before .if1 .left)), c .before .push .ensures .1)
 
 pub load-spec : {M : Type 1} → statement M
-load-spec =
-    tie.close
-    (tie.spec returns (λ c. search needs) (λ c. search needs) (λ c κs. search needs) (λ c. search needs) returns-2)
+load-spec = tie.close (tie.spec returns (λ c. search needs) (λ c. search needs) (λ c κs. search needs) (λ c. search needs) returns-2)

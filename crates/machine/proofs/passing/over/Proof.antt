@@ -15,6 +15,4 @@ returns-2 c =
     ap (overOf (c .before .before .before .before .before .args .passing)) (sym (sym (c .before .before .before .unsigned-at .ensures) ∙ ap unsignedRead (c .before .next .given .1)))
 
 pub over-spec : {M : Type 1} → statement M
-over-spec =
-    tie.close
-    (tie.spec (λ c. search needs) (λ c κs. search needs) (λ c. search needs) (λ c. search needs) returns returns-2)
+over-spec = tie.close (tie.spec (λ c. search needs) (λ c κs. search needs) (λ c. search needs) (λ c. search needs) returns returns-2)

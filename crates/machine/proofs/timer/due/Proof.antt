@@ -31,6 +31,4 @@ returns-3 c =
     rw e
 
 pub due-spec : {M : Type 1} → statement M
-due-spec =
-    tie.close
-    (tie.spec (λ c κs. search needs) returns returns-2 returns-3)
+due-spec = tie.close (tie.spec (λ c κs. search needs) returns returns-2 returns-3)

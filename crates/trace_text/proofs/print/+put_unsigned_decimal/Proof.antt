@@ -67,14 +67,5 @@ returns-2 t c =
 pub +put-unsigned-decimal-spec : {M : Type 1} → statement M
 +put-unsigned-decimal-spec =
     close μ λ t. lts.spec (claims t) (at t) reads.Post
-    (add-put-byte t)
-    (cast-put-byte t)
-    (put-byte-requires t)
-    (same-length t)
-    (returns t)
-    (put-unsigned-decimal-requires t)
-    (add-put-byte-2 t)
-    (cast-put-byte-2 t)
-    (put-byte-requires-2 t)
-    (same-length-2 t)
-    (returns-2 t)
+    (add-put-byte t) (cast-put-byte t) (put-byte-requires t) (same-length t) (returns t) (put-unsigned-decimal-requires t)
+    (add-put-byte-2 t) (cast-put-byte-2 t) (put-byte-requires-2 t) (same-length-2 t) (returns-2 t)
