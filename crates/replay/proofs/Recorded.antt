@@ -14,14 +14,13 @@ use Rattle.semantics.specs.Formula.{State}
 use Rattle.semantics.specs.Rows.{ifAccepted, acceptedStates, finalState}
 use Rattle.bytecode.specs.Check.{checkOf}
 use Rattle.bytecode.specs.Parts.{shapeIn}
-use Rattle.semantics.specs.Shape.{stateLength, startingState}
+use Rattle.semantics.specs.Shape.{stateLength, startingState, valuesOf}
 use Rattle.scan.specs.declared.Started.the-variants as S
 use Rattle.scan.specs.Services.{AfterStart, started, startOf, scanOf, scansOf}
 use Rattle.scan.specs.Results.{afterStart}
 use Rattle.correctness.specs.TraceCorrect.{verdictOf, replyOf}
 use Rattle.leb128.proofs.Stores.{sets-clip, sets-append}
 use Rattle.replay.specs.declared.Replayed.the-variants as R
-use Rattle.semantics.specs.Shape.{valuesOf}
 use Rattle.replay.specs.Replay.{answerNumber, stepsOf, replayRows}
 use Rattle.replay.specs.Results.{lent, afterReplay}
 use Rattle.replay.specs.Inner.Records.{Records, records, addedBy, recordScan, scanRows}
