@@ -229,13 +229,11 @@ module _ (ns : List Range) (base : ℕ) (code : List ℕ) where
 
   stuck : (at : ℕ) (last : Option Instruction) (c : Known) (i : Instruction) (next : ℕ) → fetch code at ≡ got i next → advance i c ≡ none → Keeps (fetch code at) (λ i. Allowed i c × T (suits ns last i)) → ⊥
   stuck at last c i next r a x =
-      let g : got i next ≡ got (x .what) (x .next) = sym r ∙ x .read in
       let w : i ≡ x .what = cc in
       none≢some (leftBy (x .what) c) (sym a ∙ (ap (λ (y : Instruction). advance y c) w ∙ allowed-advances (x .what) c (x .kept .0)))
 
   unsuited : (at : ℕ) (last : Option Instruction) (c : Known) (i : Instruction) (next : ℕ) → fetch code at ≡ got i next → suits ns last i ≡ false → Keeps (fetch code at) (λ i. Allowed i c × T (suits ns last i)) → ⊥
   unsuited at last c i next r s x =
-      let g : got i next ≡ got (x .what) (x .next) = sym r ∙ x .read in
       let w : i ≡ x .what = cc in
       false≢true (sym s ∙ (ap (λ (y : Instruction). suits ns last y) w ∙ T-true (suits ns last (x .what)) (x .kept .1)))
 

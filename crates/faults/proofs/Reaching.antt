@@ -65,7 +65,6 @@ module _ (text : List ℕ) where
   ordered none d = inl d
   ordered (more k s n e r) none = inr (more k s n e r)
   ordered {a} {b} {c} (more k s n e r) (more k2 s2 n2 e2 r2) =
-      let f : token k s n ≡ token k2 s2 n2 = sym e ∙ e2 in
       let g : n2 ≡ n = cc in
       ordered {c = c} r (subst (λ (x : ℕ). Reaches x c) g r2)
 

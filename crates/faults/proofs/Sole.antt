@@ -121,7 +121,6 @@ ahead-spells text n m (t ∷ ts) us h (n1, st, g) ah = λ k s m2 e.
 
 ahead-stands : (text : List ℕ) (n : ℕ) (k : Kind) (s m : ℕ) → tokenAt text n ≡ token k s m → (us : Tokens) → Ahead k (normal (part text s m)) us → AheadAt text n us
 ahead-stands text n k s m e us ah k2 s2 m2 f =
-    let o : token k s m ≡ token k2 s2 m2 = sym e ∙ f in
     let o1 : k ≡ k2 = cc in
     let o2 : s ≡ s2 = cc in
     let o3 : m ≡ m2 = cc in

@@ -129,7 +129,6 @@ module _ (names : List (List ℕ)) (good : AreNames names) where
       blocks : (k : Kind) (s n : ℕ) → (k ≡ ending → ⊥) → (us xs ys : Tokens) → Ahead k (normal (part text s n)) us → us ≡ xs ++ ys → Empty xs → Empty ys → ⊥
       blocks k s n ne us xs ys ah q l z =
           let y = ah .1 ne in
-          let r : normal (part text s n) ∷ y .0 ≡ [] = sym (y .1) ∙ (q ∙ (ap (λ (v : Tokens). v ++ ys) l ∙ z)) in
           let w : _≡_ {A = ℕ} 0 1 = cc in
           omega arith
 

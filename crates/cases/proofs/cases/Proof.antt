@@ -54,9 +54,8 @@ returns-2 : tie.Need-returns-2 Inv-loop μ-loop
 unfolding kindOf
 returns-2 c =
     let at-token-at = c .before .before .before .before .before in
-    let at-loop = at-token-at .before in
     let f = found-token _ _ (at-token-at .token-at .ensures) (c .before .before .before .read .given .1) in
-    casing-other (at-loop .loop .inv .0) f (other-kinds _ _ (f .lies .known-kind) (omega arith) (c .if1 .taken))
+    casing-other (at-token-at .before .loop .inv .0) f (other-kinds _ _ (f .lies .known-kind) (omega arith) (c .if1 .taken))
 
 same-length-7 : tie.Need-same-length-7 Inv-loop μ-loop
 same-length-7 c = c .before .before .before .before .before .before .before .loop .inv .1
@@ -170,8 +169,7 @@ returns-6 c =
 loop-less : tie.Need-loop-less Inv-loop μ-loop
 loop-less c =
     let at-if2 = c .before .before .before .before .before .before .before .before .before .before .before .before .before in
-    let at-loop = at-if2 .before .before .before .before .before .before .before in
-    omega (arith, at-loop .loop .inv .0 .few, at-if2 .if2 .left)
+    omega (arith, at-if2 .before .before .before .before .before .before .before .loop .inv .0 .few, at-if2 .if2 .left)
 
 loop-again : tie.Need-loop-again Inv-loop μ-loop
 unfolding kindOf

@@ -31,9 +31,8 @@ unfolding kindOf
 returns-2 c =
     let at-read = c .before .before .before in
     let at-token-at = at-read .before .before in
-    let at-loop = at-token-at .before in
     let f = found-token _ _ (at-token-at .token-at .ensures) (at-read .read .given .1) in
-    listing-other (at-loop .loop .inv .0) f (other-kinds _ _ (f .lies .known-kind) (omega arith) (c .if1 .taken))
+    listing-other (at-token-at .before .loop .inv .0) f (other-kinds _ _ (f .lies .known-kind) (omega arith) (c .if1 .taken))
 
 returns-3 : tie.Need-returns-3 Inv-loop μ-loop
 unfolding kindOf
